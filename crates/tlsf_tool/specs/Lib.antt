@@ -1,0 +1,6 @@
+pub mod Classes
+pub mod Rounding
+pub mod Content
+pub mod Lists
+pub mod Malloc
+pub mod Pools

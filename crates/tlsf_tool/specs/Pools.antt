@@ -1,0 +1,49 @@
+-- create and add_pool.
+use Rattle.std.specs.Prelude.{ℕ, ◌+◌, ◌-◌, ◌%◌, ◌^◌, Bool, not, ◌&&◌, ◌||◌, List, [], ◌∷◌, length, replicate, None, Result, Ok, Err, if◌then◌else◌, ◌==◌, nat_lt, nat_le}
+use Rattle.std.specs.List.{list_all}
+use Rattle.tlsf_tool.specs.declared.refusal.Refusal.{Refusal}
+use Rattle.tlsf_tool.specs.declared.refusal.Refusal.TheVariants.{BadPool, PoolsFull, TableFull}
+use Rattle.tlsf_tool.specs.Classes.{unit, classes, greatest_size}
+use Rattle.tlsf_tool.specs.Content.{Block, Pool, Content, used_records}
+use Rattle.tlsf_tool.specs.Lists.{link}
+use Rattle.tlsf_tool.specs.Malloc.{gap}
+
+-- at most so many pools
+abbrev pub most_pools : ℕ
+most_pools = 8
+
+-- no pool ends above this place
+abbrev pub end_of_places : ℕ
+end_of_places = 2 ^ 32
+
+-- a heap of so many records, with no pool
+abbrev pub created : {A : Type 0} → ℕ → Content A
+created records = record { records = records; pools = []; lists = replicate classes [] }
+
+-- whether the bytes from base on lie before or behind the pool
+abbrev pub is_apart : {A : Type 0} → ℕ → ℕ → Pool A → Bool
+is_apart base bytes pool = nat_le (base + bytes) pool.base || nat_le (pool.base + pool.bytes) base
+
+-- whether base and bytes can be those of a pool
+abbrev pub can_be_pool : ℕ → ℕ → Bool
+can_be_pool base bytes =
+  (base % unit == 0) && ((bytes % unit == 0) && (nat_le unit bytes && (nat_le bytes greatest_size && nat_le (base + bytes) end_of_places)))
+
+-- the pool stands before the first one that begins behind it
+abbrev pub in_order_of_base : {A : Type 0} → Pool A → List (Pool A) → List (Pool A)
+in_order_of_base pool [] = pool ∷ []
+in_order_of_base pool (other ∷ pools) = if nat_lt pool.base other.base then pool ∷ other ∷ pools else other ∷ in_order_of_base pool pools
+
+-- the pool is one free block, in front of its class's list
+abbrev pub with_pool : {A : Type 0} → ℕ → ℕ → Content A → Content A
+with_pool base bytes content = record content {
+  pools = in_order_of_base (record { base = base; bytes = bytes; blocks = gap base bytes }) content.pools;
+  lists = link base bytes content.lists;
+}
+
+-- add_pool(base, bytes): the new content, or why it is refused
+abbrev pub add_pool : {A : Type 0} → ℕ → ℕ → Content A → Result (Content A) Refusal
+add_pool base bytes content =
+  if not (can_be_pool base bytes && list_all (is_apart base bytes) content.pools) then Err BadPool else
+  (if nat_le most_pools (length content.pools) then Err PoolsFull else
+  (if nat_le content.records (used_records content) then Err TableFull else Ok (with_pool base bytes content)))
