@@ -1,1 +1,2 @@
 mod HeapRows
+mod Blocks
