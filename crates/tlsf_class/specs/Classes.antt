@@ -1,0 +1,57 @@
+-- Size classes by their lowest sizes: first levels by powers of two, each divided into equal steps
+-- (TLSF, ECRTS 2004; 32 steps, and one first level for the smallest sizes, as in `tlsf.c`).
+use Rattle.std.specs.Prelude.{ℕ, zero, suc, ◌+◌, ◌-◌, ◌*◌, ◌/◌, ◌%◌, ◌^◌, ◌==◌, nat_le, Bool, if◌then◌else◌, Option, Some, None}
+
+-- every place and every size is a multiple of it, in bytes
+abbrev pub unit : ℕ
+unit = 8
+
+-- how many equal steps a first level has
+abbrev pub steps : ℕ
+steps = 32
+
+-- how many first levels there are
+abbrev pub levels : ℕ
+levels = 23
+
+-- how many classes there are
+abbrev pub classes : ℕ
+classes = levels * steps
+
+-- the greatest size of a block, in bytes
+abbrev pub greatest_size : ℕ
+greatest_size = 2 ^ 30 - unit
+
+-- the first level `f`, from 1 on, begins at `2 ^ (f + level_power)`
+abbrev pub level_power : ℕ
+level_power = 7
+
+-- and its steps are of `2 ^ (f + step_power)` bytes
+abbrev pub step_power : ℕ
+step_power = 2
+
+-- the lowest size of step `g` of the first level `f`
+abbrev pub low_at : ℕ → ℕ → ℕ
+low_at f g = (if f == 0 then unit * g else 2 ^ (f + level_power) + g * 2 ^ (f + step_power))
+
+-- the lowest size of class `c`, in bytes
+unfoldable pub low : ℕ → ℕ
+low c = low_at (c / steps) (c % steps)
+
+-- the greatest number below `bound` that passes the test, 0 where none does
+abbrev pub greatest : (ℕ → Bool) → ℕ → ℕ
+greatest test zero = 0
+greatest test (suc k) = (if test k then k else greatest test k)
+
+-- the least number below `bound` that passes the test, none where none does
+abbrev pub least : (ℕ → Bool) → ℕ → Option ℕ
+least test zero = None
+least test (suc k) = elim (least test k) [ Some c ↦ Some c | None ↦ (if test k then Some k else None) ]
+
+-- the class of a block of `size` bytes: the greatest whose lowest size is at most `size`
+unfoldable pub class : ℕ → ℕ
+class size = greatest (λ c. nat_le (low c) size) classes
+
+-- the class from which on each block holds `m` bytes: the least whose lowest size is at least `m`
+unfoldable pub need : ℕ → Option ℕ
+need m = least (λ c. nat_le m (low c)) classes
