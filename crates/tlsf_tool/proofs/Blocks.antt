@@ -7,7 +7,7 @@ use Rattle.std.proofs.lemmas.Bool.Decides.{nat_tests}
 use Rattle.std.proofs.lemmas.Bool.{cases_Bool, cases_eq, eqb-true, eqb-false, ne_eqb, eq-eqb, and_parts, and_left, and_from, true≢false}
 use Rattle.std.specs.List.{AllByRecursion}
 use Rattle.std.proofs.Common.{append_assoc, ◌⊎◌, inl, inr}
-use Rattle.tlsf_tool.specs.Classes.{unit, class}
+use Rattle.tlsf_class.specs.Classes.{unit, class}
 use Rattle.tlsf_tool.specs.Content.{Block, Pool, Content, blocks_of, is_free, is_at, size_at}
 use Rattle.tlsf_tool.specs.Good.{Covers, NoFreeNeighbours, IsGoodPool, AreGoodPools, is_listed}
 use Rattle.tlsf_tool.specs.Malloc.{replaced, replaced_in}

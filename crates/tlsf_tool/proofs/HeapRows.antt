@@ -3,8 +3,8 @@ use Rattle.std.proofs.Common.{◌≡◌, ℕ, List, [], ◌∷◌, ◌++◌, Opt
 use Rattle.std.specs.Prelude.{Result, Ok, Err}
 use Rattle.tlsf_tool.specs.declared.refusal.Refusal.{Refusal}
 use Rattle.tlsf_tool.specs.declared.refusal.Refusal.TheVariants.{ZeroSize, NoFit, TableFull, BadPool, PoolsFull}
-use Rattle.tlsf_tool.specs.Classes.{class, need, low}
-use Rattle.tlsf_tool.specs.Rounding.{rounded}
+use Rattle.tlsf_class.specs.Classes.{class, need, low}
+use Rattle.tlsf_class.specs.Rounding.{rounded}
 use Rattle.tlsf_tool.specs.Lists.{list_of}
 use Rattle.tlsf_tool.specs.Content.{Block, Pool, Content, blocks_of, is_free}
 use Rattle.tlsf_tool.specs.Malloc.{malloc}

@@ -1,5 +1,3 @@
-pub mod Classes
-pub mod Rounding
 pub mod Content
 pub mod Lists
 pub mod Malloc

@@ -1,6 +1,6 @@
 -- The free lists: one list of places for each class.
 use Rattle.std.specs.Prelude.{ℕ, not, List, [], ◌∷◌, slice_index_or, slice_set, filter, ◌==◌, Option, Some, None, option_and_then, drop}
-use Rattle.tlsf_tool.specs.Classes.{class, need}
+use Rattle.tlsf_class.specs.Classes.{class, need}
 
 -- the free list of a class
 abbrev pub list_of : ℕ → List (List ℕ) → List ℕ

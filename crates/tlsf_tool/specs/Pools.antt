@@ -3,7 +3,7 @@ use Rattle.std.specs.Prelude.{ℕ, ◌+◌, ◌-◌, ◌%◌, ◌^◌, Bool, not
 use Rattle.std.specs.List.{list_all}
 use Rattle.tlsf_tool.specs.declared.refusal.Refusal.{Refusal}
 use Rattle.tlsf_tool.specs.declared.refusal.Refusal.TheVariants.{BadPool, PoolsFull, TableFull}
-use Rattle.tlsf_tool.specs.Classes.{unit, classes, greatest_size}
+use Rattle.tlsf_class.specs.Classes.{unit, classes, greatest_size}
 use Rattle.tlsf_tool.specs.Content.{Block, Pool, Content, used_records}
 use Rattle.tlsf_tool.specs.Lists.{link}
 use Rattle.tlsf_tool.specs.Malloc.{gap}

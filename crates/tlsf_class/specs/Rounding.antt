@@ -1,6 +1,6 @@
 -- Rounding up to the unit.
 use Rattle.std.specs.Prelude.{ℕ, ◌+◌, ◌%◌, ◌==◌, nat_lt, ◌||◌, if◌then◌else◌, Option, Some, None, unwrap_or}
-use Rattle.tlsf_tool.specs.Classes.{unit, greatest_size, least}
+use Rattle.tlsf_class.specs.Classes.{unit, greatest_size, least}
 
 -- the least multiple of the unit at or above `n`
 unfoldable pub rounded : ℕ → ℕ
