@@ -1,2 +1,5 @@
 mod HeapRows
 mod Blocks
+mod Replacing
+mod FreeLists
+mod GoodContent

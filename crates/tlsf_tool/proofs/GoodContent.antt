@@ -1,0 +1,350 @@
+-- create, add_pool and malloc keep a content good.
+use Rattle.std.proofs.Common.{◌≡◌, ◌≢◌, ℕ, suc, ◌+◌, ◌-◌, ◌*◌, ◌%◌, ◌<◌, ◌≤◌, Bool, true, false, cond, eqb, not, ◌&&◌, List, [], ◌∷◌, ◌++◌, length, map, refl, sym, ap, ◌∙◌, subst, arith, count_by, flat_map, Option, Some, None, drop, option_and_then, replicate, ◌⊎◌, inl, inr, length-append, zero-add}
+use Rattle.std.specs.Prelude.{⊤, ◌==◌, Result, Ok, Err, nat_lt, nat_le}
+use Rattle.std.specs.List.{AllByRecursion, list_all}
+use Rattle.std.proofs.lemmas.Bool.{cases_Bool, eq-eqb, ne_eqb, eqb-true, eqb-false, ltb-true, ltb-false, leb-true, leb-false, true≢false, and_parts, and_cases, and_from, or_cases}
+use Rattle.std.proofs.lemmas.List.{get_or-drop, length-drop, get_or-replicate, length-replicate, length-map}
+use Rattle.tlsf_class.specs.Classes.{unit, classes, greatest_size, class, need}
+use Rattle.tlsf_class.specs.Rounding.{round}
+use Rattle.tlsf_class.proofs.ClassLaws.{need_holds}
+use Rattle.tlsf_class.proofs.RoundingLaws.{round-Some}
+use Rattle.tlsf_tool.specs.declared.refusal.Refusal.TheVariants.{ZeroSize, NoFit, TableFull, BadPool, PoolsFull}
+use Rattle.tlsf_tool.specs.Content.{Block, Pool, Content, blocks_of, is_free, is_at, size_at, used_records}
+use Rattle.tlsf_tool.specs.Lists.{list_of, link, unlink, first_of_lists, pick}
+use Rattle.tlsf_tool.specs.Malloc.{gap, cut, replaced, replaced_in, link_gap, allocated, allocate, malloc_picked, malloc_rounded, malloc}
+use Rattle.tlsf_tool.specs.Pools.{most_pools, end_of_places, created, add_pool, with_pool, can_be_pool, is_apart, in_order_of_base}
+use Rattle.tlsf_tool.specs.Good.{Covers, NoFreeNeighbours, IsGoodPool, AreGoodPools, AreLists, IsGood, times, is_listed}
+use Rattle.tlsf_tool.proofs.Blocks.{Found, found_listed, Ascends-pools, count_by-cons, count_by-append, count_listed-none, one_if}
+use Rattle.tlsf_tool.proofs.Replacing.{blocks_of-replaced, count_by-replaced, length-replaced, size_at-found, EachAt-found, IsCuttable, AreGoodPools-cut}
+use Rattle.tlsf_tool.proofs.FreeLists.{first_stands, times-link, times-unlink, times-link_gap, length-link, length-unlink, length-link_gap, count_listed-gap, stands}
+
+and_then_some : {A B : Type 0} (f : A → Option B) (o : Option A) (b : B) → option_and_then f o ≡ Some b → (a : A) × (o ≡ Some a) × (f a ≡ Some b)
+and_then_some f None b h = absurd (cc)
+and_then_some f (Some a) b h = (a, refl, h)
+
+-- what is picked for m bytes stands in a list at or above the class needed
+pick_stands : (m place : ℕ) (lists : List (List ℕ)) → pick m lists ≡ Some place
+    → (c number : ℕ) × (need m ≡ Some c) × (c ≤ number) × (1 ≤ times place (list_of number lists)) × (number < length lists)
+pick_stands m place lists h =
+    let found = and_then_some (λ number. first_of_lists (drop number lists)) (need m) place h in
+    let first = first_stands (drop found.0 lists) place found.2 in
+    let moved : list_of first.0 (drop found.0 lists) ≡ list_of (found.0 + first.0) lists = get_or-drop found.0 lists first.0 [] in
+    (found.0, found.0 + first.0, found.1, omega arith, omega (arith, first.2, ap (times place) moved), omega (arith, first.1, length-drop found.0 lists))
+
+-- a block of whole units that lies within the places
+pub record IsWhole {A : Type 0} (block : Block A) : Type 0 where
+  pub positive : 0 < block.size
+  pub in_units : block.size % unit ≡ 0
+  pub at_most : block.size ≤ greatest_size
+  pub ends : block.place + block.size ≤ end_of_places
+
+Covers-le : {A : Type 0} (from to : ℕ) (blocks : List (Block A)) → Covers from to blocks → from ≤ to
+Covers-le from to [] c = omega arith
+Covers-le from to (block ∷ blocks) c = let rest = Covers-le (from + block.size) to blocks c.3 in omega arith
+
+whole_in_pool : {A : Type 0} (base bytes from : ℕ) (blocks : List (Block A)) → bytes ≤ greatest_size → base + bytes ≤ end_of_places → base ≤ from → Covers from (base + bytes) blocks → AllByRecursion IsWhole blocks
+whole_in_pool base bytes from [] most ends above c = tt
+whole_in_pool base bytes from (block ∷ blocks) most ends above c =
+    let rest = Covers-le (from + block.size) (base + bytes) blocks c.3 in
+    (record { positive = c.1; in_units = c.2; at_most = omega (arith, most, above, rest); ends = omega (arith, c.0, rest, ends) },
+      whole_in_pool base bytes (from + block.size) blocks most ends (omega (arith, above)) c.3)
+
+all-append : {X : Type 0} (P : X → Type 0) (xs ys : List X) → AllByRecursion P xs → AllByRecursion P ys → AllByRecursion P (xs ++ ys)
+all-append P [] ys p q = q
+all-append P (x ∷ xs) ys p q = (p.0, all-append P xs ys p.1 q)
+
+all_behind : {X : Type 0} (P : X → Type 0) (xs ys : List X) → AllByRecursion P (xs ++ ys) → AllByRecursion P ys
+all_behind P [] ys p = p
+all_behind P (x ∷ xs) ys p = all_behind P xs ys p.1
+
+pub whole_in_pools : {A : Type 0} (from : ℕ) (pools : List (Pool A)) → AreGoodPools from pools → AllByRecursion IsWhole (blocks_of pools)
+whole_in_pools from [] g = tt
+whole_in_pools from (pool ∷ pools) g =
+    all-append IsWhole pool.blocks (blocks_of pools)
+      (whole_in_pool pool.base pool.bytes pool.base pool.blocks g.1.most_bytes g.1.ends (omega arith) g.1.covered)
+      (whole_in_pools (pool.base + pool.bytes) pools g.2)
+
+-- what malloc knows of the block that it picked
+pub record Picked {A : Type 0} (m place : ℕ) (content : Content A) : Type 0 where
+  pub found : Found place (blocks_of content.pools)
+  pub free : is_free found.block ≡ true
+  pub size_is : found.block.size ≡ size_at place (blocks_of content.pools)
+  pub holds : m ≤ size_at place (blocks_of content.pools)
+  pub whole : IsWhole found.block
+  pub once : times place (list_of (class (size_at place (blocks_of content.pools))) content.lists) ≡ 1
+
+module _ {A : Type 0} where
+  one_at_most : (number place : ℕ) (blocks : List (Block A)) (found : Found place blocks) → count_by (is_listed number place) blocks ≤ 1
+  one_at_most number place blocks found =
+      let kind : Block A → Bool = is_listed number place in
+      let before = ap (count_by kind) found.whole in
+      let one = count_by-append kind found.front (found.block ∷ found.back) in
+      let two = count_by-cons kind found.block found.back in
+      let front = count_listed-none number place found.front found.none_before in
+      let back = count_listed-none number place found.back found.none_behind in
+      let last : one_if (kind found.block) ≤ 1 = elim (kind found.block) as (λ b. one_if b ≤ 1) [ true ↦ omega arith | false ↦ omega arith ] in
+      omega (arith, before, one, two, front, back, last)
+
+  pub picked : (m place : ℕ) (content : Content A) → IsGood content → pick m content.lists ≡ Some place → Picked m place content
+  picked m place content good h =
+      let stand = pick_stands m place content.lists h in
+      let number : ℕ = stand.1 in
+      let below : number < classes = omega (arith, stand.5, good.lists_count) in
+      let listed = good.listed number place below in
+      let counted : 1 ≤ count_by (is_listed number place) (blocks_of content.pools) = omega (arith, listed, stand.4) in
+      let block = found_listed number place 0 (blocks_of content.pools) (Ascends-pools 0 content.pools good.pools_good) counted in
+      let size = sym (size_at-found place (blocks_of content.pools) block.0) in
+      let of_class : class (size_at place (blocks_of content.pools)) ≡ number = ap class (sym size) ∙ block.2 in
+      let all : AllByRecursion IsWhole (block.0.front ++ block.0.block ∷ block.0.back) =
+            let P : List (Block A) → Type 0 = λ xs. AllByRecursion IsWhole xs in subst P block.0.whole (whole_in_pools 0 content.pools good.pools_good) in
+      let once : times place (list_of number content.lists) ≡ 1 = omega (arith, listed, counted, one_at_most number place (blocks_of content.pools) block.0) in
+      record {
+        found = block.0;
+        free = block.1;
+        size_is = size;
+        holds = need_holds m stand.0 (size_at place (blocks_of content.pools)) stand.2 (omega (arith, stand.3, of_class));
+        whole = (all_behind IsWhole block.0.front (block.0.block ∷ block.0.back) all).0;
+        once = (let P : ℕ → Type 0 = λ c. times place (list_of c content.lists) ≡ 1 in subst P (sym of_class) once);
+      }
+
+  -- the block found is listed as any free block of its place and size is
+  found_stands : (q p place size : ℕ) (block : Block A) → is_free block ≡ true → block.place ≡ place → block.size ≡ size → one_if (is_listed q p block) ≡ stands q p place size
+  found_stands q p place size block free here same =
+      ap (λ b. one_if (b && (is_at p block && (class block.size == q)))) free
+      ∙ ap (λ n. one_if ((n == p) && (class block.size == q))) here
+      ∙ ap (λ n. one_if ((place == p) && (class n == q))) same
+
+  count_listed-cut : (owner : A) (q p place m size : ℕ) → count_by (is_listed q p) (cut owner place m size) ≡ cond ((size - m) == 0) 0 (stands q p (place + m) (size - m))
+  count_listed-cut owner q p place m size =
+      count_by-cons (is_listed q p) (record { place = place; size = m; owner = Some owner }) (gap (place + m) (size - m)) ∙ zero-add _ ∙ count_listed-gap A q p (place + m) (size - m)
+
+  -- the lists after the block that was picked is cut
+  lists-cut : (owner : A) (m place : ℕ) (content : Content A) (good : IsGood content) (is : Picked m place content)
+      → AreLists (blocks_of (allocated owner place m (size_at place (blocks_of content.pools)) content).pools) (allocated owner place m (size_at place (blocks_of content.pools)) content).lists
+  lists-cut owner m place content good is q p below =
+      let blocks = blocks_of content.pools in
+      let size : ℕ = size_at place blocks in
+      let kind : Block A → Bool = is_listed q p in
+      let whole_list = length-unlink content.lists good.lists_count place size in
+      let linked = times-link_gap (unlink place size content.lists) whole_list q p (place + m) (size - m) in
+      let unlinked = times-unlink content.lists good.lists_count q p place size is.once in
+      let old = good.listed q p below in
+      let new = ap (count_by kind) (blocks_of-replaced place (cut owner place m size) content.pools) in
+      let counted = count_by-replaced place (cut owner place m size) blocks kind is.found in
+      let others = count_listed-cut owner q p place m size in
+      let one = found_stands q p place size is.found.block is.free is.found.here is.size_is in
+      omega (arith, linked, unlinked, old, new, counted, others, one)
+
+  length-cut : (owner : A) (place m size : ℕ) → length (cut owner place m size) ≡ cond ((size - m) == 0) 1 2
+  length-cut owner place m size =
+      let rest : Block A = record { place = place + m; size = size - m; owner = None } in
+      elim ((size - m) == 0) as (λ b. suc (length (cond b [] (rest ∷ []))) ≡ cond b 1 2) [ true ↦ refl | false ↦ refl ]
+
+  few-cut : (owner : A) (m place : ℕ) (content : Content A) (good : IsGood content) (is : Picked m place content)
+      → (m < size_at place (blocks_of content.pools) → used_records content < content.records)
+      → used_records (allocated owner place m (size_at place (blocks_of content.pools)) content) ≤ content.records
+  few-cut owner m place content good is room =
+      let size : ℕ = size_at place (blocks_of content.pools) in
+      let new = ap length (blocks_of-replaced place (cut owner place m size) content.pools) in
+      let counted = length-replaced place (cut owner place m size) (blocks_of content.pools) is.found in
+      let others = length-cut owner place m size in
+      let old = good.blocks_few in
+      elim (cases_Bool ((size - m) == 0)) [
+        inl whole ↦ omega (arith, new, counted, others ∙ ap (λ b. cond b 1 2) whole, old)
+      | inr more ↦
+          let rest : size - m ≢ 0 = eqb-false (size - m) 0 more in
+          let larger : m < size = grind arith in
+          omega (arith, new, counted, others ∙ ap (λ b. cond b 1 2) more, room larger)
+      ]
+
+  -- cutting the block that was picked keeps the content good
+  pub allocated_is_good : (owner : A) (m place : ℕ) (content : Content A) → IsGood content → pick m content.lists ≡ Some place → 0 < m → m % unit ≡ 0
+      → (m < size_at place (blocks_of content.pools) → used_records content < content.records) → IsGood (allocated owner place m (size_at place (blocks_of content.pools)) content)
+  allocated_is_good owner m place content good h positive in_units room =
+      let is = picked m place content good h in
+      let size : ℕ = size_at place (blocks_of content.pools) in
+      let size_in_units : size % unit ≡ 0 = ap (λ n. n % unit) (sym is.size_is) ∙ is.whole.in_units in
+      record {
+        pools_few = (let same = length-map content.pools (replaced_in place (cut owner place m size)) in omega (arith, same, good.pools_few));
+        pools_good = AreGoodPools-cut owner place m size 0 content.pools positive is.holds in_units size_in_units
+          (EachAt-found place (IsCuttable m size) (blocks_of content.pools) is.found (record { size_is = is.size_is; free = is.free })) good.pools_good;
+        lists_count = length-link_gap (unlink place size content.lists) (length-unlink content.lists good.lists_count place size) (place + m) (size - m);
+        listed = lists-cut owner m place content good is;
+        blocks_few = few-cut owner m place content good is room;
+      }
+
+  -- what malloc answers with is good
+  allocate_is_good : (owner : A) (m place : ℕ) (content : Content A) (new : ℕ × Content A) → IsGood content → pick m content.lists ≡ Some place → 0 < m → m % unit ≡ 0
+      → allocate owner place m (size_at place (blocks_of content.pools)) content ≡ Ok new → IsGood new.1
+  allocate_is_good owner m place content new good h positive in_units e =
+      let size : ℕ = size_at place (blocks_of content.pools) in
+      let go : (b : Bool) → (nat_lt m size && nat_le content.records (used_records content)) ≡ b
+            → cond b (Err TableFull) (Ok (place, allocated owner place m size content)) ≡ Ok new → IsGood new.1
+          = λ b. elim b as (λ b. (nat_lt m size && nat_le content.records (used_records content)) ≡ b
+            → cond b (Err TableFull) (Ok (place, allocated owner place m size content)) ≡ Ok new → IsGood new.1) [
+              true ↦ λ t f. absurd (cc)
+            | false ↦ λ t f.
+                let room : m < size → used_records content < content.records = λ larger. elim (and_cases _ _ t) [
+                    inl not_larger ↦ absurd (omega (arith, larger, ltb-false m size not_larger))
+                  | inr some_left ↦ leb-false _ _ some_left
+                  ] in
+                let same : (place, allocated owner place m size content) ≡ new = cc in
+                let P : ℕ × Content A → Type 0 = λ x. IsGood x.1 in
+                subst P same (allocated_is_good owner m place content good h positive in_units room)
+            ] in
+      go _ refl e
+
+  picked_is_good : (owner : A) (m : ℕ) (content : Content A) (new : ℕ × Content A) (place : Option ℕ) → pick m content.lists ≡ place → IsGood content → 0 < m → m % unit ≡ 0
+      → malloc_picked owner m place content ≡ Ok new → IsGood new.1
+  picked_is_good owner m content new None h good positive in_units e = absurd (cc)
+  picked_is_good owner m content new (Some place) h good positive in_units e = allocate_is_good owner m place content new good h positive in_units e
+
+  rounded_is_good : (owner : A) (n : ℕ) (content : Content A) (new : ℕ × Content A) (m : Option ℕ) → round n ≡ m → IsGood content → 0 < n → malloc_rounded owner m content ≡ Ok new → IsGood new.1
+  rounded_is_good owner n content new None h good positive e = absurd (cc)
+  rounded_is_good owner n content new (Some m) h good positive e =
+      let is = round-Some n m h in
+      picked_is_good owner m content new (pick m content.lists) refl good (omega (arith, is.least, positive)) is.whole e
+
+  -- malloc keeps a content good
+  pub malloc_is_good : (owner : A) (n : ℕ) (content : Content A) (new : ℕ × Content A) → IsGood content → malloc owner n content ≡ Ok new → IsGood new.1
+  malloc_is_good owner n content new good e = elim (cases_Bool (n == 0)) [
+      inl zero_bytes ↦
+        let refused : malloc owner n content ≡ Err ZeroSize = rw zero_bytes refl in
+        absurd (cc)
+    | inr some_bytes ↦
+        let asked : malloc owner n content ≡ malloc_rounded owner (round n) content = rw some_bytes refl in
+        let positive : n ≢ 0 = eqb-false n 0 some_bytes in
+        rounded_is_good owner n content new (round n) refl good (grind arith) (sym asked ∙ e)
+    ]
+
+  -- how the blocks change where a pool comes in
+  count_by-pools : (kind : Block A → Bool) (pool : Pool A) (pools : List (Pool A)) → count_by kind (blocks_of (in_order_of_base pool pools)) ≡ count_by kind pool.blocks + count_by kind (blocks_of pools)
+  count_by-pools kind pool [] = count_by-append kind pool.blocks []
+  count_by-pools kind pool (other ∷ pools) = elim (nat_lt pool.base other.base) as (λ b. count_by kind (blocks_of (cond b (pool ∷ other ∷ pools) (other ∷ in_order_of_base pool pools))) ≡ count_by kind pool.blocks + count_by kind (blocks_of (other ∷ pools))) [
+      true ↦ count_by-append kind pool.blocks (blocks_of (other ∷ pools))
+    | false ↦
+        let one = count_by-append kind other.blocks (blocks_of (in_order_of_base pool pools)) in
+        let two = count_by-append kind other.blocks (blocks_of pools) in
+        omega (arith, one, two, count_by-pools kind pool pools)
+    ]
+
+  length-pools : (pool : Pool A) (pools : List (Pool A)) → length (blocks_of (in_order_of_base pool pools)) ≡ length pool.blocks + length (blocks_of pools)
+  length-pools pool [] = length-append pool.blocks []
+  length-pools pool (other ∷ pools) = elim (nat_lt pool.base other.base) as (λ b. length (blocks_of (cond b (pool ∷ other ∷ pools) (other ∷ in_order_of_base pool pools))) ≡ length pool.blocks + length (blocks_of (other ∷ pools))) [
+      true ↦ length-append pool.blocks (blocks_of (other ∷ pools))
+    | false ↦
+        let one = length-append other.blocks (blocks_of (in_order_of_base pool pools)) in
+        let two = length-append other.blocks (blocks_of pools) in
+        omega (arith, one, two, length-pools pool pools)
+    ]
+
+  length-in_order : (pool : Pool A) (pools : List (Pool A)) → length (in_order_of_base pool pools) ≡ suc (length pools)
+  length-in_order pool [] = refl
+  length-in_order pool (other ∷ pools) = elim (nat_lt pool.base other.base) as (λ b. length (cond b (pool ∷ other ∷ pools) (other ∷ in_order_of_base pool pools)) ≡ suc (suc (length pools))) [
+      true ↦ refl
+    | false ↦ ap suc (length-in_order pool pools)
+    ]
+
+  -- a pool that overlaps no other finds its place among them
+  AreGoodPools-in_order : (from : ℕ) (pool : Pool A) (pools : List (Pool A)) → from ≤ pool.base → IsGoodPool pool → list_all (is_apart pool.base pool.bytes) pools ≡ true → AreGoodPools from pools
+      → AreGoodPools from (in_order_of_base pool pools)
+  AreGoodPools-in_order from pool [] above is apart g = (above, is, tt)
+  AreGoodPools-in_order from pool (other ∷ pools) above is apart g =
+      let parts = and_parts _ _ apart in
+      let some : 1 ≤ pool.bytes = omega (arith, is.least_bytes) in
+      let some_other : 1 ≤ other.bytes = omega (arith, g.1.least_bytes) in
+      elim (cases_Bool (nat_lt pool.base other.base)) [
+        inl before ↦
+          let P : Bool → Type 0 = λ b. AreGoodPools from (cond b (pool ∷ other ∷ pools) (other ∷ in_order_of_base pool pools)) in
+          let less = ltb-true pool.base other.base before in
+          let ends : pool.base + pool.bytes ≤ other.base = elim (or_cases _ _ parts.0) [
+              inl in_front ↦ leb-true (pool.base + pool.bytes) other.base in_front
+            | inr behind ↦ absurd (omega (arith, less, some_other, leb-true (other.base + other.bytes) pool.base behind))
+            ] in
+          subst P (sym before) (above, is, (ends, g.1, g.2))
+      | inr after ↦
+          let P : Bool → Type 0 = λ b. AreGoodPools from (cond b (pool ∷ other ∷ pools) (other ∷ in_order_of_base pool pools)) in
+          let at_least = ltb-false pool.base other.base after in
+          let begins : other.base + other.bytes ≤ pool.base = elim (or_cases _ _ parts.0) [
+              inl in_front ↦ absurd (omega (arith, at_least, some, leb-true (pool.base + pool.bytes) other.base in_front))
+            | inr behind ↦ leb-true (other.base + other.bytes) pool.base behind
+            ] in
+          subst P (sym after) (g.0, g.1, AreGoodPools-in_order (other.base + other.bytes) pool pools begins is parts.1 g.2)
+      ]
+
+  -- a pool that is one free block
+  one_block : (base bytes : ℕ) → can_be_pool base bytes ≡ true → IsGoodPool (record { base = base; bytes = bytes; blocks = gap {A = A} base bytes })
+  one_block base bytes h =
+      let one = and_parts _ _ h in
+      let two = and_parts _ _ one.1 in
+      let three = and_parts _ _ two.1 in
+      let four = and_parts _ _ three.1 in
+      let least : unit ≤ bytes = leb-true _ _ three.0 in
+      let more : (bytes == 0) ≡ false = ne_eqb bytes 0 (λ e. absurd (omega (arith, e, least))) in
+      let block : Block A = record { place = base; size = bytes; owner = None } in
+      let P : Bool → Type 0 = λ b. Covers base (base + bytes) (cond b [] (block ∷ [])) in
+      let Q : Bool → Type 0 = λ b. NoFreeNeighbours false (cond b [] (block ∷ [])) in
+      record {
+        base_in_units = eqb-true _ _ one.0;
+        bytes_in_units = eqb-true _ _ two.0;
+        least_bytes = least;
+        most_bytes = leb-true _ _ four.0;
+        ends = leb-true _ _ four.1;
+        covered = subst P (sym more) (refl, omega (arith, least), eqb-true _ _ two.0, refl);
+        merged = subst Q (sym more) (refl, tt);
+      }
+
+  length-gap : (place size : ℕ) (blocks : List (Block A)) → blocks ≡ gap place size → length blocks ≤ 1
+  length-gap place size blocks e =
+      let block : Block A = record { place = place; size = size; owner = None } in
+      let at_most : length (gap {A = A} place size) ≤ 1 = (elim (size == 0) as (λ b. length (cond b [] (block ∷ [])) ≤ 1) [ true ↦ omega arith | false ↦ omega arith ]) in
+      omega (arith, at_most, ap length e)
+
+  -- a pool more keeps the content good
+  pub with_pool_is_good : (base bytes : ℕ) (content : Content A) → IsGood content → can_be_pool base bytes ≡ true → list_all (is_apart base bytes) content.pools ≡ true
+      → length content.pools < most_pools → used_records content < content.records → IsGood (with_pool base bytes content)
+  with_pool_is_good base bytes content good can apart few room =
+      let pool : Pool A = record { base = base; bytes = bytes; blocks = gap base bytes } in
+      let is : IsGoodPool pool = one_block base bytes can in
+      let some : (bytes == 0) ≡ false = ne_eqb bytes 0 (λ e. absurd (omega (arith, e, is.least_bytes))) in
+      record {
+        pools_few = omega (arith, length-in_order pool content.pools, few);
+        pools_good = AreGoodPools-in_order 0 pool content.pools (omega arith) is apart good.pools_good;
+        lists_count = length-link content.lists good.lists_count base bytes;
+        listed = (λ q p below.
+          let old = good.listed q p below in
+          let linked = times-link content.lists good.lists_count q p base bytes in
+          let counted = count_by-pools (is_listed q p) pool content.pools in
+          let one : count_by (is_listed q p) (gap {A = A} base bytes) ≡ stands q p base bytes = count_listed-gap A q p base bytes ∙ ap (λ b. cond b 0 (stands q p base bytes)) some in
+          omega (arith, old, linked, counted, one));
+        blocks_few = omega (arith, length-pools pool content.pools, length-gap base bytes (gap base bytes) refl, room);
+      }
+
+  -- add_pool keeps a content good
+  pub add_pool_is_good : (base bytes : ℕ) (content new : Content A) → IsGood content → add_pool base bytes content ≡ Ok new → IsGood new
+  add_pool_is_good base bytes content new good e =
+      elim (cases_Bool (can_be_pool base bytes && list_all (is_apart base bytes) content.pools)) [
+        inr bad ↦ let refused : add_pool base bytes content ≡ Err BadPool = rw bad refl in absurd (cc)
+      | inl can ↦ elim (cases_Bool (nat_le most_pools (length content.pools))) [
+          inl full ↦ let refused : add_pool base bytes content ≡ Err PoolsFull = rw (can, full) refl in absurd (cc)
+        | inr few ↦ elim (cases_Bool (nat_le content.records (used_records content))) [
+            inl none_left ↦ let refused : add_pool base bytes content ≡ Err TableFull = rw (can, few, none_left) refl in absurd (cc)
+          | inr room ↦
+              let added : add_pool base bytes content ≡ Ok (with_pool base bytes content) = rw (can, few, room) refl in
+              let same : with_pool base bytes content ≡ new = cc in
+              let parts = and_parts _ _ can in
+              let P : Content A → Type 0 = λ x. IsGood x in
+              subst P same (with_pool_is_good base bytes content good parts.0 parts.1 (leb-false _ _ few) (leb-false _ _ room))
+          ]
+        ]
+      ]
+
+  -- a heap that was just created is good
+  pub created_is_good : (records : ℕ) → IsGood (created {A = A} records)
+  created_is_good records = record {
+      pools_few = omega arith;
+      pools_good = tt;
+      lists_count = length-replicate {A = List ℕ} classes [];
+      listed = (λ q p below. ap (times p) (get_or-replicate classes q [] [] below));
+      blocks_few = omega arith;
+    }
