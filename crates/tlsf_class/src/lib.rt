@@ -1,5 +1,42 @@
-//! Size classes by bit counting.
+//! Size classes of a heap by Two-Level Segregated Fit (ECRTS 2004), found by bit counting: a first
+//! level for each power of two, each divided into 32 equal steps, and one first level for all the
+//! smallest sizes, as in `tlsf.c`. Sizes are in bytes.
 #![tactic(auto)]
 
+mod rounding;
+mod size_class;
+mod sizes;
+#[cfg(test)]
+mod tests;
+
+pub use rounding::round;
+pub use size_class::Class;
+pub use sizes::{class_for, class_of, low};
+
 /// How many size classes there are.
-pub const CLASSES: u32 = 736;
+pub const CLASSES: u32 = LEVELS * STEPS;
+
+/// Every place and every size is a multiple of it, in bytes.
+const UNIT: u32 = 8;
+
+/// How many first levels there are.
+const LEVELS: u32 = 23;
+
+/// How many steps a first level has, and the power of two that it is.
+const STEPS: u32 = 1 << STEPS_POWER;
+
+const STEPS_POWER: u32 = 5;
+
+/// The sizes below it share the first level 0, in steps of one unit.
+const SMALL_END: u32 = UNIT * STEPS;
+
+/// The first level `f`, from 1 on, has steps of `1 << (f + STEP_POWER)` bytes.
+const STEP_POWER: u32 = 2;
+
+/// The greatest size of a block, in bytes.
+const GREATEST_SIZE: u32 = (1 << 30) - UNIT;
+
+/// The lowest size of the last class, in bytes.
+const GREATEST_LOW: u32 = (2 * STEPS - 1) << (LEVELS - 1 + STEP_POWER);
+
+const _: () = prove!(CLASSES == 736 && SMALL_END == 256);

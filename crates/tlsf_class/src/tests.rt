@@ -1,0 +1,119 @@
+//! The worked sizes, and each class's neighbourhood against a scan of the lowest sizes.
+
+use super::*;
+
+/// The lowest sizes of the first levels, as the format's table gives them.
+const LEVEL_LOWS: [(u32, u32); 6] = [
+    (0, 0),
+    (1, 256),
+    (2, 512),
+    (3, 1_024),
+    (16, 8_388_608),
+    (22, 536_870_912),
+];
+
+const CLASSES_OF: [(u32, u32); 14] = [
+    (8, 1),
+    (104, 13),
+    (248, 31),
+    (256, 32),
+    (504, 63),
+    (512, 64),
+    (712, 76),
+    (824, 83),
+    (912, 89),
+    (920, 89),
+    (1_016, 95),
+    (1_024, 96),
+    (16_777_208, 543),
+    (1_073_741_816, 735),
+];
+
+const CLASSES_FOR: [(u32, Option<u32>); 4] = [
+    (512, Some(64)),
+    (520, Some(65)),
+    (1_056_964_608, Some(735)),
+    (1_056_964_616, None),
+];
+
+const ROUNDED: [(u64, Option<u32>); 5] = [
+    (0, None),
+    (1, Some(8)),
+    (8, Some(8)),
+    (1_073_741_816, Some(1_073_741_816)),
+    (1_073_741_817, None),
+];
+
+#[test]
+fn lowest_sizes_of_the_first_levels(rt: HostRuntime) {
+    for (level, size) in LEVEL_LOWS {
+        assert!(rt; level < LEVELS);
+        assert_eq!(rt; low(Class::new(32 * level)), size, "at level {level}");
+    }
+}
+
+#[test]
+fn classes_of_worked_sizes(rt: HostRuntime) {
+    for (size, number) in CLASSES_OF {
+        assert!(rt; size % UNIT == 0 && size >= UNIT && size <= GREATEST_SIZE);
+        assert_eq!(rt; class_of(size).number(), number, "at {size}");
+    }
+}
+
+#[test]
+fn classes_for_worked_sizes(rt: HostRuntime) {
+    for (size, number) in CLASSES_FOR {
+        assert!(rt; size % UNIT == 0 && size > 0);
+        assert_eq!(rt;
+            class_for(size).map(|class| class.number()),
+            number,
+            "at {size}"
+        );
+    }
+}
+
+#[test]
+fn rounded_numbers(rt: HostRuntime) {
+    for (n, size) in ROUNDED {
+        assert_eq!(rt; round(n), size, "at {n}");
+    }
+}
+
+/// The greatest class whose lowest size is at most `size`, by looking at every class.
+fn scanned_class_of(size: u32) -> u32 {
+    let mut found = 0;
+    for number in 0..CLASSES {
+        if low(Class::new(number)) <= size {
+            found = number;
+        }
+    }
+    found
+}
+
+/// The least class whose lowest size is at least `size`, by looking at every class.
+fn scanned_class_for(size: u32) -> Option<u32> {
+    for number in 0..CLASSES {
+        if low(Class::new(number)) >= size {
+            return Some(number);
+        }
+    }
+    None
+}
+
+#[test]
+fn each_class_is_that_of_a_scan(rt: HostRuntime) {
+    for number in 1..CLASSES {
+        let lowest = low(Class::new(number));
+        for size in [lowest.saturating_sub(8), lowest, lowest.saturating_add(8)] {
+            if size % UNIT == 0 && size >= UNIT && size <= GREATEST_SIZE {
+                assert_eq!(rt;
+                    class_of(size).number(),
+                    scanned_class_of(size),
+                    "at {size}"
+                );
+                let found = class_for(size).map(|class| class.number());
+                assert_eq!(rt; found, scanned_class_for(size), "at {size}");
+            }
+        }
+    }
+}
