@@ -3,3 +3,5 @@ mod Blocks
 mod Replacing
 mod FreeLists
 mod GoodContent
+mod PlainLists
+mod PlainPools

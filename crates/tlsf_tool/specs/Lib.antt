@@ -3,3 +3,4 @@ pub mod Lists
 pub mod Malloc
 pub mod Pools
 pub mod Good
+pub mod PlainHeap

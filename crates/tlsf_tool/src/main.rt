@@ -1,6 +1,7 @@
 //! The program tlsf.
 #![tactic(auto)]
 
+mod plain_heap;
 mod refusal;
 
 use std::process::ExitCode;
