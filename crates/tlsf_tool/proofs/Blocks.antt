@@ -54,9 +54,9 @@ count_by-append p xs ys = sum_by-append (λ y. cond (p y) 1 0) xs ys
 -- what is listed at a place begins there
 pub is_listed-elsewhere : {A : Type 0} (number place : ℕ) (block : Block A) → is_at place block ≡ false → is_listed number place block ≡ false
 is_listed-elsewhere number place block h = elim (is_free block) as (λ free. (free && (is_at place block && (class block.size == number))) ≡ false) [
-    true ↦ and_left _ _ h
+  | true ↦ and_left _ _ h
   | false ↦ refl
-  ]
+]
 
 pub count_listed-none : {A : Type 0} (number place : ℕ) (blocks : List (Block A)) → NoneAt place blocks → count_by (is_listed number place) blocks ≡ 0
 count_listed-none number place [] n = refl
@@ -78,22 +78,24 @@ pub found_listed : {A : Type 0} (number place from : ℕ) (blocks : List (Block 
     → (found : Found place blocks) × (is_free found.block ≡ true) × (class found.block.size ≡ number)
 found_listed number place from [] a h = absurd (omega arith)
 found_listed number place from (block ∷ blocks) a h = elim (cases_Bool (is_at place block)) [
-    inl here ↦
+  | inl here ↦
       let at : block.place ≡ place = eqb-true block.place place here in
       let none : NoneAt place blocks = NoneAt-below place (block.place + block.size) blocks (omega (arith, a.1, at)) a.2 in
       let sums = count_by-cons (is_listed number place) block blocks in
       let rest = count_listed-none number place blocks none in
       let listed : is_listed number place block ≡ true = elim (cases_Bool (is_listed number place block)) [
-          inl yes_listed ↦ yes_listed
+        | inl yes_listed ↦ yes_listed
         | inr not_listed ↦ absurd (omega (arith, h, sums, rest, ap one_if not_listed))
-        ] in
+      ] in
       let parts = and_parts _ _ listed in
       let more = and_parts _ _ parts.1 in
       (record { front = []; block = block; back = blocks; whole = refl; here = at; none_before = tt; none_behind = none }, parts.0, eqb-true _ _ more.1)
   | inr elsewhere ↦
       let sums = count_by-cons (is_listed number place) block blocks in
       let here = is_listed-elsewhere number place block elsewhere in
-      let found = found_listed number place (block.place + block.size) blocks a.2 (omega (arith, h, sums, ap one_if here)) in
-      (record { front = block ∷ found.0.front; block = found.0.block; back = found.0.back; whole = ap (λ xs. block ∷ xs) found.0.whole; here = found.0.here; none_before = (elsewhere, found.0.none_before); none_behind = found.0.none_behind },
-        found.1, found.2)
-  ]
+      let found = found_listed number place (block.place + block.size) blocks a.2 (omega (arith, h, sums, ap one_if here)) in (
+        record { front = block ∷ found.0.front; block = found.0.block; back = found.0.back; whole = ap (λ xs. block ∷ xs) found.0.whole; here = found.0.here; none_before = (elsewhere, found.0.none_before); none_behind = found.0.none_behind },
+        found.1,
+        found.2,
+      )
+]

@@ -24,25 +24,25 @@ stands-other q p place size h = ap one_if (and_right (place == p) _ (ne_eqb (cla
 
 stands-here : (p place size : ℕ) → stands (class size) p place size ≡ one_if (place == p)
 stands-here p place size = elim (place == p) as (λ b. one_if (b && (class size == class size)) ≡ one_if b) [
-    true ↦ ap one_if (eq-eqb (class size) (class size) refl)
+  | true ↦ ap one_if (eq-eqb (class size) (class size) refl)
   | false ↦ refl
-  ]
+]
 
 pub times-without_same : (place : ℕ) (places : List ℕ) → times place (without place places) ≡ 0
 times-without_same place [] = refl
 times-without_same place (other ∷ places) = elim (cases_Bool (eqb other place)) [
-    inl same ↦ rw same (times-without_same place places)
+  | inl same ↦ rw same (times-without_same place places)
   | inr apart ↦ rw apart (times-cons place other (without place places) ∙ ap (λ n. n + times place (without place places)) (ap one_if apart) ∙ omega (arith, times-without_same place places))
-  ]
+]
 
 pub times-without_other : (p place : ℕ) (places : List ℕ) → place ≢ p → times p (without place places) ≡ times p places
 times-without_other p place [] h = refl
 times-without_other p place (other ∷ places) h = elim (cases_Bool (eqb other place)) [
-    inl same ↦
+  | inl same ↦
       let apart : eqb other p ≡ false = ne_eqb other p (λ e. h (sym (eqb-true other place same) ∙ e)) in
       rw same (times-without_other p place places h ∙ sym (times-cons p other places ∙ ap (λ n. n + times p places) (ap one_if apart) ∙ omega arith))
   | inr apart ↦ rw apart (times-cons p other (without place places) ∙ ap (λ n. one_if (eqb other p) + n) (times-without_other p place places h) ∙ sym (times-cons p other places))
-  ]
+]
 
 -- how a list reads after a class's list was written
 pub list_of-set_same : (number : ℕ) (places : List ℕ) (lists : List (List ℕ)) → number < length lists → list_of number (set lists number places) ≡ places
@@ -57,19 +57,19 @@ module _ (lists : List (List ℕ)) (full : length lists ≡ classes) where
 
   pub times-link : (q p place size : ℕ) → times p (list_of q (link place size lists)) ≡ stands q p place size + times p (list_of q lists)
   times-link q p place size = elim (cases_eq q (class size)) [
-      inl same ↦
+    | inl same ↦
         let P : ℕ → Type 0 = λ n. times p (list_of n (link place size lists)) ≡ stands n p place size + times p (list_of n lists) in
         subst P (sym same) (ap (times p) (list_of-set_same (class size) _ lists (in_lists size)) ∙ times-cons p place (list_of (class size) lists) ∙ ap (λ n. n + times p (list_of (class size) lists)) (sym (stands-here p place size)))
     | inr apart ↦ ap (times p) (list_of-set_other (class size) q _ lists apart) ∙ omega (arith, stands-other q p place size apart)
-    ]
+  ]
 
   pub times-unlink : (q p place size : ℕ) → times place (list_of (class size) lists) ≡ 1 → times p (list_of q (unlink place size lists)) + stands q p place size ≡ times p (list_of q lists)
   times-unlink q p place size once = elim (cases_eq q (class size)) [
-      inl same ↦
+    | inl same ↦
         let P : ℕ → Type 0 = λ n. times p (list_of n (unlink place size lists)) + stands n p place size ≡ times p (list_of n lists) in
         let left : times p (list_of (class size) (unlink place size lists)) ≡ times p (without place (list_of (class size) lists)) = ap (times p) (list_of-set_same (class size) _ lists (in_lists size)) in
         subst P (sym same) (elim (cases_eq place p) [
-            inl at ↦
+          | inl at ↦
               let Q : ℕ → Type 0 = λ n. times n (list_of (class size) (unlink place size lists)) + stands (class size) n place size ≡ times n (list_of (class size) lists) in
               let one : stands (class size) place place size ≡ 1 = stands-here place place size ∙ ap one_if (eq-eqb place place refl) in
               let here : times place (list_of (class size) (unlink place size lists)) ≡ 0 = ap (times place) (list_of-set_same (class size) _ lists (in_lists size)) ∙ times-without_same place (list_of (class size) lists) in
@@ -77,17 +77,17 @@ module _ (lists : List (List ℕ)) (full : length lists ≡ classes) where
           | inr apart ↦
               let none : stands (class size) p place size ≡ 0 = stands-here p place size ∙ ap one_if (ne_eqb place p apart) in
               omega (arith, left, none, times-without_other p place (list_of (class size) lists) apart)
-          ])
-    | inr apart ↦ 
+        ])
+    | inr apart ↦
         let same : times p (list_of q (unlink place size lists)) ≡ times p (list_of q lists) = ap (times p) (list_of-set_other (class size) q _ lists apart) in
         omega (arith, same, stands-other q p place size apart)
-    ]
+  ]
 
   pub times-link_gap : (q p place size : ℕ) → times p (list_of q (link_gap place size lists)) ≡ cond (size == 0) 0 (stands q p place size) + times p (list_of q lists)
   times-link_gap q p place size = elim (size == 0) as (λ b. times p (list_of q (cond b lists (link place size lists))) ≡ cond b 0 (stands q p place size) + times p (list_of q lists)) [
-      true ↦ omega arith
+    | true ↦ omega arith
     | false ↦ times-link q p place size
-    ]
+  ]
 
   pub length-link : (place size : ℕ) → length (link place size lists) ≡ classes
   length-link place size = length-set lists (class size) _ ∙ full
@@ -101,9 +101,9 @@ module _ (lists : List (List ℕ)) (full : length lists ≡ classes) where
 -- a free block of a positive size is listed once, in its class's list
 pub count_listed-gap : (A : Type 0) (q p place size : ℕ) → count_by (is_listed q p) (gap {A = A} place size) ≡ cond (size == 0) 0 (stands q p place size)
 count_listed-gap A q p place size = elim (size == 0) as (λ b. count_by (is_listed {A = A} q p) (cond b [] (record { place = place; size = size; owner = None } ∷ [])) ≡ cond b 0 (stands q p place size)) [
-    true ↦ refl
+  | true ↦ refl
   | false ↦ zero-add (stands q p place size)
-  ]
+]
 
 -- where a place is the first of the lists, it stands in one of them
 pub first_stands : (lists : List (List ℕ)) (place : ℕ) → first_of_lists lists ≡ Some place → (number : ℕ) × (number < length lists) × (1 ≤ times place (list_of number lists))

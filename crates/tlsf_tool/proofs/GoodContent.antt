@@ -45,9 +45,10 @@ Covers-le from to (block ∷ blocks) c = let rest = Covers-le (from + block.size
 whole_in_pool : {A : Type 0} (base bytes from : ℕ) (blocks : List (Block A)) → bytes ≤ greatest_size → base + bytes ≤ end_of_places → base ≤ from → Covers from (base + bytes) blocks → AllByRecursion IsWhole blocks
 whole_in_pool base bytes from [] most ends above c = tt
 whole_in_pool base bytes from (block ∷ blocks) most ends above c =
-    let rest = Covers-le (from + block.size) (base + bytes) blocks c.3 in
-    (record { positive = c.1; in_units = c.2; at_most = omega (arith, most, above, rest); ends = omega (arith, c.0, rest, ends) },
-      whole_in_pool base bytes (from + block.size) blocks most ends (omega (arith, above)) c.3)
+    let rest = Covers-le (from + block.size) (base + bytes) blocks c.3 in (
+      record { positive = c.1; in_units = c.2; at_most = omega (arith, most, above, rest); ends = omega (arith, c.0, rest, ends) },
+      whole_in_pool base bytes (from + block.size) blocks most ends (omega (arith, above)) c.3,
+    )
 
 all-append : {X : Type 0} (P : X → Type 0) (xs ys : List X) → AllByRecursion P xs → AllByRecursion P ys → AllByRecursion P (xs ++ ys)
 all-append P [] ys p q = q
@@ -61,8 +62,8 @@ pub whole_in_pools : {A : Type 0} (from : ℕ) (pools : List (Pool A)) → AreGo
 whole_in_pools from [] g = tt
 whole_in_pools from (pool ∷ pools) g =
     all-append IsWhole pool.blocks (blocks_of pools)
-      (whole_in_pool pool.base pool.bytes pool.base pool.blocks g.1.most_bytes g.1.ends (omega arith) g.1.covered)
-      (whole_in_pools (pool.base + pool.bytes) pools g.2)
+    (whole_in_pool pool.base pool.bytes pool.base pool.blocks g.1.most_bytes g.1.ends (omega arith) g.1.covered)
+    (whole_in_pools (pool.base + pool.bytes) pools g.2)
 
 -- what malloc knows of the block that it picked
 pub record Picked {A : Type 0} (m place : ℕ) (content : Content A) : Type 0 where
@@ -96,7 +97,7 @@ module _ {A : Type 0} where
       let size = sym (size_at-found place (blocks_of content.pools) block.0) in
       let of_class : class (size_at place (blocks_of content.pools)) ≡ number = ap class (sym size) ∙ block.2 in
       let all : AllByRecursion IsWhole (block.0.front ++ block.0.block ∷ block.0.back) =
-            let P : List (Block A) → Type 0 = λ xs. AllByRecursion IsWhole xs in subst P block.0.whole (whole_in_pools 0 content.pools good.pools_good) in
+      let P : List (Block A) → Type 0 = λ xs. AllByRecursion IsWhole xs in subst P block.0.whole (whole_in_pools 0 content.pools good.pools_good) in
       let once : times place (list_of number content.lists) ≡ 1 = omega (arith, listed, counted, one_at_most number place (blocks_of content.pools) block.0) in
       record {
         found = block.0;
@@ -150,11 +151,11 @@ module _ {A : Type 0} where
       let others = length-cut owner place m size in
       let old = good.blocks_few in
       elim (cases_Bool ((size - m) == 0)) [
-        inl whole ↦ omega (arith, new, counted, others ∙ ap (λ b. cond b 1 2) whole, old)
-      | inr more ↦
-          let rest : size - m ≢ 0 = eqb-false (size - m) 0 more in
-          let larger : m < size = grind arith in
-          omega (arith, new, counted, others ∙ ap (λ b. cond b 1 2) more, room larger)
+        | inl whole ↦ omega (arith, new, counted, others ∙ ap (λ b. cond b 1 2) whole, old)
+        | inr more ↦
+            let rest : size - m ≢ 0 = eqb-false (size - m) 0 more in
+            let larger : m < size = grind arith in
+            omega (arith, new, counted, others ∙ ap (λ b. cond b 1 2) more, room larger)
       ]
 
   -- cutting the block that was picked keeps the content good
@@ -167,7 +168,7 @@ module _ {A : Type 0} where
       record {
         pools_few = (let same = length-map content.pools (replaced_in place (cut owner place m size)) in omega (arith, same, good.pools_few));
         pools_good = AreGoodPools-cut owner place m size 0 content.pools positive is.holds in_units size_in_units
-          (EachAt-found place (IsCuttable m size) (blocks_of content.pools) is.found (record { size_is = is.size_is; free = is.free })) good.pools_good;
+            (EachAt-found place (IsCuttable m size) (blocks_of content.pools) is.found (record { size_is = is.size_is; free = is.free })) good.pools_good;
         lists_count = length-link_gap (unlink place size content.lists) (length-unlink content.lists good.lists_count place size) (place + m) (size - m);
         listed = lists-cut owner m place content good is;
         blocks_few = few-cut owner m place content good is room;
@@ -179,19 +180,19 @@ module _ {A : Type 0} where
   allocate_is_good owner m place content new good h positive in_units e =
       let size : ℕ = size_at place (blocks_of content.pools) in
       let go : (b : Bool) → (nat_lt m size && nat_le content.records (used_records content)) ≡ b
-            → cond b (Err TableFull) (Ok (place, allocated owner place m size content)) ≡ Ok new → IsGood new.1
-          = λ b. elim b as (λ b. (nat_lt m size && nat_le content.records (used_records content)) ≡ b
-            → cond b (Err TableFull) (Ok (place, allocated owner place m size content)) ≡ Ok new → IsGood new.1) [
-              true ↦ λ t f. absurd (cc)
-            | false ↦ λ t f.
-                let room : m < size → used_records content < content.records = λ larger. elim (and_cases _ _ t) [
-                    inl not_larger ↦ absurd (omega (arith, larger, ltb-false m size not_larger))
-                  | inr some_left ↦ leb-false _ _ some_left
-                  ] in
-                let same : (place, allocated owner place m size content) ≡ new = cc in
-                let P : ℕ × Content A → Type 0 = λ x. IsGood x.1 in
-                subst P same (allocated_is_good owner m place content good h positive in_units room)
+      → cond b (Err TableFull) (Ok (place, allocated owner place m size content)) ≡ Ok new → IsGood new.1
+      = λ b. elim b as (λ b. (nat_lt m size && nat_le content.records (used_records content)) ≡ b
+      → cond b (Err TableFull) (Ok (place, allocated owner place m size content)) ≡ Ok new → IsGood new.1) [
+        | true ↦ λ t f. absurd (cc)
+        | false ↦ λ t f.
+            let room : m < size → used_records content < content.records = λ larger. elim (and_cases _ _ t) [
+              | inl not_larger ↦ absurd (omega (arith, larger, ltb-false m size not_larger))
+              | inr some_left ↦ leb-false _ _ some_left
             ] in
+            let same : (place, allocated owner place m size content) ≡ new = cc in
+            let P : ℕ × Content A → Type 0 = λ x. IsGood x.1 in
+            subst P same (allocated_is_good owner m place content good h positive in_units room)
+      ] in
       go _ refl e
 
   picked_is_good : (owner : A) (m : ℕ) (content : Content A) (new : ℕ × Content A) (place : Option ℕ) → pick m content.lists ≡ place → IsGood content → 0 < m → m % unit ≡ 0
@@ -208,42 +209,42 @@ module _ {A : Type 0} where
   -- malloc keeps a content good
   pub malloc_is_good : (owner : A) (n : ℕ) (content : Content A) (new : ℕ × Content A) → IsGood content → malloc owner n content ≡ Ok new → IsGood new.1
   malloc_is_good owner n content new good e = elim (cases_Bool (n == 0)) [
-      inl zero_bytes ↦
+    | inl zero_bytes ↦
         let refused : malloc owner n content ≡ Err ZeroSize = rw zero_bytes refl in
         absurd (cc)
     | inr some_bytes ↦
         let asked : malloc owner n content ≡ malloc_rounded owner (round n) content = rw some_bytes refl in
         let positive : n ≢ 0 = eqb-false n 0 some_bytes in
         rounded_is_good owner n content new (round n) refl good (grind arith) (sym asked ∙ e)
-    ]
+  ]
 
   -- how the blocks change where a pool comes in
   count_by-pools : (kind : Block A → Bool) (pool : Pool A) (pools : List (Pool A)) → count_by kind (blocks_of (in_order_of_base pool pools)) ≡ count_by kind pool.blocks + count_by kind (blocks_of pools)
   count_by-pools kind pool [] = count_by-append kind pool.blocks []
   count_by-pools kind pool (other ∷ pools) = elim (nat_lt pool.base other.base) as (λ b. count_by kind (blocks_of (cond b (pool ∷ other ∷ pools) (other ∷ in_order_of_base pool pools))) ≡ count_by kind pool.blocks + count_by kind (blocks_of (other ∷ pools))) [
-      true ↦ count_by-append kind pool.blocks (blocks_of (other ∷ pools))
+    | true ↦ count_by-append kind pool.blocks (blocks_of (other ∷ pools))
     | false ↦
         let one = count_by-append kind other.blocks (blocks_of (in_order_of_base pool pools)) in
         let two = count_by-append kind other.blocks (blocks_of pools) in
         omega (arith, one, two, count_by-pools kind pool pools)
-    ]
+  ]
 
   length-pools : (pool : Pool A) (pools : List (Pool A)) → length (blocks_of (in_order_of_base pool pools)) ≡ length pool.blocks + length (blocks_of pools)
   length-pools pool [] = length-append pool.blocks []
   length-pools pool (other ∷ pools) = elim (nat_lt pool.base other.base) as (λ b. length (blocks_of (cond b (pool ∷ other ∷ pools) (other ∷ in_order_of_base pool pools))) ≡ length pool.blocks + length (blocks_of (other ∷ pools))) [
-      true ↦ length-append pool.blocks (blocks_of (other ∷ pools))
+    | true ↦ length-append pool.blocks (blocks_of (other ∷ pools))
     | false ↦
         let one = length-append other.blocks (blocks_of (in_order_of_base pool pools)) in
         let two = length-append other.blocks (blocks_of pools) in
         omega (arith, one, two, length-pools pool pools)
-    ]
+  ]
 
   length-in_order : (pool : Pool A) (pools : List (Pool A)) → length (in_order_of_base pool pools) ≡ suc (length pools)
   length-in_order pool [] = refl
   length-in_order pool (other ∷ pools) = elim (nat_lt pool.base other.base) as (λ b. length (cond b (pool ∷ other ∷ pools) (other ∷ in_order_of_base pool pools)) ≡ suc (suc (length pools))) [
-      true ↦ refl
+    | true ↦ refl
     | false ↦ ap suc (length-in_order pool pools)
-    ]
+  ]
 
   -- a pool that overlaps no other finds its place among them
   AreGoodPools-in_order : (from : ℕ) (pool : Pool A) (pools : List (Pool A)) → from ≤ pool.base → IsGoodPool pool → list_all (is_apart pool.base pool.bytes) pools ≡ true → AreGoodPools from pools
@@ -254,22 +255,22 @@ module _ {A : Type 0} where
       let some : 1 ≤ pool.bytes = omega (arith, is.least_bytes) in
       let some_other : 1 ≤ other.bytes = omega (arith, g.1.least_bytes) in
       elim (cases_Bool (nat_lt pool.base other.base)) [
-        inl before ↦
-          let P : Bool → Type 0 = λ b. AreGoodPools from (cond b (pool ∷ other ∷ pools) (other ∷ in_order_of_base pool pools)) in
-          let less = ltb-true pool.base other.base before in
-          let ends : pool.base + pool.bytes ≤ other.base = elim (or_cases _ _ parts.0) [
-              inl in_front ↦ leb-true (pool.base + pool.bytes) other.base in_front
-            | inr behind ↦ absurd (omega (arith, less, some_other, leb-true (other.base + other.bytes) pool.base behind))
+        | inl before ↦
+            let P : Bool → Type 0 = λ b. AreGoodPools from (cond b (pool ∷ other ∷ pools) (other ∷ in_order_of_base pool pools)) in
+            let less = ltb-true pool.base other.base before in
+            let ends : pool.base + pool.bytes ≤ other.base = elim (or_cases _ _ parts.0) [
+              | inl in_front ↦ leb-true (pool.base + pool.bytes) other.base in_front
+              | inr behind ↦ absurd (omega (arith, less, some_other, leb-true (other.base + other.bytes) pool.base behind))
             ] in
-          subst P (sym before) (above, is, (ends, g.1, g.2))
-      | inr after ↦
-          let P : Bool → Type 0 = λ b. AreGoodPools from (cond b (pool ∷ other ∷ pools) (other ∷ in_order_of_base pool pools)) in
-          let at_least = ltb-false pool.base other.base after in
-          let begins : other.base + other.bytes ≤ pool.base = elim (or_cases _ _ parts.0) [
-              inl in_front ↦ absurd (omega (arith, at_least, some, leb-true (pool.base + pool.bytes) other.base in_front))
-            | inr behind ↦ leb-true (other.base + other.bytes) pool.base behind
+            subst P (sym before) (above, is, (ends, g.1, g.2))
+        | inr after ↦
+            let P : Bool → Type 0 = λ b. AreGoodPools from (cond b (pool ∷ other ∷ pools) (other ∷ in_order_of_base pool pools)) in
+            let at_least = ltb-false pool.base other.base after in
+            let begins : other.base + other.bytes ≤ pool.base = elim (or_cases _ _ parts.0) [
+              | inl in_front ↦ absurd (omega (arith, at_least, some, leb-true (pool.base + pool.bytes) other.base in_front))
+              | inr behind ↦ leb-true (other.base + other.bytes) pool.base behind
             ] in
-          subst P (sym after) (g.0, g.1, AreGoodPools-in_order (other.base + other.bytes) pool pools begins is parts.1 g.2)
+            subst P (sym after) (g.0, g.1, AreGoodPools-in_order (other.base + other.bytes) pool pools begins is parts.1 g.2)
       ]
 
   -- a pool that is one free block
@@ -312,11 +313,11 @@ module _ {A : Type 0} where
         pools_good = AreGoodPools-in_order 0 pool content.pools (omega arith) is apart good.pools_good;
         lists_count = length-link content.lists good.lists_count base bytes;
         listed = (λ q p below.
-          let old = good.listed q p below in
-          let linked = times-link content.lists good.lists_count q p base bytes in
-          let counted = count_by-pools (is_listed q p) pool content.pools in
-          let one : count_by (is_listed q p) (gap {A = A} base bytes) ≡ stands q p base bytes = count_listed-gap A q p base bytes ∙ ap (λ b. cond b 0 (stands q p base bytes)) some in
-          omega (arith, old, linked, counted, one));
+            let old = good.listed q p below in
+            let linked = times-link content.lists good.lists_count q p base bytes in
+            let counted = count_by-pools (is_listed q p) pool content.pools in
+            let one : count_by (is_listed q p) (gap {A = A} base bytes) ≡ stands q p base bytes = count_listed-gap A q p base bytes ∙ ap (λ b. cond b 0 (stands q p base bytes)) some in
+            omega (arith, old, linked, counted, one));
         blocks_few = omega (arith, length-pools pool content.pools, length-gap base bytes (gap base bytes) refl, room);
       }
 
@@ -324,17 +325,17 @@ module _ {A : Type 0} where
   pub add_pool_is_good : (base bytes : ℕ) (content new : Content A) → IsGood content → add_pool base bytes content ≡ Ok new → IsGood new
   add_pool_is_good base bytes content new good e =
       elim (cases_Bool (can_be_pool base bytes && list_all (is_apart base bytes) content.pools)) [
-        inr bad ↦ let refused : add_pool base bytes content ≡ Err BadPool = rw bad refl in absurd (cc)
-      | inl can ↦ elim (cases_Bool (nat_le most_pools (length content.pools))) [
-          inl full ↦ let refused : add_pool base bytes content ≡ Err PoolsFull = rw (can, full) refl in absurd (cc)
-        | inr few ↦ elim (cases_Bool (nat_le content.records (used_records content))) [
-            inl none_left ↦ let refused : add_pool base bytes content ≡ Err TableFull = rw (can, few, none_left) refl in absurd (cc)
-          | inr room ↦
-              let added : add_pool base bytes content ≡ Ok (with_pool base bytes content) = rw (can, few, room) refl in
-              let same : with_pool base bytes content ≡ new = cc in
-              let parts = and_parts _ _ can in
-              let P : Content A → Type 0 = λ x. IsGood x in
-              subst P same (with_pool_is_good base bytes content good parts.0 parts.1 (leb-false _ _ few) (leb-false _ _ room))
+        | inr bad ↦ let refused : add_pool base bytes content ≡ Err BadPool = rw bad refl in absurd (cc)
+        | inl can ↦ elim (cases_Bool (nat_le most_pools (length content.pools))) [
+          | inl full ↦ let refused : add_pool base bytes content ≡ Err PoolsFull = rw (can, full) refl in absurd (cc)
+          | inr few ↦ elim (cases_Bool (nat_le content.records (used_records content))) [
+            | inl none_left ↦ let refused : add_pool base bytes content ≡ Err TableFull = rw (can, few, none_left) refl in absurd (cc)
+            | inr room ↦
+                let added : add_pool base bytes content ≡ Ok (with_pool base bytes content) = rw (can, few, room) refl in
+                let same : with_pool base bytes content ≡ new = cc in
+                let parts = and_parts _ _ can in
+                let P : Content A → Type 0 = λ x. IsGood x in
+                subst P same (with_pool_is_good base bytes content good parts.0 parts.1 (leb-false _ _ few) (leb-false _ _ room))
           ]
         ]
       ]
@@ -342,9 +343,9 @@ module _ {A : Type 0} where
   -- a heap that was just created is good
   pub created_is_good : (records : ℕ) → IsGood (created {A = A} records)
   created_is_good records = record {
-      pools_few = omega arith;
-      pools_good = tt;
-      lists_count = length-replicate {A = List ℕ} classes [];
-      listed = (λ q p below. ap (times p) (get_or-replicate classes q [] [] below));
-      blocks_few = omega arith;
-    }
+    pools_few = omega arith;
+    pools_good = tt;
+    lists_count = length-replicate {A = List ℕ} classes [];
+    listed = (λ q p below. ap (times p) (get_or-replicate classes q [] [] below));
+    blocks_few = omega arith;
+  }

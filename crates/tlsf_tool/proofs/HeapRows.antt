@@ -44,9 +44,9 @@ one number (malloc_of n) content = after_malloc content (malloc number n content
 abbrev requests : ℕ → List Request → Held → After
 requests number [] content = record { answers = []; content = content }
 requests number (request ∷ more) content =
-  let first = one number request content in
-  let then = requests number more first.content in
-  record { answers = first.answers ++ then.answers; content = then.content }
+    let first = one number request content in
+    let then = requests number more first.content in
+    record { answers = first.answers ++ then.answers; content = then.content }
 
 -- the rows of all pools: place, size, and whether it is live
 abbrev rows : Held → List (ℕ × ℕ × Bool)
@@ -58,7 +58,6 @@ pools content = map {B = ℕ × ℕ} (λ area. (area.base, area.bytes)) content.
 
 abbrev from_create : ℕ → List Request → After
 from_create records asked = requests 0 asked (created records)
-
 
 first_split-answers : (from_create 4 (pool 0 1024 ∷ malloc_of 100 ∷ [])).answers ≡ done ∷ given 0 ∷ []
 unfolding class need low rounded

@@ -5,3 +5,4 @@ mod FreeLists
 mod GoodContent
 mod PlainLists
 mod PlainPools
+mod PlainMalloc

@@ -45,7 +45,7 @@ pub size_found : (place size : ℕ) (pools : List Area) (index : ℕ) (pool : Ar
     → size ≡ size_at place (blocks_of pools)
 size_found place size pools index pool below is so_far found =
     sym (ap (λ o. unwrap_or o 0) (ap (option_map (λ (b : Piece). b.size)) (sym so_far ∙ find_next (is_at place) pools index pool below is)
-      ∙ or_some (find (is_at place) pool.blocks) (find (is_at place) (blocks_of (drop (index + 1) pools))) size found))
+    ∙ or_some (find (is_at place) pool.blocks) (find (is_at place) (blocks_of (drop (index + 1) pools))) size found))
 
 -- where it has none, the search goes on
 pub size_passed : (place : ℕ) (pools : List Area) (index : ℕ) (pool : Area) → index < length pools → pool ≡ get_or pools index pool
@@ -58,5 +58,5 @@ size_passed place pools index pool below is so_far none =
 pub place_is : (base : ℕ) (pools : List Area) (n : ℕ) (d : Area) → n ≤ length pools → ((k : ℕ) (d : Area) → k < n → (get_or pools k d).base ≤ base) → (n < length pools → base < (get_or pools n d).base) → n ≡ pool_place base pools
 place_is base pools n d within before behind =
     sym (prefix_len_is (λ (p : Area). not (nat_lt base p.base)) pools n d within
-      (λ k below. not_from_false _ (le-ltb base (get_or pools k d).base (before k d below)))
-      (λ below. not_from_true _ (lt-ltb base (get_or pools n d).base (behind below))))
+    (λ k below. not_from_false _ (le-ltb base (get_or pools k d).base (before k d below)))
+    (λ below. not_from_true _ (lt-ltb base (get_or pools n d).base (behind below))))

@@ -59,7 +59,7 @@ module _ {A : Type 0} where
   size_at-found place blocks found =
       let first : find (is_at place) (found.block ∷ found.back) ≡ Some found.block = rw (eq-eqb _ _ found.here) refl in
       ap (λ o. unwrap_or (option_map (λ (block : Block A). block.size) o) 0)
-        (ap (find (is_at place)) found.whole ∙ find-none place found.front (found.block ∷ found.back) found.none_before ∙ first)
+      (ap (find (is_at place)) found.whole ∙ find-none place found.front (found.block ∷ found.back) found.none_before ∙ first)
 
   -- pool by pool is all at once
   pub blocks_of-replaced : (place : ℕ) (others : List (Block A)) (pools : List (Pool A)) → blocks_of (map (replaced_in place others) pools) ≡ replaced place others (blocks_of pools)
@@ -102,7 +102,7 @@ module _ {A : Type 0} where
       → Covers from to blocks → Covers from to (replaced place others blocks)
   Covers-replaced place size from to others [] o e c = c
   Covers-replaced place size from to others (block ∷ blocks) o e c = elim (cases_Bool (is_at place block)) [
-      inl here ↦
+    | inl here ↦
         let at : place ≡ from = sym (eqb-true _ _ here) ∙ c.0 in
         let same : block.size ≡ size = e.0 here in
         let rest = Covers-replaced place size (from + block.size) to others blocks o e.1 c.3 in
@@ -114,23 +114,23 @@ module _ {A : Type 0} where
         let rest = Covers-replaced place size (from + block.size) to others blocks o e.1 c.3 in
         let P : List (Block A) → Type 0 = λ xs. Covers from to xs in
         subst P (sym (replaced-elsewhere place others block blocks elsewhere)) (c.0, c.1, c.2, rest)
-    ]
+  ]
 
   -- a live block, and a free one for what is left, cover what the block covered
   pub Covers-cut : (owner : A) (place m size : ℕ) → 0 < m → m ≤ size → m % unit ≡ 0 → size % unit ≡ 0 → Covers place (place + size) (cut owner place m size)
   Covers-cut owner place m size positive within m_in_units in_units =
       elim (cases_Bool (eqb (size - m) 0)) [
-        inl whole ↦
-          let all : size - m ≡ 0 = eqb-true _ _ whole in
-          let P : List (Block A) → Type 0 = λ xs. Covers (place + m) (place + size) xs in
-          let none : gap {A = A} (place + m) (size - m) ≡ [] = rw whole refl in
-          (refl, positive, m_in_units, subst P (sym none) (let e : place + m ≡ place + size = omega arith in e))
-      | inr more ↦
-          let P : List (Block A) → Type 0 = λ xs. Covers (place + m) (place + size) xs in
-          let one : gap {A = A} (place + m) (size - m) ≡ record { place = place + m; size = size - m; owner = None } ∷ [] = rw more refl in
-          let rest : 0 < size - m = grind (arith, eqb-false (size - m) 0 more) in
-          let rest_in_units : (size - m) % unit ≡ 0 = omega arith in
-          (refl, positive, m_in_units, subst P (sym one) (refl, rest, rest_in_units, (let e : (place + m) + (size - m) ≡ place + size = omega arith in e)))
+        | inl whole ↦
+            let all : size - m ≡ 0 = eqb-true _ _ whole in
+            let P : List (Block A) → Type 0 = λ xs. Covers (place + m) (place + size) xs in
+            let none : gap {A = A} (place + m) (size - m) ≡ [] = rw whole refl in
+            (refl, positive, m_in_units, subst P (sym none) (let e : place + m ≡ place + size = omega arith in e))
+        | inr more ↦
+            let P : List (Block A) → Type 0 = λ xs. Covers (place + m) (place + size) xs in
+            let one : gap {A = A} (place + m) (size - m) ≡ record { place = place + m; size = size - m; owner = None } ∷ [] = rw more refl in
+            let rest : 0 < size - m = grind (arith, eqb-false (size - m) 0 more) in
+            let rest_in_units : (size - m) % unit ≡ 0 = omega arith in
+            (refl, positive, m_in_units, subst P (sym one) (refl, rest, rest_in_units, (let e : (place + m) + (size - m) ≡ place + size = omega arith in e)))
       ]
 
   not_after_free : (blocks : List (Block A)) → NoFreeNeighbours true blocks → NoFreeNeighbours false blocks
@@ -140,15 +140,15 @@ module _ {A : Type 0} where
   -- a live block with a free one behind it stands as well as the free block did
   pub NoFreeNeighbours-cut : (owner : A) (place m size : ℕ) (blocks : List (Block A)) → NoFreeNeighbours true blocks → NoFreeNeighbours false (cut owner place m size ++ blocks)
   NoFreeNeighbours-cut owner place m size blocks h = elim (eqb (size - m) 0) as (λ b. NoFreeNeighbours false (record { place = place; size = m; owner = Some owner } ∷ cond b [] (record { place = place + m; size = size - m; owner = None } ∷ []) ++ blocks)) [
-      true ↦ (refl, not_after_free blocks h)
+    | true ↦ (refl, not_after_free blocks h)
     | false ↦ (refl, (refl, h))
-    ]
+  ]
 
   pub NoFreeNeighbours-replaced : (owner : A) (place m size : ℕ) (after_free : Bool) (blocks : List (Block A)) → EachAt place (λ block. is_free block ≡ true) blocks
       → NoFreeNeighbours after_free blocks → NoFreeNeighbours after_free (replaced place (cut owner place m size) blocks)
   NoFreeNeighbours-replaced owner place m size after_free [] e n = n
   NoFreeNeighbours-replaced owner place m size after_free (block ∷ blocks) e n = elim (cases_Bool (is_at place block)) [
-      inl here ↦
+    | inl here ↦
         let free : is_free block ≡ true = e.0 here in
         let rest = NoFreeNeighbours-replaced owner place m size (is_free block) blocks e.1 n.1 in
         let R : Bool → Type 0 = λ b. NoFreeNeighbours b (replaced place (cut owner place m size) blocks) in
@@ -160,7 +160,7 @@ module _ {A : Type 0} where
     | inr elsewhere ↦
         let P : List (Block A) → Type 0 = λ xs. NoFreeNeighbours after_free xs in
         subst P (sym (replaced-elsewhere place _ block blocks elsewhere)) (n.0, NoFreeNeighbours-replaced owner place m size (is_free block) blocks e.1 n.1)
-    ]
+  ]
 
   -- what the block at a place has to be, so that it can be cut to m bytes
   pub record IsCuttable (m size : ℕ) (block : Block A) : Type 0 where
@@ -176,8 +176,8 @@ module _ {A : Type 0} where
       → EachAt place (IsCuttable m size) (blocks_of pools) → AreGoodPools from pools → AreGoodPools from (map (replaced_in place (cut owner place m size)) pools)
   AreGoodPools-cut owner place m size from [] positive within m_in_units in_units e g = tt
   AreGoodPools-cut owner place m size from (pool ∷ pools) positive within m_in_units in_units e g =
-      let here = EachAt-front place (IsCuttable m size) pool.blocks (blocks_of pools) e in
-      (g.0,
+      let here = EachAt-front place (IsCuttable m size) pool.blocks (blocks_of pools) e in (
+        g.0,
         record {
           base_in_units = g.1.base_in_units;
           bytes_in_units = g.1.bytes_in_units;
@@ -185,7 +185,8 @@ module _ {A : Type 0} where
           most_bytes = g.1.most_bytes;
           ends = g.1.ends;
           covered = Covers-replaced place size _ _ _ pool.blocks (Covers-cut owner place m size positive within m_in_units in_units)
-            (EachAt-weaker place (IsCuttable m size) (λ block. block.size ≡ size) pool.blocks (λ block c. c.size_is) here) g.1.covered;
+              (EachAt-weaker place (IsCuttable m size) (λ block. block.size ≡ size) pool.blocks (λ block c. c.size_is) here) g.1.covered;
           merged = NoFreeNeighbours-replaced owner place m size false pool.blocks (EachAt-weaker place (IsCuttable m size) (λ block. is_free block ≡ true) pool.blocks (λ block c. c.free) here) g.1.merged;
         },
-        AreGoodPools-cut owner place m size (pool.base + pool.bytes) pools positive within m_in_units in_units (EachAt-back place (IsCuttable m size) pool.blocks (blocks_of pools) e) g.2)
+        AreGoodPools-cut owner place m size (pool.base + pool.bytes) pools positive within m_in_units in_units (EachAt-back place (IsCuttable m size) pool.blocks (blocks_of pools) e) g.2,
+      )

@@ -36,7 +36,7 @@ allocated owner place m size content = record content {
 -- the block at the place is to hold m bytes; a rest needs a record
 abbrev pub allocate : {A : Type 0} → A → ℕ → ℕ → ℕ → Content A → Result (ℕ × Content A) Refusal
 allocate owner place m size content =
-  if nat_lt m size && nat_le content.records (used_records content) then Err TableFull else Ok (place, allocated owner place m size content)
+    if nat_lt m size && nat_le content.records (used_records content) then Err TableFull else Ok (place, allocated owner place m size content)
 
 abbrev pub malloc_picked : {A : Type 0} → A → ℕ → Option ℕ → Content A → Result (ℕ × Content A) Refusal
 malloc_picked owner m None content = Err NoFit

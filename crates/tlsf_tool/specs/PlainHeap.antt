@@ -1,8 +1,10 @@
 -- What the fields of the plain heap stand for.
-use Rattle.std.specs.Prelude.{ℕ, Bool, Option, Some, None, if◌then◌else◌, List, map, Vec, nat_lt}
+use Rattle.std.specs.Prelude.{◌≡◌, ◌<◌, ℕ, Bool, Option, Some, None, if◌then◌else◌, List, map, Vec, nat_lt}
 use Rattle.std.specs.List.{position_or_len}
 use Rattle.std.specs.declared.alloc.Global.{Global}
-use Rattle.tlsf_tool.specs.Content.{Block, Pool, Content}
+use Rattle.tlsf_tool.specs.Content.{Block, Pool, Content, blocks_of, size_at, used_records}
+use Rattle.tlsf_class.specs.Rounding.{round}
+use Rattle.tlsf_tool.specs.Lists.{pick}
 
 -- a block whose owner, where it has one, isn't told
 abbrev pub block_of : ℕ → ℕ → Bool → Block (Unit {0})
@@ -19,3 +21,10 @@ pool_place base pools = position_or_len (λ pool. nat_lt base pool.base) pools
 -- the content that the fields stand for
 abbrev pub content_of : ℕ → List (Pool (Unit {0})) → List (Vec ℕ Global) → Content (Unit {0})
 content_of records pools lists = record { records = records; pools = pools; lists = lists_of lists }
+
+-- the block that malloc(n) takes: the one picked for n bytes rounded up, where what is left has a record
+pub record IsChosen (n place asked size : ℕ) (content : Content (Unit {0})) : Type 0 where
+  pub rounded : round n ≡ Some asked
+  pub is_picked : pick asked content.lists ≡ Some place
+  pub size_is : size ≡ size_at place (blocks_of content.pools)
+  pub room : asked < size → used_records content < content.records

@@ -27,7 +27,7 @@ is_apart base bytes pool = nat_le (base + bytes) pool.base || nat_le (pool.base 
 -- whether base and bytes can be those of a pool
 abbrev pub can_be_pool : ℕ → ℕ → Bool
 can_be_pool base bytes =
-  (base % unit == 0) && ((bytes % unit == 0) && (nat_le unit bytes && (nat_le bytes greatest_size && nat_le (base + bytes) end_of_places)))
+    (base % unit == 0) && ((bytes % unit == 0) && (nat_le unit bytes && (nat_le bytes greatest_size && nat_le (base + bytes) end_of_places)))
 
 -- the pool stands before the first one that begins behind it
 abbrev pub in_order_of_base : {A : Type 0} → Pool A → List (Pool A) → List (Pool A)
@@ -44,6 +44,6 @@ with_pool base bytes content = record content {
 -- add_pool(base, bytes): the new content, or why it is refused
 abbrev pub add_pool : {A : Type 0} → ℕ → ℕ → Content A → Result (Content A) Refusal
 add_pool base bytes content =
-  if not (can_be_pool base bytes && list_all (is_apart base bytes) content.pools) then Err BadPool else
-  (if nat_le most_pools (length content.pools) then Err PoolsFull else
-  (if nat_le content.records (used_records content) then Err TableFull else Ok (with_pool base bytes content)))
+    if not (can_be_pool base bytes && list_all (is_apart base bytes) content.pools) then Err BadPool else
+    (if nat_le most_pools (length content.pools) then Err PoolsFull else
+    (if nat_le content.records (used_records content) then Err TableFull else Ok (with_pool base bytes content)))

@@ -6,9 +6,9 @@
 mod block;
 mod choice;
 mod cut;
+mod heap;
 mod lists;
 mod pool;
 mod pools;
 
-pub use block::Block;
-pub use pool::Pool;
+pub use heap::PlainHeap;

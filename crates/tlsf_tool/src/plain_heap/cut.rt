@@ -23,11 +23,7 @@ fn push_cut(blocks: &mut Vec<Block>, choice: Choice) -> Result<(), AllocError>
 }
 
 /// Puts the block at the end, cut where it is the one chosen.
-fn push_replaced(
-    blocks: &mut Vec<Block>,
-    block: &Block,
-    choice: Choice,
-) -> Result<(), AllocError>
+fn push_replaced(blocks: &mut Vec<Block>, block: &Block, choice: Choice) -> Result<(), AllocError>
     ensures { OnOk result (blocks.new.items ≡ blocks.old.items
         ++ (if is_at choice.place block.now then cut tt choice.place choice.asked choice.size else block.now ∷ [])) }
 {
@@ -40,11 +36,7 @@ fn push_replaced(
 }
 
 /// The blocks with the one chosen cut.
-pub fn cut_in(
-    alloc: Global,
-    blocks: &[Block],
-    choice: Choice,
-) -> Result<Vec<Block>, AllocError>
+pub fn cut_in(alloc: Global, blocks: &[Block], choice: Choice) -> Result<Vec<Block>, AllocError>
     ensures { IfOk result (λ v. v.items
         ≡ replaced choice.place (cut tt choice.place choice.asked choice.size) blocks.now) }
 {
@@ -56,11 +48,7 @@ pub fn cut_in(
 }
 
 /// The pools with the block chosen cut.
-pub fn cut_in_pools(
-    alloc: Global,
-    pools: &[Pool],
-    choice: Choice,
-) -> Result<Vec<Pool>, AllocError>
+pub fn cut_in_pools(alloc: Global, pools: &[Pool], choice: Choice) -> Result<Vec<Pool>, AllocError>
     ensures { IfOk result (λ v. v.items
         ≡ map (replaced_in choice.place (cut tt choice.place choice.asked choice.size)) pools.now) }
 {

@@ -2,7 +2,7 @@
 
 ghost use Rattle.std.specs.Prelude.{◌≡◌, ◌+◌, ◌-◌, ◌%◌, ◌<◌, ◌≤◌, ◌∷◌, length, slice_set, vec_len, IfOk, OnOk, OnErr};
 ghost use Rattle.tlsf_class.specs.Classes.{unit, classes, greatest_size, class};
-ghost use Rattle.tlsf_tool.specs.Lists.{list_of, without, link as linked, unlink, first_of_lists as first_place, pick as picked_place};
+ghost use Rattle.tlsf_tool.specs.Lists.{list_of, without, unlink, first_of_lists as first_place, pick as picked_place};
 ghost use Rattle.tlsf_tool.specs.Malloc.{link_gap};
 ghost use Rattle.tlsf_tool.specs.PlainHeap.{lists_of};
 
@@ -22,7 +22,7 @@ fn others(alloc: Global, places: &[u32], place: u32) -> Result<Vec<u32>, AllocEr
 }
 
 /// The place, and then the others.
-fn in_front(alloc: Global, place: u32, places: &[u32]) -> Result<Vec<u32>, AllocError>
+pub fn in_front(alloc: Global, place: u32, places: &[u32]) -> Result<Vec<u32>, AllocError>
     ensures { IfOk result (λ v. v.items ≡ place ∷ places.now) }
 {
     let mut all = Vec::new(alloc);
@@ -59,7 +59,7 @@ pub fn pick(lists: &[Vec<u32>], size: u32) -> Option<u32>
 }
 
 /// The number of the class of a block of `size` bytes.
-fn list_number(size: u32) -> usize
+pub fn list_number(size: u32) -> usize
     requires whole { size % unit ≡ 0 }
     requires some { 0 < size }
     requires most { size ≤ greatest_size }
@@ -67,27 +67,6 @@ fn list_number(size: u32) -> usize
     ensures below { result < classes }
 {
     class_of(size).number() as usize
-}
-
-/// A free block that begins at `place` and has `size` bytes enters its class's list in front. An
-/// `Err` changes nothing.
-pub fn link(
-    alloc: Global,
-    lists: &mut Vec<Vec<u32>>,
-    place: u32,
-    size: u32,
-) -> Result<(), AllocError>
-    requires whole { size % unit ≡ 0 }
-    requires some { 0 < size }
-    requires most { size ≤ greatest_size }
-    requires full { vec_len lists.old ≡ classes }
-    ensures ok { OnOk result (lists_of lists.new.items ≡ linked place size (lists_of lists.old.items)) }
-    ensures err { OnErr result (lists.new.items ≡ lists.old.items) }
-{
-    let number = list_number(size);
-    let entered = in_front(alloc, place, lists[number].as_slice())?;
-    lists[number] = entered;
-    Ok(())
 }
 
 /// The list of the class of what is left of the block chosen, with what is left in front. `left` is
@@ -115,11 +94,7 @@ fn list_of_rest(
 
 /// The block chosen leaves its class's list, and what is left of it enters its own. An `Err` changes
 /// nothing.
-pub fn relink(
-    alloc: Global,
-    lists: &mut Vec<Vec<u32>>,
-    choice: Choice,
-) -> Result<(), AllocError>
+pub fn relink(alloc: Global, lists: &mut Vec<Vec<u32>>, choice: Choice) -> Result<(), AllocError>
     requires { vec_len lists.old ≡ classes }
     ensures ok { OnOk result (lists_of lists.new.items
         ≡ link_gap (choice.place + choice.asked) (choice.size - choice.asked) (unlink choice.place choice.size (lists_of lists.old.items))) }
