@@ -1,12 +1,9 @@
 ghost use Rattle.std.specs.Prelude.{◌≡◌, ◌<◌, SomeIff};
 ghost use Rattle.mtrace_log.specs.Address.{address_text};
 
-use crate::hex;
+use crate::hex::{self, LONGEST_ADDRESS};
 use arrayvec::ArrayVec;
 use std::marker::Model;
-
-/// The greatest number of bytes in the spelling of an address.
-pub const LONGEST_ADDRESS: usize = 18;
 
 /// An address in a log: a number of 64 bits that isn't 0.
 #[derive(Clone, Copy, Debug, PartialEq, Eq, PartialOrd, Ord)]

@@ -7,6 +7,9 @@ ghost use Rattle.mtrace_log.specs.Address.{hex_digits, address_text, IsAddress};
 
 use arrayvec::ArrayVec;
 
+/// The greatest number of bytes in the spelling of an address.
+pub const LONGEST_ADDRESS: usize = 18;
+
 // The byte that writes a digit below 16.
 fn digit_byte(digit: u8) -> u8
     requires { digit < 16 }
@@ -19,21 +22,20 @@ fn digit_byte(digit: u8) -> u8
     }
 }
 
-// Appends the digits of a number above 0, the highest first.
-fn push_digits(text: &mut ArrayVec<u8, 18>, number: u64)
-    requires positive { 0 < number }
-    requires room { array_vec_len text.old + length (digits_of 16 number) ≤ 18 }
+// Appends the digits of a number, the highest first, none for 0.
+fn push_digits(text: &mut ArrayVec<u8, LONGEST_ADDRESS>, number: u64)
+    requires { array_vec_len text.old + length (hex_digits number) ≤ LONGEST_ADDRESS }
     ensures { text.new.items ≡ text.old.items ++ hex_digits number }
 {
-    if number >= 16 {
-        push_digits(text, number / 16);
+    if number == 0 {
+        return;
     }
+    push_digits(text, number / 16);
     text.push(digit_byte((number % 16) as u8));
 }
 
 // The spelling of an address.
-pub(crate) fn address_text(number: u64) -> ArrayVec<u8, 18>
-    requires { 0 < number }
+pub(crate) fn address_text(number: u64) -> ArrayVec<u8, LONGEST_ADDRESS>
     ensures { result.items ≡ address_text number }
 {
     let mut text = ArrayVec::new();
