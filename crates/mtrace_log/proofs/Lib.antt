@@ -1,5 +1,7 @@
 -- Lemmas that several proofs share.
 pub mod TextLemmas
 pub mod HexLemmas
+pub mod FieldLemmas
+pub mod EventLemmas
 pub mod LineLemmas
 pub mod ReadLemmas

@@ -4,6 +4,7 @@ pub mod Address
 pub mod Location
 pub mod Spelling
 pub mod Reading
+pub mod Fields
 pub mod Lines
 pub mod Progress
 pub mod State

@@ -15,11 +15,15 @@ abbrev pub location_text : Option (List ℕ) → List ℕ
 location_text None = []
 location_text (Some location) = codes "@ " ++ (location ++ space ∷ [])
 
+-- `+ PTR SIZE`
+abbrev pub alloc_text : Option ℕ → ℕ → List ℕ
+alloc_text address size = codes "+ " ++ (pointer_text address ++ space ∷ size_text size)
+
 -- the line of an event
 abbrev pub spell : Event → List ℕ
 spell Start = codes "= Start"
 spell End = codes "= End"
-spell (Alloc place address size) = location_text place ++ (codes "+ " ++ (pointer_text address ++ space ∷ size_text size))
+spell (Alloc place address size) = location_text place ++ alloc_text address size
 
 -- what the fields of an event can hold
 abbrev pub IsEvent : Event → Type 0

@@ -1,5 +1,5 @@
-ghost use Rattle.std.specs.Prelude.{◌≡◌, ℕ, ◌<◌, ◌≤◌, length, OkIff, SomeIff};
-ghost use Rattle.mtrace_log.specs.Location.{IsLocation};
+ghost use Rattle.std.specs.Prelude.{◌≡◌, ◌↔◌, EachIndex, slice_index, IsTrue, SomeIff};
+ghost use Rattle.mtrace_log.specs.Location.{IsLocation, IsLocationByte};
 
 use arrayvec::ArrayVec;
 use std::marker::Model;
@@ -26,21 +26,24 @@ impl Model for Location {
     ghost inverse = { λ bytes. record { text = record { items = bytes } } };
 }
 
+// Whether each byte can stand in a location.
+fn are_location_bytes(bytes: &[u8]) -> bool
+    ensures { IsTrue result ↔ EachIndex bytes.now (λ k. IsLocationByte (slice_index bytes.now k)) }
+{
+    bytes.iter().all(|b| *b > b' ' && *b != 0x7F)
+}
+
 impl Location {
     /// The location of these bytes, if they are one.
     pub fn new(bytes: &[u8]) -> Option<Self>
         ensures { SomeIff result (IsLocation bytes.now) bytes.now }
     {
-        if bytes.is_empty()
-            || bytes.len() > LONGEST_LOCATION
-            || !bytes.iter().all(|b| *b > b' ' && *b != 0x7F)
-        {
+        if bytes.is_empty() || !are_location_bytes(bytes) {
             return None;
         }
-        let mut text = ArrayVec::new();
-        for byte in bytes {
-            text.push(*byte);
-        }
+        let Ok(text) = ArrayVec::try_from(bytes) else {
+            return None;
+        };
         Some(Location { text })
     }
 
