@@ -8,6 +8,7 @@ pub mod Fields
 pub mod Lines
 pub mod Progress
 pub mod State
+pub mod LineBuffer
 pub mod HasRead
 pub mod Memory
 pub mod Adapters

@@ -1,5 +1,5 @@
 -- What `Lines` keeps between two calls, and what one call does.
-use Rattle.std.specs.Prelude.{◌≡◌, ℕ, ◌+◌, ◌-◌, ◌^◌, ◌<◌, List, [], ◌∷◌, ◌++◌, length, Option, Result}
+use Rattle.std.specs.Prelude.{◌≡◌, ℕ, ◌+◌, ◌-◌, ◌^◌, ◌<◌, List, [], ◌∷◌, ◌++◌, length, Option, Some, None, Result, Ok, Err}
 use Rattle.std.specs.Io.KnownBytes.{prepend_known, IsAtEnd}
 use Rattle.mtrace_log.specs.Bytes.{Lacks, newline}
 use Rattle.mtrace_log.specs.Reading.{Reads}
@@ -71,3 +71,13 @@ GivesFault Reading fault old new reader_old reader_new before after failures_old
 GivesFault Ended fault old new reader_old reader_new before after failures_old failures_new = ⊥
 GivesFault (Faulted first) fault old new reader_old reader_new before after failures_old failures_new = (fault ≡ first)
     × (new ≡ old) × (reader_new ≡ reader_old)
+
+-- what a call does while lines are read
+abbrev pub ReadsOn : {R : Type 0} → (left : R → Option (List ℕ)) → (failures : R → ℕ) → (old new : Progress) → (reader_old reader_new : R) → Result (Option Line) ReadFault → Type 0
+ReadsOn left failures old new reader_old reader_new (Ok (Some line)) = GivesLine old new (to_come old (left reader_old)) (to_come new (left reader_new)) line
+    × (failures reader_new ≡ failures reader_old)
+ReadsOn left failures old new reader_old reader_new (Ok None) = (new.status ≡ Ended)
+    × FindsEnd Reading old new reader_old reader_new (to_come old (left reader_old)) (to_come new (left reader_new))
+    × (failures reader_new ≡ failures reader_old)
+ReadsOn left failures old new reader_old reader_new (Err fault) = GivesFault Reading fault old new reader_old reader_new
+    (to_come old (left reader_old)) (to_come new (left reader_new)) (failures reader_old) (failures reader_new)

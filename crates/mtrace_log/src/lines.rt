@@ -1,7 +1,13 @@
-ghost use Rattle.std.specs.Prelude.{◌≡◌, ℕ, [], length, IfOk, IfErr, OnOk, IfSome, IfNone};
-ghost use Rattle.mtrace_log.specs.Progress.{Progress, Reading, Ended, to_come, GivesLine, FindsEnd, GivesFault};
+ghost use Rattle.std.specs.Prelude.{◌≡◌, ℕ, ◌+◌, ◌<◌, List, [], length, IfOk, IfErr, OnOk, IfSome, IfNone};
+ghost use Rattle.mtrace_log.specs.Reading.{Reads};
+ghost use Rattle.mtrace_log.specs.Progress.{Progress, Reading, Ended, to_come, greatest_number, GivesLine, FindsEnd, GivesFault, ReadsOn};
+ghost use Rattle.mtrace_log.specs.State.{held_by, status_of};
+ghost use Rattle.mtrace_log.specs.LineBuffer.{Holds};
 
+use crate::failed::Failed;
 use crate::line::{Line, ReadFault};
+use crate::line_buffer::LineBuffer;
+use crate::pieces::{Stop, pull_byte, read_piece};
 use crate::source::Source;
 use std::marker::Model;
 
@@ -67,6 +73,73 @@ impl Lines {
             (R.failures reader.old) (R.failures reader.new)) }
         ensures no_failure { OnOk result (R.failures reader.new ≡ R.failures reader.old) }
     {
-        Err(ReadFault::ReaderFailed)
+        match self.state {
+            State::Reading => self.read_next(reader),
+            State::Ended => Ok(None),
+            State::Failed => Err(ReadFault::ReaderFailed),
+            State::Full(_) => Err(ReadFault::TooManyLines),
+        }
+    }
+
+    // The next line, while lines are read.
+    fn read_next<R: Source>(&mut self, reader: &mut R) -> Result<Option<Line>, ReadFault>
+        requires { self.old.status ≡ Reading }
+        ensures { ReadsOn R.left R.failures self.old self.new reader.old reader.new result }
+    {
+        if self.count == u64::MAX {
+            return self.find_end(reader);
+        }
+        let (buffer, stop) = read_piece(reader);
+        match stop {
+            Stop::Newline => Ok(Some(self.give(&buffer, State::Reading))),
+            Stop::Failed => {
+                self.state = State::Failed;
+                Err(ReadFault::ReaderFailed)
+            }
+            Stop::End => {
+                if buffer.is_empty() {
+                    self.state = State::Ended;
+                    return Ok(None);
+                }
+                Ok(Some(self.give(&buffer, State::Ended)))
+            }
+        }
+    }
+
+    // Where no number is left for a line: the end, or a fault.
+    fn find_end<R: Source>(&mut self, reader: &mut R) -> Result<Option<Line>, ReadFault>
+        requires reading { self.old.status ≡ Reading }
+        requires full { self.old.count ≡ greatest_number }
+        ensures { ReadsOn R.left R.failures self.old self.new reader.old reader.new result }
+    {
+        match pull_byte(reader) {
+            Ok(None) => {
+                self.state = State::Ended;
+                Ok(None)
+            }
+            Ok(Some(byte)) => {
+                self.state = State::Full(byte);
+                Err(ReadFault::TooManyLines)
+            }
+            Err(Failed) => {
+                self.state = State::Failed;
+                Err(ReadFault::ReaderFailed)
+            }
+        }
+    }
+
+    // The line of these bytes, with the next number.
+    fn give(&mut self, buffer: &LineBuffer, state: State) -> Line
+        requires { self.old.count < greatest_number }
+        ensures number { result.number ≡ self.old.count + 1 }
+        ensures lines { self.new ≡ record { held = held_by state; count = result.number; status = status_of state } }
+        ensures event { (piece : List ℕ) → Holds buffer.now piece → Reads piece result.event }
+    {
+        self.count += 1;
+        self.state = state;
+        Line {
+            number: self.count,
+            event: buffer.read(),
+        }
     }
 }
