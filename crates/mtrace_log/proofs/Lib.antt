@@ -3,5 +3,6 @@ pub mod TextLemmas
 pub mod HexLemmas
 pub mod FieldLemmas
 pub mod EventLemmas
+pub mod SpellingLemmas
 pub mod LineLemmas
 pub mod ReadLemmas
