@@ -51,16 +51,3 @@ located-from_alloc bytes place rest None lacks cut valid none = λ event fits sa
 located-from_alloc bytes place rest (Some event) lacks cut valid read =
     let spelled : 64 ∷ 32 ∷ bytes ≡ spell (Alloc (Some place) read.address read.size) = ap (λ text. 64 ∷ 32 ∷ text) (cut ∙ ap (λ back. place ++ space ∷ back) read.spelled ∙ sym (append_assoc place (space ∷ []) (alloc_text read.address read.size))) in
     subst (λ e. IsEvent e × (64 ∷ 32 ∷ bytes ≡ spell e)) (sym read.is) ((valid, read.pointer, read.fits), spelled)
-
--- a line that isn't behind `@ `
-pub event-from_alloc : (bytes : List ℕ) (found : Option Event) → bytes ≢ codes "= Start" → bytes ≢ codes "= End" → ((rest : List ℕ) → bytes ≢ 64 ∷ 32 ∷ rest) → FindsAlloc None bytes found
-    → Finds IsEvent spell bytes found
-event-from_alloc bytes None start end other none = go
-  where
-    go : (event : Event) → IsEvent event → bytes ≢ spell event
-    go Start fits same = start same
-    go End fits same = end same
-    go (Alloc None address size) fits same = none address size fits.1 fits.2 same
-    go (Alloc (Some location) address size) fits same = other ((location ++ space ∷ []) ++ alloc_text address size) same
-event-from_alloc bytes (Some event) start end other read =
-    subst (λ e. IsEvent e × (bytes ≡ spell e)) (sym read.is) ((tt, read.pointer, read.fits), read.spelled)

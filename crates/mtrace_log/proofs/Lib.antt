@@ -6,3 +6,4 @@ pub mod EventLemmas
 pub mod SpellingLemmas
 pub mod LineLemmas
 pub mod ReadLemmas
+mod Vectors

@@ -17,9 +17,6 @@ use Rattle.mtrace_log.proofs.FieldLemmas.{Lacks-pointer_text, Lacks-size_text, L
 
 -- ---- one line
 
-other : (b : ℕ) → b ≢ newline → Lacks newline (b ∷ [])
-other b differs = (differs, tt)
-
 Lacks-alloc_text : (address : Option ℕ) (size : ℕ) → Lacks newline (alloc_text address size)
 Lacks-alloc_text address size =
     (λ e. absurd (omega arith), (λ e. absurd (omega arith), AllByRecursion-append (λ b. b ≢ newline) (pointer_text address) (space ∷ size_text size) (Lacks-pointer_text newline address (omega arith)) (λ e. absurd (omega arith), Lacks-size_text newline size (omega arith))))
@@ -61,10 +58,6 @@ length-spell (Alloc place address size) valid =
     omega arith
 
 -- ---- one event
-
--- two texts that begin with different bytes
-apart : (a b : ℕ) (xs ys : List ℕ) → a ≢ b → a ∷ xs ≡ b ∷ ys → ⊥
-apart a b xs ys differs same = differs (ap (λ text. get_or text 0 0) same)
 
 alloc_text-same : (p q : Option ℕ) (m n : ℕ) → alloc_text p m ≡ alloc_text q n → (p ≡ q) × (m ≡ n)
 alloc_text-same p q m n same =

@@ -9,7 +9,7 @@ use crate::location::Location;
 ///
 /// ADDR is `0x` and 1 to 16 digits `0` to `9` and `a` to `f`, the first not `0`. PTR is `(nil)` or an
 /// ADDR. SIZE is `0`, or spelled as an ADDR.
-#[derive(Debug, Drop, PartialEq, Eq)]
+#[derive(Clone, Debug, Drop, PartialEq, Eq)]
 pub enum Event {
     /// The tracer was started.
     Start,
@@ -17,8 +17,11 @@ pub enum Event {
     End,
     /// `size` bytes were asked for, and `addr` given, or none.
     Alloc {
+        /// Where in the program, if the line says it.
         at: Option<Location>,
+        /// The address given, or none where the allocation failed.
         addr: Option<Addr>,
+        /// How many bytes were asked for.
         size: u64,
     },
 }

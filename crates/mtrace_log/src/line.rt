@@ -1,7 +1,7 @@
 use crate::event::{Event, LineFault};
 
 /// One line of a stream.
-#[derive(Debug, Drop, PartialEq, Eq)]
+#[derive(Clone, Debug, Drop, PartialEq, Eq)]
 pub struct Line {
     /// The number of the line, from 1.
     pub number: u64,

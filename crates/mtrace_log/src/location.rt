@@ -8,7 +8,7 @@ use std::marker::Model;
 pub const LONGEST_LOCATION: usize = 255;
 
 /// Where in a program a line of a log comes from: 1 to 255 bytes, each above 0x20 and not 0x7F.
-#[derive(Debug, Drop, PartialEq, Eq)]
+#[derive(Clone, Debug, Drop, PartialEq, Eq)]
 pub struct Location {
     text: ArrayVec<u8, LONGEST_LOCATION>,
 }
