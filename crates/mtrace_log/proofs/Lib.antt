@@ -1,0 +1,9 @@
+-- Lemmas that several proofs share.
+pub mod TextLemmas
+pub mod HexLemmas
+pub mod FieldLemmas
+pub mod EventLemmas
+pub mod SpellingLemmas
+pub mod LineLemmas
+pub mod ReadLemmas
+mod Vectors

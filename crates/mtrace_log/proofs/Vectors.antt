@@ -1,0 +1,62 @@
+-- Worked values of the definitions.
+use Rattle.std.proofs.Common.{◌≡◌, ℕ, zero, suc, ◌/◌, ◌%◌, ◌^◌, ◌<◌, List, [], ◌∷◌, ◌++◌, length, map, replicate, Some, None, codes, refl, sym, ap, ◌∙◌, cond, arith}
+use Rattle.std.proofs.Math.Dec.{eqb-suc-zero}
+use Rattle.std.specs.Char.{digit_char}
+use Rattle.std.specs.Int.Digits.{digits_of, digits_with_fuel}
+use Rattle.std.proofs.lemmas.Int.Digits.{digits_of_step}
+use Rattle.mtrace_log.specs.Address.{address_text, size_text}
+use Rattle.mtrace_log.specs.Spelling.{spell, longest_line}
+use Rattle.mtrace_log.specs.Lines.{lines_of}
+use Rattle.mtrace_log.specs.declared.event.Event.TheVariants.{Start, End, Alloc}
+
+-- ---- events
+
+spell_start : spell Start ≡ codes "= Start"
+spell_start = refl
+
+spell_end : spell End ≡ codes "= End"
+spell_end = refl
+
+spell_alloc : spell (Alloc None (Some 0x10) 0x64) ≡ codes "+ 0x10 0x64"
+spell_alloc = refl
+
+spell_no_bytes : spell (Alloc None (Some 0x1000) 0) ≡ codes "+ 0x1000 0"
+spell_no_bytes = refl
+
+spell_failed_alloc : spell (Alloc None None 0xc8) ≡ codes "+ (nil) 0xc8"
+spell_failed_alloc = refl
+
+spell_located : spell (Alloc (Some (codes "./prog:[0x1244]")) (Some 0xabc) 1) ≡ codes "@ ./prog:[0x1244] + 0xabc 0x1"
+spell_located = refl
+
+-- ---- the greatest address
+
+-- as many turns as digits are enough
+digits-turns : (turns n : ℕ) → n < 16 ^ turns → digits_of 16 n ≡ digits_with_fuel 16 turns n
+digits-turns zero zero fits = refl
+digits-turns (suc turns) zero fits = refl
+digits-turns zero (suc n) fits = absurd (omega arith)
+digits-turns (suc turns) (suc n) fits =
+    digits_of_step 16 (suc n) (omega arith) (omega arith) ∙ ap (λ front. front ++ (suc n % 16) ∷ []) (digits-turns turns (suc n / 16) (omega arith))
+    ∙ sym (ap (λ test. cond test [] (digits_with_fuel 16 turns (suc n / 16) ++ (suc n % 16) ∷ [])) (eqb-suc-zero n))
+
+greatest_address : address_text 0xffff_ffff_ffff_ffff ≡ codes "0xffffffffffffffff"
+greatest_address = ap (λ digits. codes "0x" ++ map digit_char digits) (digits-turns 16 0xffff_ffff_ffff_ffff (omega arith))
+
+length_of_longest_line : length (spell (Alloc (Some (replicate 255 97)) (Some 0xffff_ffff_ffff_ffff) 0xffff_ffff_ffff_ffff)) ≡ longest_line
+length_of_longest_line =
+    ap (λ text. length (codes "@ " ++ (replicate 255 97 ++ 32 ∷ []) ++ (codes "+ " ++ (text ++ 32 ∷ text)))) greatest_address
+
+-- ---- lines
+
+no_line : lines_of [] ≡ []
+no_line = refl
+
+one_empty_line : lines_of (10 ∷ []) ≡ [] ∷ []
+one_empty_line = refl
+
+three_lines : lines_of (codes "a" ++ 10 ∷ 10 ∷ codes "bc") ≡ codes "a" ∷ [] ∷ codes "bc" ∷ []
+three_lines = refl
+
+three_whole_lines : lines_of (codes "a" ++ 10 ∷ 10 ∷ codes "bc" ++ 10 ∷ []) ≡ codes "a" ∷ [] ∷ codes "bc" ∷ []
+three_whole_lines = refl

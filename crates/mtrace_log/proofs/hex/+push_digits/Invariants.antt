@@ -1,0 +1,5 @@
+use Rattle.mtrace_log.proofs.hex.+push_digits.Given as goal
+
+-- each call has one digit less
+abbrev pub decreases-push_digits : goal.decreases-push_digits
+decreases-push_digits l = l.number

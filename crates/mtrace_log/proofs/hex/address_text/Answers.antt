@@ -1,0 +1,9 @@
+use Rattle.std.proofs.Common.{length, ap, arith, length-append}
+use Rattle.mtrace_log.proofs.HexLemmas.{length-hex_digits-le}
+use Rattle.mtrace_log.proofs.hex.address_text.Goals as goal
+
+pub push_digits-requires : goal.push_digits-requires
+push_digits-requires c =
+    let digits = length-hex_digits-le c.args.number (omega arith) in
+    let none = ap length c.new-text.ensures in
+    omega arith

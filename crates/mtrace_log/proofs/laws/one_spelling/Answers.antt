@@ -1,0 +1,5 @@
+use Rattle.mtrace_log.proofs.SpellingLemmas.{spell-same}
+use Rattle.mtrace_log.proofs.laws.one_spelling.Goals as goal
+
+pub returns : goal.returns
+returns c = spell-same

@@ -1,0 +1,14 @@
+-- The definitions that the contracts cite.
+pub mod Bytes
+pub mod Address
+pub mod Location
+pub mod Spelling
+pub mod Reading
+pub mod Fields
+pub mod Lines
+pub mod Progress
+pub mod State
+pub mod LineBuffer
+pub mod HasRead
+pub mod Memory
+pub mod Adapters

@@ -1,0 +1,31 @@
+-- What the buffer of a line holds, and how a piece of a text ended.
+use Rattle.std.specs.Prelude.{◌≡◌, ℕ, ◌+◌, ◌<◌, List, [], ◌∷◌, ◌++◌, length, Option, MatchBool}
+use Rattle.std.specs.Io.KnownBytes.{prepend_known, IsAtEnd}
+use Rattle.mtrace_log.specs.Bytes.{Lacks, newline}
+use Rattle.mtrace_log.specs.Spelling.{longest_line}
+use Rattle.mtrace_log.specs.declared.line_buffer.LineBuffer.{LineBuffer}
+use Rattle.mtrace_log.specs.declared.pieces.Stop.{Stop}
+use Rattle.mtrace_log.specs.declared.pieces.Stop.TheVariants.{Newline, End, Failed}
+
+-- the buffer holds the piece, or knows that it is too long to be kept
+abbrev pub Holds : LineBuffer → List ℕ → Type 0
+Holds buffer piece = MatchBool buffer.too_long (longest_line < length piece) (buffer.bytes.items ≡ piece)
+
+-- a piece was taken from the text: with its newline, or up to the end, or until the reader failed
+abbrev pub TakesUpTo : Stop → List ℕ → Option (List ℕ) → Option (List ℕ) → Type 0
+TakesUpTo Newline piece before after = before ≡ prepend_known (piece ++ newline ∷ []) after
+TakesUpTo End piece before after = (before ≡ prepend_known piece after) × IsAtEnd after
+TakesUpTo Failed piece before after = before ≡ prepend_known piece after
+
+-- how the reader's failures rose
+abbrev pub FailsBy : Stop → ℕ → ℕ → Type 0
+FailsBy Newline old new = new ≡ old
+FailsBy End old new = new ≡ old
+FailsBy Failed old new = new ≡ old + 1
+
+-- one piece without newline was taken and is in the buffer
+pub record TakesPiece (buffer : LineBuffer) (stop : Stop) (before after : Option (List ℕ)) : Type 0 where
+  pub piece : List ℕ
+  pub no_newline : Lacks newline piece
+  pub held : Holds buffer piece
+  pub taken : TakesUpTo stop piece before after

@@ -1,0 +1,83 @@
+-- What `Lines` keeps between two calls, and what one call does.
+use Rattle.std.specs.Prelude.{◌≡◌, ℕ, ◌+◌, ◌-◌, ◌^◌, ◌<◌, List, [], ◌∷◌, ◌++◌, length, Option, Some, None, Result, Ok, Err}
+use Rattle.std.specs.Io.KnownBytes.{prepend_known, IsAtEnd}
+use Rattle.mtrace_log.specs.Bytes.{Lacks, newline}
+use Rattle.mtrace_log.specs.Reading.{Reads}
+use Rattle.mtrace_log.specs.declared.event.Event.{Event}
+use Rattle.mtrace_log.specs.declared.event.LineFault.{LineFault}
+use Rattle.mtrace_log.specs.declared.line.Line.{Line}
+use Rattle.mtrace_log.specs.declared.line.ReadFault.{ReadFault}
+use Rattle.mtrace_log.specs.declared.line.ReadFault.TheVariants.{ReaderFailed, TooManyLines}
+
+-- lines are still read, or the end was told, or a fault was answered
+pub data Status : Type 0 where
+  Reading : Status
+  Ended : Status
+  Faulted : ReadFault → Status
+
+-- the bytes asked of a reader that belong to no line yet, how many lines were given, and the status
+pub record Progress : Type 0 where
+  pub held : List ℕ
+  pub count : ℕ
+  pub status : Status
+
+-- the text to come: the bytes held, and then what the reader has left
+abbrev pub to_come : Progress → Option (List ℕ) → Option (List ℕ)
+to_come lines left = prepend_known lines.held left
+
+-- some byte is to come
+abbrev pub HasMore : Option (List ℕ) → Type 0
+HasMore text = (b : ℕ) × (rest : Option (List ℕ)) × (text ≡ prepend_known (b ∷ []) rest)
+
+-- the greatest number of a line
+abbrev pub greatest_number : ℕ
+greatest_number = 2 ^ 64 - 1
+
+-- One line of the text: while reading a piece with its newline, and at the end a piece that isn't
+-- empty, behind which nothing comes. The piece reads as the answer.
+abbrev pub TakesLine : Status → Option (List ℕ) → Option (List ℕ) → Result Event LineFault → Type 0
+TakesLine Reading before after answer = (piece : List ℕ) × Lacks newline piece × Reads piece answer
+    × (before ≡ prepend_known (piece ++ newline ∷ []) after)
+TakesLine Ended before after answer = (piece : List ℕ) × Lacks newline piece × Reads piece answer
+    × (before ≡ prepend_known piece after) × (0 < length piece) × IsAtEnd after
+TakesLine (Faulted fault) before after answer = ⊥
+
+-- a call gave a line: the next one of the text, with the next number
+pub record GivesLine (old new : Progress) (before after : Option (List ℕ)) (line : Line) : Type 0 where
+  pub was_reading : old.status ≡ Reading
+  pub number : line.number ≡ old.count + 1
+  pub count : new.count ≡ line.number
+  pub taken : TakesLine new.status before after line.event
+
+-- what a call that gave no line found: the end of the text, or that it was told before, and then it
+-- asked nothing and changed nothing
+abbrev pub FindsEnd : {R : Type 0} → Status → (old new : Progress) → (reader_old reader_new : R) → Option (List ℕ) → Option (List ℕ) → Type 0
+FindsEnd Reading old new reader_old reader_new before after = (new.count ≡ old.count) × (before ≡ after) × IsAtEnd after
+FindsEnd Ended old new reader_old reader_new before after = (new ≡ old) × (reader_new ≡ reader_old)
+FindsEnd (Faulted fault) old new reader_old reader_new before after = ⊥
+
+-- A first fault: the reader failed in this call, within a piece that is lost, or there are as many
+-- lines as there are numbers and more is to come.
+abbrev pub StopsReading : ReadFault → ℕ → Option (List ℕ) → Option (List ℕ) → (failures_old failures_new : ℕ) → Type 0
+StopsReading ReaderFailed count before after failures_old failures_new = (piece : List ℕ) × Lacks newline piece
+    × (before ≡ prepend_known piece after) × (failures_new ≡ failures_old + 1)
+StopsReading TooManyLines count before after failures_old failures_new = (count ≡ greatest_number)
+    × (before ≡ after) × HasMore after × (failures_new ≡ failures_old)
+
+-- A fault: a first one, or the same one again, which asked nothing and changed nothing.
+abbrev pub GivesFault : {R : Type 0} → Status → ReadFault → (old new : Progress) → (reader_old reader_new : R) → (before after : Option (List ℕ)) → (failures_old failures_new : ℕ) → Type 0
+GivesFault Reading fault old new reader_old reader_new before after failures_old failures_new = (new.status ≡ Faulted fault)
+    × (new.count ≡ old.count) × StopsReading fault old.count before after failures_old failures_new
+GivesFault Ended fault old new reader_old reader_new before after failures_old failures_new = ⊥
+GivesFault (Faulted first) fault old new reader_old reader_new before after failures_old failures_new = (fault ≡ first)
+    × (new ≡ old) × (reader_new ≡ reader_old)
+
+-- what a call does while lines are read
+abbrev pub ReadsOn : {R : Type 0} → (left : R → Option (List ℕ)) → (failures : R → ℕ) → (old new : Progress) → (reader_old reader_new : R) → Result (Option Line) ReadFault → Type 0
+ReadsOn left failures old new reader_old reader_new (Ok (Some line)) = GivesLine old new (to_come old (left reader_old)) (to_come new (left reader_new)) line
+    × (failures reader_new ≡ failures reader_old)
+ReadsOn left failures old new reader_old reader_new (Ok None) = (new.status ≡ Ended)
+    × FindsEnd Reading old new reader_old reader_new (to_come old (left reader_old)) (to_come new (left reader_new))
+    × (failures reader_new ≡ failures reader_old)
+ReadsOn left failures old new reader_old reader_new (Err fault) = GivesFault Reading fault old new reader_old reader_new
+    (to_come old (left reader_old)) (to_come new (left reader_new)) (failures reader_old) (failures reader_new)

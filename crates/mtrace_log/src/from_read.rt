@@ -1,0 +1,70 @@
+ghost use Rattle.std.specs.Prelude.{◌≡◌, ℕ, ◌+◌, ◌-◌, ◌^◌, ◌<◌, ◌≤◌, List, length, take, Option, None, IfOk, OnOk, OnErr, IsErr};
+ghost use Rattle.std.specs.Io.KnownBytes.{ReadConsumes};
+ghost use Rattle.mtrace_log.specs.Adapters.{reader_of, calls_left, failed_pulls};
+
+use crate::failed::Failed;
+use crate::failures::Failures;
+use crate::source::Source;
+use std::io::Read;
+
+/// A reader of std's as a [`Source`]: one read a pull, and an error of any kind is a failure.
+///
+/// It tells no bytes. It counts its calls, and from the 2^64-th on it fails without a read.
+#[derive(Drop)]
+pub struct FromRead<R> {
+    reader: R,
+    calls: u64,
+    failures: Failures,
+}
+
+impl<R: Read> FromRead<R> {
+    /// The reader as a `Source`.
+    pub fn new(reader: R) -> Self
+        ensures reader { reader_of result ≡ reader }
+        ensures calls { calls_left result ≡ 2 ^ 64 - 1 }
+        ensures failures { failed_pulls result ≡ 0 }
+    {
+        FromRead {
+            reader,
+            calls: 0,
+            failures: Failures::new(),
+        }
+    }
+}
+
+impl<R: Read> Source for FromRead<R> {
+    ghost left = { λ source. None };
+
+    ghost failures = { failed_pulls };
+
+    ghost budget = { calls_left };
+
+    /// Reads once, into `buf`.
+    ///
+    /// # Errors
+    ///
+    /// `Failed` where the read answered an error, and where 2^64 - 1 reads were asked before.
+    fn pull(&mut self, buf: &mut [u8]) -> Result<usize, Failed>
+        requires { 0 < length buf.old }
+        ensures bound { IfOk result (λ n. n ≤ length buf.new) }
+        // The bytes are those that the reader gave, where it tells them, and 0 is its end.
+        ensures reads { ReadConsumes (R.remaining (reader_of self.old)) (R.remaining (reader_of self.new)) result buf.new }
+        ensures no_failure { OnOk result (failed_pulls self.new ≡ failed_pulls self.old) }
+        ensures failure { OnErr result (failed_pulls self.new ≡ failed_pulls self.old + 1) }
+        ensures counted { calls_left self.new ≡ calls_left self.old - 1 }
+        ensures exhausted { calls_left self.old ≡ 0 → IsErr result }
+    {
+        if self.calls == u64::MAX {
+            self.failures.rise();
+            return Err(Failed);
+        }
+        self.calls += 1;
+        match self.reader.read(buf) {
+            Ok(count) => Ok(count),
+            Err(_) => {
+                self.failures.rise();
+                Err(Failed)
+            }
+        }
+    }
+}

@@ -1,0 +1,54 @@
+ghost use Rattle.std.specs.Prelude.{◌≡◌, ℕ, ◌++◌, ◌∷◌, [], List, length, IsTrue, ◌↔◌};
+ghost use Rattle.mtrace_log.specs.LineBuffer.{Holds};
+ghost use Rattle.mtrace_log.specs.Reading.{Reads};
+
+use crate::event::{Event, LineFault};
+use crate::line_reader::{LONGEST_LINE, read_line};
+use arrayvec::ArrayVec;
+
+// The bytes of one line, as long as they are few enough to be kept.
+#[derive(Drop)]
+pub(crate) struct LineBuffer {
+    bytes: ArrayVec<u8, LONGEST_LINE>,
+    too_long: bool,
+}
+
+impl LineBuffer {
+    // No byte.
+    pub(crate) fn new() -> Self
+        ensures { Holds result [] }
+    {
+        LineBuffer {
+            bytes: ArrayVec::new(),
+            too_long: false,
+        }
+    }
+
+    // Whether the line has no byte.
+    pub(crate) fn is_empty(&self) -> bool
+        ensures { (piece : List ℕ) → Holds self.now piece → IsTrue result ↔ (length piece ≡ 0) }
+    {
+        !self.too_long && self.bytes.is_empty()
+    }
+
+    // One more byte.
+    pub(crate) fn push(&mut self, byte: u8)
+        ensures { (piece : List ℕ) → Holds self.old piece → Holds self.new (piece ++ byte ∷ []) }
+    {
+        if self.bytes.is_full() {
+            self.too_long = true;
+            return;
+        }
+        self.bytes.push(byte);
+    }
+
+    // What the line says.
+    pub(crate) fn read(&self) -> Result<Event, LineFault>
+        ensures { (piece : List ℕ) → Holds self.now piece → Reads piece result }
+    {
+        if self.too_long {
+            return Err(LineFault::TooLong);
+        }
+        read_line(self.bytes.as_slice())
+    }
+}

@@ -1,0 +1,124 @@
+ghost use Rattle.std.specs.Prelude.{◌≡◌, ◌≢◌, ℕ, ◌<◌, ◌++◌, ◌∷◌, List, length, codes, position, ◌==◌, Option, Err, Some, MatchOption};
+ghost use Rattle.mtrace_log.specs.Bytes.{Lacks, space};
+ghost use Rattle.mtrace_log.specs.Address.{pointer_text, size_text};
+ghost use Rattle.mtrace_log.specs.Spelling.{spell, IsEvent, alloc_text};
+ghost use Rattle.mtrace_log.specs.Fields.{Finds, IsPointer, IsSize, IsAlloc};
+ghost use Rattle.mtrace_log.specs.Reading.{Reads};
+ghost use Rattle.mtrace_log.specs.declared.event.Event.{Event as LineEvent};
+ghost use Rattle.mtrace_log.specs.declared.event.LineFault.TheVariants.{TooLong};
+
+use crate::addr::Addr;
+use crate::event::{Event, LineFault};
+use crate::hex;
+use crate::location::Location;
+
+/// The longest line of any event, in bytes without its newline.
+pub const LONGEST_LINE: usize = 297;
+
+// Where the first space is.
+fn first_space(bytes: &[u8]) -> Option<usize>
+    ensures { result ≡ position (λ b. b == space) bytes.now }
+{
+    bytes.iter().position(|b| *b == b' ')
+}
+
+// What stands before the first space, and what behind it.
+fn split_at_space(bytes: &[u8]) -> Option<(&[u8], &[u8])>
+    ensures { MatchOption result (Lacks space bytes.now)
+        (λ parts. Lacks space parts.0.now × (bytes.now ≡ parts.0.now ++ space ∷ parts.1.now)) }
+{
+    let Some(at) = first_space(bytes) else {
+        return None;
+    };
+    Some((&bytes[..at], &bytes[at + 1..]))
+}
+
+// PTR
+fn read_pointer(bytes: &[u8]) -> Option<Option<Addr>>
+    ensures { Finds IsPointer pointer_text bytes.now result }
+{
+    if bytes == b"(nil)".as_slice() {
+        return Some(None);
+    }
+    let Some(number) = hex::read_address(bytes) else {
+        return None;
+    };
+    Some(Addr::new(number))
+}
+
+// SIZE
+fn read_size(bytes: &[u8]) -> Option<u64>
+    ensures { Finds IsSize size_text bytes.now result }
+{
+    if bytes == b"0".as_slice() {
+        return Some(0);
+    }
+    hex::read_address(bytes)
+}
+
+// `+ PTR SIZE`, behind its place
+fn read_alloc(at: Option<Location>, bytes: &[u8]) -> Option<Event>
+    ensures { MatchOption result
+        ((address : Option ℕ) (size : ℕ) → IsPointer address → IsSize size → bytes.now ≢ alloc_text address size)
+        (IsAlloc at bytes.now) }
+{
+    let [b'+', b' ', fields @ ..] = bytes else {
+        return None;
+    };
+    let Some((pointer, number)) = split_at_space(fields) else {
+        return None;
+    };
+    let Some(addr) = read_pointer(pointer) else {
+        return None;
+    };
+    let Some(size) = read_size(number) else {
+        return None;
+    };
+    Some(Event::Alloc { at, addr, size })
+}
+
+// A line behind `@ `.
+fn read_located(bytes: &[u8]) -> Option<Event>
+    ensures { Finds IsEvent spell (codes "@ " ++ bytes.now) result }
+{
+    let Some((place, rest)) = split_at_space(bytes) else {
+        return None;
+    };
+    let Some(location) = Location::new(place) else {
+        return None;
+    };
+    read_alloc(Some(location), rest)
+}
+
+// The event whose spelling the bytes are.
+fn read_event(bytes: &[u8]) -> Option<Event>
+    ensures { Finds IsEvent spell bytes.now result }
+{
+    if bytes == b"= Start".as_slice() {
+        return Some(Event::Start);
+    }
+    if bytes == b"= End".as_slice() {
+        return Some(Event::End);
+    }
+    if let [b'@', b' ', rest @ ..] = bytes {
+        return read_located(rest);
+    }
+    read_alloc(None, bytes)
+}
+
+/// What a line says, given without its newline.
+///
+/// # Errors
+///
+/// `TooLong` exactly where it has more than 297 bytes, and `NotALine` exactly where it has no more
+/// and is the line of no event.
+pub fn read_line(bytes: &[u8]) -> Result<Event, LineFault>
+    // The event whose spelling the line is; or too long; or no event's spelling.
+    ensures reads { Reads bytes.now result }
+    ensures too_long { LONGEST_LINE < length bytes.now → result ≡ Err TooLong }
+{
+    if bytes.len() > LONGEST_LINE {
+        return Err(LineFault::TooLong);
+    }
+    read_event(bytes).ok_or(LineFault::NotALine)
+}

@@ -1,0 +1,36 @@
+ghost use Rattle.std.specs.Prelude.{◌≡◌, ℕ, ◌+◌, ◌<◌, ◌≤◌, List, length, take, Option, IfOk, OnOk, OnErr};
+ghost use Rattle.std.specs.Io.KnownBytes.{prepend_known, IsAtEnd};
+
+use crate::failed::Failed;
+
+/// A reader that gives bytes piece by piece.
+///
+/// Contracts alone see the bytes that it has left, where its type tells them, how often it has
+/// failed, and a number that falls with each piece, so that every run over a `Source` ends.
+pub trait Source {
+    // The bytes left, where they are known.
+    ghost left: { Self → Option (List ℕ) };
+
+    // How often it has failed.
+    ghost failures: { Self → ℕ };
+
+    // At most how many more pieces it gives.
+    ghost budget: { Self → ℕ };
+
+    /// Gives the first of the bytes left, as many as it answers, at the front of `buf`, which isn't
+    /// empty. The answer is 0 exactly where none is left, and at most the length of `buf`, in bytes.
+    ///
+    /// # Errors
+    ///
+    /// `Failed` where the reader fails: then no byte left is lost.
+    fn pull(&mut self, buf: &mut [u8]) -> Result<usize, Failed>
+        requires { 0 < length buf.old }
+        ensures bound { IfOk result (λ n. n ≤ length buf.new) }
+        ensures bytes { IfOk result (λ n. left self.old ≡ prepend_known (take n buf.new) (left self.new)) }
+        ensures end { IfOk result (λ n. n ≡ 0 → IsAtEnd (left self.new)) }
+        ensures kept { OnErr result (left self.new ≡ left self.old) }
+        ensures no_failure { OnOk result (failures self.new ≡ failures self.old) }
+        ensures failure { OnErr result (failures self.new ≡ failures self.old + 1) }
+        ensures falls { IfOk result (λ n. 0 < n → budget self.new < budget self.old) }
+        ensures never_rises { budget self.new ≤ budget self.old };
+}
