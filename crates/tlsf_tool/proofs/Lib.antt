@@ -6,3 +6,4 @@ mod GoodContent
 mod PlainLists
 mod PlainPools
 mod PlainMalloc
+mod Writing

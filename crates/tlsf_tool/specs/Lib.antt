@@ -4,3 +4,9 @@ pub mod Malloc
 pub mod Pools
 pub mod Good
 pub mod PlainHeap
+pub mod Settings
+pub mod History
+pub mod Texts
+pub mod Output
+pub mod Replay
+pub mod Run

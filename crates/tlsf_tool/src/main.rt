@@ -1,8 +1,14 @@
 //! The program tlsf.
 #![tactic(auto)]
 
+mod diagnostic;
+mod entry;
+mod line_text;
+mod output;
 mod plain_heap;
 mod refusal;
+mod settings;
+mod status;
 
 use std::process::ExitCode;
 

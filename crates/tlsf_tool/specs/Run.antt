@@ -1,0 +1,60 @@
+-- What a run read and wrote, by its answer.
+use Rattle.std.specs.Prelude.{◌≡◌, ◌⊎◌, ℕ, ◌+◌, ◌-◌, ◌^◌, List, [], ◌∷◌, ◌++◌, length, Option, Result, Ok, Err}
+use Rattle.mtrace_log.specs.HasRead.{HasRead, HasReadAll, HasReadBefore}
+use Rattle.mtrace_log.specs.Progress.{HasMore, greatest_number}
+use Rattle.mtrace_log.specs.declared.event.Event.{Event}
+use Rattle.mtrace_log.specs.declared.event.LineFault.{LineFault}
+use Rattle.tlsf_tool.specs.declared.entry.Entry.{Entry}
+use Rattle.tlsf_tool.specs.declared.settings.Settings.{Settings}
+use Rattle.tlsf_tool.specs.declared.status.Status.{Status}
+use Rattle.tlsf_tool.specs.History.{history, notes, AreHeld}
+use Rattle.tlsf_tool.specs.Texts.{notes_text, leaks_text, status_of}
+use Rattle.tlsf_tool.specs.Output.{Wrote, Begins}
+
+abbrev pub Bytes : Type 0
+Bytes = Option (List ℕ)
+
+-- the text of the diagnostics of lines, the first line first
+abbrev pub text_of_notes : Settings → List (Result Event LineFault) → List ℕ
+text_of_notes settings lines = notes_text (notes (history settings lines))
+
+-- all of the log was read, and the leaks text of its history was written; the status is that text's
+pub record Reports (settings : Settings) (status : Status) (left_old left_new taken_old taken_new : Bytes) : Type 0 where
+  pub lines : List (Result Event LineFault)
+  pub read : HasReadAll left_old left_new lines
+  pub entries : List (ℕ × Entry)
+  pub held : AreHeld entries (history settings lines)
+  pub wrote : Wrote taken_old taken_new (leaks_text (history settings lines) entries)
+  pub status_is : status ≡ status_of (notes (history settings lines)) entries
+
+-- whole lines were read, and perhaps a piece of the next one, which is lost; then the reader failed, or a
+-- line past the last number would come. The diagnostics of those lines were written, and no report
+pub record StopsAtRead (settings : Settings) (left_old left_new taken_old taken_new : Bytes) (failures_old failures_new : ℕ) : Type 0 where
+  pub lines : List (Result Event LineFault)
+  pub read : HasReadBefore left_old left_new lines
+  pub reason : (failures_new ≡ failures_old + 1) ⊎ ((length lines ≡ greatest_number) × HasRead left_old left_new lines × HasMore left_new)
+  pub wrote : Wrote taken_old taken_new (text_of_notes settings lines)
+
+-- a beginning of the diagnostics of the lines read, or of the whole text where the log had ended
+abbrev pub BeginsText : Settings → (left_old left_new taken_old taken_new : Bytes) → List (Result Event LineFault) → Type 0
+BeginsText settings left_old left_new taken_old taken_new lines =
+  (HasRead left_old left_new lines × Begins taken_old taken_new (text_of_notes settings lines))
+  ⊎ (HasReadAll left_old left_new lines × ((entries : List (ℕ × Entry)) × AreHeld entries (history settings lines) × Begins taken_old taken_new (leaks_text (history settings lines) entries)))
+
+-- the writer failed, after a beginning of what was to be written
+pub record StopsAtWrite (settings : Settings) (left_old left_new taken_old taken_new : Bytes) (failures_old failures_new : ℕ) : Type 0 where
+  pub failed : failures_new ≡ failures_old + 1
+  pub lines : List (Result Event LineFault)
+  pub begun : BeginsText settings left_old left_new taken_old taken_new lines
+
+-- memory was refused at the last line that was read: the diagnostics of the lines before it were written
+pub record StopsAtLine (settings : Settings) (left_old left_new taken_old taken_new : Bytes) : Type 0 where
+  pub lines : List (Result Event LineFault)
+  pub last : Result Event LineFault
+  pub read : HasRead left_old left_new (lines ++ last ∷ []) ⊎ HasReadAll left_old left_new (lines ++ last ∷ [])
+  pub wrote : Wrote taken_old taken_new (text_of_notes settings lines)
+
+-- memory was refused at the start, and nothing was read or written, or at a line
+abbrev pub StopsForMemory : {R W : Type 0} → (left : R → Bytes) (taken : W → Bytes) → Settings → (reader_old reader_new : R) (writer_old writer_new : W) → Type 0
+StopsForMemory left taken settings reader_old reader_new writer_old writer_new =
+  ((reader_new ≡ reader_old) × (writer_new ≡ writer_old)) ⊎ StopsAtLine settings (left reader_old) (left reader_new) (taken writer_old) (taken writer_new)
