@@ -7,3 +7,4 @@ mod PlainLists
 mod PlainPools
 mod PlainMalloc
 mod Writing
+mod HistoryLemmas

@@ -1,16 +1,17 @@
 //! The text of one line of the output.
 
-ghost use Rattle.std.specs.Prelude.{◌≡◌, ◌+◌, ◌≤◌, ◌^◌, ◌<◌, ◌++◌, length, decimal};
+ghost use Rattle.std.specs.Prelude.{◌≡◌, ◌+◌, ◌≤◌, ◌^◌, ◌<◌, ◌++◌, ◌∷◌, [], length, decimal, codes};
 ghost use Rattle.arrayvec.specs.ArrayVec.{array_vec_len};
 ghost use Rattle.mtrace_log.specs.Address.{address_text};
-ghost use Rattle.tlsf_tool.specs.Texts.{refusal_text as text_of_refusal, note_text as text_of_note, entry_text as text_of_entry, total_text as text_of_total};
+ghost use Rattle.mtrace_log.specs.Bytes.{newline};
+ghost use Rattle.tlsf_tool.specs.Texts.{refusal_text as text_of_refusal, kind_text as text_of_kind, note_text as text_of_note, at_text as text_of_location, entry_text as text_of_entry};
 
 use crate::diagnostic::{Diagnostic, Kind};
 use crate::entry::Entry;
 use crate::refusal::Refusal;
 use arrayvec::ArrayVec;
 use itoa::Buffer;
-use mtrace_log::Addr;
+use mtrace_log::{Addr, Location};
 
 /// No line of the output is longer, in bytes with its newline.
 const LONGEST_TEXT: usize = 400;
@@ -63,4 +64,78 @@ fn refusal_text(refusal: Refusal) -> &'static [u8]
         Refusal::OutOfMemory => b"out of memory",
         Refusal::NoPool => b"no pool",
     }
+}
+
+/// Appends what is wrong with a line.
+fn push_kind(text: &mut LineText, kind: Kind)
+    requires { array_vec_len text.old ≤ 100 }
+    ensures bytes { text.new.items ≡ text.old.items ++ text_of_kind kind }
+    ensures len { array_vec_len text.new ≤ array_vec_len text.old + 60 }
+{
+    match kind {
+        Kind::TooLong => push_bytes(text, b"too long"),
+        Kind::NotALine => push_bytes(text, b"not a line"),
+        Kind::AlreadyHeld(address) => {
+            push_address(text, address);
+            push_bytes(text, b" is already held");
+        }
+        Kind::Refused(address, refusal) => {
+            push_address(text, address);
+            push_bytes(text, b" refused: ");
+            push_bytes(text, refusal_text(refusal));
+        }
+    }
+}
+
+/// The line of a diagnostic.
+pub fn note_text(note: &Diagnostic) -> LineText
+    ensures { result.items ≡ text_of_note note.now }
+{
+    let mut text = ArrayVec::new();
+    push_bytes(&mut text, b"line ");
+    push_number(&mut text, u128::from(note.line));
+    push_bytes(&mut text, b": ");
+    push_kind(&mut text, note.kind);
+    push_bytes(&mut text, b"\n");
+    text
+}
+
+/// Appends ` at ` and the location, where there is one.
+fn push_location(text: &mut LineText, at: &Option<Location>)
+    requires { array_vec_len text.old ≤ 130 }
+    ensures bytes { text.new.items ≡ text.old.items ++ text_of_location at.now }
+    ensures len { array_vec_len text.new ≤ array_vec_len text.old + 259 }
+{
+    if let Some(location) = at {
+        push_bytes(text, b" at ");
+        push_bytes(text, location.bytes());
+    }
+}
+
+/// The line of a block that is held.
+pub fn entry_text(address: Addr, entry: &Entry) -> LineText
+    ensures { result.items ≡ text_of_entry (address, entry.now) }
+{
+    let mut text = ArrayVec::new();
+    push_address(&mut text, address);
+    push_bytes(&mut text, b" ");
+    push_number(&mut text, u128::from(entry.size));
+    push_bytes(&mut text, b" line ");
+    push_number(&mut text, u128::from(entry.line));
+    push_location(&mut text, &entry.at);
+    push_bytes(&mut text, b"\n");
+    text
+}
+
+/// The line of the totals: how many blocks are held, and how many bytes they have together.
+pub fn total_text(blocks: u64, bytes: u128) -> LineText
+    ensures { result.items ≡ codes "Total: " ++ decimal blocks ++ codes " blocks, " ++ decimal bytes ++ codes " bytes." ++ newline ∷ [] }
+{
+    let mut text = ArrayVec::new();
+    push_bytes(&mut text, b"Total: ");
+    push_number(&mut text, u128::from(blocks));
+    push_bytes(&mut text, b" blocks, ");
+    push_number(&mut text, bytes);
+    push_bytes(&mut text, b" bytes.\n");
+    text
 }

@@ -7,6 +7,7 @@ mod line_text;
 mod output;
 mod plain_heap;
 mod refusal;
+mod replay;
 mod settings;
 mod status;
 
