@@ -8,3 +8,4 @@ mod PlainPools
 mod PlainMalloc
 mod Writing
 mod HistoryLemmas
+mod TextLemmas

@@ -1,5 +1,6 @@
 -- Writes one after the other.
 use Rattle.std.proofs.Common.{◌≡◌, ℕ, ◌+◌, ◌-◌, ◌≤◌, List, [], ◌∷◌, ◌++◌, length, take, drop, refl, sym, ap, ◌∙◌, subst, Option, Some, None, append_assoc}
+use Rattle.std.specs.Prelude.{Result, Ok, Err, OnOk, OnErr}
 use Rattle.std.specs.Io.KnownBytes.{append_known}
 use Rattle.std.proofs.lemmas.List.{append-nil, take-append-drop}
 use Rattle.tlsf_tool.specs.Output.{Wrote, Begins}
@@ -63,3 +64,26 @@ pub HasPut-all : (old new : Option (List ℕ)) (bytes rest : List ℕ) → HasPu
 HasPut-all old new bytes rest h none =
     let all : h.part ≡ bytes = sym (h.whole ∙ ap (λ t. h.part ++ t) none ∙ append-nil h.part) in
     h.wrote ∙ ap (append_known old) all
+
+-- the next piece of what is left is put
+pub HasPut-piece : (old middle new : Option (List ℕ)) (bytes rest piece later : List ℕ) → HasPut old middle bytes rest → rest ≡ piece ++ later → Wrote middle new piece → HasPut old new bytes later
+HasPut-piece old middle new bytes rest piece later h is w = record {
+    part = h.part ++ piece;
+    whole = h.whole ∙ ap (λ t. h.part ++ t) is ∙ sym (append_assoc h.part piece later);
+    wrote = Wrote-append old middle new h.part piece h.wrote w;
+  }
+
+-- the next piece is begun
+pub HasPut-begun : (old middle new : Option (List ℕ)) (bytes rest piece later : List ℕ) → HasPut old middle bytes rest → rest ≡ piece ++ later → Begins middle new piece → Begins old new bytes
+HasPut-begun old middle new bytes rest piece later h is b =
+    let longer : Begins middle new rest = (let P : List ℕ → Type 0 = λ t. Begins middle new t in subst P (sym is) (Begins-longer middle new piece later b)) in
+    let P : List ℕ → Type 0 = λ t. Begins old new t in
+    subst P (sym h.whole) (Begins-after old middle new h.part rest h.wrote longer)
+
+pub on_err : {T E : Type 0} (P : Type 0) (r : Result T E) → P → OnErr r P
+on_err P (Ok x) p = tt
+on_err P (Err e) p = p
+
+pub on_ok : {T E : Type 0} (P : Type 0) (r : Result T E) → P → OnOk r P
+on_ok P (Ok x) p = p
+on_ok P (Err e) p = tt

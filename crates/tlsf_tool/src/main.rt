@@ -8,6 +8,7 @@ mod output;
 mod plain_heap;
 mod refusal;
 mod replay;
+mod report;
 mod settings;
 mod status;
 

@@ -93,12 +93,10 @@ impl Replay {
         match event {
             Ok(Event::Start) => Ok(None),
             Ok(Event::End) => Ok(None),
-            Ok(Event::Alloc {
-                at,
-                addr: Some(address),
-                size,
-            }) => self.allocate(alloc, number, at, address, size),
-            Ok(Event::Alloc { addr: None, .. }) => Ok(None),
+            Ok(Event::Alloc { at, addr, size }) => match addr {
+                Some(address) => self.allocate(alloc, number, at, address, size),
+                None => Ok(None),
+            },
             Err(LineFault::TooLong) => Ok(Some(Diagnostic {
                 line: number,
                 kind: Kind::TooLong,
@@ -140,5 +138,12 @@ impl Replay {
                 kind: Kind::Refused(address, refusal),
             })),
         }
+    }
+
+    /// What is held, by address.
+    pub fn held(&self) -> &BTreeMap<Addr, Entry>
+        ensures { result.now.entries ≡ self.now.entries }
+    {
+        &self.held
     }
 }

@@ -1,0 +1,53 @@
+use Rattle.std.proofs.Common.{◌≡◌, ℕ, List, ◌++◌, sym, subst, ap, ◌∙◌, flat_map}
+use Rattle.std.proofs.lemmas.Result.{on_ok_weaker, on_err_weaker}
+use Rattle.tlsf_tool.specs.Output.{Wrote, Begins}
+use Rattle.tlsf_tool.specs.Texts.{entry_text, total_text, leaks_report}
+use Rattle.tlsf_tool.proofs.TextLemmas.{heading, leaks_report-some, total_text-is}
+use Rattle.tlsf_tool.proofs.Writing.{Wrote-append, Begins-after, Begins-longer, on_err}
+use Rattle.tlsf_tool.proofs.report.put_held.Goals as goal
+
+pub returns-in_err-put_all-clause-beginning : goal.returns-in_err-put_all-clause-beginning
+returns-in_err-put_all-clause-beginning g c =
+    let taken = g.W.Sink.taken in
+    let entries = c.args.held.now.entries in
+    let P : List ℕ → Type 0 = λ text. Begins (taken c.args.writer.now) (taken c.put_all.new.writer) text in
+    on_err _ c.from_residual.result (subst P (sym (leaks_report-some entries c.requires))
+      (Begins-longer (taken c.args.writer.now) (taken c.put_all.new.writer) (heading ++ flat_map entry_text entries) (total_text entries)
+        (Begins-longer (taken c.args.writer.now) (taken c.put_all.new.writer) heading (flat_map entry_text entries) c.in_err-put_all.ensures.beginning)))
+
+pub returns-in_err-put_entries-clause-beginning : goal.returns-in_err-put_entries-clause-beginning
+returns-in_err-put_entries-clause-beginning g c =
+    let taken = g.W.Sink.taken in
+    let entries = c.args.held.now.entries in
+    let P : List ℕ → Type 0 = λ text. Begins (taken c.args.writer.now) (taken c.put_entries.new.writer) text in
+    on_err _ c.from_residual-in_err-put_entries.result (subst P (sym (leaks_report-some entries c.requires))
+      (Begins-longer (taken c.args.writer.now) (taken c.put_entries.new.writer) (heading ++ flat_map entry_text entries) (total_text entries)
+        (Begins-after (taken c.args.writer.now) (taken c.put_all.new.writer) (taken c.put_entries.new.writer) heading (flat_map entry_text entries) c.in_ok-put_all.ensures.all c.in_err-put_entries.ensures.beginning)))
+
+pub returns-clause-all : goal.returns-clause-all
+returns-clause-all g c =
+    let taken = g.W.Sink.taken in
+    let entries = c.args.held.now.entries in
+    let last = c.as_slice.ensures.value ∙ c.total_text-total.ensures ∙ total_text-is entries _ _ c.len.ensures.len c.total_size.ensures in
+    let P : List ℕ → Type 0 = λ text. Wrote (taken c.args.writer.now) (taken c.put_all-2.new.writer) text in
+    let Q : List ℕ → Type 0 = λ text. Wrote (taken c.put_entries.new.writer) (taken c.put_all-2.new.writer) text in
+    on_ok_weaker c.put_all-2.result
+      (λ put. subst P (sym (leaks_report-some entries c.requires))
+        (Wrote-append (taken c.args.writer.now) (taken c.put_entries.new.writer) (taken c.put_all-2.new.writer) (heading ++ flat_map entry_text entries) (total_text entries)
+          (Wrote-append (taken c.args.writer.now) (taken c.put_all.new.writer) (taken c.put_entries.new.writer) heading (flat_map entry_text entries) c.in_ok-put_all.ensures.all c.in_ok-put_entries.ensures.all)
+          (subst Q last put)))
+      c.put_all-2.ensures.all
+
+pub returns-clause-beginning : goal.returns-clause-beginning
+returns-clause-beginning g c =
+    let taken = g.W.Sink.taken in
+    let entries = c.args.held.now.entries in
+    let last = c.as_slice.ensures.value ∙ c.total_text-total.ensures ∙ total_text-is entries _ _ c.len.ensures.len c.total_size.ensures in
+    let P : List ℕ → Type 0 = λ text. Begins (taken c.args.writer.now) (taken c.put_all-2.new.writer) text in
+    let Q : List ℕ → Type 0 = λ text. Begins (taken c.put_entries.new.writer) (taken c.put_all-2.new.writer) text in
+    on_err_weaker c.put_all-2.result
+      (λ begun. subst P (sym (leaks_report-some entries c.requires))
+        (Begins-after (taken c.args.writer.now) (taken c.put_entries.new.writer) (taken c.put_all-2.new.writer) (heading ++ flat_map entry_text entries) (total_text entries)
+          (Wrote-append (taken c.args.writer.now) (taken c.put_all.new.writer) (taken c.put_entries.new.writer) heading (flat_map entry_text entries) c.in_ok-put_all.ensures.all c.in_ok-put_entries.ensures.all)
+          (subst Q last begun)))
+      c.put_all-2.ensures.beginning
