@@ -1,5 +1,5 @@
 -- What a run read and wrote, by its answer.
-use Rattle.std.specs.Prelude.{◌≡◌, ◌⊎◌, ℕ, ◌+◌, ◌-◌, ◌^◌, List, [], ◌∷◌, ◌++◌, length, Option, Result, Ok, Err}
+use Rattle.std.specs.Prelude.{◌≡◌, ◌⊎◌, ℕ, ◌+◌, Bool, true, false, List, [], ◌∷◌, ◌++◌, length, Option, Result, Ok, Err}
 use Rattle.mtrace_log.specs.HasRead.{HasRead, HasReadAll, HasReadBefore}
 use Rattle.mtrace_log.specs.Progress.{HasMore, greatest_number}
 use Rattle.mtrace_log.specs.declared.event.Event.{Event}
@@ -7,7 +7,9 @@ use Rattle.mtrace_log.specs.declared.event.LineFault.{LineFault}
 use Rattle.tlsf_tool.specs.declared.entry.Entry.{Entry}
 use Rattle.tlsf_tool.specs.declared.settings.Settings.{Settings}
 use Rattle.tlsf_tool.specs.declared.status.Status.{Status}
-use Rattle.tlsf_tool.specs.History.{history, notes, AreHeld}
+use Rattle.tlsf_tool.specs.History.{Moment, history, notes, AreHeld}
+use Rattle.tlsf_tool.specs.Replay.{Replayed}
+use Rattle.tlsf_tool.specs.declared.diagnostic.Diagnostic.{Diagnostic}
 use Rattle.tlsf_tool.specs.Texts.{notes_text, leaks_text, status_of}
 use Rattle.tlsf_tool.specs.Output.{Wrote, Begins}
 
@@ -58,3 +60,28 @@ pub record StopsAtLine (settings : Settings) (left_old left_new taken_old taken_
 abbrev pub StopsForMemory : {R W : Type 0} → (left : R → Bytes) (taken : W → Bytes) → Settings → (reader_old reader_new : R) (writer_old writer_new : W) → Type 0
 StopsForMemory left taken settings reader_old reader_new writer_old writer_new =
   ((reader_new ≡ reader_old) × (writer_new ≡ writer_old)) ⊎ StopsAtLine settings (left reader_old) (left reader_new) (taken writer_old) (taken writer_new)
+
+-- whether there is a diagnostic
+abbrev pub is_some_note : List Diagnostic → Bool
+is_some_note [] = false
+is_some_note (note ∷ more) = true
+
+-- one line more was replayed, and its diagnostics were written
+pub record LineGives (old new : Replayed) (taken_old taken_new : Bytes) (noted : Bool) (before : List Moment) (moment : Moment) : Type 0 where
+  pub content_is : new.content ≡ moment.content
+  pub held : AreHeld new.entries (moment ∷ before)
+  pub wrote : Wrote taken_old taken_new (notes_text moment.notes)
+  pub noted_is : noted ≡ is_some_note moment.notes
+
+-- one line more was replayed, and its diagnostics were begun
+pub record LineBegins (old new : Replayed) (taken_old taken_new : Bytes) (before : List Moment) (moment : Moment) : Type 0 where
+  pub held : AreHeld new.entries (moment ∷ before)
+  pub begun : Begins taken_old taken_new (notes_text moment.notes)
+
+-- all lines of the log were read and replayed, and their diagnostics were written
+pub record HasReplayed (settings : Settings) (replay : Replayed) (noted : Bool) (left_old left_new taken_old taken_new : Bytes) : Type 0 where
+  pub lines : List (Result Event LineFault)
+  pub read : HasReadAll left_old left_new lines
+  pub held : AreHeld replay.entries (history settings lines)
+  pub wrote : Wrote taken_old taken_new (text_of_notes settings lines)
+  pub noted_is : noted ≡ is_some_note (notes (history settings lines))

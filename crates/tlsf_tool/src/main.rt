@@ -9,6 +9,7 @@ mod plain_heap;
 mod refusal;
 mod replay;
 mod report;
+mod run;
 mod settings;
 mod status;
 
