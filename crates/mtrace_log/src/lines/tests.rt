@@ -15,7 +15,9 @@ fn has_no_number_for_one_more_line(rt: HostRuntime) {
     let mut reader = MemorySource::in_pieces(b"= End\n\n", 1);
     let mut lines = after(u64::MAX - 1);
     let last = lines.next(&mut reader);
-    assert!(rt; matches!(&last, Ok(Some(line)) if line.number == u64::MAX && line.event == Ok(Event::End)));
+    assert!(rt;
+        matches!(&last, Ok(Some(line)) if line.number == u64::MAX && line.event == Ok(Event::End))
+    );
     assert!(rt; lines.next(&mut reader) == Err(ReadFault::TooManyLines));
     assert!(rt; lines.next(&mut reader) == Err(ReadFault::TooManyLines));
 }

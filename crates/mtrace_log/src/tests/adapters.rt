@@ -42,9 +42,13 @@ fn reads_from_std(rt: HostRuntime) {
     let mut reader = FromRead::new(text);
     let mut lines = Lines::new();
     let first = lines.next(&mut reader);
-    assert!(rt; matches!(&first, Ok(Some(line)) if line.number == 1 && line.event == Ok(Event::Start)));
+    assert!(rt;
+        matches!(&first, Ok(Some(line)) if line.number == 1 && line.event == Ok(Event::Start))
+    );
     let second = lines.next(&mut reader);
-    assert!(rt; matches!(&second, Ok(Some(line)) if line.number == 2 && line.event == Ok(Event::End)));
+    assert!(rt;
+        matches!(&second, Ok(Some(line)) if line.number == 2 && line.event == Ok(Event::End))
+    );
     assert!(rt; lines.next(&mut reader) == Ok(None));
 
     let mut fails = FromRead::new(Interrupted { before: false });

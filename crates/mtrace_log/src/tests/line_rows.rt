@@ -2,7 +2,13 @@ use crate::{Event, LineFault, read_line};
 use std::process::Abort;
 
 // What a line says of an allocation: its place, its address and its size.
-fn expect_alloc(rt: &impl Abort, line: &[u8], place: Option<&[u8]>, address: Option<u64>, bytes: u64) {
+fn expect_alloc(
+    rt: &impl Abort,
+    line: &[u8],
+    place: Option<&[u8]>,
+    address: Option<u64>,
+    bytes: u64,
+) {
     let answer = read_line(line);
     let Ok(Event::Alloc { at, addr, size }) = &answer else {
         panic!(rt; "no allocation: {line:?}");
@@ -25,7 +31,13 @@ fn reads_each_form(rt: HostRuntime) {
     expect_alloc(&rt, b"+ 0x1000 0", None, Some(4096), 0);
     expect_alloc(&rt, b"+ (nil) 0xc8", None, None, 200);
     expect_alloc(&rt, b"@ a + 0x10 0x64", Some(b"a"), Some(16), 100);
-    expect_alloc(&rt, b"@ ./prog:(main+9b)[0x1244] + 0xabcdef 0x1", Some(b"./prog:(main+9b)[0x1244]"), Some(11259375), 1);
+    expect_alloc(
+        &rt,
+        b"@ ./prog:(main+9b)[0x1244] + 0xabcdef 0x1",
+        Some(b"./prog:(main+9b)[0x1244]"),
+        Some(11259375),
+        1,
+    );
     expect_alloc(&rt, b"@ + + (nil) 0", Some(b"+"), None, 0);
 }
 
@@ -75,7 +87,8 @@ fn long_line(line: &mut Vec<u8>, count: usize, rt: &impl Abort) {
     for _ in 0..count {
         line.push(b'a').expect(rt, "memory");
     }
-    line.extend_from_slice(b" + 0xffffffffffffffff 0xffffffffffffffff").expect(rt, "memory");
+    line.extend_from_slice(b" + 0xffffffffffffffff 0xffffffffffffffff")
+        .expect(rt, "memory");
 }
 
 #[test]
@@ -87,7 +100,13 @@ fn reads_the_longest_line(rt: HostRuntime) {
         place.push(b'a').expect(&rt, "memory");
     }
     assert_eq!(rt; longest.len(), 297);
-    expect_alloc(&rt, longest.as_slice(), Some(place.as_slice()), Some(u64::MAX), u64::MAX);
+    expect_alloc(
+        &rt,
+        longest.as_slice(),
+        Some(place.as_slice()),
+        Some(u64::MAX),
+        u64::MAX,
+    );
 
     let mut longer = Vec::new(rt.alloc());
     long_line(&mut longer, 256, &rt);

@@ -17,7 +17,16 @@ fn expect_sizes(rt: &impl Abort, text: &[u8], piece: usize, sizes: &[Option<u64>
         number = number.wrapping_add(1);
         assert_eq!(rt; line.number, number);
         match (&line.event, size) {
-            (Ok(Event::Alloc { at: _, addr: _, size }), Some(bytes)) => assert_eq!(rt; *size, *bytes),
+            (
+                Ok(
+                    Event::Alloc {
+                        at: _,
+                        addr: _,
+                        size,
+                    },
+                ),
+                Some(bytes),
+            ) => assert_eq!(rt; *size, *bytes),
             (Err(LineFault::NotALine), None) => {}
             _ => panic!(rt; "line {number} of {text:?}"),
         }
@@ -33,8 +42,18 @@ fn cuts_a_text_into_lines(rt: HostRuntime) {
         expect_sizes(&rt, b"\n", piece, &[None]);
         expect_sizes(&rt, b"+ 0x10 0x8", piece, &[Some(8)]);
         expect_sizes(&rt, b"+ 0x10 0x8\n", piece, &[Some(8)]);
-        expect_sizes(&rt, b"+ 0x10 0x8\n\n+ (nil) 0\n+", piece, &[Some(8), None, Some(0), None]);
-        expect_sizes(&rt, b"+ 0x01000 0x10\n+ 0x1000 0\n- 0x2000\n< 0x1000", piece, &[None, Some(0), None, None]);
+        expect_sizes(
+            &rt,
+            b"+ 0x10 0x8\n\n+ (nil) 0\n+",
+            piece,
+            &[Some(8), None, Some(0), None],
+        );
+        expect_sizes(
+            &rt,
+            b"+ 0x01000 0x10\n+ 0x1000 0\n- 0x2000\n< 0x1000",
+            piece,
+            &[None, Some(0), None, None],
+        );
     }
 }
 
@@ -50,9 +69,13 @@ fn passes_over_a_long_line(rt: HostRuntime) {
             let mut reader = MemorySource::in_pieces(text.as_slice(), piece);
             let mut lines = Lines::new();
             let first = lines.next(&mut reader);
-            assert!(rt; matches!(&first, Ok(Some(line)) if line.number == 1 && line.event == Err(LineFault::TooLong)));
+            assert!(rt;
+                matches!(&first, Ok(Some(line)) if line.number == 1 && line.event == Err(LineFault::TooLong))
+            );
             let second = lines.next(&mut reader);
-            assert!(rt; matches!(&second, Ok(Some(line)) if line.number == 2 && line.event == Ok(Event::End)));
+            assert!(rt;
+                matches!(&second, Ok(Some(line)) if line.number == 2 && line.event == Ok(Event::End))
+            );
             assert!(rt; lines.next(&mut reader) == Ok(None));
         }
     }
@@ -64,7 +87,9 @@ fn stops_where_the_reader_fails(rt: HostRuntime) {
     let mut reader = MemorySource::failing_after(b"- 0x1\n- 0x2\n= End\n", 1, 11);
     let mut lines = Lines::new();
     let first = lines.next(&mut reader);
-    assert!(rt; matches!(&first, Ok(Some(line)) if line.number == 1 && line.event == Err(LineFault::NotALine)));
+    assert!(rt;
+        matches!(&first, Ok(Some(line)) if line.number == 1 && line.event == Err(LineFault::NotALine))
+    );
     assert!(rt; lines.next(&mut reader) == Err(ReadFault::ReaderFailed));
     // The reader would go on, and isn't asked.
     assert!(rt; lines.next(&mut reader) == Err(ReadFault::ReaderFailed));
