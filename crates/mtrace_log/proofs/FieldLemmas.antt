@@ -72,10 +72,11 @@ pub position-some : (xs : List ℕ) (i : ℕ) → Some i ≡ position (λ b. b =
 position-some xs i found =
     let (within, passes, before) = position-Some (λ b. b == space) xs i 0 (sym found) in
     let here : get_or xs i 0 ≡ space = eqb-true (get_or xs i 0) space passes in
-    let rest : drop i xs ≡ get_or xs i 0 ∷ drop (i + 1) xs = rw (add-one, drop-cons xs i 0) refl in
-    (Lacks-take space xs i (λ k below inside. eqb-false (get_or xs k 0) space (before k below)),
-    sym (take-append-drop i xs) ∙ ap (λ back. take i xs ++ back) (rest ∙ ap (λ b. b ∷ drop (i + 1) xs) here)
-    ∙ ap (λ back. take i xs ++ space ∷ back) (sym (take-rest (i + 1) xs)))
+    let rest : drop i xs ≡ get_or xs i 0 ∷ drop (i + 1) xs = rw (add-one, drop-cons xs i 0) refl in (
+      Lacks-take space xs i (λ k below inside. eqb-false (get_or xs k 0) space (before k below)),
+      sym (take-append-drop i xs) ∙ ap (λ back. take i xs ++ back) (rest ∙ ap (λ b. b ∷ drop (i + 1) xs) here)
+          ∙ ap (λ back. take i xs ++ space ∷ back) (sym (take-rest (i + 1) xs)),
+    )
 
 -- what stands behind two bytes
 abbrev pub behind_two : List ℕ → List ℕ

@@ -46,6 +46,6 @@ impl Addr {
     pub fn text(self) -> ArrayVec<u8, LONGEST_ADDRESS>
         ensures { result.items ≡ address_text self }
     {
-        hex::address_text(self.number)
+        hex::address_text(self.value())
     }
 }

@@ -1,8 +1,11 @@
-//! Laws of the forms of lines, as calls that do nothing: their contracts are what is proved.
-ghost use Rattle.std.specs.Prelude.{◌≡◌, ℕ, ◌≤◌, List, length, Result};
+//! Laws of the spellings of events and of the lines of a text, as calls that do nothing: their contracts are what is proved.
+ghost use Rattle.std.specs.Prelude.{◌≡◌, ℕ, ◌<◌, ◌≤◌, List, [], ◌∷◌, ◌++◌, length, Result};
 ghost use Rattle.mtrace_log.specs.Bytes.{Lacks, newline};
 ghost use Rattle.mtrace_log.specs.Spelling.{spell, IsEvent, longest_line};
 ghost use Rattle.mtrace_log.specs.Reading.{Reads};
+ghost use Rattle.mtrace_log.specs.Lines.{lines_of};
+ghost use Rattle.mtrace_log.specs.HasRead.{whole_lines};
+ghost use Rattle.std.specs.List.{AllByRecursion};
 ghost use Rattle.mtrace_log.specs.declared.event.Event.{Event};
 ghost use Rattle.mtrace_log.specs.declared.event.LineFault.{LineFault};
 
@@ -21,3 +24,13 @@ pub fn one_spelling()
 pub fn one_answer()
     ensures { (bytes : List ℕ) (first second : Result Event LineFault) → Reads bytes first → Reads bytes second → first ≡ second }
 {}
+
+/// Pieces that each end in a newline are the first lines of a text. A last piece without newline is
+/// one line, where it isn't empty.
+pub fn lines_from_the_front()
+    ensures whole { (pieces : List (List ℕ)) (rest : List ℕ) → AllByRecursion (Lacks newline) pieces
+        → lines_of (whole_lines pieces ++ rest) ≡ pieces ++ lines_of rest }
+    ensures last { (piece : List ℕ) → Lacks newline piece → 0 < length piece → lines_of piece ≡ piece ∷ [] }
+    ensures end { lines_of [] ≡ [] }
+{
+}

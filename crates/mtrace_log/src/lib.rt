@@ -20,6 +20,8 @@ pub mod memory;
 mod pieces;
 mod sink;
 mod source;
+#[cfg(test)]
+mod tests;
 mod to_write;
 
 pub use crate::addr::Addr;

@@ -11,6 +11,9 @@ use crate::pieces::{Stop, pull_byte, read_piece};
 use crate::source::Source;
 use std::marker::Model;
 
+#[cfg(test)]
+mod tests;
+
 // What has become of the stream.
 #[derive(Clone, Copy)]
 enum State {

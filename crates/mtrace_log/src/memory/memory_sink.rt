@@ -1,5 +1,6 @@
-ghost use Rattle.std.specs.Prelude.{◌≡◌, [], ℕ, ◌+◌, ◌<◌, ◌≤◌, List, length, take, Some};
-ghost use Rattle.mtrace_log.specs.Memory.{sink_taken};
+ghost use Rattle.std.specs.Prelude.{◌≡◌, [], ℕ, ◌+◌, ◌<◌, ◌≤◌, ◌↔◌, ◌++◌, List, length, take, true, false, Some, IfOk, OnOk, OnErr, IsErr, IsTrue};
+ghost use Rattle.mtrace_log.specs.Memory.{sink_taken, sink_piece, sink_room, sink_full, sink_count, flush_fails, failed_puts};
+ghost use Rattle.mtrace_log.specs.declared.memory.memory_sink.Full.TheVariants.{Fails};
 
 use crate::failed::Failed;
 use crate::failures::Failures;
@@ -30,14 +31,23 @@ impl MemorySink {
     /// A writer that takes all bytes, at most `piece` of them a call. It fails only where memory is
     /// refused.
     pub fn in_pieces(alloc: Global, piece: usize) -> Self
-        ensures { sink_taken result ≡ [] }
+        ensures taken { sink_taken result ≡ [] }
+        ensures piece { sink_piece result ≡ piece }
+        ensures room { sink_room result ≡ usize.MAX }
+        ensures flush { flush_fails result ≡ false }
+        ensures failures { failed_puts result ≡ 0 }
     {
         MemorySink::with_room(alloc, piece, usize::MAX, Full::Fails)
     }
 
     /// A writer that takes `room` bytes, at most `piece` of them a call, and then is full.
     pub fn with_room(alloc: Global, piece: usize, room: usize, full: Full) -> Self
-        ensures { sink_taken result ≡ [] }
+        ensures taken { sink_taken result ≡ [] }
+        ensures piece { sink_piece result ≡ piece }
+        ensures room { sink_room result ≡ room }
+        ensures full { sink_full result ≡ full }
+        ensures flush { flush_fails result ≡ false }
+        ensures failures { failed_puts result ≡ 0 }
     {
         MemorySink {
             bytes: Vec::new(alloc),
@@ -51,7 +61,12 @@ impl MemorySink {
 
     /// The same writer, whose every flush fails.
     pub fn failing_flush(self) -> Self
-        ensures { sink_taken result ≡ sink_taken self }
+        ensures taken { sink_taken result ≡ sink_taken self }
+        ensures piece { sink_piece result ≡ sink_piece self }
+        ensures room { sink_room result ≡ sink_room self }
+        ensures full { sink_full result ≡ sink_full self }
+        ensures flush { flush_fails result ≡ true }
+        ensures failures { failed_puts result ≡ failed_puts self }
     {
         let MemorySink {
             bytes,
@@ -82,9 +97,31 @@ impl MemorySink {
 impl Sink for MemorySink {
     ghost taken = { λ sink. Some (sink_taken sink) };
 
-    ghost failures = { λ sink. sink.failures.count };
+    ghost failures = { failed_puts };
 
-    fn put(&mut self, bytes: &[u8]) -> Result<usize, Failed> {
+    /// Takes as many bytes as a piece has and as there is room for.
+    ///
+    /// # Errors
+    ///
+    /// `Failed` where there is no room and it is to fail then, and where memory is refused.
+    fn put(&mut self, bytes: &[u8]) -> Result<usize, Failed>
+        ensures bound { IfOk result (λ n. n ≤ length bytes.now) }
+        ensures bytes { IfOk result (λ n. sink_taken self.new ≡ sink_taken self.old ++ take n bytes.now) }
+        ensures count { IfOk result (λ n. n ≡ sink_count self.old (length bytes.now)) }
+        ensures room { IfOk result (λ n. sink_room self.new + n ≡ sink_room self.old) }
+        ensures full { sink_count self.old (length bytes.now) ≡ 0 → 0 < length bytes.now
+            → IsErr result ↔ (sink_full self.old ≡ Fails) }
+        ensures kept { OnErr result (sink_taken self.new ≡ sink_taken self.old) }
+        ensures kept_room { OnErr result (sink_room self.new ≡ sink_room self.old) }
+        ensures piece { sink_piece self.new ≡ sink_piece self.old }
+        ensures kept_full { sink_full self.new ≡ sink_full self.old }
+        ensures flush { flush_fails self.new ≡ flush_fails self.old }
+        ensures some_taken { IfOk result (λ n. 0 < n → failed_puts self.new ≡ failed_puts self.old) }
+        ensures none_asked { IfOk result (λ n. length bytes.now ≡ 0 → failed_puts self.new ≡ failed_puts self.old) }
+        ensures none_taken { IfOk result (λ n. n ≡ 0 → 0 < length bytes.now
+            → failed_puts self.new ≡ failed_puts self.old + 1) }
+        ensures failure { OnErr result (failed_puts self.new ≡ failed_puts self.old + 1) }
+    {
         let count = bytes.len().min(self.room).min(self.piece);
         if count == 0 && !bytes.is_empty() {
             self.failures.rise();
@@ -105,7 +142,21 @@ impl Sink for MemorySink {
         }
     }
 
-    fn flush(&mut self) -> Result<(), Failed> {
+    /// Does nothing.
+    ///
+    /// # Errors
+    ///
+    /// `Failed` where it is to fail.
+    fn flush(&mut self) -> Result<(), Failed>
+        ensures fails { IsErr result ↔ IsTrue (flush_fails self.old) }
+        ensures kept { sink_taken self.new ≡ sink_taken self.old }
+        ensures kept_room { sink_room self.new ≡ sink_room self.old }
+        ensures piece { sink_piece self.new ≡ sink_piece self.old }
+        ensures kept_full { sink_full self.new ≡ sink_full self.old }
+        ensures flush { flush_fails self.new ≡ flush_fails self.old }
+        ensures no_failure { OnOk result (failed_puts self.new ≡ failed_puts self.old) }
+        ensures failure { OnErr result (failed_puts self.new ≡ failed_puts self.old + 1) }
+    {
         if self.flush_fails {
             self.failures.rise();
             return Err(Failed);

@@ -1,0 +1,5 @@
+mod adapters;
+mod addresses;
+mod in_memory;
+mod line_rows;
+mod streams;
