@@ -9,3 +9,4 @@ mod PlainMalloc
 mod Writing
 mod HistoryLemmas
 mod TextLemmas
+mod RunLemmas

@@ -1,5 +1,6 @@
 -- What a run read and wrote, by its answer.
 use Rattle.std.specs.Prelude.{◌≡◌, ◌⊎◌, ℕ, ◌+◌, Bool, true, false, List, [], ◌∷◌, ◌++◌, length, Option, Result, Ok, Err}
+use Rattle.std.specs.Io.KnownBytes.{prepend_known}
 use Rattle.mtrace_log.specs.HasRead.{HasRead, HasReadAll, HasReadBefore}
 use Rattle.mtrace_log.specs.Progress.{HasMore, greatest_number}
 use Rattle.mtrace_log.specs.declared.event.Event.{Event}
@@ -29,31 +30,48 @@ pub record Reports (settings : Settings) (status : Status) (left_old left_new ta
   pub wrote : Wrote taken_old taken_new (leaks_text (history settings lines) entries)
   pub status_is : status ≡ status_of (notes (history settings lines)) entries
 
--- whole lines were read, and perhaps a piece of the next one, which is lost; then the reader failed, or a
--- line past the last number would come. The diagnostics of those lines were written, and no report
+-- as many lines were read as there are numbers, and more is to come
+pub record IsPastLastNumber (left_old left_new : Bytes) (lines : List (Result Event LineFault)) : Type 0 where
+  pub count : length lines ≡ greatest_number
+  pub read : HasRead left_old left_new lines
+  pub more : HasMore left_new
+
+-- all of the log was read, and a beginning of the leaks text was written
+pub record BeginsWhole (settings : Settings) (left_old left_new taken_old taken_new : Bytes) (lines : List (Result Event LineFault)) : Type 0 where
+  pub read : HasReadAll left_old left_new lines
+  pub entries : List (ℕ × Entry)
+  pub held : AreHeld entries (history settings lines)
+  pub begun : Begins taken_old taken_new (leaks_text (history settings lines) entries)
+
+-- Whole lines were read, and perhaps a piece of the next one, which is lost; then the reader failed, or a
+-- line past the last number would come. The diagnostics of those lines were written, and no report.
+-- Unused are the bytes that were asked of the reader and belong to no line that was read.
 pub record StopsAtRead (settings : Settings) (left_old left_new taken_old taken_new : Bytes) (failures_old failures_new : ℕ) : Type 0 where
   pub lines : List (Result Event LineFault)
-  pub read : HasReadBefore left_old left_new lines
-  pub reason : (failures_new ≡ failures_old + 1) ⊎ ((length lines ≡ greatest_number) × HasRead left_old left_new lines × HasMore left_new)
+  pub unused : List ℕ
+  pub read : HasReadBefore left_old (prepend_known unused left_new) lines
+  pub reason : (failures_new ≡ failures_old + 1) ⊎ IsPastLastNumber left_old (prepend_known unused left_new) lines
   pub wrote : Wrote taken_old taken_new (text_of_notes settings lines)
 
 -- a beginning of the diagnostics of the lines read, or of the whole text where the log had ended
 abbrev pub BeginsText : Settings → (left_old left_new taken_old taken_new : Bytes) → List (Result Event LineFault) → Type 0
 BeginsText settings left_old left_new taken_old taken_new lines =
   (HasRead left_old left_new lines × Begins taken_old taken_new (text_of_notes settings lines))
-  ⊎ (HasReadAll left_old left_new lines × ((entries : List (ℕ × Entry)) × AreHeld entries (history settings lines) × Begins taken_old taken_new (leaks_text (history settings lines) entries)))
+  ⊎ BeginsWhole settings left_old left_new taken_old taken_new lines
 
 -- the writer failed, after a beginning of what was to be written
 pub record StopsAtWrite (settings : Settings) (left_old left_new taken_old taken_new : Bytes) (failures_old failures_new : ℕ) : Type 0 where
   pub failed : failures_new ≡ failures_old + 1
   pub lines : List (Result Event LineFault)
-  pub begun : BeginsText settings left_old left_new taken_old taken_new lines
+  pub unused : List ℕ
+  pub begun : BeginsText settings left_old (prepend_known unused left_new) taken_old taken_new lines
 
 -- memory was refused at the last line that was read: the diagnostics of the lines before it were written
 pub record StopsAtLine (settings : Settings) (left_old left_new taken_old taken_new : Bytes) : Type 0 where
   pub lines : List (Result Event LineFault)
   pub last : Result Event LineFault
-  pub read : HasRead left_old left_new (lines ++ last ∷ []) ⊎ HasReadAll left_old left_new (lines ++ last ∷ [])
+  pub unused : List ℕ
+  pub read : HasRead left_old (prepend_known unused left_new) (lines ++ last ∷ []) ⊎ HasReadAll left_old (prepend_known unused left_new) (lines ++ last ∷ [])
   pub wrote : Wrote taken_old taken_new (text_of_notes settings lines)
 
 -- memory was refused at the start, and nothing was read or written, or at a line

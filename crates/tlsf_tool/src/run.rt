@@ -55,3 +55,39 @@ fn replay_line<W: Sink>(
         Err(_) => Err(RunFault::Write),
     }
 }
+
+/// Reads and replays all lines of the log; what is wrong with a line is put at once. Answers the replay,
+/// and whether anything was put.
+fn replay_log<R: Source, W: Sink>(
+    alloc: Global,
+    reader: &mut R,
+    writer: &mut W,
+    settings: Settings,
+) -> Result<(Replay, bool), RunFault>
+    requires { are_bad settings ≡ false }
+    ensures done { IfOk result (λ end. HasReplayed settings end.0 end.1 (R.left reader.old) (R.left reader.new) (W.taken writer.old) (W.taken writer.new)) }
+    ensures no_failure { OnOk result ((R.failures reader.new ≡ R.failures reader.old) × (W.failures writer.new ≡ W.failures writer.old)) }
+    ensures read { IsErrOf result RunFault.Read → StopsAtRead settings (R.left reader.old) (R.left reader.new)
+        (W.taken writer.old) (W.taken writer.new) (R.failures reader.old) (R.failures reader.new) }
+    ensures write { IsErrOf result RunFault.Write → StopsAtWrite settings (R.left reader.old) (R.left reader.new)
+        (W.taken writer.old) (W.taken writer.new) (W.failures writer.old) (W.failures writer.new) }
+    ensures memory { IsErrOf result RunFault.OutOfMemory → StopsForMemory R.left W.taken settings reader.old reader.new writer.old writer.new }
+    ensures no_settings { result ≢ Err RunFault.BadSettings }
+{
+    let Ok(mut replay) = Replay::create(alloc, settings) else {
+        return Err(RunFault::OutOfMemory);
+    };
+    let mut lines = Lines::new();
+    let mut noted = false;
+    loop {
+        let line = match lines.next(reader) {
+            Ok(Some(line)) => line,
+            Ok(None) => return Ok((replay, noted)),
+            Err(_) => return Err(RunFault::Read),
+        };
+        match replay_line(alloc, writer, &mut replay, line) {
+            Ok(more) => noted |= more,
+            Err(fault) => return Err(fault),
+        }
+    }
+}

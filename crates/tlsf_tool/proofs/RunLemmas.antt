@@ -1,0 +1,217 @@
+-- A run under way, and how it goes on and ends.
+use Rattle.std.proofs.Common.{◌≡◌, ◌≢◌, ℕ, zero, suc, ◌+◌, Bool, true, false, ◌||◌, List, [], ◌∷◌, ◌++◌, length, refl, sym, ap, ◌∙◌, subst, arith, Option, Some, None, reverse, flat_map, ◌⊎◌, inl, inr, append_assoc, length-append}
+use Rattle.std.specs.Prelude.{Result, Ok, Err}
+use Rattle.std.specs.Io.KnownBytes.{prepend_known, append_known, IsAtEnd}
+use Rattle.std.proofs.lemmas.Grind.{flat_map-append}
+use Rattle.std.proofs.lemmas.List.{append-nil, reverse-append, length-reverse}
+use Rattle.mtrace_log.specs.Progress.{Progress, Status, Reading, Ended, Faulted, to_come, HasMore, TakesLine, GivesLine, FindsEnd, StopsReading, GivesFault}
+use Rattle.mtrace_log.specs.HasRead.{HasRead, HasReadAll, HasReadBefore, HasReadSo}
+use Rattle.mtrace_log.specs.declared.event.Event.{Event}
+use Rattle.mtrace_log.specs.declared.event.LineFault.{LineFault}
+use Rattle.mtrace_log.specs.declared.line.Line.{Line}
+use Rattle.mtrace_log.specs.declared.line.ReadFault.{ReadFault}
+use Rattle.mtrace_log.specs.declared.line.ReadFault.TheVariants.{ReaderFailed, TooManyLines}
+use Rattle.mtrace_log.proofs.ReadLemmas.{HasRead-none, HasReadSo-line, HasReadSo-end, HasReadSo-fault}
+use Rattle.tlsf_tool.specs.declared.settings.Settings.{Settings}
+use Rattle.tlsf_tool.specs.declared.entry.Entry.{Entry}
+use Rattle.tlsf_tool.specs.declared.diagnostic.Diagnostic.{Diagnostic}
+use Rattle.tlsf_tool.specs.History.{Bare, Moment, AreHeld, started, moments, moment, content_after, history, notes}
+use Rattle.tlsf_tool.specs.Texts.{note_text, notes_text, leaks_text, leaks_report}
+use Rattle.tlsf_tool.specs.Output.{Wrote, Begins}
+use Rattle.tlsf_tool.specs.Replay.{Replayed, StandsFor}
+use Rattle.tlsf_tool.specs.Run.{Bytes, text_of_notes, StopsAtRead, IsPastLastNumber, BeginsText, BeginsWhole, StopsAtWrite, StopsAtLine, is_some_note, LineGives, LineBegins, HasReplayed}
+use Rattle.tlsf_tool.proofs.HistoryLemmas.{moments-none, moments-line}
+use Rattle.tlsf_tool.proofs.Writing.{Wrote-nothing, Wrote-append, Begins-after, Begins-longer}
+
+-- the lines so far were read and replayed, and their diagnostics written
+pub record IsUnderWay (settings : Settings) (progress : Progress) (replay : Replayed) (noted : Bool) (left_start left_now taken_start taken_now : Bytes) : Type 0 where
+  pub lines : List (Result Event LineFault)
+  pub count : progress.count ≡ length lines
+  pub no_fault : (fault : ReadFault) → progress.status ≢ Faulted fault
+  pub read : HasReadSo progress.status left_start (to_come progress left_now) lines
+  pub content_is : replay.content ≡ content_after (started settings) (history settings lines)
+  pub held : AreHeld replay.entries (history settings lines)
+  pub wrote : Wrote taken_start taken_now (text_of_notes settings lines)
+  pub noted_is : noted ≡ is_some_note (notes (history settings lines))
+
+prepend_nothing : (known : Bytes) → prepend_known [] known ≡ known
+prepend_nothing None = refl
+prepend_nothing (Some bytes) = refl
+
+-- before the first line
+pub underway_start : (settings : Settings) (replay : Replayed) (left taken : Bytes) → StandsFor replay (started settings) []
+    → IsUnderWay settings (record { held = []; count = 0; status = Reading }) replay false left left taken taken
+underway_start settings replay left taken stands =
+    let none : history settings [] ≡ [] = moments-none (started settings) in
+    record {
+      lines = [];
+      count = refl;
+      no_fault = (λ fault is. cc);
+      read = (let P : Bytes → Type 0 = λ text. HasRead left text [] in subst P (sym (prepend_nothing left)) (HasRead-none left));
+      content_is = stands.content_is;
+      held = stands.held;
+      wrote = (let P : List Moment → Type 0 = λ past. Wrote taken taken (notes_text (notes past)) in subst P (sym none) (Wrote-nothing taken));
+      noted_is = ap (λ past. is_some_note (notes past)) (sym none);
+    }
+
+-- the moment of one line more
+abbrev pub next_moment : Settings → List (Result Event LineFault) → Result Event LineFault → Moment
+next_moment settings lines line = moment (suc (length lines)) line (history settings lines) (content_after (started settings) (history settings lines))
+
+pub history-more : (settings : Settings) (lines : List (Result Event LineFault)) (line : Result Event LineFault) → history settings (lines ++ line ∷ []) ≡ next_moment settings lines line ∷ history settings lines
+history-more settings lines line =
+    let start = started settings in
+    ap (moments start) (reverse-append lines (line ∷ [])) ∙ moments-line start line (reverse lines)
+    ∙ ap (λ n. moment (suc n) line (moments start (reverse lines)) (content_after start (moments start (reverse lines))) ∷ moments start (reverse lines)) (length-reverse lines)
+
+notes_text-more : (settings : Settings) (lines : List (Result Event LineFault)) (line : Result Event LineFault)
+    → text_of_notes settings (lines ++ line ∷ []) ≡ text_of_notes settings lines ++ notes_text (next_moment settings lines line).notes
+notes_text-more settings lines line =
+    ap (λ past. notes_text (notes past)) (history-more settings lines line) ∙ flat_map-append note_text (notes (history settings lines)) (next_moment settings lines line).notes
+
+some_note-append : (first second : List Diagnostic) → is_some_note (first ++ second) ≡ (is_some_note first || is_some_note second)
+some_note-append [] second = refl
+some_note-append (note ∷ first) second = refl
+
+-- what a line came to, told of the number that it was given and of the replay before it
+module _ (settings : Settings) (old : Progress) (replay : Replayed) (noted : Bool) (start before taken_start taken : Bytes)
+         (under : IsUnderWay settings old replay noted start before taken_start taken) (line : Line) (number : line.number ≡ old.count + 1) where
+  moment_is : moment line.number line.event (history settings under.lines) replay.content ≡ next_moment settings under.lines line.event
+  moment_is =
+      ap (λ n. moment n line.event (history settings under.lines) replay.content) (number ∙ omega (arith, under.count))
+      ∙ ap (moment (suc (length under.lines)) line.event (history settings under.lines)) under.content_is
+
+-- one line more
+pub underway_line : (settings : Settings) (old new : Progress) (replay_old replay_new : Replayed) (noted_old more : Bool) (start before after taken_start taken_old taken_new : Bytes) (line : Line)
+    → (under : IsUnderWay settings old replay_old noted_old start before taken_start taken_old)
+    → GivesLine old new (to_come old before) (to_come new after) line
+    → LineGives replay_old replay_new taken_old taken_new more (history settings under.lines) (moment line.number line.event (history settings under.lines) replay_old.content)
+    → IsUnderWay settings new replay_new (noted_old || more) start after taken_start taken_new
+underway_line settings old new replay_old replay_new noted_old more start before after taken_start taken_old taken_new line under given gives =
+    let lines = under.lines ++ line.event ∷ [] in
+    let is = moment_is settings old replay_old noted_old start before taken_start taken_old under line given.number in
+    let now = next_moment settings under.lines line.event in
+    let whole = history-more settings under.lines line.event in
+    let P : Moment → Type 0 = λ m. LineGives replay_old replay_new taken_old taken_new more (history settings under.lines) m in
+    let g : LineGives replay_old replay_new taken_old taken_new more (history settings under.lines) now = subst P is gives in
+    record {
+      lines = lines;
+      count = given.count ∙ given.number ∙ omega (arith, under.count, length-append {A = Result Event LineFault});
+      no_fault = (λ fault is. (let T : Status → Type 0 = λ status. TakesLine status (to_come old before) (to_come new after) line.event in subst T is given.taken));
+      read = HasReadSo-line start (to_come old before) (to_come new after) old new line under.lines under.read given;
+      content_is = g.content_is ∙ ap (content_after (started settings)) (sym whole);
+      held = (let Q : List Moment → Type 0 = λ past. AreHeld replay_new.entries past in subst Q (sym whole) g.held);
+      wrote = (let Q : List ℕ → Type 0 = λ text. Wrote taken_start taken_new text in
+        subst Q (sym (notes_text-more settings under.lines line.event)) (Wrote-append taken_start taken_old taken_new (text_of_notes settings under.lines) (notes_text now.notes) under.wrote g.wrote));
+      noted_is = ap (λ b. b || more) under.noted_is ∙ ap (λ b. is_some_note (notes (history settings under.lines)) || b) g.noted_is
+        ∙ sym (ap (λ past. is_some_note (notes past)) whole ∙ some_note-append (notes (history settings under.lines)) now.notes);
+    }
+
+-- a line that was taken leaves the status reading or ended
+line_read : (status : Status) (start before after : Bytes) (lines : List (Result Event LineFault)) (answer : Result Event LineFault) → TakesLine status before after answer → HasReadSo status start after lines
+    → HasRead start after lines ⊎ HasReadAll start after lines
+line_read Reading start before after lines answer taken read = inl read
+line_read Ended start before after lines answer taken read = inr read
+line_read (Faulted fault) start before after lines answer taken read = absurd taken
+
+-- the writer failed at a line's diagnostics
+pub underway_write : (settings : Settings) (old new : Progress) (replay_old replay_new : Replayed) (noted_old : Bool) (start before after taken_start taken_old taken_new : Bytes) (failures_old failures_new : ℕ) (line : Line)
+    → (under : IsUnderWay settings old replay_old noted_old start before taken_start taken_old)
+    → GivesLine old new (to_come old before) (to_come new after) line
+    → LineBegins replay_old replay_new taken_old taken_new (history settings under.lines) (moment line.number line.event (history settings under.lines) replay_old.content)
+    → failures_new ≡ failures_old + 1
+    → StopsAtWrite settings start after taken_start taken_new failures_old failures_new
+underway_write settings old new replay_old replay_new noted_old start before after taken_start taken_old taken_new failures_old failures_new line under given begins failed =
+    let lines = under.lines ++ line.event ∷ [] in
+    let is = moment_is settings old replay_old noted_old start before taken_start taken_old under line given.number in
+    let now = next_moment settings under.lines line.event in
+    let whole = history-more settings under.lines line.event in
+    let P : Moment → Type 0 = λ m. LineBegins replay_old replay_new taken_old taken_new (history settings under.lines) m in
+    let b : LineBegins replay_old replay_new taken_old taken_new (history settings under.lines) now = subst P is begins in
+    let read = HasReadSo-line start (to_come old before) (to_come new after) old new line under.lines under.read given in
+    let Q : List ℕ → Type 0 = λ text. Begins taken_start taken_new text in
+    let begun : Begins taken_start taken_new (text_of_notes settings lines) =
+          subst Q (sym (notes_text-more settings under.lines line.event)) (Begins-after taken_start taken_old taken_new (text_of_notes settings under.lines) (notes_text now.notes) under.wrote b.begun) in
+    let R : List Moment → Type 0 = λ past. AreHeld replay_new.entries past in
+    let held : AreHeld replay_new.entries (history settings lines) = subst R (sym whole) b.held in
+    record {
+      failed = failed;
+      lines = lines;
+      unused = new.held;
+      begun = elim (line_read new.status start (to_come old before) (to_come new after) lines line.event given.taken read) [
+          inl reading ↦ inl (reading, begun)
+        | inr all ↦ inr (record {
+            read = all;
+            entries = replay_new.entries;
+            held = held;
+            begun = Begins-longer taken_start taken_new (text_of_notes settings lines) (leaks_report replay_new.entries) begun;
+          })
+        ];
+    }
+
+-- memory was refused at a line
+pub underway_memory : (settings : Settings) (old new : Progress) (replay : Replayed) (noted : Bool) (start before after taken_start taken_old taken_new : Bytes) (line : Line)
+    → IsUnderWay settings old replay noted start before taken_start taken_old
+    → GivesLine old new (to_come old before) (to_come new after) line
+    → taken_new ≡ taken_old
+    → StopsAtLine settings start after taken_start taken_new
+underway_memory settings old new replay noted start before after taken_start taken_old taken_new line under given same =
+    record {
+      lines = under.lines;
+      last = line.event;
+      unused = new.held;
+      read = line_read new.status start (to_come old before) (to_come new after) (under.lines ++ line.event ∷ []) line.event given.taken
+        (HasReadSo-line start (to_come old before) (to_come new after) old new line under.lines under.read given);
+      wrote = same ∙ under.wrote;
+    }
+
+-- at the end nothing that was asked of the reader is unused
+all_used : (held : List ℕ) (left : Bytes) → IsAtEnd (prepend_known held left) → prepend_known held left ≡ left
+all_used held None end = refl
+all_used [] (Some bytes) end = refl
+all_used (b ∷ held) (Some bytes) end = absurd (cc)
+
+-- the end of the log
+pub underway_end : {R : Type 0} (left : R → Bytes) (settings : Settings) (old new : Progress) (replay : Replayed) (noted : Bool) (start : Bytes) (reader_old reader_new : R) (taken_start taken : Bytes)
+    → IsUnderWay settings old replay noted start (left reader_old) taken_start taken
+    → FindsEnd old.status old new reader_old reader_new (to_come old (left reader_old)) (to_come new (left reader_new))
+    → HasReplayed settings replay noted start (left reader_new) taken_start taken
+underway_end left settings old new replay noted start reader_old reader_new taken_start taken under found =
+    let all = HasReadSo-end left start old new reader_old reader_new under.lines under.read found in
+    let P : Bytes → Type 0 = λ after. HasReadAll start after under.lines in
+    record {
+      lines = under.lines;
+      read = subst P (all_used new.held (left reader_new) all.at_end) all;
+      held = under.held;
+      wrote = under.wrote;
+      noted_is = under.noted_is;
+    }
+
+-- why the reading stopped
+stop_reason : (fault : ReadFault) (count : ℕ) (start before after : Bytes) (failures_old failures_new : ℕ) (lines : List (Result Event LineFault)) → count ≡ length lines → HasRead start before lines
+    → StopsReading fault count before after failures_old failures_new → (failures_new ≡ failures_old + 1) ⊎ IsPastLastNumber start after lines
+stop_reason ReaderFailed count start before after failures_old failures_new lines same read stop = inl stop.3
+stop_reason TooManyLines count start before after failures_old failures_new lines same read stop =
+    let P : Bytes → Type 0 = λ text. HasRead start text lines in
+    inr (record { count = sym same ∙ stop.0; read = subst P stop.1 read; more = stop.2 })
+
+-- the reader failed, or there are no numbers left
+pub underway_fault : {R : Type 0} (left : R → Bytes) (settings : Settings) (old new : Progress) (replay : Replayed) (noted : Bool) (start : Bytes) (reader_old reader_new : R) (taken_start taken : Bytes) (failures_old failures_new : ℕ) (fault : ReadFault)
+    → IsUnderWay settings old replay noted start (left reader_old) taken_start taken
+    → GivesFault old.status fault old new reader_old reader_new (to_come old (left reader_old)) (to_come new (left reader_new)) failures_old failures_new
+    → StopsAtRead settings start (left reader_new) taken_start taken failures_old failures_new
+underway_fault {R} left settings old new replay noted start reader_old reader_new taken_start taken failures_old failures_new fault under given =
+    record {
+      lines = under.lines;
+      unused = new.held;
+      read = HasReadSo-fault left start old new reader_old reader_new failures_old failures_new fault under.lines under.read given;
+      reason = reason_by old.status refl under.read given;
+      wrote = under.wrote;
+    }
+  where
+    reason_by : (status : Status) → old.status ≡ status → HasReadSo status start (to_come old (left reader_old)) under.lines
+        → GivesFault status fault old new reader_old reader_new (to_come old (left reader_old)) (to_come new (left reader_new)) failures_old failures_new
+        → (failures_new ≡ failures_old + 1) ⊎ IsPastLastNumber start (to_come new (left reader_new)) under.lines
+    reason_by Reading is read stop = stop_reason fault old.count start (to_come old (left reader_old)) (to_come new (left reader_new)) failures_old failures_new under.lines under.count read stop.2
+    reason_by Ended is read stop = absurd stop
+    reason_by (Faulted first) is read stop = absurd (under.no_fault first is)
