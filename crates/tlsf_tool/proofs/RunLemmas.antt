@@ -1,6 +1,6 @@
 -- A run under way, and how it goes on and ends.
 use Rattle.std.proofs.Common.{◌≡◌, ◌≢◌, ℕ, zero, suc, ◌+◌, Bool, true, false, ◌||◌, List, [], ◌∷◌, ◌++◌, length, refl, sym, ap, ◌∙◌, subst, arith, Option, Some, None, reverse, flat_map, ◌⊎◌, inl, inr, append_assoc, length-append}
-use Rattle.std.specs.Prelude.{Result, Ok, Err}
+use Rattle.std.specs.Prelude.{Result, Ok, Err, IsErrOf}
 use Rattle.std.specs.Io.KnownBytes.{prepend_known, append_known, IsAtEnd}
 use Rattle.std.proofs.lemmas.Grind.{flat_map-append}
 use Rattle.std.proofs.lemmas.List.{append-nil, reverse-append, length-reverse}
@@ -215,3 +215,7 @@ underway_fault {R} left settings old new replay noted start reader_old reader_ne
     reason_by Reading is read stop = stop_reason fault old.count start (to_come old (left reader_old)) (to_come new (left reader_new)) failures_old failures_new under.lines under.count read stop.2
     reason_by Ended is read stop = absurd stop
     reason_by (Faulted first) is read stop = absurd (under.no_fault first is)
+
+-- an error is the same, whatever else could have been answered
+pub same_error : {E : Type 0} (T U : Type 0) (first second : E) → IsErrOf {T = T} (Err first) second → IsErrOf {T = U} (Err first) second
+same_error T U first second is = let same : first ≡ second = cc in ap Err same
