@@ -219,3 +219,22 @@ underway_fault {R} left settings old new replay noted start reader_old reader_ne
 -- an error is the same, whatever else could have been answered
 pub same_error : {E : Type 0} (T U : Type 0) (first second : E) → IsErrOf {T = T} (Err first) second → IsErrOf {T = U} (Err first) second
 same_error T U first second is = let same : first ≡ second = cc in ap Err same
+
+-- the writer failed at the report
+pub report_write : (settings : Settings) (replay : Replayed) (noted : Bool) (left_old left_new taken_old taken_middle taken_new : Bytes) (failures_old failures_middle failures_new : ℕ)
+    → HasReplayed settings replay noted left_old left_new taken_old taken_middle → failures_middle ≡ failures_old
+    → Begins taken_middle taken_new (leaks_report replay.entries) → failures_new ≡ failures_middle + 1
+    → StopsAtWrite settings left_old left_new taken_old taken_new failures_old failures_new
+report_write settings replay noted left_old left_new taken_old taken_middle taken_new failures_old failures_middle failures_new done same begins failed =
+    let P : Bytes → Type 0 = λ after. HasReadAll left_old after done.lines in
+    record {
+      failed = failed ∙ ap (λ n. n + 1) same;
+      lines = done.lines;
+      unused = [];
+      begun = inr (record {
+        read = subst P (sym (prepend_nothing left_new)) done.read;
+        entries = replay.entries;
+        held = done.held;
+        begun = Begins-after taken_old taken_middle taken_new (text_of_notes settings done.lines) (leaks_report replay.entries) done.wrote begins;
+      });
+    }

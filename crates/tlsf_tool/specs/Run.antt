@@ -84,6 +84,11 @@ abbrev pub is_some_note : List Diagnostic → Bool
 is_some_note [] = false
 is_some_note (note ∷ more) = true
 
+-- whether something is held
+abbrev pub is_some_entry : List (ℕ × Entry) → Bool
+is_some_entry [] = false
+is_some_entry (first ∷ entries) = true
+
 -- one line more was replayed, and its diagnostics were written
 pub record LineGives (old new : Replayed) (taken_old taken_new : Bytes) (noted : Bool) (before : List Moment) (moment : Moment) : Type 0 where
   pub content_is : new.content ≡ moment.content

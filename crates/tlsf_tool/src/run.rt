@@ -1,11 +1,12 @@
 //! The run that writes the leaks of a log.
 
-ghost use Rattle.std.specs.Prelude.{◌≡◌, ◌≢◌, ◌+◌, ◌↔◌, List, true, false, IsTrue, IfOk, OnOk, OnErr, IsErrOf, Ok, Err, option_to_list};
+ghost use Rattle.std.specs.Prelude.{◌≡◌, ◌≢◌, ◌+◌, ◌↔◌, List, IsTrue, IfOk, IfErr, OnOk, OnErr, IsErrOf, Ok, Err, [], ◌||◌, if◌then◌else◌, option_to_list};
 ghost use Rattle.tlsf_tool.specs.Settings.{are_bad};
 ghost use Rattle.tlsf_tool.specs.Output.{Wrote, Begins};
-ghost use Rattle.tlsf_tool.specs.Texts.{notes_text, status_of};
-ghost use Rattle.tlsf_tool.specs.History.{Moment, AreHeld, moment};
-ghost use Rattle.tlsf_tool.specs.Run.{Reports, StopsAtRead, StopsAtWrite, StopsForMemory, HasReplayed, LineGives, LineBegins, is_some_note};
+ghost use Rattle.tlsf_tool.specs.Texts.{notes_text, leaks_report};
+ghost use Rattle.tlsf_tool.specs.History.{Moment, AreHeld, moment, started};
+ghost use Rattle.tlsf_tool.specs.Replay.{StandsFor};
+ghost use Rattle.tlsf_tool.specs.Run.{Reports, StopsAtRead, StopsAtWrite, StopsAtLine, StopsForMemory, HasReplayed, LineGives, LineBegins, is_some_entry};
 
 use crate::diagnostic::Diagnostic;
 use crate::line_text::note_text;
@@ -56,38 +57,109 @@ fn replay_line<W: Sink>(
     }
 }
 
-/// Reads and replays all lines of the log; what is wrong with a line is put at once. Answers the replay,
-/// and whether anything was put.
-fn replay_log<R: Source, W: Sink>(
+/// Reads and replays all lines of the log; what is wrong with a line is put at once. Answers whether
+/// anything is.
+fn replay_lines<R: Source, W: Sink>(
     alloc: Global,
     reader: &mut R,
     writer: &mut W,
-    settings: Settings,
-) -> Result<(Replay, bool), RunFault>
-    requires { are_bad settings ≡ false }
-    ensures done { IfOk result (λ end. HasReplayed settings end.0 end.1 (R.left reader.old) (R.left reader.new) (W.taken writer.old) (W.taken writer.new)) }
+    replay: &mut Replay,
+) -> Result<bool, RunFault>
+    ensures done { IfOk result (λ noted. (settings : Settings) → StandsFor replay.old (started settings) []
+        → HasReplayed settings replay.new noted (R.left reader.old) (R.left reader.new) (W.taken writer.old) (W.taken writer.new)) }
     ensures no_failure { OnOk result ((R.failures reader.new ≡ R.failures reader.old) × (W.failures writer.new ≡ W.failures writer.old)) }
-    ensures read { IsErrOf result RunFault.Read → StopsAtRead settings (R.left reader.old) (R.left reader.new)
-        (W.taken writer.old) (W.taken writer.new) (R.failures reader.old) (R.failures reader.new) }
-    ensures write { IsErrOf result RunFault.Write → StopsAtWrite settings (R.left reader.old) (R.left reader.new)
-        (W.taken writer.old) (W.taken writer.new) (W.failures writer.old) (W.failures writer.new) }
-    ensures memory { IsErrOf result RunFault.OutOfMemory → StopsForMemory R.left W.taken settings reader.old reader.new writer.old writer.new }
+    ensures read { IsErrOf result RunFault.Read → (settings : Settings) → StandsFor replay.old (started settings) []
+        → StopsAtRead settings (R.left reader.old) (R.left reader.new) (W.taken writer.old) (W.taken writer.new) (R.failures reader.old) (R.failures reader.new) }
+    ensures write { IsErrOf result RunFault.Write → (settings : Settings) → StandsFor replay.old (started settings) []
+        → StopsAtWrite settings (R.left reader.old) (R.left reader.new) (W.taken writer.old) (W.taken writer.new) (W.failures writer.old) (W.failures writer.new) }
+    ensures memory { IsErrOf result RunFault.OutOfMemory → (settings : Settings) → StandsFor replay.old (started settings) []
+        → StopsAtLine settings (R.left reader.old) (R.left reader.new) (W.taken writer.old) (W.taken writer.new) }
     ensures no_settings { result ≢ Err RunFault.BadSettings }
 {
-    let Ok(mut replay) = Replay::create(alloc, settings) else {
-        return Err(RunFault::OutOfMemory);
-    };
     let mut lines = Lines::new();
     let mut noted = false;
     loop {
         let line = match lines.next(reader) {
             Ok(Some(line)) => line,
-            Ok(None) => return Ok((replay, noted)),
+            Ok(None) => return Ok(noted),
             Err(_) => return Err(RunFault::Read),
         };
-        match replay_line(alloc, writer, &mut replay, line) {
+        match replay_line(alloc, writer, replay, line) {
             Ok(more) => noted |= more,
             Err(fault) => return Err(fault),
+        }
+    }
+}
+
+/// Puts the report and flushes. Answers the status.
+fn finish<W: Sink>(writer: &mut W, replay: &Replay, noted: bool) -> Result<Status, RunFault>
+    ensures all { OnOk result (Wrote (W.taken writer.old) (W.taken writer.new) (leaks_report replay.now.entries)) }
+    ensures status { IfOk result (λ status. status ≡ (if noted || is_some_entry replay.now.entries then Status.Found else Status.Clean)) }
+    ensures no_failure { OnOk result (W.failures writer.new ≡ W.failures writer.old) }
+    ensures beginning { OnErr result (Begins (W.taken writer.old) (W.taken writer.new) (leaks_report replay.now.entries)) }
+    ensures failure { OnErr result (W.failures writer.new ≡ W.failures writer.old + 1) }
+    ensures only_write { IfErr result (λ fault. fault ≡ RunFault.Write) }
+{
+    if put_report(writer, replay.held()).is_err() {
+        return Err(RunFault::Write);
+    }
+    if writer.flush().is_err() {
+        return Err(RunFault::Write);
+    }
+    if noted || !replay.held().is_empty() {
+        Ok(Status::Found)
+    } else {
+        Ok(Status::Clean)
+    }
+}
+
+/// Reads a log of mtrace(3), replays it on a heap by the settings, and writes what is wrong with its
+/// lines, each as it comes, and then the report of leaks: what is held at the end of the log.
+///
+/// The writer is flushed once at the end, but not after `Write`, `BadSettings` or memory refused at the
+/// start; after another fault it doesn't matter whether that succeeds.
+///
+/// # Errors
+///
+/// `Read` where the reader failed, or line 2^64 would come: then what is wrong with the lines before is
+/// written. `Write` where the writer answered an error, took no byte of some, or failed its flush: then a
+/// beginning of the text is written. `OutOfMemory` where memory is refused: at the start, and then nothing
+/// is read or written, or at a line, and then what is wrong with the lines before is written.
+/// `BadSettings` exactly where the settings are bad: then nothing is read or written.
+pub fn run_leaks<R: Source, W: Sink>(
+    alloc: Global,
+    reader: &mut R,
+    writer: &mut W,
+    settings: Settings,
+) -> Result<Status, RunFault>
+    // All of the log was read, what was written is its leaks text, and the status is that text's.
+    ensures finished { IfOk result (λ status. Reports settings status (R.left reader.old) (R.left reader.new) (W.taken writer.old) (W.taken writer.new)) }
+    ensures no_failure { OnOk result ((R.failures reader.new ≡ R.failures reader.old) × (W.failures writer.new ≡ W.failures writer.old)) }
+
+    // What a fault leaves.
+    ensures read_fault { IsErrOf result RunFault.Read
+        → StopsAtRead settings (R.left reader.old) (R.left reader.new) (W.taken writer.old) (W.taken writer.new) (R.failures reader.old) (R.failures reader.new) }
+    ensures write_fault { IsErrOf result RunFault.Write
+        → StopsAtWrite settings (R.left reader.old) (R.left reader.new) (W.taken writer.old) (W.taken writer.new) (W.failures writer.old) (W.failures writer.new) }
+    ensures no_memory { IsErrOf result RunFault.OutOfMemory
+        → StopsForMemory R.left W.taken settings reader.old reader.new writer.old writer.new }
+
+    // Bad settings come exactly where they are bad, and then nothing is done.
+    ensures bad_settings { IsErrOf result RunFault.BadSettings ↔ IsTrue (are_bad settings) }
+    ensures nothing_done { IsErrOf result RunFault.BadSettings → (reader.new ≡ reader.old) × (writer.new ≡ writer.old) }
+{
+    if settings.are_bad() {
+        return Err(RunFault::BadSettings);
+    }
+    let Ok(mut replay) = Replay::create(alloc, settings) else {
+        return Err(RunFault::OutOfMemory);
+    };
+    match replay_lines(alloc, reader, writer, &mut replay) {
+        Ok(noted) => finish(writer, &replay, noted),
+        Err(RunFault::Write) => Err(RunFault::Write),
+        Err(fault) => {
+            let _ = writer.flush();
+            Err(fault)
         }
     }
 }

@@ -1,13 +1,16 @@
-use Rattle.std.proofs.Common.{◌≡◌, ◌+◌, ◌-◌, ◌^◌}
+use Rattle.std.proofs.Common.{◌≡◌, ◌+◌, ◌-◌, ◌^◌, []}
+use Rattle.tlsf_tool.specs.declared.settings.Settings.{Settings}
+use Rattle.tlsf_tool.specs.History.{started}
+use Rattle.tlsf_tool.specs.Replay.{StandsFor}
 use Rattle.tlsf_tool.proofs.RunLemmas.{IsUnderWay}
-use Rattle.tlsf_tool.proofs.run.replay_log.Given as goal
+use Rattle.tlsf_tool.proofs.run.replay_lines.Given as goal
 
 -- the run is under way, and neither reader nor writer failed
 abbrev pub invariant-loop-line : goal.invariant-loop-line
 invariant-loop-line g l =
     let left = g.R.Source.left in
     let taken = g.W.Sink.taken in
-    IsUnderWay l.fn.settings l.lines l.replay l.noted (left l.initial.reader) (left l.reader) (taken l.initial.writer) (taken l.writer)
+    ((settings : Settings) → StandsFor l.initial.replay (started settings) [] → IsUnderWay settings l.lines l.replay l.noted (left l.initial.reader) (left l.reader) (taken l.initial.writer) (taken l.writer))
     × (g.R.Source.failures l.reader ≡ g.R.Source.failures l.initial.reader)
     × (g.W.Sink.failures l.writer ≡ g.W.Sink.failures l.initial.writer)
 
