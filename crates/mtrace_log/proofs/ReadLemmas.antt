@@ -1,10 +1,8 @@
 -- What many calls of `next` took: none yet, one more line, the end, a fault.
-use Rattle.std.proofs.Common.{◌≡◌, ℕ, ◌<◌, List, [], ◌∷◌, ◌++◌, length, Option, Some, None, Result, refl, sym, ap, ◌∙◌, subst, append-nil}
-use Rattle.std.specs.List.{AllByRecursion}
+use Rattle.std.proofs.Common.{◌≡◌, ℕ, List, [], ◌∷◌, ◌++◌, Option, Result, sym, ap, ◌∙◌, subst, append-nil}
 use Rattle.std.specs.Io.KnownBytes.{prepend_known, IsAtEnd}
 use Rattle.std.proofs.KnownBytes.{prepend_known-nil}
 use Rattle.mtrace_log.specs.Bytes.{Lacks, newline}
-use Rattle.mtrace_log.specs.Reading.{Reads}
 use Rattle.mtrace_log.specs.Lines.{lines_of, ReadAs}
 use Rattle.mtrace_log.specs.Progress.{Status, Reading, Ended, Faulted, Progress, to_come, TakesLine, GivesLine, FindsEnd, StopsReading, GivesFault}
 use Rattle.mtrace_log.specs.HasRead.{whole_lines, HasRead, HasReadAll, HasReadBefore, HasReadSo}
