@@ -1,9 +1,9 @@
 -- The forms of a line, each told by its first bytes.
-use Rattle.std.proofs.Common.{◌≡◌, ◌≢◌, ℕ, zero, suc, ◌<◌, List, [], ◌∷◌, ◌++◌, length, get_or, drop, Option, Some, None, IfSome, MatchOption, codes, refl, sym, ap, ◌∙◌, subst, arith, append_assoc}
+use Rattle.std.proofs.Common.{◌≡◌, ◌≢◌, ℕ, zero, suc, List, [], ◌∷◌, ◌++◌, get_or, drop, Option, Some, None, MatchOption, codes, sym, ap, ◌∙◌, subst, arith, append_assoc}
 use Rattle.mtrace_log.specs.Bytes.{Lacks, space}
 use Rattle.mtrace_log.specs.Address.{IsAddress, address_text, size_text, pointer_text}
 use Rattle.mtrace_log.specs.Location.{IsLocation}
-use Rattle.mtrace_log.specs.Spelling.{location_text, alloc_text, spell, IsEvent}
+use Rattle.mtrace_log.specs.Spelling.{alloc_text, spell, IsEvent}
 use Rattle.mtrace_log.specs.Fields.{Finds, IsPointer, IsSize, IsAlloc}
 use Rattle.mtrace_log.specs.declared.event.Event.{Event}
 use Rattle.mtrace_log.specs.declared.event.Event.TheVariants.{Start, End, Alloc}

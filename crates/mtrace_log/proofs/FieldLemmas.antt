@@ -1,5 +1,5 @@
 -- The fields of a line: what bytes they lack, where they end, and that they tell their values.
-use Rattle.std.proofs.Common.{◌≡◌, ◌≢◌, ℕ, zero, suc, ◌+◌, ◌-◌, ◌^◌, ◌<◌, ◌≤◌, Bool, true, false, not, cond, nat_eq, nat_lt, List, [], ◌∷◌, ◌++◌, length, map, get_or, take, drop, Option, Some, None, IfSome, position, ◌==◌, refl, sym, ap, ◌∙◌, subst, arith, length-append, drop-cons, take-append-drop, add-one, length-drop, lt-ltb, le_refl, inl, inr, eqb-true}
+use Rattle.std.proofs.Common.{◌≡◌, ◌≢◌, ℕ, zero, suc, ◌+◌, ◌-◌, ◌<◌, ◌≤◌, cond, List, [], ◌∷◌, ◌++◌, length, map, get_or, take, drop, Option, Some, None, position, ◌==◌, refl, sym, ap, ◌∙◌, subst, arith, drop-cons, take-append-drop, add-one, length-drop, lt-ltb, le_refl, inl, inr, eqb-true}
 use Rattle.std.specs.Char.{digit_char}
 use Rattle.std.specs.Int.Digits.{digits_of, AllBelowBase}
 use Rattle.std.specs.List.{AllByRecursion, position_or_len}
@@ -9,13 +9,9 @@ use Rattle.std.proofs.lemmas.List.{take_all}
 use Rattle.std.proofs.lemmas.Bool.{cases_lt, eqb-false}
 use Rattle.std.proofs.lemmas.Bool.Decides.{nat_tests}
 use Rattle.std.proofs.lemmas.Int.Digits.{all_below_base_digits_of, same_from_digits_of}
-use Rattle.mtrace_log.specs.Bytes.{Lacks, space, newline}
-use Rattle.mtrace_log.specs.Address.{IsAddress, hex_digits, address_text, size_text, pointer_text}
-use Rattle.mtrace_log.specs.Location.{IsLocation, IsLocationByte}
-use Rattle.mtrace_log.specs.Spelling.{location_text, alloc_text}
-use Rattle.mtrace_log.specs.Fields.{IsPointer, IsSize}
-use Rattle.mtrace_log.proofs.TextLemmas.{AllByRecursion-append, split-same, Lacks-middle}
-use Rattle.mtrace_log.proofs.HexLemmas.{length-hex_digits-le, length-hex_digits-pos}
+use Rattle.mtrace_log.specs.Bytes.{Lacks, space}
+use Rattle.mtrace_log.specs.Address.{hex_digits, address_text, size_text, pointer_text}
+use Rattle.mtrace_log.specs.Location.{IsLocationByte}
 
 -- ---- bytes that the fields lack
 

@@ -1,5 +1,5 @@
 -- The lines of a text, going from its front.
-use Rattle.std.proofs.Common.{◌≡◌, ℕ, ◌<◌, List, [], ◌∷◌, ◌++◌, length, Result, refl, sym, ap, ◌∙◌, append_assoc, append-nil, false, eqb, cond, ne_eqb, arith, flat_map, zero-lt-suc}
+use Rattle.std.proofs.Common.{◌≡◌, ℕ, ◌<◌, List, [], ◌∷◌, ◌++◌, length, Result, refl, ap, ◌∙◌, append_assoc, append-nil, false, eqb, cond, ne_eqb, arith, zero-lt-suc}
 use Rattle.std.specs.List.{AllByRecursion, onto_first}
 use Rattle.std.proofs.lemmas.Grind.{flat_map-append}
 use Rattle.mtrace_log.specs.Bytes.{Lacks, newline}

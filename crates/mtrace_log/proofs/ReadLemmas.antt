@@ -1,10 +1,8 @@
 -- What many calls of `next` took: none yet, one more line, the end, a fault.
-use Rattle.std.proofs.Common.{◌≡◌, ℕ, ◌<◌, List, [], ◌∷◌, ◌++◌, length, Option, Some, None, Result, refl, sym, ap, ◌∙◌, subst, append-nil}
-use Rattle.std.specs.List.{AllByRecursion}
+use Rattle.std.proofs.Common.{◌≡◌, ℕ, List, [], ◌∷◌, ◌++◌, Option, Some, None, Result, refl, sym, ap, ◌∙◌, subst, append-nil}
 use Rattle.std.specs.Io.KnownBytes.{prepend_known, IsAtEnd}
 use Rattle.std.proofs.KnownBytes.{prepend_known-nil}
 use Rattle.mtrace_log.specs.Bytes.{Lacks, newline}
-use Rattle.mtrace_log.specs.Reading.{Reads}
 use Rattle.mtrace_log.specs.Lines.{lines_of, ReadAs}
 use Rattle.mtrace_log.specs.Progress.{Status, Reading, Ended, Faulted, Progress, to_come, TakesLine, GivesLine, FindsEnd, StopsReading, GivesFault}
 use Rattle.mtrace_log.specs.HasRead.{whole_lines, HasRead, HasReadAll, HasReadBefore, HasReadSo}
@@ -129,3 +127,18 @@ HasReadSo-fault {R} left start old new reader_old reader_new failures_old failur
     by_status Reading before stop = HasRead-fault fault old.count start (to_come old (left reader_old)) (to_come new (left reader_new)) failures_old failures_new events before stop.2
     by_status Ended before stop = absurd stop
     by_status (Faulted first) before stop = subst (λ text. HasReadBefore start text events) (unchanged left old new reader_old reader_new stop.1 stop.2) before
+
+-- ---- the text to come and what the reader has left
+
+-- at the end of the text nothing is held
+pub to_come-end : (lines : Progress) (left : Option (List ℕ)) → IsAtEnd (to_come lines left) → to_come lines left ≡ left
+to_come-end lines None at_end = refl
+to_come-end lines (Some bytes) at_end = held_nothing lines.held at_end
+  where
+    held_nothing : (held : List ℕ) → held ++ bytes ≡ [] → prepend_known held (Some bytes) ≡ Some bytes
+    held_nothing [] none = refl
+    held_nothing (b ∷ held) none = cc
+
+-- where nothing is held
+pub to_come-nothing_held : (lines : Progress) (left : Option (List ℕ)) → lines.held ≡ [] → to_come lines left ≡ left
+to_come-nothing_held lines left none = ap (λ held. prepend_known held left) none ∙ prepend_known-nil left

@@ -1,8 +1,7 @@
 -- Laws of the spellings of events: each is one line, short enough, and tells its event.
-use Rattle.std.proofs.Common.{◌≡◌, ◌≢◌, ℕ, zero, suc, ◌+◌, ◌<◌, ◌≤◌, List, [], ◌∷◌, ◌++◌, length, get_or, drop, Option, Some, None, IfSome, Result, Ok, Err, codes, refl, sym, ap, ◌∙◌, subst, arith, append_assoc, length-append}
-use Rattle.std.specs.List.{AllByRecursion}
+use Rattle.std.proofs.Common.{◌≡◌, ◌≢◌, ℕ, zero, suc, ◌≤◌, List, [], ◌∷◌, length, get_or, drop, Option, Some, None, IfSome, Result, Ok, Err, refl, sym, ap, ◌∙◌, arith, append_assoc, length-append}
 use Rattle.mtrace_log.specs.Bytes.{Lacks, space, newline}
-use Rattle.mtrace_log.specs.Address.{IsAddress, hex_digits, address_text, size_text, pointer_text}
+use Rattle.mtrace_log.specs.Address.{size_text, pointer_text}
 use Rattle.mtrace_log.specs.Location.{IsLocation}
 use Rattle.mtrace_log.specs.Spelling.{location_text, alloc_text, spell, IsEvent, longest_line}
 use Rattle.mtrace_log.specs.Fields.{IsPointer, IsSize}

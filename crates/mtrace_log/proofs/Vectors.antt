@@ -1,10 +1,10 @@
 -- Worked values of the definitions.
-use Rattle.std.proofs.Common.{◌≡◌, ℕ, zero, suc, ◌/◌, ◌%◌, ◌^◌, ◌<◌, List, [], ◌∷◌, ◌++◌, length, map, replicate, Some, None, codes, refl, sym, ap, ◌∙◌, cond, arith}
+use Rattle.std.proofs.Common.{◌≡◌, ℕ, zero, suc, ◌/◌, ◌%◌, ◌^◌, ◌<◌, [], ◌∷◌, ◌++◌, length, map, replicate, Some, None, codes, refl, sym, ap, ◌∙◌, cond, arith}
 use Rattle.std.proofs.Math.Dec.{eqb-suc-zero}
 use Rattle.std.specs.Char.{digit_char}
 use Rattle.std.specs.Int.Digits.{digits_of, digits_with_fuel}
 use Rattle.std.proofs.lemmas.Int.Digits.{digits_of_step}
-use Rattle.mtrace_log.specs.Address.{address_text, size_text}
+use Rattle.mtrace_log.specs.Address.{address_text}
 use Rattle.mtrace_log.specs.Spelling.{spell, longest_line}
 use Rattle.mtrace_log.specs.Lines.{lines_of}
 use Rattle.mtrace_log.specs.declared.event.Event.TheVariants.{Start, End, Alloc}

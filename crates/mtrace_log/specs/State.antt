@@ -1,6 +1,6 @@
 -- What the fields of `Lines` stand for.
 use Rattle.std.specs.Prelude.{ℕ, List, [], ◌∷◌}
-use Rattle.mtrace_log.specs.Progress.{Progress, Status, Reading, Ended, Faulted}
+use Rattle.mtrace_log.specs.Progress.{Status, Reading, Ended, Faulted}
 use Rattle.mtrace_log.specs.declared.line.ReadFault.TheVariants.{ReaderFailed, TooManyLines}
 use Rattle.mtrace_log.specs.declared.lines.State.{State}
 use Rattle.mtrace_log.specs.declared.lines.State.TheVariants as state

@@ -32,5 +32,4 @@ pub fn lines_from_the_front()
         → lines_of (whole_lines pieces ++ rest) ≡ pieces ++ lines_of rest }
     ensures last { (piece : List ℕ) → Lacks newline piece → 0 < length piece → lines_of piece ≡ piece ∷ [] }
     ensures end { lines_of [] ≡ [] }
-{
-}
+{}

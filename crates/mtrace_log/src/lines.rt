@@ -3,6 +3,7 @@ ghost use Rattle.mtrace_log.specs.Reading.{Reads};
 ghost use Rattle.mtrace_log.specs.Progress.{Progress, Reading, Ended, to_come, greatest_number, GivesLine, FindsEnd, GivesFault, ReadsOn};
 ghost use Rattle.mtrace_log.specs.State.{held_by, status_of};
 ghost use Rattle.mtrace_log.specs.LineBuffer.{Holds};
+ghost use Rattle.mtrace_log.specs.declared.line.ReadFault.TheVariants.{ReaderFailed};
 
 use crate::failed::Failed;
 use crate::line::{Line, ReadFault};
@@ -75,6 +76,8 @@ impl Lines {
             (to_come self.old (R.left reader.old)) (to_come self.new (R.left reader.new))
             (R.failures reader.old) (R.failures reader.new)) }
         ensures no_failure { OnOk result (R.failures reader.new ≡ R.failures reader.old) }
+        // Where the reader failed, all that it gave is taken: the text to come is what it has left.
+        ensures nothing_held { IfErr result (λ fault. fault ≡ ReaderFailed → self.new.held ≡ []) }
     {
         match self.state {
             State::Reading => self.read_next(reader),
@@ -87,7 +90,8 @@ impl Lines {
     // The next line, while lines are read.
     fn read_next<R: Source>(&mut self, reader: &mut R) -> Result<Option<Line>, ReadFault>
         requires { self.old.status ≡ Reading }
-        ensures { ReadsOn R.left R.failures self.old self.new reader.old reader.new result }
+        ensures reads { ReadsOn R.left R.failures self.old self.new reader.old reader.new result }
+        ensures nothing_held { IfErr result (λ fault. fault ≡ ReaderFailed → self.new.held ≡ []) }
     {
         if self.count == u64::MAX {
             return self.find_end(reader);
@@ -113,7 +117,8 @@ impl Lines {
     fn find_end<R: Source>(&mut self, reader: &mut R) -> Result<Option<Line>, ReadFault>
         requires reading { self.old.status ≡ Reading }
         requires full { self.old.count ≡ greatest_number }
-        ensures { ReadsOn R.left R.failures self.old self.new reader.old reader.new result }
+        ensures reads { ReadsOn R.left R.failures self.old self.new reader.old reader.new result }
+        ensures nothing_held { IfErr result (λ fault. fault ≡ ReaderFailed → self.new.held ≡ []) }
     {
         match pull_byte(reader) {
             Ok(None) => {

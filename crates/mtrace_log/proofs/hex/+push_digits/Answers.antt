@@ -1,4 +1,4 @@
-use Rattle.std.proofs.Common.{◌≡◌, ◌+◌, ◌/◌, ◌%◌, ◌++◌, ◌∷◌, [], length, ap, sym, ◌∙◌, append_assoc, arith, length-append}
+use Rattle.std.proofs.Common.{◌/◌, ◌%◌, ◌++◌, ◌∷◌, [], length, ap, sym, ◌∙◌, append_assoc, arith, length-append}
 use Rattle.std.specs.Char.{digit_char}
 use Rattle.mtrace_log.specs.Address.{hex_digits}
 use Rattle.mtrace_log.proofs.HexLemmas.{hex_digits-step}

@@ -1,4 +1,4 @@
-use Rattle.std.proofs.Common.{length, ap, arith, length-append}
+use Rattle.std.proofs.Common.{length, ap, arith}
 use Rattle.mtrace_log.proofs.HexLemmas.{length-hex_digits-le}
 use Rattle.mtrace_log.proofs.hex.address_text.Goals as goal
 

@@ -1,4 +1,4 @@
-use Rattle.std.proofs.Common.{◌≡◌, ◌++◌, ◌∷◌, ap, ◌∙◌, subst}
+use Rattle.std.proofs.Common.{◌++◌, ◌∷◌, ap, ◌∙◌, subst}
 use Rattle.mtrace_log.specs.Bytes.{Lacks, space}
 use Rattle.mtrace_log.specs.Address.{pointer_text, size_text}
 use Rattle.mtrace_log.proofs.TextLemmas.{Lacks-middle}
