@@ -8,6 +8,8 @@ mod pools;
 mod records;
 mod slots;
 mod table;
+#[cfg(test)]
+mod tests;
 mod touches;
 
 pub use counted::Store;
