@@ -1,6 +1,6 @@
--- What contracts see of a store: its cells, and how often they were touched. A touch is one read or write of
--- a record, a class head, a bitmap word, a vacant mark or a pool entry.
-use Rattle.std.specs.Prelude.{ℕ, ◌+◌, ◌<◌, ◌^◌, List, Option, Some, None, All, replicate, slice_index_or}
+-- What contracts see of a store: its cells, and how often they were touched. A touch is one read or
+-- write of a record, a class head, a bitmap word, a vacant mark or a pool entry.
+use Rattle.std.specs.Prelude.{ℕ, ◌+◌, ◌<◌, ◌^◌, List, Option, Some, None, All, replicate, slice_index_or, slice_set}
 use Rattle.tlsf_class.specs.Classes.{classes, levels}
 use Rattle.tlsf_store.specs.declared.records.Record.{Record}
 use Rattle.tlsf_store.specs.declared.pools.Pool.{Pool}
@@ -27,6 +27,22 @@ pub record Cells : Type 0 where
 -- the same cells, touched `n` times more
 abbrev pub touched : ℕ → Cells → Cells
 touched n cells = record cells { touches = cells.touches + n }
+
+-- the cells with one of them changed
+abbrev pub with_record : Cells → ℕ → Record → Cells
+with_record cells slot value = record cells { records = slice_set cells.records slot value }
+
+abbrev pub with_head : Cells → ℕ → Option ℕ → Cells
+with_head cells class first = record cells { heads = slice_set cells.heads class first }
+
+abbrev pub with_level_word : Cells → ℕ → Cells
+with_level_word cells word = record cells { level_word = word }
+
+abbrev pub with_step_word : Cells → ℕ → ℕ → Cells
+with_step_word cells level word = record cells { step_words = slice_set cells.step_words level word }
+
+abbrev pub with_pool : Cells → ℕ → Option Pool → Cells
+with_pool cells number pool = record cells { pools = slice_set cells.pools number pool }
 
 -- the head of a class's list
 abbrev pub head_at : List (Option ℕ) → ℕ → Option ℕ

@@ -1,11 +1,11 @@
 //! The store.
 
-ghost use Rattle.std.specs.Prelude.{◌≡◌, ◌≢◌, ◌+◌, ◌<◌, ◌≤◌, ◌^◌, ◌⊎◌, ◌↔◌, IfOk, MatchOption, length, slice_set, slice_index, Err};
-ghost use Rattle.tlsf_class.specs.Classes.{levels, steps};
+ghost use Rattle.std.specs.Prelude.{◌≡◌, ◌≢◌, ◌+◌, ◌<◌, ◌≤◌, ◌^◌, ◌⊎◌, ◌↔◌, IfOk, MatchOption, length, slice_index, Err};
+ghost use Rattle.tlsf_class.specs.Classes.{levels};
 ghost use Rattle.tlsf_store.specs.declared.errors.StoreError.TheVariants.{BadCount};
 ghost use Rattle.tlsf_store.specs.declared.records.State.TheVariants.{Vacant, Free};
 ghost use Rattle.tlsf_store.specs.Records.{blank, blank_in, record_at, vacant_count, IsBelow, IsKept};
-ghost use Rattle.tlsf_store.specs.Cells.{touched, head_at, pool_at, pool_entries, empty_cells, IsPoolBelow};
+ghost use Rattle.tlsf_store.specs.Cells.{touched, with_record, with_head, with_level_word, with_step_word, with_pool, head_at, pool_at, pool_entries, empty_cells, IsPoolBelow};
 
 use super::table::Table;
 use super::touches::Touches;
@@ -18,15 +18,13 @@ use tlsf_class::{CLASSES, Class};
 const MOST_RECORDS: u32 = 65_535;
 
 /// How many class heads there are.
-const HEADS: usize = 736;
+const HEADS: usize = CLASSES as usize;
 
-/// How many first levels there are, each with its step word.
-const LEVELS: usize = 23;
+/// How many first levels there are, each with a step word that has a bit for each of its classes.
+const LEVELS: usize = HEADS / u32::BITS as usize;
 
 /// How many pool entries there are.
 const POOLS: usize = 8;
-
-const _: () = prove!(HEADS == CLASSES as usize);
 
 /// A table of records with the heads of the class lists, the bitmap words and the pool entries.
 #[derive(Drop)]
@@ -108,7 +106,7 @@ impl Store {
         requires used { (record_at self.old.records slot).state ≢ Vacant }
         requires new_used { value.state ≢ Vacant }
         requires kept { IsKept (length self.old.records) value }
-        ensures { self.new ≡ touched 1 (record self.old { records = slice_set self.old.records slot value }) }
+        ensures { self.new ≡ touched 1 (with_record self.old slot value) }
     {
         self.touches.tick();
         self.table.write(slot, value);
@@ -129,7 +127,7 @@ impl Store {
     pub fn set_head(&mut self, class: Class, first: Option<Slot>)
         requires { IsBelow (length self.old.records) first }
         ensures within { class < length self.old.heads }
-        ensures written { self.new ≡ touched 1 (record self.old { heads = slice_set self.old.heads class first }) }
+        ensures written { self.new ≡ touched 1 (with_head self.old class first) }
     {
         self.touches.tick();
         self.heads[class.number() as usize] = first;
@@ -148,7 +146,7 @@ impl Store {
     /// Writes the level word, which has no bit at or above the number of first levels. One touch.
     pub fn set_level_word(&mut self, word: u32)
         requires { word < 2 ^ levels }
-        ensures { self.new ≡ touched 1 (record self.old { level_word = word }) }
+        ensures { self.new ≡ touched 1 (with_level_word self.old word) }
     {
         self.touches.tick();
         self.level_word = word;
@@ -169,7 +167,7 @@ impl Store {
     pub fn set_step_word(&mut self, level: u32, word: u32)
         requires { level < levels }
         ensures within { level < length self.old.step_words }
-        ensures written { self.new ≡ touched 1 (record self.old { step_words = slice_set self.old.step_words level word }) }
+        ensures written { self.new ≡ touched 1 (with_step_word self.old level word) }
     {
         self.touches.tick();
         self.step_words[level as usize] = word;
@@ -192,7 +190,7 @@ impl Store {
         requires within { number < pool_entries }
         requires below { IsPoolBelow (length self.old.records) pool }
         ensures within { number < length self.old.pools }
-        ensures written { self.new ≡ touched 1 (record self.old { pools = slice_set self.old.pools number pool }) }
+        ensures written { self.new ≡ touched 1 (with_pool self.old number pool) }
     {
         self.touches.tick();
         self.pools[number as usize] = pool;
@@ -213,7 +211,7 @@ impl Store {
         ensures { MatchOption result
             ((vacant_count self.old.records ≡ 0) × (self.new ≡ touched 2 self.old))
             (λ slot. (slot < length self.old.records) × (record_at self.old.records slot ≡ blank)
-            × (self.new ≡ touched 2 (record self.old { records = slice_set self.old.records slot (blank_in Free) }))) }
+            × (self.new ≡ touched 2 (with_record self.old slot (blank_in Free)))) }
     {
         self.touches.tick();
         self.touches.tick();
@@ -225,7 +223,7 @@ impl Store {
     pub fn give_vacant(&mut self, slot: Slot)
         requires within { slot < length self.old.records }
         requires used { (record_at self.old.records slot).state ≢ Vacant }
-        ensures { self.new ≡ touched 3 (record self.old { records = slice_set self.old.records slot blank }) }
+        ensures { self.new ≡ touched 3 (with_record self.old slot blank) }
     {
         self.touches.tick();
         self.touches.tick();

@@ -57,6 +57,17 @@ fn bad_counts(rt: HostRuntime) {
     );
 }
 
+/// `create` takes memory once, and no other call takes any. Each of the other tests makes one store, so it
+/// fails where the first allocation is refused and passes where the second is: `rt try --test --fail-alloc`
+/// with 1 and with 2. This test sees the error of the first, and passes with both.
+#[test]
+fn refused_memory(rt: HostRuntime) {
+    if let Some(error) = Store::create(rt.alloc(), 2).err() {
+        assert_eq!(rt; error, StoreError::OutOfMemory);
+        assert!(rt; Store::create(rt.alloc(), 2).is_ok());
+    }
+}
+
 #[test]
 fn greatest_count(rt: HostRuntime) {
     let Ok(mut store) = Store::create(rt.alloc(), 65_535) else {
