@@ -1,2 +1,5 @@
 mod Chains
+pub mod RecordLaws
 mod TableLaws
+mod TableMaking
+mod TableViews

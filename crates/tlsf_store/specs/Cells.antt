@@ -3,8 +3,9 @@
 use Rattle.std.specs.Prelude.{ℕ, ◌+◌, ◌<◌, ◌^◌, List, Option, Some, None, All, replicate, slice_index_or, slice_set}
 use Rattle.tlsf_class.specs.Classes.{classes, levels}
 use Rattle.tlsf_store.specs.declared.records.Record.{Record}
+use Rattle.tlsf_store.specs.declared.records.State.TheVariants.{Free}
 use Rattle.tlsf_store.specs.declared.pools.Pool.{Pool}
-use Rattle.tlsf_store.specs.Records.{blank, IsBelow}
+use Rattle.tlsf_store.specs.Records.{blank, blank_in, IsBelow}
 
 -- how many pool entries there are
 abbrev pub pool_entries : ℕ
@@ -43,6 +44,11 @@ with_step_word cells level word = record cells { step_words = slice_set cells.st
 
 abbrev pub with_pool : Cells → ℕ → Option Pool → Cells
 with_pool cells number pool = record cells { pools = slice_set cells.pools number pool }
+
+-- the cells with a vacant record, if one was found, made that of a free block to come
+abbrev pub with_taken : Cells → Option ℕ → Cells
+with_taken cells None = cells
+with_taken cells (Some slot) = with_record cells slot (blank_in Free)
 
 -- the head of a class's list
 abbrev pub head_at : List (Option ℕ) → ℕ → Option ℕ

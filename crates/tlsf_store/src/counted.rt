@@ -1,11 +1,11 @@
 //! The store.
 
-ghost use Rattle.std.specs.Prelude.{◌≡◌, ◌≢◌, ◌+◌, ◌<◌, ◌≤◌, ◌^◌, ◌⊎◌, ◌↔◌, IfOk, MatchOption, length, slice_index, Err};
+ghost use Rattle.std.specs.Prelude.{◌≡◌, ◌≢◌, ◌+◌, ◌<◌, ◌≤◌, ◌^◌, ◌⊎◌, ◌↔◌, IfOk, IfSome, IfNone, length, slice_index, Err};
 ghost use Rattle.tlsf_class.specs.Classes.{levels};
 ghost use Rattle.tlsf_store.specs.declared.errors.StoreError.TheVariants.{BadCount};
-ghost use Rattle.tlsf_store.specs.declared.records.State.TheVariants.{Vacant, Free};
-ghost use Rattle.tlsf_store.specs.Records.{blank, blank_in, record_at, vacant_count, IsBelow, IsKept};
-ghost use Rattle.tlsf_store.specs.Cells.{touched, with_record, with_head, with_level_word, with_step_word, with_pool, head_at, pool_at, pool_entries, empty_cells, IsPoolBelow};
+ghost use Rattle.tlsf_store.specs.declared.records.State.TheVariants.{Vacant};
+ghost use Rattle.tlsf_store.specs.Records.{blank, record_at, vacant_count, IsBelow, IsKept};
+ghost use Rattle.tlsf_store.specs.Cells.{touched, with_record, with_head, with_level_word, with_step_word, with_pool, with_taken, head_at, pool_at, pool_entries, empty_cells, IsPoolBelow};
 
 use super::table::Table;
 use super::touches::Touches;
@@ -208,10 +208,10 @@ impl Store {
     /// Takes a vacant record for a free block, with no place, size or links yet; `None` exactly where
     /// no record is vacant. Which vacant record it is, is open. Two touches.
     pub fn take_vacant(&mut self) -> Option<Slot>
-        ensures { MatchOption result
-            ((vacant_count self.old.records ≡ 0) × (self.new ≡ touched 2 self.old))
-            (λ slot. (slot < length self.old.records) × (record_at self.old.records slot ≡ blank)
-            × (self.new ≡ touched 2 (with_record self.old slot (blank_in Free)))) }
+        ensures none { IfNone result (vacant_count self.old.records ≡ 0) }
+        ensures within { IfSome result (λ slot. slot < length self.old.records) }
+        ensures vacant { IfSome result (λ slot. record_at self.old.records slot ≡ blank) }
+        ensures taken { self.new ≡ touched 2 (with_taken self.old result) }
     {
         self.touches.tick();
         self.touches.tick();

@@ -1,4 +1,4 @@
-use Rattle.tlsf_store.proofs.TableLaws.{give_changes}
+use Rattle.tlsf_store.proofs.TableViews.{give_changes}
 use Rattle.tlsf_store.proofs.table.Table.give.Goals as goal
 
 pub invariant_of-self : goal.invariant_of-self

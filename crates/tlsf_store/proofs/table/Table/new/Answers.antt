@@ -1,5 +1,5 @@
 use Rattle.std.proofs.Common.{◌≡◌, ◌∙◌, ◌<◌, subst, arith}
-use Rattle.tlsf_store.proofs.TableLaws.{IsBegun, begun_vacant, begun_all}
+use Rattle.tlsf_store.proofs.TableMaking.{IsBegun, begun_vacant, begun_all}
 use Rattle.tlsf_store.proofs.table.Table.new.Goals as goal
 
 pub loop-number-preserved : goal.loop-number-preserved

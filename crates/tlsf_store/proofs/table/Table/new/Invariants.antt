@@ -1,5 +1,5 @@
 use Rattle.std.proofs.Common.{◌≡◌, vec_capacity}
-use Rattle.tlsf_store.proofs.TableLaws.{IsBegun}
+use Rattle.tlsf_store.proofs.TableMaking.{IsBegun}
 use Rattle.tlsf_store.proofs.table.Table.new.Given as goal
 
 abbrev pub invariant-loop-number : goal.invariant-loop-number

@@ -2,7 +2,7 @@ use Rattle.std.proofs.Common.{◌≡◌, ◌∙◌, ◌<◌, Some, ap, subst, le
 use Rattle.std.proofs.lemmas.List.{get_or_default}
 use Rattle.tlsf_store.specs.Records.{blank, record_at}
 use Rattle.tlsf_store.specs.Table.{IsTable}
-use Rattle.tlsf_store.proofs.TableLaws.{Taken, take_changes, shown_length}
+use Rattle.tlsf_store.proofs.TableViews.{Taken, take_changes, shown_length}
 use Rattle.tlsf_store.proofs.table.Table.take.Goals as goal
 
 pub invariant_of-self : goal.invariant_of-self

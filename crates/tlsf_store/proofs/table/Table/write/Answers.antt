@@ -1,4 +1,4 @@
-use Rattle.tlsf_store.proofs.TableLaws.{write_changes}
+use Rattle.tlsf_store.proofs.TableViews.{write_changes}
 use Rattle.tlsf_store.proofs.table.Table.write.Goals as goal
 
 pub invariant_of-self : goal.invariant_of-self
