@@ -1,3 +1,4 @@
+pub mod CellLaws
 mod Chains
 pub mod RecordLaws
 mod TableLaws

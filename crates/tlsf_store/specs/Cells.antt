@@ -11,6 +11,7 @@ use Rattle.tlsf_store.specs.Records.{blank, blank_in, IsBelow}
 abbrev pub pool_entries : ℕ
 pool_entries = 8
 
+-- the cells of a store
 pub record Cells : Type 0 where
   -- by slot; a vacant record is blank
   pub records : List Record
