@@ -175,18 +175,18 @@ record IsTop (s j : ℕ) : Type 0 where
 
 shift_of_top : (s j : ℕ) → unit * steps ≤ s → s < 2 ^ 30 → IsTop s j → (5 ≤ j) × IsShift s (j - 5)
 shift_of_top s j above most top =
-    let first : 8 ≤ j =
-    elim (cases_lt j 8) [
+    let first : suc level_power ≤ j =
+    elim (cases_lt j (suc level_power)) [
       | inl less ↦
-          let small : 2 ^ suc j ≤ 2 ^ 8 = pow-le-pow_right {n = 2} (omega arith) {i = suc j} {j = 8} less in
+          let small : 2 ^ suc j ≤ 2 ^ suc level_power = pow-le-pow_right {n = 2} (omega arith) {i = suc j} {j = suc level_power} less in
           let never : ⊥ = omega (arith, top.below, small) in absurd never
       | inr is ↦ is
     ] in
-    let last : j < 30 =
-    elim (cases_lt j 30) [
+    let last : j < levels + level_power =
+    elim (cases_lt j (levels + level_power)) [
       | inl is ↦ is
       | inr more ↦
-          let great : 2 ^ 30 ≤ 2 ^ j = pow-le-pow_right {n = 2} (omega arith) {i = 30} {j = j} more in
+          let great : 2 ^ (levels + level_power) ≤ 2 ^ j = pow-le-pow_right {n = 2} (omega arith) {i = levels + level_power} {j = j} more in
           let never : ⊥ = omega (arith, top.most, great) in absurd never
     ] in
     let power : j - 5 + 5 ≡ j = omega arith in

@@ -39,4 +39,4 @@ const GREATEST_SIZE: u32 = (1 << 30) - UNIT;
 /// The lowest size of the last class, in bytes.
 const GREATEST_LOW: u32 = (2 * STEPS - 1) << (LEVELS - 1 + STEP_POWER);
 
-const _: () = prove!(CLASSES == 736 && SMALL_END == 256);
+const _: () = prove!(CLASSES == 736);

@@ -1,0 +1,6 @@
+pub mod CellLaws
+mod Chains
+pub mod RecordLaws
+mod TableLaws
+mod TableMaking
+mod TableViews

@@ -1,0 +1,128 @@
+-- A table as callers see it: what a write, a take and a give change.
+use Rattle.std.proofs.Common.{◌≡◌, ◌≢◌, ℕ, ◌+◌, ◌-◌, ◌<◌, true, false, cond, List, [], ◌∷◌, length, set, map, Option, Some, None, ◌∙◌, sym, ap, subst, refl, arith}
+use Rattle.std.proofs.lemmas.List.{length-map, map-set, get_or-map}
+use Rattle.std.proofs.lemmas.List.Sums.{sum_by-cons}
+use Rattle.tlsf_store.specs.declared.records.State.{State}
+use Rattle.tlsf_store.specs.declared.records.State.TheVariants.{Vacant, Free, Live}
+use Rattle.tlsf_store.specs.declared.records.Record.{Record}
+use Rattle.tlsf_store.specs.Records.{blank, blank_in, record_at, is_vacant, vacant_count, IsKept}
+use Rattle.tlsf_store.specs.Table.{seen, seen_in, next_at, IsTable}
+use Rattle.tlsf_store.proofs.RecordLaws.{mark, used_state}
+use Rattle.tlsf_store.proofs.TableLaws.{table_write, table_give, table_take, table_none, first_below, IsTaken}
+
+pub seen-blank : seen blank ≡ blank
+seen-blank = refl
+
+seen_in-state : (s : State) (r : Record) → r.state ≡ s → is_vacant (seen_in s r).state ≡ is_vacant s
+seen_in-state Vacant r is = refl
+seen_in-state Free r is = ap is_vacant is
+seen_in-state Live r is = ap is_vacant is
+
+pub seen-vacant : (r : Record) → is_vacant (seen r).state ≡ is_vacant r.state
+seen-vacant r = seen_in-state r.state r refl
+
+seen_in-used : (s : State) (r : Record) → is_vacant s ≡ false → seen_in s r ≡ r
+seen_in-used Vacant r is = let never : ⊥ = cc is in absurd never
+seen_in-used Free r is = refl
+seen_in-used Live r is = refl
+
+pub seen-used : (r : Record) → is_vacant r.state ≡ false → seen r ≡ r
+seen-used r is = seen_in-used r.state r is
+
+seen_in-free : (s : State) (r : Record) → is_vacant s ≡ true → seen_in s r ≡ blank
+seen_in-free Vacant r is = refl
+seen_in-free Free r is = let never : ⊥ = cc is in absurd never
+seen_in-free Live r is = let never : ⊥ = cc is in absurd never
+
+pub seen-free : (r : Record) → is_vacant r.state ≡ true → seen r ≡ blank
+seen-free r is = seen_in-free r.state r is
+
+-- the record that callers see at a slot
+pub record_at-seen : (records : List Record) (slot : ℕ) → slot < length records →
+    record_at (map seen records) slot ≡ seen (record_at records slot)
+record_at-seen records slot within = get_or-map seen records slot blank blank within
+
+pub vacant_count-seen : (records : List Record) → vacant_count (map seen records) ≡ vacant_count records
+vacant_count-seen [] = refl
+vacant_count-seen (r ∷ rs) =
+    let here : mark (seen r) ≡ mark r = ap (λ v. cond v 1 0) (seen-vacant r) in
+    omega (arith, here, vacant_count-seen rs, sum_by-cons mark (seen r) (map seen rs), sum_by-cons mark r rs)
+
+pub shown_length : (records shown : List Record) → map seen records ≡ shown → length records ≡ length shown
+shown_length records shown view = sym (length-map records seen) ∙ ap length view
+
+shown_at : (records shown : List Record) → map seen records ≡ shown → (slot : ℕ) → slot < length records →
+    record_at shown slot ≡ seen (record_at records slot)
+shown_at records shown view slot within = ap (λ v. record_at v slot) (sym view) ∙ record_at-seen records slot within
+
+shown_used : (records shown : List Record) → map seen records ≡ shown → (slot : ℕ) → slot < length records →
+    (record_at shown slot).state ≢ Vacant → is_vacant (record_at records slot).state ≡ false
+shown_used records shown view slot within used =
+    sym (seen-vacant (record_at records slot)) ∙ (ap (λ v. is_vacant v.state) (sym (shown_at records shown view slot within)) ∙ used_state (record_at shown slot).state used)
+
+shown_set : (records shown : List Record) → map seen records ≡ shown → (slot : ℕ) (r seen_as : Record) → seen r ≡ seen_as →
+    map seen (set records slot r) ≡ set shown slot seen_as
+shown_set records shown view slot r seen_as is =
+    map-set seen records slot r ∙ (ap (λ v. set v slot (seen r)) view ∙ ap (λ v. set shown slot v) is)
+
+-- a write: the table, and what callers see
+pub record Changed (records shown : List Record) (first : Option ℕ) (vacant : ℕ) : Type 0 where
+  pub table : IsTable records first vacant
+  pub view : map seen records ≡ shown
+
+pub write_changes : (records shown : List Record) (first : Option ℕ) (vacant : ℕ) → IsTable records first vacant →
+    map seen records ≡ shown → (slot : ℕ) (r : Record) → slot < length shown → (record_at shown slot).state ≢ Vacant →
+    r.state ≢ Vacant → IsKept (length shown) r → Changed (set records slot r) (set shown slot r) first vacant
+write_changes records shown first vacant table view slot r within used new one =
+    let long : length records ≡ length shown = shown_length records shown view in
+    let inside : slot < length records = omega arith in
+    let kept : IsKept (length records) r = subst (λ n. IsKept n r) (sym long) one in
+    record {
+      table = table_write records first vacant table slot r inside (shown_used records shown view slot inside used) (used_state r.state new) kept;
+      view = shown_set records shown view slot r r (seen-used r (used_state r.state new));
+    }
+
+pub give_changes : (records shown : List Record) (first : Option ℕ) (vacant : ℕ) → IsTable records first vacant →
+    map seen records ≡ shown → (slot : ℕ) (r : Record) → slot < length shown → (record_at shown slot).state ≢ Vacant →
+    r ≡ record blank { next = first } → Changed (set records slot r) (set shown slot blank) (Some slot) (vacant + 1)
+give_changes records shown first vacant table view slot r within used is =
+    let long : length records ≡ length shown = shown_length records shown view in
+    let inside : slot < length records = omega arith in
+    let new : is_vacant r.state ≡ true = ap (λ v. is_vacant v.state) is in
+    let link : r.next ≡ first = ap (λ v. v.next) is in
+    let below : IsKept (length records) (record blank { next = first }) =
+    record { place = refl; size = refl; prev = tt; next = first_below records first vacant table; prev_free = tt; next_free = tt } in
+    let kept : IsKept (length records) r = subst (λ v. IsKept (length records) v) (sym is) below in
+    record {
+      table = table_give records first vacant table slot r inside (shown_used records shown view slot inside used) new link kept;
+      view = shown_set records shown view slot r blank (seen-free r new);
+    }
+
+-- a take: the slot was vacant, and its record is now that of a block to come
+pub record Taken (records shown : List Record) (slot vacant : ℕ) : Type 0 where
+  pub within : slot < length shown
+  pub was : record_at shown slot ≡ blank
+  pub some : 0 < vacant
+  pub changed : Changed (set records slot (blank_in Free)) (set shown slot (blank_in Free)) (next_at records slot) (vacant - 1)
+
+pub take_changes : (records shown : List Record) (vacant slot : ℕ) → IsTable records (Some slot) vacant → map seen records ≡ shown →
+    Taken records shown slot vacant
+take_changes records shown vacant slot table view =
+    let long : length records ≡ length shown = shown_length records shown view in
+    let kept : IsKept (length records) (blank_in Free) =
+    record { place = refl; size = refl; prev = tt; next = tt; prev_free = tt; next_free = tt } in
+    let taken : IsTaken records slot vacant (blank_in Free) = table_take records vacant slot table (blank_in Free) refl kept in
+    record {
+      within = let inside : slot < length records = taken.within in omega arith;
+      was = shown_at records shown view slot taken.within ∙ seen-free (record_at records slot) taken.was;
+      some = taken.some;
+      changed = record {
+        table = taken.table;
+        view = shown_set records shown view slot (blank_in Free) (blank_in Free) refl;
+      };
+    }
+
+-- with no first slot, callers see no vacant record
+pub none_vacant : (records shown : List Record) (vacant : ℕ) → IsTable records None vacant → map seen records ≡ shown → vacant_count shown ≡ 0
+none_vacant records shown vacant table view =
+    ap vacant_count (sym view) ∙ (vacant_count-seen records ∙ (table.counted ∙ table_none records vacant table))

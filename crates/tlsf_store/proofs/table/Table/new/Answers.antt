@@ -1,0 +1,21 @@
+use Rattle.std.proofs.Common.{◌≡◌, ◌∙◌, ◌<◌, subst, arith}
+use Rattle.tlsf_store.proofs.TableMaking.{IsBegun, begun_vacant, begun_all}
+use Rattle.tlsf_store.proofs.table.Table.new.Goals as goal
+
+pub loop-number-preserved : goal.loop-number-preserved
+loop-number-preserved c =
+    let e = c.push_reserved.ensures in
+    let begun = c.loop-number.invariant.begun in
+    record {
+      room = e.capacity ∙ c.loop-number.invariant.room;
+      begun =
+          rw e.items
+          (begun_vacant c.args.count c.loop-number.items.items c.loop-number.first c.loop-number.number begun
+          (let less : c.loop-number.number < c.args.count = c.loop-number-test.true in less) c.vacant.result c.vacant.ensures);
+    }
+
+pub invariant_of-result : goal.invariant_of-result
+invariant_of-result c =
+    let all : c.loop-number.number ≡ c.args.count = omega arith in
+    begun_all c.args.count c.loop-number.items.items c.loop-number.first
+    (subst (λ n. IsBegun c.args.count c.loop-number.items.items c.loop-number.first n) all c.loop-number.invariant.begun) c.requires

@@ -1,0 +1,10 @@
+use Rattle.std.proofs.Common.{◌≡◌, vec_capacity}
+use Rattle.tlsf_store.proofs.TableMaking.{IsBegun}
+use Rattle.tlsf_store.proofs.table.Table.new.Given as goal
+
+abbrev pub invariant-loop-number : goal.invariant-loop-number
+invariant-loop-number l =
+    record {
+      room : vec_capacity l.items ≡ l.count;
+      begun : IsBegun l.count l.items.items l.first l.number;
+    }

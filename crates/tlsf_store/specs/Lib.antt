@@ -1,0 +1,4 @@
+pub mod Cells
+pub mod Records
+pub mod Table
+pub mod VacantChain

@@ -1,0 +1,233 @@
+//! The store.
+
+ghost use Rattle.std.specs.Prelude.{◌≡◌, ◌≢◌, ◌+◌, ◌<◌, ◌≤◌, ◌^◌, ◌⊎◌, ◌↔◌, IfOk, IfSome, IfNone, length, slice_index, Err};
+ghost use Rattle.tlsf_class.specs.Classes.{levels};
+ghost use Rattle.tlsf_store.specs.declared.errors.StoreError.TheVariants.{BadCount};
+ghost use Rattle.tlsf_store.specs.declared.records.State.TheVariants.{Vacant};
+ghost use Rattle.tlsf_store.specs.Records.{blank, record_at, vacant_count, IsBelow, IsKept};
+ghost use Rattle.tlsf_store.specs.Cells.{touched, with_record, with_head, with_level_word, with_step_word, with_pool, with_taken, head_at, pool_at, pool_entries, empty_cells, IsPoolBelow};
+
+use super::table::Table;
+use super::touches::Touches;
+use super::{Pool, Record, Slot, StoreError};
+use std::alloc::Global;
+use std::marker::Model;
+use tlsf_class::{CLASSES, Class};
+
+/// The greatest number of records.
+const MOST_RECORDS: u32 = 65_535;
+
+/// How many class heads there are.
+const HEADS: usize = CLASSES as usize;
+
+/// How many first levels there are, each with a step word that has a bit for each of its classes.
+const LEVELS: usize = HEADS / u32::BITS as usize;
+
+/// How many pool entries there are.
+const POOLS: usize = 8;
+
+/// A table of records with the heads of the class lists, the bitmap words and the pool entries.
+#[derive(Drop)]
+pub struct Store {
+    table: Table,
+    heads: [Option<Slot>; HEADS],
+    level_word: u32,
+    step_words: [u32; LEVELS],
+    pools: [Option<Pool>; POOLS],
+    touches: Touches,
+}
+
+impl Model for Store {
+    ghost use Rattle.tlsf_store.specs.Cells.{Cells, AreCells};
+    ghost use Rattle.std.specs.Prelude.{length};
+
+    ghost Value = { Cells };
+
+    ghost view = { λ s. record {
+      records = s.table;
+      heads = s.heads;
+      level_word = s.level_word;
+      step_words = s.step_words;
+      pools = s.pools;
+      touches = s.touches.count;
+    } };
+
+    ghost invariant = { λ s. AreCells (length s.table) s.heads s.level_word s.pools };
+}
+
+impl Store {
+    /// A store of this many vacant records, from 1 to 65,535, else `BadCount`. It takes memory once,
+    /// for the table; where that is refused the answer is `OutOfMemory`.
+    pub fn create(alloc: Global, records: u32) -> Result<Store, StoreError>
+        ensures made { IfOk result (λ store. store ≡ empty_cells records) }
+        ensures bad_count { (result ≡ Err BadCount) ↔ ((records ≡ 0) ⊎ (2 ^ 16 ≤ records)) }
+    {
+        if records == 0 || records > MOST_RECORDS {
+            return Err(StoreError::BadCount);
+        }
+        let Ok(table) = Table::new(alloc, records) else {
+            return Err(StoreError::OutOfMemory);
+        };
+        Ok(Store {
+            table,
+            heads: [None; HEADS],
+            level_word: 0,
+            step_words: [0; LEVELS],
+            pools: [None; POOLS],
+            touches: Touches::new(),
+        })
+    }
+
+    /// How many records there are. It isn't a touch.
+    pub fn records(&self) -> u32
+        ensures value { result ≡ length self.now.records }
+        ensures some { 0 < result }
+        ensures few { result < 2 ^ 16 }
+    {
+        self.table.len()
+    }
+
+    /// The record of a slot. A vacant one has no place, size or links. One touch.
+    pub fn read(&mut self, slot: Slot) -> Record
+        requires { slot < length self.old.records }
+        ensures value { result ≡ record_at self.old.records slot }
+        ensures kept { IsKept (length self.old.records) result }
+        ensures vacant { result.state ≡ Vacant → result ≡ blank }
+        ensures touch { self.new ≡ touched 1 self.old }
+    {
+        self.touches.tick();
+        self.table.read(slot)
+    }
+
+    /// Writes a record that isn't vacant over one that isn't. Places and sizes are multiples of the
+    /// unit, links are of records of this store. One touch.
+    pub fn write(&mut self, slot: Slot, value: Record)
+        requires within { slot < length self.old.records }
+        requires used { (record_at self.old.records slot).state ≢ Vacant }
+        requires new_used { value.state ≢ Vacant }
+        requires kept { IsKept (length self.old.records) value }
+        ensures { self.new ≡ touched 1 (with_record self.old slot value) }
+    {
+        self.touches.tick();
+        self.table.write(slot, value);
+    }
+
+    /// The first block of a class's list. One touch.
+    pub fn head(&mut self, class: Class) -> Option<Slot>
+        ensures within { class < length self.old.heads }
+        ensures value { result ≡ head_at self.old.heads class }
+        ensures below { IsBelow (length self.old.records) result }
+        ensures touch { self.new ≡ touched 1 self.old }
+    {
+        self.touches.tick();
+        self.heads[class.number() as usize]
+    }
+
+    /// Makes this the first block of a class's list. One touch.
+    pub fn set_head(&mut self, class: Class, first: Option<Slot>)
+        requires { IsBelow (length self.old.records) first }
+        ensures within { class < length self.old.heads }
+        ensures written { self.new ≡ touched 1 (with_head self.old class first) }
+    {
+        self.touches.tick();
+        self.heads[class.number() as usize] = first;
+    }
+
+    /// The level word: a bit for each first level. One touch.
+    pub fn level_word(&mut self) -> u32
+        ensures value { result ≡ self.old.level_word }
+        ensures below { result < 2 ^ levels }
+        ensures touch { self.new ≡ touched 1 self.old }
+    {
+        self.touches.tick();
+        self.level_word
+    }
+
+    /// Writes the level word, which has no bit at or above the number of first levels. One touch.
+    pub fn set_level_word(&mut self, word: u32)
+        requires { word < 2 ^ levels }
+        ensures { self.new ≡ touched 1 (with_level_word self.old word) }
+    {
+        self.touches.tick();
+        self.level_word = word;
+    }
+
+    /// The step word of a first level: a bit for each of its classes. One touch.
+    pub fn step_word(&mut self, level: u32) -> u32
+        requires { level < levels }
+        ensures within { level < length self.old.step_words }
+        ensures value { result ≡ slice_index self.old.step_words level }
+        ensures touch { self.new ≡ touched 1 self.old }
+    {
+        self.touches.tick();
+        self.step_words[level as usize]
+    }
+
+    /// Writes the step word of a first level. One touch.
+    pub fn set_step_word(&mut self, level: u32, word: u32)
+        requires { level < levels }
+        ensures within { level < length self.old.step_words }
+        ensures written { self.new ≡ touched 1 (with_step_word self.old level word) }
+    {
+        self.touches.tick();
+        self.step_words[level as usize] = word;
+    }
+
+    /// The pool of an entry, from 0 to 7. One touch.
+    pub fn pool(&mut self, number: u32) -> Option<Pool>
+        requires { number < pool_entries }
+        ensures within { number < length self.old.pools }
+        ensures value { result ≡ pool_at self.old.pools number }
+        ensures below { IsPoolBelow (length self.old.records) result }
+        ensures touch { self.new ≡ touched 1 self.old }
+    {
+        self.touches.tick();
+        self.pools[number as usize]
+    }
+
+    /// Writes the pool of an entry, from 0 to 7. One touch.
+    pub fn set_pool(&mut self, number: u32, pool: Option<Pool>)
+        requires within { number < pool_entries }
+        requires below { IsPoolBelow (length self.old.records) pool }
+        ensures within { number < length self.old.pools }
+        ensures written { self.new ≡ touched 1 (with_pool self.old number pool) }
+    {
+        self.touches.tick();
+        self.pools[number as usize] = pool;
+    }
+
+    /// How many records are vacant. One touch.
+    pub fn vacant(&mut self) -> u32
+        ensures value { result ≡ vacant_count self.old.records }
+        ensures touch { self.new ≡ touched 1 self.old }
+    {
+        self.touches.tick();
+        self.table.vacant()
+    }
+
+    /// Takes a vacant record for a free block, with no place, size or links yet; `None` exactly where
+    /// no record is vacant. Which vacant record it is, is open. Two touches.
+    pub fn take_vacant(&mut self) -> Option<Slot>
+        ensures none { IfNone result (vacant_count self.old.records ≡ 0) }
+        ensures within { IfSome result (λ slot. slot < length self.old.records) }
+        ensures vacant { IfSome result (λ slot. record_at self.old.records slot ≡ blank) }
+        ensures taken { self.new ≡ touched 2 (with_taken self.old result) }
+    {
+        self.touches.tick();
+        self.touches.tick();
+        self.table.take()
+    }
+
+    /// Makes a record vacant that isn't. Three touches: the first vacant slot is read and written, and
+    /// the record is written.
+    pub fn give_vacant(&mut self, slot: Slot)
+        requires within { slot < length self.old.records }
+        requires used { (record_at self.old.records slot).state ≢ Vacant }
+        ensures { self.new ≡ touched 3 (with_record self.old slot blank) }
+    {
+        self.touches.tick();
+        self.touches.tick();
+        self.touches.tick();
+        self.table.give(slot);
+    }
+}

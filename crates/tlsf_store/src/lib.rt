@@ -1,0 +1,19 @@
+//! The counted store of a heap: a table of records, the heads of the class lists, the bitmap words and
+//! the pool entries. Each read and write of one counts as a touch, which contracts alone see.
+#![tactic(auto)]
+
+mod counted;
+mod errors;
+mod pools;
+mod records;
+mod slots;
+mod table;
+#[cfg(test)]
+mod tests;
+mod touches;
+
+pub use counted::Store;
+pub use errors::StoreError;
+pub use pools::Pool;
+pub use records::{Record, State};
+pub use slots::Slot;

@@ -1,0 +1,113 @@
+//! The table of records, and the chain of those that are vacant.
+
+ghost use Rattle.std.specs.Prelude.{◌≡◌, ◌<◌, ◌≢◌, ◌^◌, IfOk, MatchOption, length, replicate, slice_set, Some};
+ghost use Rattle.tlsf_store.specs.declared.records.State.TheVariants.{Vacant, Free};
+ghost use Rattle.tlsf_store.specs.Records.{blank, blank_in, record_at, vacant_count, IsKept};
+
+use super::{Record, Slot, State};
+use std::alloc::{AllocError, Global};
+use std::marker::Model;
+
+/// All the records of a store. A vacant one keeps the next vacant one as its link `next`.
+#[derive(Drop)]
+pub(crate) struct Table {
+    items: Vec<Record>,
+    first: Option<Slot>,
+    vacant: u32,
+}
+
+impl Model for Table {
+    ghost use Rattle.std.specs.Prelude.{List, map};
+    ghost use Rattle.tlsf_store.specs.declared.records.Record.{Record};
+    ghost use Rattle.tlsf_store.specs.Table.{seen, IsTable};
+
+    ghost Value = { List Record };
+
+    ghost view = { λ t. map seen t.items.items };
+
+    ghost invariant = { λ t. IsTable t.items.items t.first t.vacant };
+}
+
+impl Table {
+    /// A table of `count` vacant records. It takes memory once.
+    pub(crate) fn new(alloc: Global, count: u32) -> Result<Table, AllocError>
+        requires { count < 2 ^ 16 }
+        ensures { IfOk result (λ t. t ≡ replicate count blank) }
+    {
+        let mut items = Vec::with_capacity(alloc, count as usize)?;
+        let mut first = None;
+        for number in 0..count {
+            items.push_reserved(Record::vacant(first));
+            first = Some(Slot(number as u16));
+        }
+        Ok(Table {
+            items,
+            first,
+            vacant: count,
+        })
+    }
+
+    /// How many records there are.
+    pub(crate) fn len(&self) -> u32
+        ensures value { result ≡ length self.now }
+        ensures few { result < 2 ^ 16 }
+    {
+        self.items.len() as u32
+    }
+
+    /// The record of a slot, and blank where it is vacant.
+    pub(crate) fn read(&self, slot: Slot) -> Record
+        requires { slot < length self.now }
+        ensures value { result ≡ record_at self.now slot }
+        ensures kept { IsKept (length self.now) result }
+        ensures vacant { result.state ≡ Vacant → result ≡ blank }
+    {
+        self.items[slot.index()].seen()
+    }
+
+    /// Writes a record that isn't vacant over one that isn't.
+    pub(crate) fn write(&mut self, slot: Slot, value: Record)
+        requires within { slot < length self.old }
+        requires used { (record_at self.old slot).state ≢ Vacant }
+        requires new_used { value.state ≢ Vacant }
+        requires kept { IsKept (length self.old) value }
+        ensures { self.new ≡ slice_set self.old slot value }
+    {
+        self.items[slot.index()] = value;
+    }
+
+    /// How many records are vacant.
+    pub(crate) fn vacant(&self) -> u32
+        ensures { result ≡ vacant_count self.now }
+    {
+        self.vacant
+    }
+
+    /// Takes a vacant record, if there is one, for a block to come: free, with no place, size or links.
+    pub(crate) fn take(&mut self) -> Option<Slot>
+        ensures { MatchOption result
+            ((vacant_count self.old ≡ 0) × (self.new ≡ self.old))
+            (λ slot. (slot < length self.old) × (record_at self.old slot ≡ blank)
+            × (self.new ≡ slice_set self.old slot (blank_in Free))) }
+    {
+        let Some(slot) = self.first else {
+            return None;
+        };
+        let index = slot.index();
+        self.first = self.items[index].next;
+        self.items[index] = Record::blank(State::Free);
+        self.vacant -= 1;
+        Some(slot)
+    }
+
+    /// Makes a record vacant that isn't.
+    pub(crate) fn give(&mut self, slot: Slot)
+        requires within { slot < length self.old }
+        requires used { (record_at self.old slot).state ≢ Vacant }
+        ensures { self.new ≡ slice_set self.old slot blank }
+    {
+        self.items[slot.index()] = Record::vacant(self.first);
+        self.first = Some(slot);
+        self.vacant += 1;
+    }
+}

@@ -1,0 +1,166 @@
+//! Rows of the store, and each call once.
+
+use super::*;
+use std::process::Abort;
+use tlsf_class::Class;
+
+/// Makes a record vacant of which the caller knows that it isn't.
+fn give(rt: &impl Abort, store: &mut Store, slot: Slot) {
+    assert!(rt; u32::from(slot.0) < store.records());
+    assert!(rt; store.read(slot).state != State::Vacant);
+    store.give_vacant(slot);
+}
+
+/// Reads a record of which the caller knows that it is there.
+fn read(rt: &impl Abort, store: &mut Store, slot: Slot) -> Record {
+    assert!(rt; u32::from(slot.0) < store.records());
+    store.read(slot)
+}
+
+/// Writes over a record of which the caller knows that it isn't vacant.
+fn write(
+    rt: &impl Abort,
+    store: &mut Store,
+    slot: Slot,
+    place: u32,
+    size: u32,
+    state: State,
+    link: Option<Slot>,
+) {
+    assert!(rt; u32::from(slot.0) < store.records());
+    assert!(rt; store.read(slot).state != State::Vacant);
+    assert!(rt; place % 8 == 0 && size % 8 == 0 && state != State::Vacant);
+    if let Some(other) = link {
+        assert!(rt; u32::from(other.0) < store.records());
+    }
+    let value = Record {
+        place,
+        size,
+        state,
+        prev: None,
+        next: link,
+        prev_free: None,
+        next_free: None,
+    };
+    store.write(slot, value);
+}
+
+#[test]
+fn bad_counts(rt: HostRuntime) {
+    assert_eq!(rt;
+        Store::create(rt.alloc(), 0).err(),
+        Some(StoreError::BadCount)
+    );
+    assert_eq!(rt;
+        Store::create(rt.alloc(), 65_536).err(),
+        Some(StoreError::BadCount)
+    );
+}
+
+/// `create` takes memory once, and no other call takes any. Each of the other tests makes one store, so it
+/// fails where the first allocation is refused and passes where the second is: `rt try --test --fail-alloc`
+/// with 1 and with 2. This test sees the error of the first, and passes with both.
+#[test]
+fn refused_memory(rt: HostRuntime) {
+    if let Some(error) = Store::create(rt.alloc(), 2).err() {
+        assert_eq!(rt; error, StoreError::OutOfMemory);
+        assert!(rt; Store::create(rt.alloc(), 2).is_ok());
+    }
+}
+
+#[test]
+fn greatest_count(rt: HostRuntime) {
+    let Ok(mut store) = Store::create(rt.alloc(), 65_535) else {
+        panic!(rt; "no store");
+    };
+    assert_eq!(rt; store.records(), 65_535);
+    assert_eq!(rt; store.vacant(), 65_535);
+}
+
+#[test]
+fn take_and_give(rt: HostRuntime) {
+    let Ok(mut store) = Store::create(rt.alloc(), 2) else {
+        panic!(rt; "no store");
+    };
+    assert_eq!(rt; store.vacant(), 2);
+    let Some(first) = store.take_vacant() else {
+        panic!(rt; "no first");
+    };
+    let Some(second) = store.take_vacant() else {
+        panic!(rt; "no second");
+    };
+    assert_ne!(rt; first, second);
+    assert_eq!(rt; store.take_vacant(), None);
+    give(&rt, &mut store, first);
+    assert_eq!(rt; store.vacant(), 1);
+    assert_eq!(rt; store.take_vacant(), Some(first));
+}
+
+#[test]
+fn records_are_kept(rt: HostRuntime) {
+    let Ok(mut store) = Store::create(rt.alloc(), 3) else {
+        panic!(rt; "no store");
+    };
+    let Some(slot) = store.take_vacant() else {
+        panic!(rt; "no slot");
+    };
+    let taken = read(&rt, &mut store, slot);
+    assert_eq!(rt; (taken.place, taken.size, taken.state), (0, 0, State::Free));
+    write(&rt, &mut store, slot, 16, 104, State::Live, Some(slot));
+    let kept = read(&rt, &mut store, slot);
+    assert_eq!(rt; (kept.place, kept.size, kept.state), (16, 104, State::Live));
+    assert_eq!(rt;
+        (kept.prev, kept.next, kept.prev_free, kept.next_free),
+        (None, Some(slot), None, None)
+    );
+    give(&rt, &mut store, slot);
+    let given = read(&rt, &mut store, slot);
+    assert_eq!(rt;
+        (given.place, given.size, given.state),
+        (0, 0, State::Vacant)
+    );
+    assert_eq!(rt; given.next, None);
+}
+
+#[test]
+fn heads_are_kept(rt: HostRuntime) {
+    let Ok(mut store) = Store::create(rt.alloc(), 3) else {
+        panic!(rt; "no store");
+    };
+    let class = Class::new(735);
+    let slot = Some(Slot(2));
+    assert_eq!(rt; store.head(class), None);
+    store.set_head(class, slot);
+    assert_eq!(rt; store.head(class), slot);
+    assert_eq!(rt; store.head(Class::new(734)), None);
+}
+
+#[test]
+fn words_are_kept(rt: HostRuntime) {
+    let Ok(mut store) = Store::create(rt.alloc(), 3) else {
+        panic!(rt; "no store");
+    };
+    assert_eq!(rt; store.level_word(), 0);
+    store.set_level_word(1 << 22);
+    assert_eq!(rt; store.level_word(), 1 << 22);
+    assert_eq!(rt; store.step_word(22), 0);
+    store.set_step_word(22, u32::MAX);
+    assert_eq!(rt; store.step_word(22), u32::MAX);
+    assert_eq!(rt; store.step_word(21), 0);
+}
+
+#[test]
+fn pools_are_kept(rt: HostRuntime) {
+    let Ok(mut store) = Store::create(rt.alloc(), 3) else {
+        panic!(rt; "no store");
+    };
+    let pool = Some(Pool {
+        base: 64,
+        bytes: 1_024,
+        first: Slot(1),
+    });
+    assert_eq!(rt; store.pool(7), None);
+    store.set_pool(7, pool);
+    assert_eq!(rt; store.pool(7), pool);
+    assert_eq!(rt; store.pool(0), None);
+}
