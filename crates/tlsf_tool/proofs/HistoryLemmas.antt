@@ -13,8 +13,8 @@ use Rattle.mtrace_log.specs.declared.event.LineFault.{LineFault}
 use Rattle.tlsf_tool.specs.declared.settings.Settings.{Settings}
 use Rattle.tlsf_tool.specs.declared.entry.Entry.{Entry}
 use Rattle.tlsf_tool.specs.declared.diagnostic.Diagnostic.{Diagnostic}
-use Rattle.tlsf_tool.specs.Malloc.{malloc}
-use Rattle.tlsf_tool.specs.Pools.{created, add_pool}
+use Rattle.tlsf_heap.specs.Malloc.{malloc}
+use Rattle.tlsf_heap.specs.Pools.{created, add_pool}
 use Rattle.tlsf_tool.specs.History.{Bare, Moment, AreHeld, after_add, with_pools, started, moments, moment, held, given_or, allocation, answered, asked_size, content_after, notes}
 use Rattle.tlsf_tool.specs.Replay.{Replayed, Comes, StandsFor}
 

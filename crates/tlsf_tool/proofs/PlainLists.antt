@@ -4,8 +4,8 @@ use Rattle.std.proofs.lemmas.Bool.{eq-eqb, ne_eqb}
 use Rattle.std.proofs.lemmas.List.{map-set, get_or-map}
 use Rattle.std.specs.declared.alloc.Global.{Global}
 use Rattle.tlsf_class.specs.Classes.{class}
-use Rattle.tlsf_tool.specs.Lists.{list_of, without, link, unlink}
-use Rattle.tlsf_tool.specs.Malloc.{link_gap}
+use Rattle.tlsf_heap.specs.Lists.{list_of, without, link, unlink}
+use Rattle.tlsf_heap.specs.Malloc.{link_gap}
 use Rattle.tlsf_tool.specs.PlainHeap.{lists_of}
 
 abbrev Places : Type 0

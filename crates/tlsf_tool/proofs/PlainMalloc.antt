@@ -7,14 +7,14 @@ use Rattle.std.proofs.lemmas.Bool.{eq-eqb, ne_eqb, lt-ltb, le-ltb, le-leb, lt-le
 use Rattle.tlsf_class.specs.Classes.{unit, greatest_size}
 use Rattle.tlsf_class.specs.Rounding.{round}
 use Rattle.tlsf_class.proofs.RoundingLaws.{round-Some}
-use Rattle.tlsf_tool.specs.declared.refusal.Refusal.TheVariants.{ZeroSize, NoFit, TableFull, BadPool, PoolsFull}
-use Rattle.tlsf_tool.specs.Content.{Block, Pool, Content, blocks_of, size_at, used_records}
-use Rattle.tlsf_tool.specs.Lists.{pick}
-use Rattle.tlsf_tool.specs.Malloc.{allocated, allocate, malloc_picked, malloc_rounded, malloc}
-use Rattle.tlsf_tool.specs.Pools.{end_of_places, can_be_pool, is_apart, in_order_of_base, add_pool, with_pool, most_pools}
-use Rattle.tlsf_tool.specs.Good.{IsGood}
+use Rattle.tlsf_heap.specs.declared.refusal.Refusal.TheVariants.{ZeroSize, NoFit, TableFull, BadPool, PoolsFull}
+use Rattle.tlsf_heap.specs.Content.{Block, Pool, Content, blocks_of, size_at, used_records}
+use Rattle.tlsf_heap.specs.Lists.{pick}
+use Rattle.tlsf_heap.specs.Malloc.{allocated, allocate, malloc_picked, malloc_rounded, malloc}
+use Rattle.tlsf_heap.specs.Pools.{end_of_places, can_be_pool, is_apart, in_order_of_base, add_pool, with_pool, most_pools}
+use Rattle.tlsf_heap.specs.Good.{IsGood}
 use Rattle.tlsf_tool.specs.PlainHeap.{IsChosen, pool_place}
-use Rattle.tlsf_tool.proofs.GoodContent.{Picked, picked, allocated_is_good}
+use Rattle.tlsf_heap.proofs.GoodContent.{Picked, picked, allocated_is_good}
 
 abbrev Plain : Type 0
 Plain = Content (Unit {0})

@@ -7,8 +7,8 @@ use Rattle.std.proofs.lemmas.Bool.{lt-ltb, le-ltb, ltb-true, ltb-false, cases_Bo
 use Rattle.std.proofs.lemmas.List.{drop_more}
 use Rattle.std.proofs.lemmas.List.Folds.{find-append, length-flat_map-take}
 use Rattle.std.proofs.lemmas.List.Sums.{prefix_len_is}
-use Rattle.tlsf_tool.specs.Content.{Block, Pool, blocks_of, is_at, size_at}
-use Rattle.tlsf_tool.specs.Pools.{in_order_of_base}
+use Rattle.tlsf_heap.specs.Content.{Block, Pool, blocks_of, is_at, size_at}
+use Rattle.tlsf_heap.specs.Pools.{in_order_of_base}
 use Rattle.tlsf_tool.specs.PlainHeap.{pool_place}
 
 abbrev Area : Type 0

@@ -13,10 +13,10 @@ use Rattle.tlsf_tool.specs.declared.entry.Entry.{Entry}
 use Rattle.tlsf_tool.specs.declared.diagnostic.Diagnostic.{Diagnostic}
 use Rattle.tlsf_tool.specs.declared.diagnostic.Kind.{Kind}
 use Rattle.tlsf_tool.specs.declared.diagnostic.Kind.TheVariants.{TooLong, NotALine, AlreadyHeld, Refused}
-use Rattle.tlsf_tool.specs.declared.refusal.Refusal.{Refusal}
-use Rattle.tlsf_tool.specs.Content.{Content}
-use Rattle.tlsf_tool.specs.Malloc.{malloc}
-use Rattle.tlsf_tool.specs.Pools.{created, add_pool}
+use Rattle.tlsf_heap.specs.declared.refusal.Refusal.{Refusal}
+use Rattle.tlsf_heap.specs.Content.{Content}
+use Rattle.tlsf_heap.specs.Malloc.{malloc}
+use Rattle.tlsf_heap.specs.Pools.{created, add_pool}
 
 -- a heap seen without what its live blocks are known by
 abbrev pub Bare : Type 0

@@ -1,8 +1,3 @@
-pub mod Content
-pub mod Lists
-pub mod Malloc
-pub mod Pools
-pub mod Good
 pub mod PlainHeap
 pub mod Settings
 pub mod History

@@ -2,9 +2,9 @@
 use Rattle.std.specs.Prelude.{◌≡◌, ◌<◌, ℕ, Bool, Option, Some, None, if◌then◌else◌, List, map, Vec, nat_lt}
 use Rattle.std.specs.List.{position_or_len}
 use Rattle.std.specs.declared.alloc.Global.{Global}
-use Rattle.tlsf_tool.specs.Content.{Block, Pool, Content, blocks_of, size_at, used_records}
+use Rattle.tlsf_heap.specs.Content.{Block, Pool, Content, blocks_of, size_at, used_records}
 use Rattle.tlsf_class.specs.Rounding.{round}
-use Rattle.tlsf_tool.specs.Lists.{pick}
+use Rattle.tlsf_heap.specs.Lists.{pick}
 
 -- a block whose owner, where it has one, isn't told
 abbrev pub block_of : ℕ → ℕ → Bool → Block (Unit {0})

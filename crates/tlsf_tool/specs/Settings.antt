@@ -2,7 +2,7 @@
 use Rattle.std.specs.Prelude.{ℕ, ◌+◌, ◌*◌, ◌%◌, Bool, not, ◌||◌, ◌==◌, nat_lt}
 use Rattle.tlsf_class.specs.Classes.{unit, greatest_size}
 use Rattle.tlsf_tool.specs.declared.settings.Settings.{Settings}
-use Rattle.tlsf_tool.specs.Pools.{most_pools, end_of_places}
+use Rattle.tlsf_heap.specs.Pools.{most_pools, end_of_places}
 
 -- at most so many records
 abbrev pub most_records : ℕ

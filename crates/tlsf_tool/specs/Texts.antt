@@ -6,8 +6,8 @@ use Rattle.tlsf_tool.specs.declared.entry.Entry.{Entry}
 use Rattle.tlsf_tool.specs.declared.diagnostic.Diagnostic.{Diagnostic}
 use Rattle.tlsf_tool.specs.declared.diagnostic.Kind.{Kind}
 use Rattle.tlsf_tool.specs.declared.diagnostic.Kind.TheVariants.{TooLong, NotALine, AlreadyHeld, Refused}
-use Rattle.tlsf_tool.specs.declared.refusal.Refusal.{Refusal}
-use Rattle.tlsf_tool.specs.declared.refusal.Refusal.TheVariants.{ZeroSize, NoFit, TableFull, BadPointer, BadAlign, BadPool, PoolsFull, PoolInUse, OutOfMemory, NoPool}
+use Rattle.tlsf_heap.specs.declared.refusal.Refusal.{Refusal}
+use Rattle.tlsf_heap.specs.declared.refusal.Refusal.TheVariants.{ZeroSize, NoFit, TableFull, BadPointer, BadAlign, BadPool, PoolsFull, PoolInUse, OutOfMemory, NoPool}
 use Rattle.tlsf_tool.specs.declared.status.Status.{Status}
 use Rattle.tlsf_tool.specs.declared.status.Status.TheVariants.{Clean, Found}
 use Rattle.tlsf_tool.specs.History.{Moment, notes}

@@ -1,4 +1,4 @@
-use crate::refusal::Refusal;
+use tlsf_heap::Refusal;
 use mtrace_log::Addr;
 
 /// What is wrong with a line.

@@ -8,7 +8,7 @@ ghost use Rattle.tlsf_tool.specs.Texts.{refusal_text as text_of_refusal, kind_te
 
 use crate::diagnostic::{Diagnostic, Kind};
 use crate::entry::Entry;
-use crate::refusal::Refusal;
+use tlsf_heap::Refusal;
 use arrayvec::ArrayVec;
 use itoa::Buffer;
 use mtrace_log::{Addr, Location};

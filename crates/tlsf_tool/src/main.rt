@@ -6,7 +6,6 @@ mod entry;
 mod line_text;
 mod output;
 mod plain_heap;
-mod refusal;
 mod replay;
 mod report;
 mod run;

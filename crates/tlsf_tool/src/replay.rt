@@ -1,12 +1,12 @@
 ghost use Rattle.std.specs.Prelude.{◌≡◌, false, OnOk, IfOk};
 ghost use Rattle.tlsf_tool.specs.Settings.{are_bad};
-ghost use Rattle.tlsf_tool.specs.Pools.{add_pool as added};
+ghost use Rattle.tlsf_heap.specs.Pools.{add_pool as added};
 ghost use Rattle.tlsf_tool.specs.History.{after_add, started};
 
 use crate::diagnostic::{Diagnostic, Kind};
 use crate::entry::Entry;
 use crate::plain_heap::PlainHeap;
-use crate::refusal::Refusal;
+use tlsf_heap::Refusal;
 use crate::settings::Settings;
 use mtrace_log::{Addr, Event, Line, LineFault, Location};
 use std::alloc::{AllocError, Global};

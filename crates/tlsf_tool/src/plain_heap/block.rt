@@ -10,7 +10,7 @@ pub struct Block {
 
 impl Model for Block {
     ghost use Rattle.std.specs.Prelude.{is_some, refl};
-    ghost use Rattle.tlsf_tool.specs.Content.{Block};
+    ghost use Rattle.tlsf_heap.specs.Content.{Block};
 
     ghost Value = { Block (Unit {0}) };
 

@@ -1,6 +1,6 @@
 ghost use Rattle.std.specs.Prelude.{◌≡◌, ◌+◌, ◌%◌, ◌<◌, ◌≤◌};
 ghost use Rattle.tlsf_class.specs.Classes.{unit, greatest_size};
-ghost use Rattle.tlsf_tool.specs.Pools.{end_of_places};
+ghost use Rattle.tlsf_heap.specs.Pools.{end_of_places};
 
 /// A free block that is to hold `asked` bytes: where it begins, and its size in bytes.
 #[derive(Clone, Copy)]

@@ -1,8 +1,8 @@
 //! The block chosen is cut: in its pool's blocks, and in the pools.
 
 ghost use Rattle.std.specs.Prelude.{◌≡◌, ◌++◌, ◌∷◌, [], map, if◌then◌else◌, IfOk, OnOk};
-ghost use Rattle.tlsf_tool.specs.Content.{is_at};
-ghost use Rattle.tlsf_tool.specs.Malloc.{cut, replaced, replaced_in};
+ghost use Rattle.tlsf_heap.specs.Content.{is_at};
+ghost use Rattle.tlsf_heap.specs.Malloc.{cut, replaced, replaced_in};
 
 use super::block::Block;
 use super::choice::Choice;

@@ -3,7 +3,7 @@ use super::cut::cut_in_pools;
 use super::lists::{in_front, list_number, pick, relink};
 use super::pool::Pool;
 use super::pools::{block_count, can_be_pool, is_apart, place_for, size_at};
-use crate::refusal::Refusal;
+use tlsf_heap::Refusal;
 use std::alloc::{AllocError, Global};
 use std::marker::Model;
 use tlsf_class::{CLASSES, round};
@@ -23,8 +23,8 @@ pub struct PlainHeap {
 }
 
 impl Model for PlainHeap {
-    ghost use Rattle.tlsf_tool.specs.Content.{Content};
-    ghost use Rattle.tlsf_tool.specs.Good.{IsGood};
+    ghost use Rattle.tlsf_heap.specs.Content.{Content};
+    ghost use Rattle.tlsf_heap.specs.Good.{IsGood};
     ghost use Rattle.tlsf_tool.specs.PlainHeap.{content_of};
 
     ghost Value = { Content (Unit {0}) };
@@ -37,9 +37,9 @@ impl Model for PlainHeap {
 impl PlainHeap {
     ghost use Rattle.std.specs.Prelude.{◌≡◌, ◌≢◌, ℕ, ◌+◌, ◌<◌, ◌≤◌, true, length, nat_le, Ok, Err, Some, IfOk, IfErr, OnOk, OnErr};
     ghost use Rattle.std.specs.List.{list_all};
-    ghost use Rattle.tlsf_tool.specs.Content.{used_records};
-    ghost use Rattle.tlsf_tool.specs.Malloc.{malloc as served, allocated};
-    ghost use Rattle.tlsf_tool.specs.Pools.{created, add_pool as added, with_pool, can_be_pool as can_be, is_apart as apart, most_pools};
+    ghost use Rattle.tlsf_heap.specs.Content.{used_records};
+    ghost use Rattle.tlsf_heap.specs.Malloc.{malloc as served, allocated};
+    ghost use Rattle.tlsf_heap.specs.Pools.{created, add_pool as added, with_pool, can_be_pool as can_be, is_apart as apart, most_pools};
     ghost use Rattle.tlsf_tool.specs.PlainHeap.{IsChosen};
 
     /// A heap of so many records, with no pool.

@@ -2,8 +2,8 @@
 
 ghost use Rattle.std.specs.Prelude.{◌≡◌, ◌+◌, ◌-◌, ◌%◌, ◌<◌, ◌≤◌, ◌∷◌, length, slice_set, vec_len, IfOk, OnOk, OnErr};
 ghost use Rattle.tlsf_class.specs.Classes.{unit, classes, greatest_size, class};
-ghost use Rattle.tlsf_tool.specs.Lists.{list_of, without, unlink, first_of_lists as first_place, pick as picked_place};
-ghost use Rattle.tlsf_tool.specs.Malloc.{link_gap};
+ghost use Rattle.tlsf_heap.specs.Lists.{list_of, without, unlink, first_of_lists as first_place, pick as picked_place};
+ghost use Rattle.tlsf_heap.specs.Malloc.{link_gap};
 ghost use Rattle.tlsf_tool.specs.PlainHeap.{lists_of};
 
 use super::choice::Choice;

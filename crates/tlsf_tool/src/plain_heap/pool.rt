@@ -13,7 +13,7 @@ pub struct Pool {
 }
 
 impl Model for Pool {
-    ghost use Rattle.tlsf_tool.specs.Content.{Pool};
+    ghost use Rattle.tlsf_heap.specs.Content.{Pool};
 
     ghost Value = { Pool (Unit {0}) };
 
@@ -22,8 +22,8 @@ impl Model for Pool {
 
 impl Pool {
     ghost use Rattle.std.specs.Prelude.{◌≡◌, ◌+◌, ◌<◌, length, IfOk, find, option_map};
-    ghost use Rattle.tlsf_tool.specs.Content.{is_at};
-    ghost use Rattle.tlsf_tool.specs.Malloc.{gap, cut, replaced_in};
+    ghost use Rattle.tlsf_heap.specs.Content.{is_at};
+    ghost use Rattle.tlsf_heap.specs.Malloc.{gap, cut, replaced_in};
 
     /// A pool that is one free block.
     pub fn new(alloc: Global, base: u32, bytes: u32) -> Result<Self, AllocError>

@@ -3,8 +3,8 @@
 ghost use Rattle.std.specs.Prelude.{◌≡◌, ◌+◌, ◌<◌, ◌≤◌, ◌^◌, length};
 ghost use Rattle.std.specs.List.{list_all};
 ghost use Rattle.tlsf_class.specs.Classes.{unit, greatest_size};
-ghost use Rattle.tlsf_tool.specs.Content.{blocks_of, size_at as size_of_block_at};
-ghost use Rattle.tlsf_tool.specs.Pools.{end_of_places, can_be_pool as can_be, is_apart as apart};
+ghost use Rattle.tlsf_heap.specs.Content.{blocks_of, size_at as size_of_block_at};
+ghost use Rattle.tlsf_heap.specs.Pools.{end_of_places, can_be_pool as can_be, is_apart as apart};
 ghost use Rattle.tlsf_tool.specs.PlainHeap.{pool_place};
 
 use super::pool::Pool;

@@ -1,5 +1,5 @@
 use Rattle.std.proofs.Common.{◌≡◌}
-use Rattle.tlsf_tool.specs.Pools.{created}
+use Rattle.tlsf_heap.specs.Pools.{created}
 use Rattle.tlsf_tool.specs.History.{with_pools}
 use Rattle.tlsf_tool.proofs.replay.started_heap.Given as goal
 

@@ -1,5 +1,5 @@
 use Rattle.std.proofs.Common.{◌≡◌, take}
-use Rattle.tlsf_tool.specs.Malloc.{cut, replaced}
+use Rattle.tlsf_heap.specs.Malloc.{cut, replaced}
 use Rattle.tlsf_tool.proofs.plain_heap.cut.cut_in.Given as goal
 
 -- the blocks so far are cut

@@ -1,5 +1,5 @@
 use Rattle.std.proofs.Common.{◌≡◌, take, map}
-use Rattle.tlsf_tool.specs.Malloc.{cut, replaced_in}
+use Rattle.tlsf_heap.specs.Malloc.{cut, replaced_in}
 use Rattle.tlsf_tool.proofs.plain_heap.cut.cut_in_pools.Given as goal
 
 -- the pools so far are cut

@@ -1,5 +1,5 @@
 use Rattle.std.proofs.Common.{◌≡◌, drop}
-use Rattle.tlsf_tool.specs.Lists.{first_of_lists as first_place}
+use Rattle.tlsf_heap.specs.Lists.{first_of_lists as first_place}
 use Rattle.tlsf_tool.specs.PlainHeap.{lists_of}
 use Rattle.tlsf_tool.proofs.plain_heap.lists.first_of_lists.Given as goal
 

@@ -1,5 +1,5 @@
 use Rattle.std.proofs.Common.{◌≡◌, take, length}
-use Rattle.tlsf_tool.specs.Content.{blocks_of}
+use Rattle.tlsf_heap.specs.Content.{blocks_of}
 use Rattle.tlsf_tool.proofs.plain_heap.pools.block_count.Given as goal
 
 -- the blocks of the pools so far are counted

@@ -1,5 +1,5 @@
 use Rattle.std.proofs.Common.{arith, ap, length, []}
-use Rattle.tlsf_tool.specs.Content.{Pool}
+use Rattle.tlsf_heap.specs.Content.{Pool}
 use Rattle.tlsf_tool.proofs.PlainPools.{place_is}
 use Rattle.tlsf_tool.proofs.plain_heap.pools.place_for.Goals as goal
 

@@ -1,5 +1,5 @@
 use Rattle.std.proofs.Common.{◌≡◌, drop, find}
-use Rattle.tlsf_tool.specs.Content.{blocks_of, is_at}
+use Rattle.tlsf_heap.specs.Content.{blocks_of, is_at}
 use Rattle.tlsf_tool.proofs.plain_heap.pools.size_at.Given as goal
 
 -- no block of the pools so far begins there

@@ -1,10 +1,10 @@
 use Rattle.std.proofs.Common.{◌≡◌, ℕ, arith, sym, ap, ◌∙◌, subst, replicate, [], List}
 use Rattle.tlsf_class.specs.Classes.{classes}
-use Rattle.tlsf_tool.specs.Content.{Content}
-use Rattle.tlsf_tool.specs.Good.{IsGood}
-use Rattle.tlsf_tool.specs.Pools.{created}
+use Rattle.tlsf_heap.specs.Content.{Content}
+use Rattle.tlsf_heap.specs.Good.{IsGood}
+use Rattle.tlsf_heap.specs.Pools.{created}
 use Rattle.tlsf_tool.specs.PlainHeap.{content_of, lists_of}
-use Rattle.tlsf_tool.proofs.GoodContent.{created_is_good}
+use Rattle.tlsf_heap.proofs.GoodContent.{created_is_good}
 use Rattle.tlsf_tool.proofs.plain_heap.heap.PlainHeap.create.Goals as goal
 
 -- all lists are there

@@ -1,5 +1,5 @@
 use Rattle.std.proofs.Common.{arith, length, ap}
-use Rattle.tlsf_tool.specs.Content.{blocks_of}
+use Rattle.tlsf_heap.specs.Content.{blocks_of}
 use Rattle.tlsf_tool.proofs.plain_heap.heap.PlainHeap.is_full.Goals as goal
 
 pub block_count-requires : goal.block_count-requires

@@ -1,7 +1,7 @@
 use Rattle.std.proofs.Common.{◌≡◌, arith, sym, ap, ◌∙◌, subst, map}
-use Rattle.tlsf_tool.specs.Content.{Content}
-use Rattle.tlsf_tool.specs.Good.{IsGood}
-use Rattle.tlsf_tool.specs.Malloc.{allocated, replaced_in, cut}
+use Rattle.tlsf_heap.specs.Content.{Content}
+use Rattle.tlsf_heap.specs.Good.{IsGood}
+use Rattle.tlsf_heap.specs.Malloc.{allocated, replaced_in, cut}
 use Rattle.tlsf_tool.specs.PlainHeap.{content_of, IsChosen}
 use Rattle.tlsf_tool.proofs.PlainMalloc.{chosen_is_good}
 use Rattle.tlsf_tool.proofs.plain_heap.heap.PlainHeap.take.Goals as goal

@@ -1,5 +1,5 @@
 use Rattle.std.proofs.Common.{◌≡◌, drop, find}
-use Rattle.tlsf_tool.specs.Content.{is_at}
+use Rattle.tlsf_heap.specs.Content.{is_at}
 use Rattle.tlsf_tool.proofs.plain_heap.pool.Pool.size_at.Given as goal
 
 -- no block so far begins there

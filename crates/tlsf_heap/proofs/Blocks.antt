@@ -8,9 +8,9 @@ use Rattle.std.proofs.lemmas.Bool.{cases_Bool, cases_eq, eqb-true, eqb-false, ne
 use Rattle.std.specs.List.{AllByRecursion}
 use Rattle.std.proofs.Common.{append_assoc, ◌⊎◌, inl, inr}
 use Rattle.tlsf_class.specs.Classes.{unit, class}
-use Rattle.tlsf_tool.specs.Content.{Block, Pool, Content, blocks_of, is_free, is_at, size_at}
-use Rattle.tlsf_tool.specs.Good.{Covers, NoFreeNeighbours, IsGoodPool, AreGoodPools, is_listed}
-use Rattle.tlsf_tool.specs.Malloc.{replaced, replaced_in}
+use Rattle.tlsf_heap.specs.Content.{Block, Pool, Content, blocks_of, is_free, is_at, size_at}
+use Rattle.tlsf_heap.specs.Good.{Covers, NoFreeNeighbours, IsGoodPool, AreGoodPools, is_listed}
+use Rattle.tlsf_heap.specs.Malloc.{replaced, replaced_in}
 
 -- each block begins at or above the end of the one before
 abbrev pub Ascends : {A : Type 0} → ℕ → List (Block A) → Type 0

@@ -6,10 +6,10 @@ use Rattle.std.proofs.lemmas.Grind.{common_steps, flat_map-append}
 use Rattle.std.proofs.lemmas.Bool.{cases_Bool, eq-eqb, eqb-true, eqb-false, true≢false}
 use Rattle.std.proofs.lemmas.List.{append-nil}
 use Rattle.tlsf_class.specs.Classes.{unit, class}
-use Rattle.tlsf_tool.specs.Content.{Block, Pool, Content, blocks_of, is_free, is_at, size_at}
-use Rattle.tlsf_tool.specs.Good.{Covers, NoFreeNeighbours, IsGoodPool, AreGoodPools, is_listed}
-use Rattle.tlsf_tool.specs.Malloc.{gap, cut, replaced, replaced_in}
-use Rattle.tlsf_tool.proofs.Blocks.{NoneAt, Found, count_by-cons, count_by-append, one_if}
+use Rattle.tlsf_heap.specs.Content.{Block, Pool, Content, blocks_of, is_free, is_at, size_at}
+use Rattle.tlsf_heap.specs.Good.{Covers, NoFreeNeighbours, IsGoodPool, AreGoodPools, is_listed}
+use Rattle.tlsf_heap.specs.Malloc.{gap, cut, replaced, replaced_in}
+use Rattle.tlsf_heap.proofs.Blocks.{NoneAt, Found, count_by-cons, count_by-append, one_if}
 
 module _ {A : Type 0} where
   pub replaced-append : (place : ℕ) (others blocks more : List (Block A)) → replaced place others (blocks ++ more) ≡ replaced place others blocks ++ replaced place others more

@@ -1,9 +1,9 @@
 -- What every heap keeps.
 use Rattle.std.specs.Prelude.{◌≡◌, ℕ, ◌+◌, ◌%◌, ◌<◌, ◌≤◌, Bool, false, not, ◌&&◌, List, [], ◌∷◌, length, count_by, ◌==◌, IsTrue, ⊤}
 use Rattle.tlsf_class.specs.Classes.{unit, classes, greatest_size, class}
-use Rattle.tlsf_tool.specs.Content.{Block, Pool, Content, blocks_of, is_free, is_at, used_records}
-use Rattle.tlsf_tool.specs.Lists.{list_of}
-use Rattle.tlsf_tool.specs.Pools.{most_pools, end_of_places}
+use Rattle.tlsf_heap.specs.Content.{Block, Pool, Content, blocks_of, is_free, is_at, used_records}
+use Rattle.tlsf_heap.specs.Lists.{list_of}
+use Rattle.tlsf_heap.specs.Pools.{most_pools, end_of_places}
 
 -- the blocks cover all from one place to another, in order, each of a positive number of units
 abbrev pub Covers : {A : Type 0} → ℕ → ℕ → List (Block A) → Type 0

@@ -6,11 +6,11 @@ use Rattle.std.proofs.lemmas.List.{get_or-set_same, get_or-set_other, length-set
 use Rattle.std.proofs.Math.ListN.{get_or-eq_default}
 use Rattle.tlsf_class.specs.Classes.{classes, class, need}
 use Rattle.tlsf_class.proofs.ClassLaws.{class-lt, need-lt}
-use Rattle.tlsf_tool.specs.Content.{Block, is_free, is_at}
-use Rattle.tlsf_tool.specs.Lists.{list_of, without, link, unlink, first_of_lists, pick}
-use Rattle.tlsf_tool.specs.Good.{times, is_listed}
-use Rattle.tlsf_tool.specs.Malloc.{gap, link_gap}
-use Rattle.tlsf_tool.proofs.Blocks.{count_by-cons, one_if}
+use Rattle.tlsf_heap.specs.Content.{Block, is_free, is_at}
+use Rattle.tlsf_heap.specs.Lists.{list_of, without, link, unlink, first_of_lists, pick}
+use Rattle.tlsf_heap.specs.Good.{times, is_listed}
+use Rattle.tlsf_heap.specs.Malloc.{gap, link_gap}
+use Rattle.tlsf_heap.proofs.Blocks.{count_by-cons, one_if}
 
 -- 1 where a free block of this size at this place stands at p in the list of class q
 abbrev pub stands : ℕ → ℕ → ℕ → ℕ → ℕ

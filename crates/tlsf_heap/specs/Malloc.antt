@@ -1,10 +1,10 @@
 -- malloc: the block picked, cut to the size asked for.
 use Rattle.std.specs.Prelude.{ℕ, ◌+◌, ◌-◌, Bool, ◌&&◌, List, [], ◌∷◌, map, length, flat_map, Option, Some, None, Result, Ok, Err, if◌then◌else◌, ◌==◌, nat_lt, nat_le}
-use Rattle.tlsf_tool.specs.declared.refusal.Refusal.{Refusal}
-use Rattle.tlsf_tool.specs.declared.refusal.Refusal.TheVariants.{ZeroSize, NoFit, TableFull}
+use Rattle.tlsf_heap.specs.declared.refusal.Refusal.{Refusal}
+use Rattle.tlsf_heap.specs.declared.refusal.Refusal.TheVariants.{ZeroSize, NoFit, TableFull}
 use Rattle.tlsf_class.specs.Rounding.{round}
-use Rattle.tlsf_tool.specs.Content.{Block, Pool, Content, blocks_of, is_at, size_at, used_records}
-use Rattle.tlsf_tool.specs.Lists.{link, unlink, pick}
+use Rattle.tlsf_heap.specs.Content.{Block, Pool, Content, blocks_of, is_at, size_at, used_records}
+use Rattle.tlsf_heap.specs.Lists.{link, unlink, pick}
 
 -- one free block of this size at the place, or nothing where the size is 0
 abbrev pub gap : {A : Type 0} → ℕ → ℕ → List (Block A)

@@ -1,0 +1,7 @@
+//! A heap by Two-Level Segregated Fit (ECRTS 2004): segregated free lists in two levels of classes,
+//! found by bitmaps.
+#![tactic(auto)]
+
+mod refusal;
+
+pub use crate::refusal::Refusal;
