@@ -59,7 +59,7 @@ comes_served old new before number at address size asked place are absent same s
     let entry : Entry = record { size = size; line = number; at = at } in
     let given : Moment = record { given = Some (address, entry); notes = []; content = new.content } in
     let is : allocation number at address size (held before address) old.content ≡ given =
-          ap (λ o. allocation number at address size o old.content) none ∙ ap (answered number at address size old.content) answer in
+    ap (λ o. allocation number at address size o old.content) none ∙ ap (answered number at address size old.content) answer in
     let P : Moment → Type 0 = λ m. Comes old new None before m in
     subst P (sym is) (record {
       content_is = refl;
@@ -70,6 +70,6 @@ comes_served old new before number at address size asked place are absent same s
       noted = refl;
     })
   where
-  not_some : {A : Type 0} (o : Option A) → is_some o ≡ false → o ≡ None
-  not_some None h = refl
-  not_some (Some a) h = absurd (cc)
+    not_some : {A : Type 0} (o : Option A) → is_some o ≡ false → o ≡ None
+    not_some None h = refl
+    not_some (Some a) h = absurd (cc)

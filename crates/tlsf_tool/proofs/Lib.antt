@@ -5,3 +5,4 @@ mod Writing
 mod HistoryLemmas
 mod TextLemmas
 mod RunLemmas
+mod WordLemmas

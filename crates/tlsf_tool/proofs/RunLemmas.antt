@@ -75,7 +75,7 @@ some_note-append (note ∷ first) second = refl
 
 -- what a line came to, told of the number that it was given and of the replay before it
 module _ (settings : Settings) (old : Progress) (replay : Replayed) (noted : Bool) (start before taken_start taken : Bytes)
-         (under : IsUnderWay settings old replay noted start before taken_start taken) (line : Line) (number : line.number ≡ old.count + 1) where
+    (under : IsUnderWay settings old replay noted start before taken_start taken) (line : Line) (number : line.number ≡ old.count + 1) where
   moment_is : moment line.number line.event (history settings under.lines) replay.content ≡ next_moment settings under.lines line.event
   moment_is =
       ap (λ n. moment n line.event (history settings under.lines) replay.content) (number ∙ omega (arith, under.count))
@@ -102,9 +102,9 @@ underway_line settings old new replay_old replay_new noted_old more start before
       content_is = g.content_is ∙ ap (content_after (started settings)) (sym whole);
       held = (let Q : List Moment → Type 0 = λ past. AreHeld replay_new.entries past in subst Q (sym whole) g.held);
       wrote = (let Q : List ℕ → Type 0 = λ text. Wrote taken_start taken_new text in
-        subst Q (sym (notes_text-more settings under.lines line.event)) (Wrote-append taken_start taken_old taken_new (text_of_notes settings under.lines) (notes_text now.notes) under.wrote g.wrote));
+          subst Q (sym (notes_text-more settings under.lines line.event)) (Wrote-append taken_start taken_old taken_new (text_of_notes settings under.lines) (notes_text now.notes) under.wrote g.wrote));
       noted_is = ap (λ b. b || more) under.noted_is ∙ ap (λ b. is_some_note (notes (history settings under.lines)) || b) g.noted_is
-        ∙ sym (ap (λ past. is_some_note (notes past)) whole ∙ some_note-append (notes (history settings under.lines)) now.notes);
+          ∙ sym (ap (λ past. is_some_note (notes past)) whole ∙ some_note-append (notes (history settings under.lines)) now.notes);
     }
 
 -- a line that was taken leaves the status reading or ended
@@ -131,7 +131,7 @@ underway_write settings old new replay_old replay_new noted_old start before aft
     let read = HasReadSo-line start (to_come old before) (to_come new after) old new line under.lines under.read given in
     let Q : List ℕ → Type 0 = λ text. Begins taken_start taken_new text in
     let begun : Begins taken_start taken_new (text_of_notes settings lines) =
-          subst Q (sym (notes_text-more settings under.lines line.event)) (Begins-after taken_start taken_old taken_new (text_of_notes settings under.lines) (notes_text now.notes) under.wrote b.begun) in
+    subst Q (sym (notes_text-more settings under.lines line.event)) (Begins-after taken_start taken_old taken_new (text_of_notes settings under.lines) (notes_text now.notes) under.wrote b.begun) in
     let R : List Moment → Type 0 = λ past. AreHeld replay_new.entries past in
     let held : AreHeld replay_new.entries (history settings lines) = subst R (sym whole) b.held in
     record {
@@ -139,14 +139,14 @@ underway_write settings old new replay_old replay_new noted_old start before aft
       lines = lines;
       unused = new.held;
       begun = elim (line_read new.status start (to_come old before) (to_come new after) lines line.event given.taken read) [
-          inl reading ↦ inl (reading, begun)
+        | inl reading ↦ inl (reading, begun)
         | inr all ↦ inr (record {
-            read = all;
-            entries = replay_new.entries;
-            held = held;
-            begun = Begins-longer taken_start taken_new (text_of_notes settings lines) (leaks_report replay_new.entries) begun;
-          })
-        ];
+          read = all;
+          entries = replay_new.entries;
+          held = held;
+          begun = Begins-longer taken_start taken_new (text_of_notes settings lines) (leaks_report replay_new.entries) begun;
+        })
+      ];
     }
 
 -- memory was refused at a line
@@ -161,7 +161,7 @@ underway_memory settings old new replay noted start before after taken_start tak
       last = line.event;
       unused = new.held;
       read = line_read new.status start (to_come old before) (to_come new after) (under.lines ++ line.event ∷ []) line.event given.taken
-        (HasReadSo-line start (to_come old before) (to_come new after) old new line under.lines under.read given);
+          (HasReadSo-line start (to_come old before) (to_come new after) old new line under.lines under.read given);
       wrote = same ∙ under.wrote;
     }
 

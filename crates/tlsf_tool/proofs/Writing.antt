@@ -22,20 +22,20 @@ Wrote-append old middle new first second w v = v ∙ ap (λ known. append_known 
 -- a text that begins behind one that was written begins as a whole
 pub Begins-after : (old middle new : Option (List ℕ)) (first second : List ℕ) → Wrote old middle first → Begins middle new second → Begins old new (first ++ second)
 Begins-after old middle new first second w b = record {
-    part = first ++ b.part;
-    rest = b.rest;
-    whole = ap (λ text. first ++ text) b.whole ∙ sym (append_assoc first b.part b.rest);
-    wrote = Wrote-append old middle new first b.part w b.wrote;
-  }
+  part = first ++ b.part;
+  rest = b.rest;
+  whole = ap (λ text. first ++ text) b.whole ∙ sym (append_assoc first b.part b.rest);
+  wrote = Wrote-append old middle new first b.part w b.wrote;
+}
 
 -- a beginning of a text is one of a longer text
 pub Begins-longer : (old new : Option (List ℕ)) (text more : List ℕ) → Begins old new text → Begins old new (text ++ more)
 Begins-longer old new text more b = record {
-    part = b.part;
-    rest = b.rest ++ more;
-    whole = ap (λ t. t ++ more) b.whole ∙ append_assoc b.part b.rest more;
-    wrote = b.wrote;
-  }
+  part = b.part;
+  rest = b.rest ++ more;
+  whole = ap (λ t. t ++ more) b.whole ∙ append_assoc b.part b.rest more;
+  wrote = b.wrote;
+}
 
 -- all of a text is a beginning of it
 pub Begins-all : (old new : Option (List ℕ)) (text : List ℕ) → Wrote old new text → Begins old new text
@@ -52,10 +52,10 @@ HasPut-none old bytes = record { part = []; whole = refl; wrote = append_known-n
 
 pub HasPut-more : (old middle new : Option (List ℕ)) (bytes rest : List ℕ) (count : ℕ) → HasPut old middle bytes rest → Wrote middle new (take count rest) → HasPut old new bytes (drop count rest)
 HasPut-more old middle new bytes rest count h w = record {
-    part = h.part ++ take count rest;
-    whole = h.whole ∙ ap (λ t. h.part ++ t) (sym (take-append-drop count rest)) ∙ sym (append_assoc h.part (take count rest) (drop count rest));
-    wrote = Wrote-append old middle new h.part (take count rest) h.wrote w;
-  }
+  part = h.part ++ take count rest;
+  whole = h.whole ∙ ap (λ t. h.part ++ t) (sym (take-append-drop count rest)) ∙ sym (append_assoc h.part (take count rest) (drop count rest));
+  wrote = Wrote-append old middle new h.part (take count rest) h.wrote w;
+}
 
 pub HasPut-begins : (old middle new : Option (List ℕ)) (bytes rest : List ℕ) → HasPut old middle bytes rest → new ≡ middle → Begins old new bytes
 HasPut-begins old middle new bytes rest h same = record { part = h.part; rest = rest; whole = h.whole; wrote = same ∙ h.wrote }
@@ -68,10 +68,10 @@ HasPut-all old new bytes rest h none =
 -- the next piece of what is left is put
 pub HasPut-piece : (old middle new : Option (List ℕ)) (bytes rest piece later : List ℕ) → HasPut old middle bytes rest → rest ≡ piece ++ later → Wrote middle new piece → HasPut old new bytes later
 HasPut-piece old middle new bytes rest piece later h is w = record {
-    part = h.part ++ piece;
-    whole = h.whole ∙ ap (λ t. h.part ++ t) is ∙ sym (append_assoc h.part piece later);
-    wrote = Wrote-append old middle new h.part piece h.wrote w;
-  }
+  part = h.part ++ piece;
+  whole = h.whole ∙ ap (λ t. h.part ++ t) is ∙ sym (append_assoc h.part piece later);
+  wrote = Wrote-append old middle new h.part piece h.wrote w;
+}
 
 -- the next piece is begun
 pub HasPut-begun : (old middle new : Option (List ℕ)) (bytes rest piece later : List ℕ) → HasPut old middle bytes rest → rest ≡ piece ++ later → Begins middle new piece → Begins old new bytes

@@ -5,3 +5,4 @@ pub mod Texts
 pub mod Output
 pub mod Replay
 pub mod Run
+pub mod Statuses

@@ -56,8 +56,8 @@ pub record StopsAtRead (settings : Settings) (left_old left_new taken_old taken_
 -- a beginning of the diagnostics of the lines read, or of the whole text where the log had ended
 abbrev pub BeginsText : Settings → (left_old left_new taken_old taken_new : Bytes) → List (Result Event LineFault) → Type 0
 BeginsText settings left_old left_new taken_old taken_new lines =
-  (HasRead left_old left_new lines × Begins taken_old taken_new (text_of_notes settings lines))
-  ⊎ BeginsWhole settings left_old left_new taken_old taken_new lines
+    (HasRead left_old left_new lines × Begins taken_old taken_new (text_of_notes settings lines))
+    ⊎ BeginsWhole settings left_old left_new taken_old taken_new lines
 
 -- the writer failed, after a beginning of what was to be written
 pub record StopsAtWrite (settings : Settings) (left_old left_new taken_old taken_new : Bytes) (failures_old failures_new : ℕ) : Type 0 where
@@ -77,7 +77,7 @@ pub record StopsAtLine (settings : Settings) (left_old left_new taken_old taken_
 -- memory was refused at the start, and nothing was read or written, or at a line
 abbrev pub StopsForMemory : {R W : Type 0} → (left : R → Bytes) (taken : W → Bytes) → Settings → (reader_old reader_new : R) (writer_old writer_new : W) → Type 0
 StopsForMemory left taken settings reader_old reader_new writer_old writer_new =
-  ((reader_new ≡ reader_old) × (writer_new ≡ writer_old)) ⊎ StopsAtLine settings (left reader_old) (left reader_new) (taken writer_old) (taken writer_new)
+    ((reader_new ≡ reader_old) × (writer_new ≡ writer_old)) ⊎ StopsAtLine settings (left reader_old) (left reader_new) (taken writer_old) (taken writer_new)
 
 -- whether there is a diagnostic
 abbrev pub is_some_note : List Diagnostic → Bool

@@ -12,7 +12,7 @@ most_records = 65535
 -- to 65535 or is below pools, or the pools end above the last place
 abbrev pub are_bad : Settings → Bool
 are_bad settings =
-  not (settings.pool % unit == 0) || (nat_lt settings.pool unit || (nat_lt greatest_size settings.pool
-  || (nat_lt settings.pools 1 || (nat_lt most_pools settings.pools
-  || (nat_lt settings.records 1 || (nat_lt most_records settings.records || (nat_lt settings.records settings.pools
-  || nat_lt end_of_places (settings.pool * settings.pools))))))))
+    not (settings.pool % unit == 0) || (nat_lt settings.pool unit || (nat_lt greatest_size settings.pool
+    || (nat_lt settings.pools 1 || (nat_lt most_pools settings.pools
+    || (nat_lt settings.records 1 || (nat_lt most_records settings.records || (nat_lt settings.records settings.pools
+    || nat_lt end_of_places (settings.pool * settings.pools))))))))

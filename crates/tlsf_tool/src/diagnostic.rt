@@ -1,5 +1,5 @@
-use tlsf_heap::Refusal;
 use mtrace_log::Addr;
+use tlsf_heap::Refusal;
 
 /// What is wrong with a line.
 #[derive(Clone, Copy, Debug, PartialEq, Eq)]

@@ -8,10 +8,10 @@ ghost use Rattle.tlsf_tool.specs.Texts.{refusal_text as text_of_refusal, kind_te
 
 use crate::diagnostic::{Diagnostic, Kind};
 use crate::entry::Entry;
-use tlsf_heap::Refusal;
 use arrayvec::ArrayVec;
 use itoa::Buffer;
 use mtrace_log::{Addr, Location};
+use tlsf_heap::Refusal;
 
 /// No line of the output is longer, in bytes with its newline.
 const LONGEST_TEXT: usize = 400;

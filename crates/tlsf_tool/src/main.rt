@@ -1,6 +1,7 @@
-//! The program tlsf.
+//! The program tlsf: replays a log of glibc's tracer mtrace(3) and reports memory that was not freed.
 #![tactic(auto)]
 
+mod asked;
 mod diagnostic;
 mod entry;
 mod line_text;
@@ -9,11 +10,83 @@ mod plain_heap;
 mod replay;
 mod report;
 mod run;
+mod service;
 mod settings;
 mod status;
+#[cfg(test)]
+mod tests;
+mod words;
 
+use crate::asked::{Command, Name, ToolFault};
+use crate::service::serve;
+use crate::settings::Settings;
+use crate::status::RunFault;
+use crate::words::command;
+use mtrace_log::{FromRead, ToWrite};
+use std::io::{BufReader, BufWriter, Read};
 use std::process::ExitCode;
+use std::{env, fs, io};
 
-fn main(_rt: HostRuntime) -> ExitCode {
-    ExitCode::SUCCESS
+/// The words, of which the first is the program's name. Words that aren't text are wrong words.
+fn asked_words(rt: &HostRuntime) -> Result<Vec<String>, ToolFault> {
+    match env::args(rt) {
+        Ok(all) => all
+            .collect(rt.alloc())
+            .map_err(|_| ToolFault::Run(RunFault::OutOfMemory)),
+        Err(fault) if fault.kind() == io::ErrorKind::OutOfMemory => {
+            Err(ToolFault::Run(RunFault::OutOfMemory))
+        }
+        Err(_) => Err(ToolFault::Usage),
+    }
+}
+
+/// Serves a log that is open, with standard output and standard error.
+fn serve_log<R: Read + Drop>(
+    rt: &HostRuntime,
+    name: Name,
+    settings: Settings,
+    log: R,
+) -> Result<u8, ToolFault> {
+    let no_memory = ToolFault::Run(RunFault::OutOfMemory);
+    let (Ok(reader), Ok(writer)) = (
+        BufReader::new(rt.alloc(), log),
+        BufWriter::new(rt.alloc(), rt.stdout()),
+    ) else {
+        return Err(no_memory);
+    };
+    Ok(serve(
+        rt.alloc(),
+        name,
+        settings,
+        &mut FromRead::new(reader),
+        &mut ToWrite::new(writer),
+        &mut ToWrite::new(rt.stderr()),
+    ))
+}
+
+/// Opens the log and serves it.
+fn report_log(rt: &HostRuntime) -> Result<u8, ToolFault> {
+    let words = asked_words(rt)?;
+    let Command::Report {
+        name,
+        settings,
+        log,
+    } = command(rt.alloc(), words.as_slice())?;
+    if log.as_str() == "-" {
+        return serve_log(rt, name, settings, rt.stdin());
+    }
+    match fs::open(rt, log.as_str()) {
+        Ok(file) => serve_log(rt, name, settings, file),
+        Err(_) => Err(ToolFault::CannotOpen(log)),
+    }
+}
+
+fn main(rt: HostRuntime) -> ExitCode {
+    match report_log(&rt) {
+        Ok(status) => ExitCode::from(status),
+        Err(fault) => {
+            let _ = eprintln!(rt; "{fault}");
+            ExitCode::from(fault.status())
+        }
+    }
 }

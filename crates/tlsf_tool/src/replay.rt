@@ -6,20 +6,15 @@ ghost use Rattle.tlsf_tool.specs.History.{after_add, started};
 use crate::diagnostic::{Diagnostic, Kind};
 use crate::entry::Entry;
 use crate::plain_heap::PlainHeap;
-use tlsf_heap::Refusal;
 use crate::settings::Settings;
 use mtrace_log::{Addr, Event, Line, LineFault, Location};
 use std::alloc::{AllocError, Global};
 use std::collections::BTreeMap;
 use std::marker::Model;
+use tlsf_heap::Refusal;
 
 /// Adds a pool; a refusal but for want of memory changes nothing.
-fn add_pool(
-    alloc: Global,
-    heap: &mut PlainHeap,
-    base: u64,
-    bytes: u64,
-) -> Result<(), AllocError>
+fn add_pool(alloc: Global, heap: &mut PlainHeap, base: u64, bytes: u64) -> Result<(), AllocError>
     ensures { OnOk result (heap.new ≡ after_add heap.old (added base bytes heap.old)) }
 {
     match heap.add_pool(alloc, base, bytes) {
@@ -39,7 +34,12 @@ fn started_heap(alloc: Global, settings: Settings) -> Result<PlainHeap, AllocErr
     let mut left = settings.pools;
     while left > 0 {
         left -= 1;
-        add_pool(alloc, &mut heap, u64::from(left) * settings.pool, settings.pool)?;
+        add_pool(
+            alloc,
+            &mut heap,
+            u64::from(left) * settings.pool,
+            settings.pool,
+        )?;
     }
     Ok(heap)
 }
@@ -129,7 +129,14 @@ impl Replay {
         let asked = if size == 0 { 1 } else { size };
         match self.heap.malloc(alloc, asked) {
             Ok(_place) => {
-                self.held.insert(address, Entry { size, line: number, at })?;
+                self.held.insert(
+                    address,
+                    Entry {
+                        size,
+                        line: number,
+                        at,
+                    },
+                )?;
                 Ok(None)
             }
             Err(Refusal::OutOfMemory) => Err(AllocError),

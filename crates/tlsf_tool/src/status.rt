@@ -1,3 +1,8 @@
+ghost use Rattle.std.specs.Prelude.{◌≡◌};
+ghost use Rattle.tlsf_tool.specs.Statuses.{status_of_run_fault, status_of_end};
+
+use thiserror::Error;
+
 /// How a run ended that read its log to the end.
 #[derive(Clone, Copy, Debug, PartialEq, Eq)]
 pub enum Status {
@@ -7,15 +12,44 @@ pub enum Status {
     Found,
 }
 
+impl Status {
+    /// The status that the program ends with: 0 for `Clean`, 1 for `Found`.
+    pub fn number(self) -> u8
+        ensures { result ≡ status_of_end self }
+    {
+        match self {
+            Status::Clean => 0,
+            Status::Found => 1,
+        }
+    }
+}
+
 /// Why a run ended early.
-#[derive(Clone, Copy, Debug, PartialEq, Eq)]
+#[derive(Clone, Copy, Debug, PartialEq, Eq, Error)]
 pub enum RunFault {
     /// The reader failed, or the log has more lines than there are numbers.
+    #[error("read failed")]
     Read,
     /// The writer failed.
+    #[error("write failed")]
     Write,
     /// Memory was refused.
+    #[error("out of memory")]
     OutOfMemory,
     /// No heap can be made by the settings.
+    #[error("bad settings")]
     BadSettings,
+}
+
+impl RunFault {
+    /// The status that the program ends with: 2 for settings, 3 for reader and writer, 4 for memory.
+    pub fn status(self) -> u8
+        ensures { result ≡ status_of_run_fault self }
+    {
+        match self {
+            RunFault::BadSettings => 2,
+            RunFault::Read | RunFault::Write => 3,
+            RunFault::OutOfMemory => 4,
+        }
+    }
 }

@@ -3,10 +3,10 @@ use super::cut::cut_in_pools;
 use super::lists::{in_front, list_number, pick, relink};
 use super::pool::Pool;
 use super::pools::{block_count, can_be_pool, is_apart, place_for, size_at};
-use tlsf_heap::Refusal;
 use std::alloc::{AllocError, Global};
 use std::marker::Model;
 use tlsf_class::{CLASSES, round};
+use tlsf_heap::Refusal;
 
 /// At most so many pools.
 const MOST_POOLS: usize = 8;

@@ -11,7 +11,7 @@ pub loop-left-preserved : goal.loop-left-preserved
 loop-left-preserved c =
     let settings = c.args.settings in
     with_pools-next settings c.loop-left.left c.loop-left.heap c.add_pool.new.heap c.loop-left-test.true
-      (c.in_ok-add_pool.ensures ∙ ap (λ n. after_add c.loop-left.heap (add_pool (n * settings.pool) settings.pool c.loop-left.heap)) c.from.ensures)
+    (c.in_ok-add_pool.ensures ∙ ap (λ n. after_add c.loop-left.heap (add_pool (n * settings.pool) settings.pool c.loop-left.heap)) c.from.ensures)
     ∙ c.loop-left.invariant
 
 pub returns : goal.returns

@@ -12,8 +12,8 @@ returns-in_err-put_all-clause-beginning g c =
     let entries = c.args.held.now.entries in
     let P : List ℕ → Type 0 = λ text. Begins (taken c.args.writer.now) (taken c.put_all.new.writer) text in
     on_err _ c.from_residual.result (subst P (sym (leaks_report-some entries c.requires))
-      (Begins-longer (taken c.args.writer.now) (taken c.put_all.new.writer) (heading ++ flat_map entry_text entries) (total_text entries)
-        (Begins-longer (taken c.args.writer.now) (taken c.put_all.new.writer) heading (flat_map entry_text entries) c.in_err-put_all.ensures.beginning)))
+    (Begins-longer (taken c.args.writer.now) (taken c.put_all.new.writer) (heading ++ flat_map entry_text entries) (total_text entries)
+    (Begins-longer (taken c.args.writer.now) (taken c.put_all.new.writer) heading (flat_map entry_text entries) c.in_err-put_all.ensures.beginning)))
 
 pub returns-in_err-put_entries-clause-beginning : goal.returns-in_err-put_entries-clause-beginning
 returns-in_err-put_entries-clause-beginning g c =
@@ -21,8 +21,8 @@ returns-in_err-put_entries-clause-beginning g c =
     let entries = c.args.held.now.entries in
     let P : List ℕ → Type 0 = λ text. Begins (taken c.args.writer.now) (taken c.put_entries.new.writer) text in
     on_err _ c.from_residual-in_err-put_entries.result (subst P (sym (leaks_report-some entries c.requires))
-      (Begins-longer (taken c.args.writer.now) (taken c.put_entries.new.writer) (heading ++ flat_map entry_text entries) (total_text entries)
-        (Begins-after (taken c.args.writer.now) (taken c.put_all.new.writer) (taken c.put_entries.new.writer) heading (flat_map entry_text entries) c.in_ok-put_all.ensures.all c.in_err-put_entries.ensures.beginning)))
+    (Begins-longer (taken c.args.writer.now) (taken c.put_entries.new.writer) (heading ++ flat_map entry_text entries) (total_text entries)
+    (Begins-after (taken c.args.writer.now) (taken c.put_all.new.writer) (taken c.put_entries.new.writer) heading (flat_map entry_text entries) c.in_ok-put_all.ensures.all c.in_err-put_entries.ensures.beginning)))
 
 pub returns-clause-all : goal.returns-clause-all
 returns-clause-all g c =
@@ -32,11 +32,11 @@ returns-clause-all g c =
     let P : List ℕ → Type 0 = λ text. Wrote (taken c.args.writer.now) (taken c.put_all-2.new.writer) text in
     let Q : List ℕ → Type 0 = λ text. Wrote (taken c.put_entries.new.writer) (taken c.put_all-2.new.writer) text in
     on_ok_weaker c.put_all-2.result
-      (λ put. subst P (sym (leaks_report-some entries c.requires))
-        (Wrote-append (taken c.args.writer.now) (taken c.put_entries.new.writer) (taken c.put_all-2.new.writer) (heading ++ flat_map entry_text entries) (total_text entries)
-          (Wrote-append (taken c.args.writer.now) (taken c.put_all.new.writer) (taken c.put_entries.new.writer) heading (flat_map entry_text entries) c.in_ok-put_all.ensures.all c.in_ok-put_entries.ensures.all)
-          (subst Q last put)))
-      c.put_all-2.ensures.all
+    (λ put. subst P (sym (leaks_report-some entries c.requires))
+    (Wrote-append (taken c.args.writer.now) (taken c.put_entries.new.writer) (taken c.put_all-2.new.writer) (heading ++ flat_map entry_text entries) (total_text entries)
+    (Wrote-append (taken c.args.writer.now) (taken c.put_all.new.writer) (taken c.put_entries.new.writer) heading (flat_map entry_text entries) c.in_ok-put_all.ensures.all c.in_ok-put_entries.ensures.all)
+    (subst Q last put)))
+    c.put_all-2.ensures.all
 
 pub returns-clause-beginning : goal.returns-clause-beginning
 returns-clause-beginning g c =
@@ -46,8 +46,8 @@ returns-clause-beginning g c =
     let P : List ℕ → Type 0 = λ text. Begins (taken c.args.writer.now) (taken c.put_all-2.new.writer) text in
     let Q : List ℕ → Type 0 = λ text. Begins (taken c.put_entries.new.writer) (taken c.put_all-2.new.writer) text in
     on_err_weaker c.put_all-2.result
-      (λ begun. subst P (sym (leaks_report-some entries c.requires))
-        (Begins-after (taken c.args.writer.now) (taken c.put_entries.new.writer) (taken c.put_all-2.new.writer) (heading ++ flat_map entry_text entries) (total_text entries)
-          (Wrote-append (taken c.args.writer.now) (taken c.put_all.new.writer) (taken c.put_entries.new.writer) heading (flat_map entry_text entries) c.in_ok-put_all.ensures.all c.in_ok-put_entries.ensures.all)
-          (subst Q last begun)))
-      c.put_all-2.ensures.beginning
+    (λ begun. subst P (sym (leaks_report-some entries c.requires))
+    (Begins-after (taken c.args.writer.now) (taken c.put_entries.new.writer) (taken c.put_all-2.new.writer) (heading ++ flat_map entry_text entries) (total_text entries)
+    (Wrote-append (taken c.args.writer.now) (taken c.put_all.new.writer) (taken c.put_entries.new.writer) heading (flat_map entry_text entries) c.in_ok-put_all.ensures.all c.in_ok-put_entries.ensures.all)
+    (subst Q last begun)))
+    c.put_all-2.ensures.beginning

@@ -1,0 +1,45 @@
+-- The statuses that the program ends with.
+use Rattle.std.specs.Prelude.{◌≡◌, ℕ, List, [], ◌∷◌, map, codes, string_bytes, String, Result, Ok, Err}
+use Rattle.std.specs.declared.alloc.Global.{Global}
+use Rattle.tlsf_tool.specs.declared.asked.Command.{Command}
+use Rattle.tlsf_tool.specs.declared.asked.Command.TheVariants.{Report}
+use Rattle.tlsf_tool.specs.declared.asked.Name.TheVariants.{Leaks}
+use Rattle.tlsf_tool.specs.declared.asked.ToolFault.{ToolFault}
+use Rattle.tlsf_tool.specs.declared.asked.ToolFault.TheVariants.{Usage, CannotOpen, Run}
+use Rattle.tlsf_tool.specs.declared.settings.Settings.{Settings}
+use Rattle.tlsf_tool.specs.declared.status.Status.{Status}
+use Rattle.tlsf_tool.specs.declared.status.Status.TheVariants.{Clean, Found}
+use Rattle.tlsf_tool.specs.declared.status.RunFault.{RunFault}
+use Rattle.tlsf_tool.specs.declared.status.RunFault.TheVariants.{Read, Write, OutOfMemory, BadSettings}
+
+abbrev pub status_of_end : Status → ℕ
+status_of_end Clean = 0
+status_of_end Found = 1
+
+abbrev pub status_of_run_fault : RunFault → ℕ
+status_of_run_fault Read = 3
+status_of_run_fault Write = 3
+status_of_run_fault OutOfMemory = 4
+status_of_run_fault BadSettings = 2
+
+abbrev pub status_of_fault : ToolFault → ℕ
+status_of_fault Usage = 2
+status_of_fault (CannotOpen log) = 3
+status_of_fault (Run fault) = status_of_run_fault fault
+
+-- the status of what a run answered
+abbrev pub status_of_answer : Result Status RunFault → ℕ
+status_of_answer (Ok status) = status_of_end status
+status_of_answer (Err fault) = status_of_run_fault fault
+
+-- the settings where none are given
+abbrev pub default_settings : Settings
+default_settings = record { pool = 16777216; pools = 1; records = 8192 }
+
+-- the words are the program's name, `leaks` and the log's name
+abbrev pub AskLeaks : List (String Global) → List ℕ → Type 0
+AskLeaks words log = (program : List ℕ) × (map string_bytes words ≡ program ∷ codes "leaks" ∷ log ∷ [])
+
+-- the words ask for the command
+abbrev pub AskFor : List (String Global) → Command → Type 0
+AskFor words (Report name settings log) = AskLeaks words (string_bytes log) × (name ≡ Leaks) × (settings ≡ default_settings)

@@ -1,0 +1,54 @@
+ghost use Rattle.std.specs.Prelude.{◌≡◌};
+ghost use Rattle.tlsf_tool.specs.Statuses.{status_of_fault};
+
+use crate::settings::Settings;
+use crate::status::RunFault;
+use thiserror::Error;
+
+/// The reports.
+#[derive(Clone, Copy, Debug, PartialEq, Eq)]
+pub enum Name {
+    /// The report of leaks.
+    Leaks,
+}
+
+/// What the words ask for.
+#[derive(Debug, Drop)]
+pub enum Command {
+    /// A report of a log.
+    Report {
+        /// Which report.
+        name: Name,
+        /// The heap that the log is replayed on.
+        settings: Settings,
+        /// The log's name, `-` for standard input.
+        log: String,
+    },
+}
+
+/// Why the program doesn't end with a report.
+#[derive(Debug, Drop, Error)]
+pub enum ToolFault {
+    /// The words ask for nothing that there is.
+    #[error("tlsf: usage: tlsf leaks LOG")]
+    Usage,
+    /// The log of this name can't be opened.
+    #[error("tlsf: cannot open {0}")]
+    CannotOpen(String),
+    /// The run ended early.
+    #[error("tlsf: {0}")]
+    Run(RunFault),
+}
+
+impl ToolFault {
+    /// The status that the program ends with: 2 for words or settings, 3 for files, 4 for memory.
+    pub fn status(&self) -> u8
+        ensures { result ≡ status_of_fault self.now }
+    {
+        match self {
+            ToolFault::Usage => 2,
+            ToolFault::CannotOpen(_) => 3,
+            ToolFault::Run(fault) => fault.status(),
+        }
+    }
+}

@@ -1,0 +1,60 @@
+//! One run, with its status.
+
+ghost use Rattle.std.specs.Prelude.{◌≡◌, ◌⊎◌, ◌↔◌, ◌≤◌, IsTrue};
+ghost use Rattle.tlsf_tool.specs.Settings.{are_bad};
+ghost use Rattle.tlsf_tool.specs.Run.{Reports, StopsAtRead, StopsAtWrite, StopsForMemory};
+ghost use Rattle.tlsf_tool.specs.declared.status.Status.TheVariants.{Clean, Found};
+
+use crate::asked::{Name, ToolFault};
+use crate::output::put_all;
+use crate::run::run_leaks;
+use crate::settings::Settings;
+use arrayvec::ArrayString;
+use mtrace_log::{Sink, Source};
+use std::alloc::Global;
+use std::fmt::Write;
+
+/// No text of a run's fault is longer, in bytes.
+const LONGEST_FAULT: usize = 64;
+
+/// Puts the line of a fault; it doesn't matter whether that succeeds.
+fn put_fault<E: Sink>(errors: &mut E, fault: &ToolFault) {
+    let mut text: ArrayString<LONGEST_FAULT> = ArrayString::new();
+    if write!(text, "{fault}\n").is_ok() {
+        let _ = put_all(errors, text.as_str().as_bytes());
+    }
+}
+
+/// Makes the report of this name from what the reader has left, and puts the line of a fault to
+/// `errors`, whose own fault doesn't matter. Answers the status that the program ends with: 0 where
+/// nothing was found, 1 where something was, 2 for bad settings, 3 where the reader or the writer failed,
+/// 4 where memory was refused.
+pub fn serve<R: Source, W: Sink, E: Sink>(
+    alloc: Global,
+    name: Name,
+    settings: Settings,
+    reader: &mut R,
+    writer: &mut W,
+    errors: &mut E,
+) -> u8
+    ensures clean { result ≡ 0 → Reports settings Clean (R.left reader.old) (R.left reader.new) (W.taken writer.old) (W.taken writer.new) }
+    ensures found { result ≡ 1 → Reports settings Found (R.left reader.old) (R.left reader.new) (W.taken writer.old) (W.taken writer.new) }
+    ensures bad_settings { result ≡ 2 ↔ IsTrue (are_bad settings) }
+    ensures nothing_done { result ≡ 2 → (reader.new ≡ reader.old) × (writer.new ≡ writer.old) }
+    ensures failed { result ≡ 3
+        → StopsAtRead settings (R.left reader.old) (R.left reader.new) (W.taken writer.old) (W.taken writer.new) (R.failures reader.old) (R.failures reader.new)
+        ⊎ StopsAtWrite settings (R.left reader.old) (R.left reader.new) (W.taken writer.old) (W.taken writer.new) (W.failures writer.old) (W.failures writer.new) }
+    ensures memory { result ≡ 4 → StopsForMemory R.left W.taken settings reader.old reader.new writer.old writer.new }
+    ensures known { result ≤ 4 }
+{
+    let answer = match name {
+        Name::Leaks => run_leaks(alloc, reader, writer, settings),
+    };
+    match answer {
+        Ok(status) => status.number(),
+        Err(fault) => {
+            put_fault(errors, &ToolFault::Run(fault));
+            fault.status()
+        }
+    }
+}

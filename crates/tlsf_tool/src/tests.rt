@@ -1,0 +1,5 @@
+//! Rows of whole runs: logs, faults of reader and writer, and words.
+
+mod glibc_log;
+mod program;
+mod rows;

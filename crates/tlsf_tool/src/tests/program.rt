@@ -1,0 +1,177 @@
+//! Words, statuses and texts, through `command` and `serve`.
+
+use super::rows::SMALL;
+use crate::asked::{Command, Name, ToolFault};
+use crate::service::serve;
+use crate::settings::Settings;
+use crate::status::RunFault;
+use crate::words::command;
+use mtrace_log::memory::{Full, MemorySink, MemorySource};
+use std::alloc::{AllocError, Global};
+use std::test::Fail;
+
+/// The words as strings.
+fn strings(alloc: Global, words: &[&str]) -> Result<Vec<String>, AllocError> {
+    let mut all = Vec::new(alloc);
+    for word in words {
+        all.push(String::from_str(alloc, word)?)?;
+    }
+    Ok(all)
+}
+
+#[test]
+fn words(rt: HostRuntime) -> Result<(), Fail> {
+    let alloc = rt.alloc();
+    let Command::Report {
+        name,
+        settings,
+        log,
+    } = command(
+        alloc,
+        strings(alloc, &["tlsf", "leaks", "a.log"])?.as_slice(),
+    )?;
+    assert_eq!(rt; name, Name::Leaks);
+    assert_eq!(rt;
+        settings,
+        Settings {
+            pool: 16_777_216,
+            pools: 1,
+            records: 8_192
+        }
+    );
+    assert_eq!(rt; log.as_str(), "a.log");
+    let wrong: [&[&str]; 6] = [
+        &[],
+        &["tlsf"],
+        &["tlsf", "leaks"],
+        &["tlsf", "leaks", "a.log", "b.log"],
+        &["tlsf", "peak", "a.log"],
+        &["tlsf", "Leaks", "a.log"],
+    ];
+    for words in wrong {
+        match command(alloc, strings(alloc, words)?.as_slice()) {
+            Ok(_) => assert!(rt; false, "{words:?}"),
+            Err(fault) => {
+                assert_eq!(rt; fault.status(), 2);
+                let text = fault.to_string(alloc)?;
+                assert_eq!(rt; text.as_str(), "tlsf: usage: tlsf leaks LOG");
+            }
+        }
+    }
+    Ok(())
+}
+
+#[test]
+fn first_leak_through_command_and_serve(rt: HostRuntime) -> Result<(), Fail> {
+    let alloc = rt.alloc();
+    let words = strings(alloc, &["tlsf", "leaks", "-"])?;
+    let Command::Report { name, settings, .. } = command(alloc, words.as_slice())?;
+    let mut reader = MemorySource::in_pieces(b"= Start\n@ a + 0x10 0x64\n= End\n", 4096);
+    let mut writer = MemorySink::in_pieces(alloc, 4096);
+    let mut errors = MemorySink::in_pieces(alloc, 4096);
+    let status = serve(alloc, name, settings, &mut reader, &mut writer, &mut errors);
+    assert_eq!(rt; status, 1);
+    assert_eq!(rt;
+        writer.bytes(),
+        b"Memory not freed:\n0x10 100 line 2 at a\nTotal: 1 blocks, 100 bytes.\n".as_slice()
+    );
+    assert_eq!(rt; errors.bytes(), b"".as_slice());
+    Ok(())
+}
+
+#[test]
+fn clean_log_has_status_0(rt: HostRuntime) {
+    let alloc = rt.alloc();
+    let mut reader = MemorySource::in_pieces(b"= Start\n= End\n", 4096);
+    let mut writer = MemorySink::in_pieces(alloc, 4096);
+    let mut errors = MemorySink::in_pieces(alloc, 4096);
+    let status = serve(
+        alloc,
+        Name::Leaks,
+        SMALL,
+        &mut reader,
+        &mut writer,
+        &mut errors,
+    );
+    assert_eq!(rt; status, 0);
+    assert_eq!(rt; writer.bytes(), b"No memory leaks.\n".as_slice());
+    assert_eq!(rt; errors.bytes(), b"".as_slice());
+}
+
+#[test]
+fn faults_have_a_line_and_a_status(rt: HostRuntime) {
+    let alloc = rt.alloc();
+
+    let mut reader = MemorySource::failing_after(b"= Start\n", 4096, 0);
+    let mut writer = MemorySink::in_pieces(alloc, 4096);
+    let mut errors = MemorySink::in_pieces(alloc, 1);
+    let status = serve(
+        alloc,
+        Name::Leaks,
+        SMALL,
+        &mut reader,
+        &mut writer,
+        &mut errors,
+    );
+    assert_eq!(rt; status, 3);
+    assert_eq!(rt; errors.bytes(), b"tlsf: read failed\n".as_slice());
+
+    let mut reader = MemorySource::in_pieces(b"= Start\n", 4096);
+    let mut writer = MemorySink::with_room(alloc, 4096, 0, Full::Fails);
+    let mut errors = MemorySink::in_pieces(alloc, 4096);
+    let status = serve(
+        alloc,
+        Name::Leaks,
+        SMALL,
+        &mut reader,
+        &mut writer,
+        &mut errors,
+    );
+    assert_eq!(rt; status, 3);
+    assert_eq!(rt; errors.bytes(), b"tlsf: write failed\n".as_slice());
+
+    let mut reader = MemorySource::in_pieces(b"= Start\n", 4096);
+    let mut writer = MemorySink::in_pieces(alloc, 4096);
+    let mut errors = MemorySink::in_pieces(alloc, 4096);
+    let bad = Settings { pool: 12, ..SMALL };
+    let status = serve(
+        alloc,
+        Name::Leaks,
+        bad,
+        &mut reader,
+        &mut writer,
+        &mut errors,
+    );
+    assert_eq!(rt; status, 2);
+    assert_eq!(rt; errors.bytes(), b"tlsf: bad settings\n".as_slice());
+
+    // A writer of errors that is full changes nothing else.
+    let mut reader = MemorySource::in_pieces(b"= Start\n", 4096);
+    let mut writer = MemorySink::in_pieces(alloc, 4096);
+    let mut errors = MemorySink::with_room(alloc, 4096, 5, Full::Fails);
+    let status = serve(
+        alloc,
+        Name::Leaks,
+        bad,
+        &mut reader,
+        &mut writer,
+        &mut errors,
+    );
+    assert_eq!(rt; status, 2);
+    assert_eq!(rt; errors.bytes(), b"tlsf:".as_slice());
+}
+
+#[test]
+fn texts_and_statuses_of_faults(rt: HostRuntime) -> Result<(), Fail> {
+    let alloc = rt.alloc();
+    let memory = ToolFault::Run(RunFault::OutOfMemory);
+    assert_eq!(rt; memory.status(), 4);
+    assert_eq!(rt; memory.to_string(alloc)?.as_str(), "tlsf: out of memory");
+    let missing = ToolFault::CannotOpen(String::from_str(alloc, "no.log")?);
+    assert_eq!(rt; missing.status(), 3);
+    assert_eq!(rt;
+        missing.to_string(alloc)?.as_str(),
+        "tlsf: cannot open no.log"
+    );
+    Ok(())
+}
