@@ -1,21 +1,19 @@
 -- One pool more, one line more, and what is held after it.
-use Rattle.std.proofs.Common.{◌≡◌, ◌≢◌, ℕ, zero, suc, ◌+◌, ◌-◌, ◌*◌, ◌<◌, ◌≤◌, Bool, true, false, cond, eqb, List, [], ◌∷◌, ◌++◌, length, refl, sym, ap, ◌∙◌, subst, arith, Option, Some, None, is_some, option_to_list, reverse}
-use Rattle.std.specs.Prelude.{Result, Ok, Err, ◌==◌}
+use Rattle.std.proofs.Common.{◌≡◌, ℕ, zero, suc, ◌-◌, ◌*◌, ◌<◌, false, cond, List, [], ◌∷◌, length, refl, sym, ap, ◌∙◌, subst, arith, Option, Some, None, is_some}
+use Rattle.std.specs.Prelude.{Result, Ok, ◌==◌}
 use Rattle.std.specs.Map.{lookup, keys_of}
 use Rattle.std.specs.Ordering.{nat_cmp}
 use Rattle.std.specs.BTreeMap.{is_at}
 use Rattle.std.specs.List.Sorted.{IsStrictlySortedBy}
-use Rattle.std.proofs.lemmas.Bool.{cases_Bool}
 use Rattle.std.proofs.lemmas.Bool.Decides.{nat_tests}
 use Rattle.std.proofs.Math.Numerals.{sub-one}
 use Rattle.mtrace_log.specs.declared.event.Event.{Event}
 use Rattle.mtrace_log.specs.declared.event.LineFault.{LineFault}
 use Rattle.tlsf_tool.specs.declared.settings.Settings.{Settings}
 use Rattle.tlsf_tool.specs.declared.entry.Entry.{Entry}
-use Rattle.tlsf_tool.specs.declared.diagnostic.Diagnostic.{Diagnostic}
 use Rattle.tlsf_heap.specs.Malloc.{malloc}
-use Rattle.tlsf_heap.specs.Pools.{created, add_pool}
-use Rattle.tlsf_tool.specs.History.{Bare, Moment, AreHeld, after_add, with_pools, started, moments, moment, held, given_or, allocation, answered, asked_size, content_after, notes}
+use Rattle.tlsf_heap.specs.Pools.{add_pool}
+use Rattle.tlsf_tool.specs.History.{Bare, Moment, AreHeld, after_add, with_pools, moments, moment, held, allocation, answered, asked_size, content_after}
 use Rattle.tlsf_tool.specs.Replay.{Replayed, Comes, StandsFor}
 
 -- the highest pool that is left is added

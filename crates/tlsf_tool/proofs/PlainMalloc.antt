@@ -1,20 +1,20 @@
 -- What the plain heap's malloc and add_pool come to, step by step.
-use Rattle.std.proofs.Common.{◌≡◌, ◌≢◌, ℕ, suc, ◌+◌, ◌-◌, ◌%◌, ◌<◌, ◌≤◌, Bool, true, false, cond, not, List, [], ◌∷◌, length, refl, sym, ap, ◌∙◌, subst, arith, Option, Some, None, one-add, take, drop, ◌&&◌, inl, inr}
+use Rattle.std.proofs.Common.{◌≡◌, ◌≢◌, ℕ, ◌+◌, ◌%◌, ◌<◌, ◌≤◌, true, false, cond, List, [], ◌∷◌, length, refl, sym, ap, ◌∙◌, subst, arith, Some, None, one-add, ◌&&◌, inl, inr}
 use Rattle.std.specs.List.{insert}
-use Rattle.std.specs.Prelude.{nat_lt, nat_le, ◌==◌, Result, Ok, Err}
-use Rattle.std.specs.List.{position_or_len, list_all}
-use Rattle.std.proofs.lemmas.Bool.{eq-eqb, ne_eqb, lt-ltb, le-ltb, le-leb, lt-leb, cases_Bool, cases_lt, and_from, and_left, and_right, ltb-true, ltb-false}
+use Rattle.std.specs.Prelude.{nat_lt, nat_le, Ok, Err}
+use Rattle.std.specs.List.{list_all}
+use Rattle.std.proofs.lemmas.Bool.{eq-eqb, ne_eqb, lt-ltb, le-ltb, le-leb, lt-leb, cases_Bool, cases_lt, and_from, and_left, and_right}
 use Rattle.tlsf_class.specs.Classes.{unit, greatest_size}
 use Rattle.tlsf_class.specs.Rounding.{round}
 use Rattle.tlsf_class.proofs.RoundingLaws.{round-Some}
 use Rattle.tlsf_heap.specs.declared.refusal.Refusal.TheVariants.{ZeroSize, NoFit, TableFull, BadPool, PoolsFull}
-use Rattle.tlsf_heap.specs.Content.{Block, Pool, Content, blocks_of, size_at, used_records}
+use Rattle.tlsf_heap.specs.Content.{Pool, Content, blocks_of, size_at, used_records}
 use Rattle.tlsf_heap.specs.Lists.{pick}
 use Rattle.tlsf_heap.specs.Malloc.{allocated, allocate, malloc_picked, malloc_rounded, malloc}
 use Rattle.tlsf_heap.specs.Pools.{end_of_places, can_be_pool, is_apart, in_order_of_base, add_pool, with_pool, most_pools}
 use Rattle.tlsf_heap.specs.Good.{IsGood}
 use Rattle.tlsf_tool.specs.PlainHeap.{IsChosen, pool_place}
-use Rattle.tlsf_heap.proofs.GoodContent.{Picked, picked, allocated_is_good}
+use Rattle.tlsf_heap.proofs.GoodContent.{picked, allocated_is_good}
 
 abbrev Plain : Type 0
 Plain = Content (Unit {0})

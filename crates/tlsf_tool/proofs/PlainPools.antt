@@ -1,14 +1,12 @@
 -- What the loops over the plain heap's pools know of the blocks so far.
-use Rattle.std.proofs.Common.{◌≡◌, ℕ, ◌+◌, ◌<◌, ◌≤◌, Bool, true, false, not, List, [], ◌∷◌, ◌++◌, length, refl, sym, ap, ◌∙◌, arith, get_or, take, drop, find, Option, Some, None, option_map, unwrap_or}
-use Rattle.std.specs.Prelude.{nat_lt, insert}
-use Rattle.std.specs.List.{position_or_len, prefix_len}
+use Rattle.std.proofs.Common.{◌≡◌, ℕ, ◌+◌, ◌<◌, ◌≤◌, Bool, not, List, length, refl, sym, ap, ◌∙◌, arith, get_or, take, drop, find, Option, Some, None, option_map, unwrap_or}
+use Rattle.std.specs.Prelude.{nat_lt}
 use Rattle.std.specs.Option.{option_or}
-use Rattle.std.proofs.lemmas.Bool.{lt-ltb, le-ltb, ltb-true, ltb-false, cases_Bool, not_from_true, not_from_false}
+use Rattle.std.proofs.lemmas.Bool.{lt-ltb, le-ltb, not_from_true, not_from_false}
 use Rattle.std.proofs.lemmas.List.{drop_more}
 use Rattle.std.proofs.lemmas.List.Folds.{find-append, length-flat_map-take}
 use Rattle.std.proofs.lemmas.List.Sums.{prefix_len_is}
 use Rattle.tlsf_heap.specs.Content.{Block, Pool, blocks_of, is_at, size_at}
-use Rattle.tlsf_heap.specs.Pools.{in_order_of_base}
 use Rattle.tlsf_tool.specs.PlainHeap.{pool_place}
 
 abbrev Area : Type 0

@@ -1,11 +1,11 @@
 -- A run under way, and how it goes on and ends.
-use Rattle.std.proofs.Common.{◌≡◌, ◌≢◌, ℕ, zero, suc, ◌+◌, Bool, true, false, ◌||◌, List, [], ◌∷◌, ◌++◌, length, refl, sym, ap, ◌∙◌, subst, arith, Option, Some, None, reverse, flat_map, ◌⊎◌, inl, inr, append_assoc, length-append}
-use Rattle.std.specs.Prelude.{Result, Ok, Err, IsErrOf}
-use Rattle.std.specs.Io.KnownBytes.{prepend_known, append_known, IsAtEnd}
+use Rattle.std.proofs.Common.{◌≡◌, ◌≢◌, ℕ, suc, ◌+◌, Bool, false, ◌||◌, List, [], ◌∷◌, ◌++◌, length, refl, sym, ap, ◌∙◌, subst, arith, Some, None, reverse, ◌⊎◌, inl, inr, length-append}
+use Rattle.std.specs.Prelude.{Result, Err, IsErrOf}
+use Rattle.std.specs.Io.KnownBytes.{prepend_known, IsAtEnd}
 use Rattle.std.proofs.lemmas.Grind.{flat_map-append}
-use Rattle.std.proofs.lemmas.List.{append-nil, reverse-append, length-reverse}
-use Rattle.mtrace_log.specs.Progress.{Progress, Status, Reading, Ended, Faulted, to_come, HasMore, TakesLine, GivesLine, FindsEnd, StopsReading, GivesFault}
-use Rattle.mtrace_log.specs.HasRead.{HasRead, HasReadAll, HasReadBefore, HasReadSo}
+use Rattle.std.proofs.lemmas.List.{reverse-append, length-reverse}
+use Rattle.mtrace_log.specs.Progress.{Progress, Status, Reading, Ended, Faulted, to_come, TakesLine, GivesLine, FindsEnd, StopsReading, GivesFault}
+use Rattle.mtrace_log.specs.HasRead.{HasRead, HasReadAll, HasReadSo}
 use Rattle.mtrace_log.specs.declared.event.Event.{Event}
 use Rattle.mtrace_log.specs.declared.event.LineFault.{LineFault}
 use Rattle.mtrace_log.specs.declared.line.Line.{Line}
@@ -13,13 +13,12 @@ use Rattle.mtrace_log.specs.declared.line.ReadFault.{ReadFault}
 use Rattle.mtrace_log.specs.declared.line.ReadFault.TheVariants.{ReaderFailed, TooManyLines}
 use Rattle.mtrace_log.proofs.ReadLemmas.{HasRead-none, HasReadSo-line, HasReadSo-end, HasReadSo-fault}
 use Rattle.tlsf_tool.specs.declared.settings.Settings.{Settings}
-use Rattle.tlsf_tool.specs.declared.entry.Entry.{Entry}
 use Rattle.tlsf_tool.specs.declared.diagnostic.Diagnostic.{Diagnostic}
-use Rattle.tlsf_tool.specs.History.{Bare, Moment, AreHeld, started, moments, moment, content_after, history, notes}
-use Rattle.tlsf_tool.specs.Texts.{note_text, notes_text, leaks_text, leaks_report}
+use Rattle.tlsf_tool.specs.History.{Moment, AreHeld, started, moments, moment, content_after, history, notes}
+use Rattle.tlsf_tool.specs.Texts.{note_text, notes_text, leaks_report}
 use Rattle.tlsf_tool.specs.Output.{Wrote, Begins}
 use Rattle.tlsf_tool.specs.Replay.{Replayed, StandsFor}
-use Rattle.tlsf_tool.specs.Run.{Bytes, text_of_notes, StopsAtRead, IsPastLastNumber, BeginsText, BeginsWhole, StopsAtWrite, StopsAtLine, is_some_note, LineGives, LineBegins, HasReplayed}
+use Rattle.tlsf_tool.specs.Run.{Bytes, text_of_notes, StopsAtRead, IsPastLastNumber, StopsAtWrite, StopsAtLine, is_some_note, LineGives, LineBegins, HasReplayed}
 use Rattle.tlsf_tool.proofs.HistoryLemmas.{moments-none, moments-line}
 use Rattle.tlsf_tool.proofs.Writing.{Wrote-nothing, Wrote-append, Begins-after, Begins-longer}
 

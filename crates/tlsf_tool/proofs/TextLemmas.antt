@@ -1,10 +1,7 @@
 -- The report, and the text of one line more.
-use Rattle.std.proofs.Common.{◌≡◌, ◌≢◌, ℕ, ◌+◌, Bool, true, false, cond, List, [], ◌∷◌, ◌++◌, length, refl, sym, ap, ◌∙◌, flat_map, codes, decimal, append_assoc, reverse, ◌||◌}
-use Rattle.std.specs.Prelude.{Result}
-use Rattle.std.proofs.lemmas.Grind.{flat_map-append}
+use Rattle.std.proofs.Common.{◌≡◌, ◌≢◌, ℕ, List, [], ◌∷◌, ◌++◌, length, refl, ap, ◌∙◌, flat_map, codes, decimal}
 use Rattle.mtrace_log.specs.Bytes.{newline}
 use Rattle.tlsf_tool.specs.declared.entry.Entry.{Entry}
-use Rattle.tlsf_tool.specs.declared.diagnostic.Diagnostic.{Diagnostic}
 use Rattle.tlsf_tool.specs.Texts.{entry_text, total_text, total_size, leaks_report}
 
 -- the line above the entries

@@ -1,5 +1,5 @@
 -- Three words, of which the second is the report's name.
-use Rattle.std.proofs.Common.{◌≡◌, ℕ, ◌<◌, ◌≤◌, Bool, true, false, eqb, not, List, [], ◌∷◌, length, get_or, map, codes, sym, ap, ◌∙◌, arith, refl}
+use Rattle.std.proofs.Common.{◌≡◌, ℕ, ◌<◌, ◌≤◌, false, eqb, not, List, [], ◌∷◌, length, get_or, codes, sym, ap, ◌∙◌, arith, refl}
 use Rattle.std.specs.Prelude.{String, string_bytes}
 use Rattle.std.specs.Cmp.Lexicographic.{pointwise}
 use Rattle.std.specs.declared.alloc.Global.{Global}

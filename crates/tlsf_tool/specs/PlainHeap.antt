@@ -1,5 +1,5 @@
 -- What the fields of the plain heap stand for.
-use Rattle.std.specs.Prelude.{◌≡◌, ◌<◌, ℕ, Bool, Option, Some, None, if◌then◌else◌, List, map, Vec, nat_lt}
+use Rattle.std.specs.Prelude.{◌≡◌, ◌<◌, ℕ, Bool, Some, None, if◌then◌else◌, List, map, Vec, nat_lt}
 use Rattle.std.specs.List.{position_or_len}
 use Rattle.std.specs.declared.alloc.Global.{Global}
 use Rattle.tlsf_heap.specs.Content.{Block, Pool, Content, blocks_of, size_at, used_records}

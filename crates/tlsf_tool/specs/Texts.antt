@@ -1,5 +1,5 @@
 -- The texts of diagnostics and of the report of leaks.
-use Rattle.std.specs.Prelude.{◌≡◌, ℕ, List, [], ◌∷◌, ◌++◌, length, sum_by, flat_map, codes, decimal, Option, Some, None, Result}
+use Rattle.std.specs.Prelude.{ℕ, List, [], ◌∷◌, ◌++◌, length, sum_by, flat_map, codes, decimal, Option, Some, None}
 use Rattle.mtrace_log.specs.Address.{address_text}
 use Rattle.mtrace_log.specs.Bytes.{newline}
 use Rattle.tlsf_tool.specs.declared.entry.Entry.{Entry}

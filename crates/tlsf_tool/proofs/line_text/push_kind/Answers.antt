@@ -1,4 +1,4 @@
-use Rattle.std.proofs.Common.{◌≡◌, ◌++◌, ap, ◌∙◌, append_assoc, codes, sym}
+use Rattle.std.proofs.Common.{◌++◌, ap, ◌∙◌, append_assoc, codes, sym}
 use Rattle.tlsf_tool.specs.Texts.{kind_text}
 use Rattle.tlsf_tool.proofs.line_text.push_kind.Goals as goal
 

@@ -1,5 +1,4 @@
-use Rattle.std.proofs.Common.{◌≡◌, ◌++◌, length}
-use Rattle.tlsf_tool.specs.Output.{Wrote}
+use Rattle.std.proofs.Common.{◌≡◌, length}
 use Rattle.tlsf_tool.proofs.output.put_all.Given as goal
 use Rattle.tlsf_tool.proofs.Writing.{HasPut}
 

@@ -1,4 +1,4 @@
-use Rattle.std.proofs.Common.{◌≡◌, ℕ, ◌-◌, ◌*◌, sym, ap, ◌∙◌, arith}
+use Rattle.std.proofs.Common.{◌≡◌, ◌*◌, ap, ◌∙◌, arith}
 use Rattle.tlsf_heap.specs.Pools.{add_pool}
 use Rattle.tlsf_tool.specs.History.{started, with_pools, after_add}
 use Rattle.tlsf_tool.proofs.HistoryLemmas.{with_pools-next}

@@ -1,4 +1,4 @@
-use Rattle.std.proofs.Common.{◌≡◌, ℕ, List, ◌++◌, sym, subst, ap, ◌∙◌, flat_map}
+use Rattle.std.proofs.Common.{ℕ, List, subst, ap, ◌∙◌, flat_map}
 use Rattle.tlsf_tool.specs.Output.{Wrote, Begins}
 use Rattle.tlsf_tool.specs.Texts.{entry_text}
 use Rattle.tlsf_tool.proofs.Writing.{HasPut-piece, HasPut-begun, on_err}

@@ -1,4 +1,4 @@
-use Rattle.std.proofs.Common.{◌≡◌, ◌++◌, flat_map}
+use Rattle.std.proofs.Common.{◌≡◌, flat_map}
 use Rattle.tlsf_tool.proofs.Writing.{HasPut}
 use Rattle.tlsf_tool.specs.Texts.{entry_text}
 use Rattle.tlsf_tool.proofs.report.put_entries.Given as goal

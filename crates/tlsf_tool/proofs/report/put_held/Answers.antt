@@ -1,7 +1,7 @@
-use Rattle.std.proofs.Common.{◌≡◌, ℕ, List, ◌++◌, sym, subst, ap, ◌∙◌, flat_map}
+use Rattle.std.proofs.Common.{ℕ, List, ◌++◌, sym, subst, ◌∙◌, flat_map}
 use Rattle.std.proofs.lemmas.Result.{on_ok_weaker, on_err_weaker}
 use Rattle.tlsf_tool.specs.Output.{Wrote, Begins}
-use Rattle.tlsf_tool.specs.Texts.{entry_text, total_text, leaks_report}
+use Rattle.tlsf_tool.specs.Texts.{entry_text, total_text}
 use Rattle.tlsf_tool.proofs.TextLemmas.{heading, leaks_report-some, total_text-is}
 use Rattle.tlsf_tool.proofs.Writing.{Wrote-append, Begins-after, Begins-longer, on_err}
 use Rattle.tlsf_tool.proofs.report.put_held.Goals as goal

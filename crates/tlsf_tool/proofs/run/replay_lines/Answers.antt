@@ -1,8 +1,6 @@
-use Rattle.std.proofs.Common.{◌≡◌, ℕ, Bool, false, ◌||◌, Err, refl, sym, subst, ap, ◌∙◌}
+use Rattle.std.proofs.Common.{ℕ, Bool, false, refl, sym, subst, ◌∙◌}
 use Rattle.mtrace_log.specs.Progress.{Progress}
-use Rattle.tlsf_tool.specs.declared.status.RunFault.{RunFault}
 use Rattle.tlsf_tool.specs.History.{history}
-use Rattle.tlsf_tool.specs.Replay.{Replayed}
 use Rattle.tlsf_tool.specs.Run.{StopsAtRead, StopsAtWrite}
 use Rattle.tlsf_tool.proofs.RunLemmas.{IsUnderWay, underway_start, underway_line, underway_end, underway_fault, underway_write, underway_memory, same_error}
 use Rattle.tlsf_tool.proofs.run.replay_lines.Goals as goal

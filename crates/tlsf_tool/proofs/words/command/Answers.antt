@@ -1,4 +1,4 @@
-use Rattle.std.proofs.Common.{◌≡◌, ℕ, List, ap, sym, ◌∙◌, refl, subst, codes}
+use Rattle.std.proofs.Common.{◌≡◌, ℕ, List, sym, ◌∙◌, refl, subst, codes}
 use Rattle.std.specs.Prelude.{string_bytes}
 use Rattle.tlsf_tool.specs.Statuses.{AskLeaks}
 use Rattle.tlsf_tool.proofs.WordLemmas.{ask_leaks, same_text}

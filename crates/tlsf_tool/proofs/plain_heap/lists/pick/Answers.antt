@@ -1,4 +1,4 @@
-use Rattle.std.proofs.Common.{ℕ, ◌-◌, Option, ◌≡◌, drop, take, length, ap, sym, ◌∙◌, option_and_then}
+use Rattle.std.proofs.Common.{ℕ, ◌-◌, ◌≡◌, drop, take, length, ap, sym, ◌∙◌, option_and_then}
 use Rattle.std.proofs.lemmas.List.{drop-map, take_rest}
 use Rattle.tlsf_heap.specs.Lists.{first_of_lists as first_place}
 use Rattle.tlsf_tool.specs.PlainHeap.{lists_of}

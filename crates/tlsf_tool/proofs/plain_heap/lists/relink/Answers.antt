@@ -1,7 +1,6 @@
 use Rattle.std.proofs.Common.{◌≡◌, slice_set, ℕ, ◌+◌, ◌-◌, ◌∷◌, sym, ap, ◌∙◌, arith}
 use Rattle.tlsf_class.specs.Classes.{class}
 use Rattle.tlsf_heap.specs.Lists.{link, without, unlink, list_of}
-use Rattle.tlsf_heap.specs.Malloc.{link_gap}
 use Rattle.tlsf_tool.specs.PlainHeap.{lists_of}
 use Rattle.tlsf_tool.proofs.PlainLists.{unlink_is, link_gap-none, link_gap-some, link_after}
 use Rattle.tlsf_tool.proofs.plain_heap.lists.relink.Goals as goal

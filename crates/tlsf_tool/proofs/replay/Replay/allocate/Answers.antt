@@ -1,4 +1,4 @@
-use Rattle.std.proofs.Common.{◌≡◌, ℕ, false, sym, ap, ◌∙◌, subst, None}
+use Rattle.std.proofs.Common.{◌≡◌, sym, ◌∙◌, subst, None}
 use Rattle.std.proofs.lemmas.Bool.{cond-true, cond-false, eq-eqb, ne_eqb}
 use Rattle.tlsf_tool.specs.History.{AreHeld, held, allocation, asked_size}
 use Rattle.tlsf_tool.specs.Replay.{Replayed, Comes}

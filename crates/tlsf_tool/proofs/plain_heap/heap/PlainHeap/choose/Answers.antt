@@ -1,11 +1,10 @@
-use Rattle.std.proofs.Common.{◌≡◌, ◌≢◌, ℕ, Some, None, Err, nat_le, arith, sym, ap, ◌∙◌, subst, Option}
-use Rattle.tlsf_class.specs.Rounding.{round}
+use Rattle.std.proofs.Common.{◌≡◌, Err, nat_le, arith, sym, ap, ◌∙◌, subst}
 use Rattle.tlsf_class.proofs.RoundingLaws.{round-Some}
 use Rattle.tlsf_heap.specs.declared.refusal.Refusal.TheVariants.{NoFit, TableFull}
 use Rattle.tlsf_heap.specs.Content.{Content, blocks_of, size_at, used_records}
 use Rattle.tlsf_heap.specs.Lists.{pick}
 use Rattle.tlsf_heap.specs.Malloc.{malloc}
-use Rattle.tlsf_tool.specs.PlainHeap.{content_of, lists_of}
+use Rattle.tlsf_tool.specs.PlainHeap.{lists_of}
 use Rattle.tlsf_tool.proofs.PlainMalloc.{refused_pick, refused_full, is_cut}
 use Rattle.tlsf_tool.proofs.plain_heap.heap.PlainHeap.choose.Goals as goal
 

@@ -3,7 +3,7 @@ use Rattle.tlsf_class.specs.Classes.{classes}
 use Rattle.tlsf_heap.specs.Content.{Content}
 use Rattle.tlsf_heap.specs.Good.{IsGood}
 use Rattle.tlsf_heap.specs.Pools.{created}
-use Rattle.tlsf_tool.specs.PlainHeap.{content_of, lists_of}
+use Rattle.tlsf_tool.specs.PlainHeap.{content_of}
 use Rattle.tlsf_heap.proofs.GoodContent.{created_is_good}
 use Rattle.tlsf_tool.proofs.plain_heap.heap.PlainHeap.create.Goals as goal
 

@@ -1,11 +1,11 @@
-use Rattle.std.proofs.Common.{◌≡◌, ℕ, ◌<◌, ◌∷◌, arith, sym, ap, ◌∙◌, subst, List, length, slice_set}
+use Rattle.std.proofs.Common.{◌≡◌, ◌∷◌, arith, sym, ap, ◌∙◌, subst, length, slice_set}
 use Rattle.std.specs.List.{insert, list_all}
 use Rattle.std.proofs.lemmas.List.{length-map}
 use Rattle.tlsf_heap.specs.Content.{Content, Pool, used_records}
 use Rattle.tlsf_heap.specs.Good.{IsGood}
 use Rattle.tlsf_heap.specs.Malloc.{gap}
 use Rattle.tlsf_heap.specs.Pools.{with_pool, in_order_of_base, is_apart}
-use Rattle.tlsf_tool.specs.PlainHeap.{content_of, lists_of, pool_place}
+use Rattle.tlsf_tool.specs.PlainHeap.{content_of, pool_place}
 use Rattle.tlsf_heap.proofs.GoodContent.{with_pool_is_good}
 use Rattle.tlsf_tool.proofs.PlainLists.{link_is}
 use Rattle.tlsf_tool.proofs.PlainMalloc.{insert_is}
