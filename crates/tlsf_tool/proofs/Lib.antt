@@ -1,3 +1,4 @@
+mod LogRows
 mod PlainLists
 mod PlainPools
 mod PlainMalloc
@@ -6,3 +7,4 @@ mod HistoryLemmas
 mod TextLemmas
 mod RunLemmas
 mod WordLemmas
+mod HeldLemmas

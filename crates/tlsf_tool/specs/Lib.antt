@@ -6,3 +6,4 @@ pub mod Output
 pub mod Replay
 pub mod Run
 pub mod Statuses
+pub mod Held

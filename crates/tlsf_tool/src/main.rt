@@ -4,6 +4,7 @@
 mod asked;
 mod diagnostic;
 mod entry;
+mod laws;
 mod line_text;
 mod output;
 mod plain_heap;
