@@ -1,19 +1,21 @@
 -- The worked rows of the heap, computed by the definitions.
-use Rattle.std.proofs.Common.{◌≡◌, ℕ, List, [], ◌∷◌, ◌++◌, refl, Bool, true, false, map, not}
-use Rattle.std.specs.Prelude.{Result, Ok, Err}
+use Rattle.std.proofs.Common.{◌≡◌, ℕ, suc, List, [], ◌∷◌, ◌++◌, refl, Bool, true, false, map, not}
+use Rattle.std.specs.Prelude.{Result, Ok, Err, ◌==◌}
 use Rattle.tlsf_heap.specs.declared.refusal.Refusal.{Refusal}
-use Rattle.tlsf_heap.specs.declared.refusal.Refusal.TheVariants.{ZeroSize, NoFit, TableFull, BadPool}
+use Rattle.tlsf_heap.specs.declared.refusal.Refusal.TheVariants.{ZeroSize, NoFit, TableFull, BadPool, BadPointer}
 use Rattle.tlsf_class.specs.Classes.{class, need, low}
 use Rattle.tlsf_class.specs.Rounding.{rounded}
 use Rattle.tlsf_heap.specs.Lists.{list_of}
 use Rattle.tlsf_heap.specs.Content.{Content, blocks_of, is_free}
 use Rattle.tlsf_heap.specs.Malloc.{malloc}
+use Rattle.tlsf_heap.specs.Free.{free}
 use Rattle.tlsf_heap.specs.Pools.{created, add_pool}
 
 -- a request of the rows
 data Request : Type 0 where
   pool : ℕ → ℕ → Request
   malloc_of : ℕ → Request
+  free_of : ℕ → ℕ → Request
 
 -- what is answered: the place, where one is
 data Answer : Type 0 where
@@ -40,12 +42,13 @@ after_malloc content (Err refusal) = record { answers = refused refusal ∷ []; 
 abbrev one : ℕ → Request → Held → After
 one number (pool base bytes) content = after_add content (add_pool base bytes content)
 one number (malloc_of n) content = after_malloc content (malloc number n content)
+one number (free_of place slot) content = after_add content (free (λ owner. owner == slot) place content)
 
 abbrev requests : ℕ → List Request → Held → After
 requests number [] content = record { answers = []; content = content }
 requests number (request ∷ more) content =
     let first = one number request content in
-    let then = requests number more first.content in
+    let then = requests (suc number) more first.content in
     record { answers = first.answers ++ then.answers; content = then.content }
 
 -- the rows of all pools: place, size, and whether it is live
@@ -121,3 +124,34 @@ in_order = refl
 in_order-pools : pools (from_create 3 (pool 128 64 ∷ pool 0 64 ∷ pool 64 64 ∷ [])).content ≡ (0, 64) ∷ (64, 64) ∷ (128, 64) ∷ []
 unfolding class need low rounded
 in_order-pools = refl
+
+-- reuse-without-split, whole: the slot of a live block is the number of its request
+reuse_whole : (from_create 4 (pool 0 1024 ∷ malloc_of 100 ∷ malloc_of 1 ∷ free_of 0 1 ∷ malloc_of 100 ∷ [])).answers ≡ done ∷ given 0 ∷ given 104 ∷ done ∷ given 0 ∷ []
+unfolding class need low rounded
+reuse_whole = refl
+
+-- merge-both-sides
+both_sides : rows (from_create 4 (pool 0 1024 ∷ malloc_of 100 ∷ malloc_of 1 ∷ free_of 0 1 ∷ free_of 104 2 ∷ [])).content ≡ (0, 1024, false) ∷ []
+unfolding class need low rounded
+both_sides = refl
+
+both_sides-lists : list_of 96 (from_create 4 (pool 0 1024 ∷ malloc_of 100 ∷ malloc_of 1 ∷ free_of 0 1 ∷ free_of 104 2 ∷ [])).content.lists ≡ 0 ∷ []
+unfolding class need low rounded
+both_sides-lists = refl
+
+-- newest-freed-first
+newest_first : (from_create 8 (pool 0 64 ∷ malloc_of 8 ∷ malloc_of 8 ∷ malloc_of 8 ∷ malloc_of 8 ∷ malloc_of 8 ∷ malloc_of 8 ∷ malloc_of 8 ∷ malloc_of 8
+    ∷ free_of 0 1 ∷ free_of 16 3 ∷ malloc_of 8 ∷ malloc_of 8 ∷ malloc_of 8 ∷ [])).answers
+    ≡ done ∷ given 0 ∷ given 8 ∷ given 16 ∷ given 24 ∷ given 32 ∷ given 40 ∷ given 48 ∷ given 56 ∷ done ∷ done ∷ given 16 ∷ given 0 ∷ refused NoFit ∷ []
+unfolding class need low rounded
+newest_first = refl
+
+-- pools-never-merged, whole
+never_merged_whole : (from_create 4 (pool 0 64 ∷ pool 64 64 ∷ malloc_of 64 ∷ free_of 64 2 ∷ malloc_of 128 ∷ malloc_of 0 ∷ [])).answers ≡ done ∷ done ∷ given 64 ∷ done ∷ refused NoFit ∷ refused ZeroSize ∷ []
+unfolding class need low rounded
+never_merged_whole = refl
+
+-- a second free of the block, and one by its place alone
+free_twice : (from_create 4 (pool 0 1024 ∷ malloc_of 100 ∷ free_of 0 9 ∷ free_of 8 1 ∷ free_of 0 1 ∷ free_of 0 1 ∷ [])).answers ≡ done ∷ given 0 ∷ refused BadPointer ∷ refused BadPointer ∷ done ∷ refused BadPointer ∷ []
+unfolding class need low rounded
+free_twice = refl

@@ -1,0 +1,96 @@
+-- free: the block becomes free and is joined with its free neighbours in the pool.
+use Rattle.std.specs.Prelude.{ℕ, ◌+◌, Bool, false, ◌&&◌, List, [], ◌∷◌, map, find, Option, Some, None, Result, Ok, Err, if◌then◌else◌, option_and_then}
+use Rattle.std.specs.List.{list_any}
+use Rattle.tlsf_heap.specs.declared.refusal.Refusal.{Refusal}
+use Rattle.tlsf_heap.specs.declared.refusal.Refusal.TheVariants.{BadPointer}
+use Rattle.tlsf_heap.specs.Content.{Block, Pool, Content, blocks_of, is_free, is_at, size_at}
+use Rattle.tlsf_heap.specs.Lists.{link, unlink}
+
+module _ {A : Type 0} where
+  -- whether the block is live and its owner is meant
+  abbrev pub is_owned_by : (A → Bool) → Option A → Bool
+  is_owned_by is_meant None = false
+  is_owned_by is_meant (Some owner) = is_meant owner
+
+  -- whether a live block has this place and the owner that is meant
+  abbrev pub is_live : (A → Bool) → ℕ → List (Block A) → Bool
+  is_live is_meant place blocks = list_any (λ block. is_at place block && is_owned_by is_meant block.owner) blocks
+
+  -- the block at the place is free
+  abbrev pub freed : ℕ → Block A → Block A
+  freed place block = if is_at place block then record block { owner = None } else block
+
+  -- a free block takes in a free one behind it
+  abbrev pub join : Block A → List (Block A) → List (Block A)
+  join block [] = block ∷ []
+  join block (next ∷ blocks) = if is_free block && is_free next then record block { size = block.size + next.size } ∷ blocks else block ∷ next ∷ blocks
+
+  -- each free block takes in the free ones behind it
+  abbrev pub merged : List (Block A) → List (Block A)
+  merged [] = []
+  merged (block ∷ blocks) = join block (merged blocks)
+
+  -- the block at the place is free, and merged
+  abbrev pub merged_in : ℕ → Pool A → Pool A
+  merged_in place pool = record pool { blocks = merged (map (freed place) pool.blocks) }
+
+  -- the block in front of the one at the place, and the one behind it
+  abbrev pub in_front_of : ℕ → List (Block A) → Option (Block A)
+  in_front_of place [] = None
+  in_front_of place (block ∷ []) = None
+  in_front_of place (block ∷ next ∷ blocks) = if is_at place next then Some block else in_front_of place (next ∷ blocks)
+
+  abbrev pub behind : ℕ → List (Block A) → Option (Block A)
+  behind place [] = None
+  behind place (block ∷ []) = None
+  behind place (block ∷ next ∷ blocks) = if is_at place block then Some next else behind place (next ∷ blocks)
+
+  -- the block, where it is free
+  abbrev pub if_free : Option (Block A) → Option (Block A)
+  if_free None = None
+  if_free (Some block) = if is_free block then Some block else None
+
+  -- the first of the pools in which there is such a block tells it
+  abbrev pub first_in_pools : (List (Block A) → Option (Block A)) → List (Pool A) → Option (Block A)
+  first_in_pools tell [] = None
+  first_in_pools tell (pool ∷ pools) = first_or (tell pool.blocks) (first_in_pools tell pools)
+    where
+    first_or : Option (Block A) → Option (Block A) → Option (Block A)
+    first_or None other = other
+    first_or (Some block) other = Some block
+
+  -- the free neighbours in the pool
+  abbrev pub free_in_front : ℕ → Content A → Option (Block A)
+  free_in_front place content = if_free (first_in_pools (in_front_of place) content.pools)
+
+  abbrev pub free_behind : ℕ → Content A → Option (Block A)
+  free_behind place content = if_free (first_in_pools (behind place) content.pools)
+
+  -- a neighbour leaves its list
+  abbrev pub unlink_block : Option (Block A) → List (List ℕ) → List (List ℕ)
+  unlink_block None lists = lists
+  unlink_block (Some block) lists = unlink block.place block.size lists
+
+  -- the size of a neighbour, 0 where there is none
+  abbrev pub size_of : Option (Block A) → ℕ
+  size_of None = 0
+  size_of (Some block) = block.size
+
+  -- where the block that is left begins: with the neighbour in front, or at the place
+  abbrev pub start_of : Option (Block A) → ℕ → ℕ
+  start_of None place = place
+  start_of (Some block) place = block.place
+
+  -- the content after free: the neighbours leave their lists, and the block that is left enters its own in front
+  abbrev pub after_free : ℕ → Content A → Content A
+  after_free place content =
+    let front = free_in_front place content in
+    let back = free_behind place content in
+    record content {
+      pools = map (merged_in place) content.pools;
+      lists = link (start_of front place) (size_of front + size_at place (blocks_of content.pools) + size_of back) (unlink_block back (unlink_block front content.lists));
+    }
+
+  -- free of the block at the place whose owner is meant: the new content, or BadPointer
+  abbrev pub free : (A → Bool) → ℕ → Content A → Result (Content A) Refusal
+  free is_meant place content = if is_live is_meant place (blocks_of content.pools) then Ok (after_free place content) else Err BadPointer
