@@ -1,5 +1,5 @@
 -- The worked logs, computed by the definitions.
-use Rattle.std.proofs.Common.{◌≡◌, ℕ, List, [], ◌∷◌, ◌++◌, Option, Some, None, refl, codes}
+use Rattle.std.proofs.Common.{◌≡◌, List, [], ◌∷◌, Some, None, refl, codes}
 use Rattle.std.specs.Prelude.{Result, Ok, Err}
 use Rattle.mtrace_log.specs.declared.event.Event.{Event}
 use Rattle.mtrace_log.specs.declared.event.Event.TheVariants.{Start, End, Alloc}
@@ -9,8 +9,7 @@ use Rattle.std.specs.Fmt.{digits}
 use Rattle.tlsf_class.specs.Classes.{class, need, low}
 use Rattle.tlsf_class.specs.Rounding.{rounded}
 use Rattle.tlsf_tool.specs.declared.settings.Settings.{Settings}
-use Rattle.tlsf_tool.specs.declared.entry.Entry.{Entry}
-use Rattle.tlsf_tool.specs.History.{started, moments, history, held, notes}
+use Rattle.tlsf_tool.specs.History.{started, moments, history, held}
 use Rattle.tlsf_tool.specs.Statuses.{default_settings}
 use Rattle.tlsf_tool.specs.Texts.{leaks_text}
 

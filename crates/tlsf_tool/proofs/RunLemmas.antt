@@ -5,7 +5,7 @@ use Rattle.std.specs.Io.KnownBytes.{prepend_known, IsAtEnd}
 use Rattle.std.proofs.lemmas.Grind.{flat_map-append}
 use Rattle.std.proofs.lemmas.List.{reverse-append, length-reverse}
 use Rattle.mtrace_log.specs.Progress.{Progress, Status, Reading, Ended, Faulted, to_come, TakesLine, GivesLine, FindsEnd, StopsReading, GivesFault}
-use Rattle.mtrace_log.specs.HasRead.{HasRead, HasReadAll, HasReadSo}
+use Rattle.mtrace_log.specs.HasRead.{HasRead, HasReadAll, HasReadBefore, HasReadSo}
 use Rattle.mtrace_log.specs.declared.event.Event.{Event}
 use Rattle.mtrace_log.specs.declared.event.LineFault.{LineFault}
 use Rattle.mtrace_log.specs.declared.line.Line.{Line}
@@ -18,7 +18,7 @@ use Rattle.tlsf_tool.specs.History.{Moment, AreHeld, started, moments, moment, c
 use Rattle.tlsf_tool.specs.Texts.{note_text, notes_text, leaks_report}
 use Rattle.tlsf_tool.specs.Output.{Wrote, Begins}
 use Rattle.tlsf_tool.specs.Replay.{Replayed, StandsFor}
-use Rattle.tlsf_tool.specs.Run.{Bytes, text_of_notes, StopsAtRead, IsPastLastNumber, StopsAtWrite, StopsAtLine, is_some_note, LineGives, LineBegins, HasReplayed}
+use Rattle.tlsf_tool.specs.Run.{Bytes, text_of_notes, StopsAtRead, FailedInPiece, IsPastLastNumber, StopsAtWrite, StopsAtLine, is_some_note, LineGives, LineBegins, HasReplayed}
 use Rattle.tlsf_tool.proofs.HistoryLemmas.{moments-none, moments-line}
 use Rattle.tlsf_tool.proofs.Writing.{Wrote-nothing, Wrote-append, Begins-after, Begins-longer}
 
@@ -187,31 +187,38 @@ underway_end left settings old new replay noted start reader_old reader_new take
     }
 
 -- why the reading stopped
-stop_reason : (fault : ReadFault) (count : ℕ) (start before after : Bytes) (failures_old failures_new : ℕ) (lines : List (Result Event LineFault)) → count ≡ length lines → HasRead start before lines
-    → StopsReading fault count before after failures_old failures_new → (failures_new ≡ failures_old + 1) ⊎ IsPastLastNumber start after lines
-stop_reason ReaderFailed count start before after failures_old failures_new lines same read stop = inl stop.3
-stop_reason TooManyLines count start before after failures_old failures_new lines same read stop =
+stop_reason : (fault : ReadFault) (count : ℕ) (start before : Bytes) (held : List ℕ) (left : Bytes) (failures_old failures_new : ℕ) (lines : List (Result Event LineFault)) → count ≡ length lines
+    → HasRead start before lines → HasReadBefore start (prepend_known held left) lines → (fault ≡ ReaderFailed → held ≡ [])
+    → StopsReading fault count before (prepend_known held left) failures_old failures_new
+    → FailedInPiece start left lines failures_old failures_new ⊎ ((unused : List ℕ) × IsPastLastNumber start (prepend_known unused left) lines)
+stop_reason ReaderFailed count start before held left failures_old failures_new lines same read lost nothing stop =
+    let P : Bytes → Type 0 = λ text. HasReadBefore start text lines in
+    inl (subst P (ap (λ bytes. prepend_known bytes left) (nothing refl) ∙ prepend_nothing left) lost, stop.3)
+stop_reason TooManyLines count start before held left failures_old failures_new lines same read lost nothing stop =
     let P : Bytes → Type 0 = λ text. HasRead start text lines in
-    inr (record { count = sym same ∙ stop.0; read = subst P stop.1 read; more = stop.2 })
+    inr (held, record { count = sym same ∙ stop.0; read = subst P stop.1 read; more = stop.2 })
 
 -- the reader failed, or there are no numbers left
 pub underway_fault : {R : Type 0} (left : R → Bytes) (settings : Settings) (old new : Progress) (replay : Replayed) (noted : Bool) (start : Bytes) (reader_old reader_new : R) (taken_start taken : Bytes) (failures_old failures_new : ℕ) (fault : ReadFault)
     → IsUnderWay settings old replay noted start (left reader_old) taken_start taken
     → GivesFault old.status fault old new reader_old reader_new (to_come old (left reader_old)) (to_come new (left reader_new)) failures_old failures_new
+    → (fault ≡ ReaderFailed → new.held ≡ [])
     → StopsAtRead settings start (left reader_new) taken_start taken failures_old failures_new
-underway_fault {R} left settings old new replay noted start reader_old reader_new taken_start taken failures_old failures_new fault under given =
+underway_fault {R} left settings old new replay noted start reader_old reader_new taken_start taken failures_old failures_new fault under given nothing =
     record {
       lines = under.lines;
-      unused = new.held;
-      read = HasReadSo-fault left start old new reader_old reader_new failures_old failures_new fault under.lines under.read given;
       reason = reason_by old.status refl under.read given;
       wrote = under.wrote;
     }
   where
+    lost : HasReadBefore start (to_come new (left reader_new)) under.lines
+    lost = HasReadSo-fault left start old new reader_old reader_new failures_old failures_new fault under.lines under.read given
+
     reason_by : (status : Status) → old.status ≡ status → HasReadSo status start (to_come old (left reader_old)) under.lines
         → GivesFault status fault old new reader_old reader_new (to_come old (left reader_old)) (to_come new (left reader_new)) failures_old failures_new
-        → (failures_new ≡ failures_old + 1) ⊎ IsPastLastNumber start (to_come new (left reader_new)) under.lines
-    reason_by Reading is read stop = stop_reason fault old.count start (to_come old (left reader_old)) (to_come new (left reader_new)) failures_old failures_new under.lines under.count read stop.2
+        → FailedInPiece start (left reader_new) under.lines failures_old failures_new ⊎ ((unused : List ℕ) × IsPastLastNumber start (prepend_known unused (left reader_new)) under.lines)
+    reason_by Reading is read stop =
+        stop_reason fault old.count start (to_come old (left reader_old)) new.held (left reader_new) failures_old failures_new under.lines under.count read lost nothing stop.2
     reason_by Ended is read stop = absurd stop
     reason_by (Faulted first) is read stop = absurd (under.no_fault first is)
 

@@ -1,5 +1,5 @@
 -- Under which line an address is held.
-use Rattle.std.specs.Prelude.{◌≡◌, ℕ, List, ◌∷◌, ◌++◌, Option, Some, None}
+use Rattle.std.specs.Prelude.{◌≡◌, ℕ, List, ◌∷◌, ◌++◌, Some, None}
 use Rattle.std.specs.List.{AllByRecursion}
 use Rattle.tlsf_tool.specs.declared.entry.Entry.{Entry}
 use Rattle.tlsf_tool.specs.History.{Moment, given_or}

@@ -43,14 +43,17 @@ pub record BeginsWhole (settings : Settings) (left_old left_new taken_old taken_
   pub held : AreHeld entries (history settings lines)
   pub begun : Begins taken_old taken_new (leaks_text (history settings lines) entries)
 
--- Whole lines were read, and perhaps a piece of the next one, which is lost; then the reader failed, or a
--- line past the last number would come. The diagnostics of those lines were written, and no report.
--- Unused are the bytes that were asked of the reader and belong to no line that was read.
+-- the reader failed: whole lines were read, and perhaps a piece of the next one, which is lost
+abbrev pub FailedInPiece : (left_old left_new : Bytes) → List (Result Event LineFault) → (failures_old failures_new : ℕ) → Type 0
+FailedInPiece left_old left_new lines failures_old failures_new = HasReadBefore left_old left_new lines × (failures_new ≡ failures_old + 1)
+
+-- The reader failed, or a line past the last number would come; then unused are the bytes that were asked
+-- of the reader and belong to no line that was read. The diagnostics of the lines read were written, and
+-- no report.
 pub record StopsAtRead (settings : Settings) (left_old left_new taken_old taken_new : Bytes) (failures_old failures_new : ℕ) : Type 0 where
   pub lines : List (Result Event LineFault)
-  pub unused : List ℕ
-  pub read : HasReadBefore left_old (prepend_known unused left_new) lines
-  pub reason : (failures_new ≡ failures_old + 1) ⊎ IsPastLastNumber left_old (prepend_known unused left_new) lines
+  pub reason : FailedInPiece left_old left_new lines failures_old failures_new
+      ⊎ ((unused : List ℕ) × IsPastLastNumber left_old (prepend_known unused left_new) lines)
   pub wrote : Wrote taken_old taken_new (text_of_notes settings lines)
 
 -- a beginning of the diagnostics of the lines read, or of the whole text where the log had ended
@@ -59,7 +62,8 @@ BeginsText settings left_old left_new taken_old taken_new lines =
     (HasRead left_old left_new lines × Begins taken_old taken_new (text_of_notes settings lines))
     ⊎ BeginsWhole settings left_old left_new taken_old taken_new lines
 
--- the writer failed, after a beginning of what was to be written
+-- The writer failed, after a beginning of what was to be written. Unused are the bytes that were asked of
+-- the reader and belong to no line that was read.
 pub record StopsAtWrite (settings : Settings) (left_old left_new taken_old taken_new : Bytes) (failures_old failures_new : ℕ) : Type 0 where
   pub failed : failures_new ≡ failures_old + 1
   pub lines : List (Result Event LineFault)

@@ -67,7 +67,8 @@ fn replay_lines<R: Source, W: Sink>(
 ) -> Result<bool, RunFault>
     ensures done { IfOk result (λ noted. (settings : Settings) → StandsFor replay.old (started settings) []
         → HasReplayed settings replay.new noted (R.left reader.old) (R.left reader.new) (W.taken writer.old) (W.taken writer.new)) }
-    ensures no_failure { OnOk result ((R.failures reader.new ≡ R.failures reader.old) × (W.failures writer.new ≡ W.failures writer.old)) }
+    ensures reader_no_failure { result ≢ Err RunFault.Read → R.failures reader.new ≡ R.failures reader.old }
+    ensures writer_no_failure { OnOk result (W.failures writer.new ≡ W.failures writer.old) }
     ensures read { IsErrOf result RunFault.Read → (settings : Settings) → StandsFor replay.old (started settings) []
         → StopsAtRead settings (R.left reader.old) (R.left reader.new) (W.taken writer.old) (W.taken writer.new) (R.failures reader.old) (R.failures reader.new) }
     ensures write { IsErrOf result RunFault.Write → (settings : Settings) → StandsFor replay.old (started settings) []
@@ -134,7 +135,8 @@ pub fn run_leaks<R: Source, W: Sink>(
 ) -> Result<Status, RunFault>
     // All of the log was read, what was written is its leaks text, and the status is that text's.
     ensures finished { IfOk result (λ status. Reports settings status (R.left reader.old) (R.left reader.new) (W.taken writer.old) (W.taken writer.new)) }
-    ensures no_failure { OnOk result ((R.failures reader.new ≡ R.failures reader.old) × (W.failures writer.new ≡ W.failures writer.old)) }
+    ensures reader_no_failure { result ≢ Err RunFault.Read → R.failures reader.new ≡ R.failures reader.old }
+    ensures writer_no_failure { OnOk result (W.failures writer.new ≡ W.failures writer.old) }
 
     // What a fault leaves.
     ensures read_fault { IsErrOf result RunFault.Read

@@ -39,6 +39,8 @@ pub fn serve<R: Source, W: Sink, E: Sink>(
 ) -> u8
     ensures clean { result ≡ 0 → Reports settings Clean (R.left reader.old) (R.left reader.new) (W.taken writer.old) (W.taken writer.new) }
     ensures found { result ≡ 1 → Reports settings Found (R.left reader.old) (R.left reader.new) (W.taken writer.old) (W.taken writer.new) }
+    ensures no_failure { result ≤ 1 → (R.failures reader.new ≡ R.failures reader.old) × (W.failures writer.new ≡ W.failures writer.old) }
+    ensures no_errors { result ≤ 1 → errors.new ≡ errors.old }
     ensures bad_settings { result ≡ 2 ↔ IsTrue (are_bad settings) }
     ensures nothing_done { result ≡ 2 → (reader.new ≡ reader.old) × (writer.new ≡ writer.old) }
     ensures failed { result ≡ 3

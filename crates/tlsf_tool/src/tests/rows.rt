@@ -171,10 +171,15 @@ fn longest_line(rt: HostRuntime) -> Result<(), Fail> {
 
 #[test]
 fn writer_fails(rt: HostRuntime) {
-    for full in [Full::Fails, Full::TakesNone] {
+    for (full, piece) in [
+        (Full::Fails, WHOLE),
+        (Full::TakesNone, WHOLE),
+        (Full::Fails, 1),
+        (Full::TakesNone, 1),
+    ] {
         let alloc = rt.alloc();
         let mut reader = MemorySource::in_pieces(b"", WHOLE);
-        let mut writer = MemorySink::with_room(alloc, WHOLE, 5, full);
+        let mut writer = MemorySink::with_room(alloc, piece, 5, full);
         let answer = run_leaks(alloc, &mut reader, &mut writer, SMALL);
         assert_eq!(rt; answer, Err(RunFault::Write));
         assert_eq!(rt; writer.bytes(), b"No me".as_slice());

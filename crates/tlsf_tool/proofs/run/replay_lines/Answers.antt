@@ -22,9 +22,6 @@ returns-in-Ok-None-clause-done g c = λ settings stands.
     underway_end g.R.Source.left settings c.loop-line.lines c.next.new.self c.loop-line.replay c.loop-line.noted (g.R.Source.left c.args.reader.now) c.loop-line.reader c.next.new.reader
     (g.W.Sink.taken c.args.writer.now) (g.W.Sink.taken c.loop-line.writer) (c.loop-line.invariant.0 settings stands) found.1
 
-pub returns-in-Ok-None-clause-no_failure : goal.returns-in-Ok-None-clause-no_failure
-returns-in-Ok-None-clause-no_failure g c = (c.in-Ok-None.ensures.no_failure ∙ c.loop-line.invariant.1, c.loop-line.invariant.2)
-
 pub returns-in-Err-clause-read : goal.returns-in-Err-clause-read
 returns-in-Err-clause-read g c = λ _ settings stands.
     let failures = g.R.Source.failures in
@@ -32,7 +29,7 @@ returns-in-Err-clause-read g c = λ _ settings stands.
     (g.W.Sink.taken c.args.writer.now) (g.W.Sink.taken c.loop-line.writer) n (failures c.next.new.reader) in
     subst P c.loop-line.invariant.1
     (underway_fault g.R.Source.left settings c.loop-line.lines c.next.new.self c.loop-line.replay c.loop-line.noted (g.R.Source.left c.args.reader.now) c.loop-line.reader c.next.new.reader
-    (g.W.Sink.taken c.args.writer.now) (g.W.Sink.taken c.loop-line.writer) (failures c.loop-line.reader) (failures c.next.new.reader) c.in-Err.field-0 (c.loop-line.invariant.0 settings stands) c.in-Err.ensures.fault)
+    (g.W.Sink.taken c.args.writer.now) (g.W.Sink.taken c.loop-line.writer) (failures c.loop-line.reader) (failures c.next.new.reader) c.in-Err.field-0 (c.loop-line.invariant.0 settings stands) c.in-Err.ensures.fault c.in-Err.ensures.nothing_held)
 
 pub loop-line-preserved : goal.loop-line-preserved
 loop-line-preserved g c =

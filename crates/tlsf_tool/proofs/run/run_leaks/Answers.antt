@@ -11,4 +11,4 @@ returns-in-Ok-replay_lines-clause-write_fault g c = λ e.
     let failed = rw e at c.finish.ensures.failure in
     report_write c.args.settings c.replay_lines.new.replay c.in-Ok-replay_lines.noted (left c.args.reader.now) (left c.replay_lines.new.reader)
     (taken c.args.writer.now) (taken c.replay_lines.new.writer) (taken c.finish.new.writer) (failures c.args.writer.now) (failures c.replay_lines.new.writer) (failures c.finish.new.writer)
-    done c.in-Ok-replay_lines.ensures.no_failure.1 begins failed
+    done c.in-Ok-replay_lines.ensures.writer_no_failure begins failed
