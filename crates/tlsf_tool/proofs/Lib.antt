@@ -8,3 +8,4 @@ mod TextLemmas
 mod RunLemmas
 mod WordLemmas
 mod HeldLemmas
+mod SortedLemmas
