@@ -3,4 +3,5 @@ pub mod Blocks
 pub mod Replacing
 pub mod FreeLists
 pub mod GoodContent
+pub mod Merging
 mod HeapRows
