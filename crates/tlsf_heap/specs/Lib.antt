@@ -4,3 +4,4 @@ pub mod Lists
 pub mod Malloc
 pub mod Pools
 pub mod Good
+pub mod Edits

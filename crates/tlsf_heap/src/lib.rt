@@ -2,6 +2,8 @@
 //! found by bitmaps.
 #![tactic(auto)]
 
+mod free_lists;
+mod marks;
 mod refusal;
 
 pub use crate::refusal::Refusal;
