@@ -1,5 +1,5 @@
 -- Edits of a store's cells: links of the class lists, heads and bitmap words.
-use Rattle.std.specs.Prelude.{◌≢◌, ℕ, ◌<◌, ◌/◌, ◌%◌, ◌^◌, ◌==◌, if◌then◌else◌, List, length, Option, Some, None, slice_index}
+use Rattle.std.specs.Prelude.{◌≢◌, ℕ, ◌<◌, ◌/◌, ◌%◌, ◌^◌, ◌==◌, if◌then◌else◌, List, length, Option, Some, None, slice_index, slice_set}
 use Rattle.std.specs.Int.{bit_not, w32}
 use Rattle.std.specs.Int.RustNames.{bit_or}
 use lib.Bits.{bit_and}
@@ -7,12 +7,16 @@ use Rattle.tlsf_class.specs.Classes.{steps}
 use Rattle.tlsf_store.specs.declared.records.Record.{Record}
 use Rattle.tlsf_store.specs.declared.records.State.TheVariants.{Vacant}
 use Rattle.tlsf_store.specs.Records.{record_at}
-use Rattle.tlsf_store.specs.Cells.{Cells, with_record, with_head, with_level_word, with_step_word, head_at}
+use Rattle.tlsf_store.specs.Cells.{Cells, with_head, with_level_word, with_step_word, head_at}
 
 -- the record of the slot, if there is one, is edited
+abbrev pub edited_in : (Record → Record) → Option ℕ → List Record → List Record
+edited_in edit None records = records
+edited_in edit (Some slot) records = slice_set records slot (edit (record_at records slot))
+
+-- the same in the cells
 abbrev pub edited : (Record → Record) → Option ℕ → Cells → Cells
-edited edit None cells = cells
-edited edit (Some slot) cells = with_record cells slot (edit (record_at cells.records slot))
+edited edit slot cells = record cells { records = edited_in edit slot cells.records }
 
 -- the block in front of the slot in its class's list
 abbrev pub with_prev_free : Option ℕ → Option ℕ → Cells → Cells

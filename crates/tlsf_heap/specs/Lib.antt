@@ -5,3 +5,5 @@ pub mod Malloc
 pub mod Pools
 pub mod Good
 pub mod Edits
+pub mod Bitmaps
+pub mod Layout
