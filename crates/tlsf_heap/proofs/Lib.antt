@@ -3,6 +3,7 @@ pub mod Blocks
 pub mod Replacing
 pub mod FreeLists
 pub mod GoodContent
+pub mod EntryLists
 pub mod Marking
 pub mod Linking
 pub mod LinkedLayout

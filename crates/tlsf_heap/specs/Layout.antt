@@ -5,7 +5,8 @@ use Rattle.tlsf_class.specs.Classes.{levels, classes, class}
 use Rattle.tlsf_store.specs.declared.records.State.{State}
 use Rattle.tlsf_store.specs.declared.records.State.TheVariants.{Vacant, Free, Live}
 use Rattle.tlsf_store.specs.declared.records.Record.{Record}
-use Rattle.tlsf_store.specs.declared.pools.Pool.{Pool as Entry}
+use Rattle.tlsf_store.specs.declared.pools.Pool.{Pool as StoredPool}
+use Rattle.tlsf_heap.specs.declared.pool_entry.PoolEntry.{PoolEntry}
 use Rattle.tlsf_store.specs.Records.{record_at}
 use Rattle.tlsf_store.specs.Cells.{Cells, head_at, pool_entries}
 use Rattle.tlsf_heap.specs.Content.{Block, Pool, Content}
@@ -15,7 +16,7 @@ use Rattle.tlsf_heap.specs.Bitmaps.{AreMarked}
 
 -- a pool's entry, and its slots in order of place
 pub record Area : Type 0 where
-  pub entry : Entry
+  pub entry : PoolEntry
   pub slots : List ℕ
 
 pub record Layout : Type 0 where
@@ -83,9 +84,20 @@ abbrev pub AreChains : (ℕ → Option ℕ) → (ℕ → Option ℕ) → List Ar
 AreChains back fore [] = ⊤
 AreChains back fore (area ∷ areas) = (first_slot area.slots ≡ Some area.entry.first) × IsLinked back fore None area.slots × AreChains back fore areas
 
+-- an entry as the store keeps it, and as the heap works on it
+abbrev pub pool_in : PoolEntry → StoredPool
+pool_in entry = record { base = entry.base; bytes = entry.bytes; first = entry.first }
+
+abbrev pub entry_in : StoredPool → PoolEntry
+entry_in pool = record { base = pool.base; bytes = pool.bytes; first = pool.first }
+
 -- the entries, and none behind them
-abbrev pub padded : List Entry → List (Option Entry)
-padded entries = map Some entries ++ replicate (pool_entries - length entries) None
+abbrev pub padded : List PoolEntry → List (Option StoredPool)
+padded entries = map (λ entry. Some (pool_in entry)) entries ++ replicate (pool_entries - length entries) None
+
+-- the pool of this number, none behind the last entry
+abbrev pub padded_at : List PoolEntry → ℕ → Option StoredPool
+padded_at entries number = slice_index_or (map (λ entry. Some (pool_in entry)) entries) number None
 
 -- how often a slot stands in the pools' chains: once where its record is of a block
 abbrev pub held_in : State → ℕ
@@ -133,13 +145,13 @@ follow (suc n) next None = []
 follow (suc n) next (Some slot) = slot ∷ follow n next (next slot)
 
 -- the entries that there are
-abbrev pub entries_of : List (Option Entry) → List Entry
+abbrev pub entries_of : List (Option StoredPool) → List PoolEntry
 entries_of [] = []
-entries_of (None ∷ entries) = entries_of entries
-entries_of (Some entry ∷ entries) = entry ∷ entries_of entries
+entries_of (None ∷ pools) = entries_of pools
+entries_of (Some pool ∷ pools) = entry_in pool ∷ entries_of pools
 
 -- the area of an entry: the chain from its first block on
-abbrev pub area_from : List Record → Entry → Area
+abbrev pub area_from : List Record → PoolEntry → Area
 area_from records entry = record { entry = entry; slots = follow (length records) (next_at records) (Some entry.first) }
 
 -- the layout that the links of the cells give

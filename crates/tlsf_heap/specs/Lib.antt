@@ -7,3 +7,4 @@ pub mod Good
 pub mod Edits
 pub mod Bitmaps
 pub mod Layout
+pub mod Entries

@@ -2,8 +2,10 @@
 //! found by bitmaps.
 #![tactic(auto)]
 
+mod entries;
 mod free_lists;
 mod marks;
+mod pool_entry;
 mod refusal;
 
 pub use crate::refusal::Refusal;
