@@ -7,4 +7,5 @@ pub mod EntryLists
 pub mod Marking
 pub mod Linking
 pub mod LinkedLayout
+pub mod NewArea
 mod HeapRows

@@ -6,6 +6,7 @@ mod entries;
 mod free_lists;
 mod marks;
 mod pool_entry;
+mod pools;
 mod refusal;
 
 pub use crate::refusal::Refusal;
