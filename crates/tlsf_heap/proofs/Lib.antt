@@ -8,4 +8,5 @@ pub mod Marking
 pub mod Linking
 pub mod LinkedLayout
 pub mod NewArea
+pub mod Followed
 mod HeapRows
