@@ -9,4 +9,6 @@ pub mod Linking
 pub mod LinkedLayout
 pub mod NewArea
 pub mod Followed
+pub mod NewPool
+pub mod AddPool
 mod HeapRows

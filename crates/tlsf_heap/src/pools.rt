@@ -1,17 +1,18 @@
 //! A pool enters a store.
 
-ghost use Rattle.std.specs.Prelude.{◌≡◌, ◌≢◌, ◌+◌, ◌%◌, ◌<◌, ◌≤◌, length, All, Some};
+ghost use Rattle.std.specs.Prelude.{◌≡◌, ◌≢◌, ◌+◌, ◌%◌, ◌<◌, ◌≤◌, length, All, Some, Ok, Err, OnOk, OnErr, IfErr};
 ghost use Rattle.arrayvec.specs.ArrayVec.{array_vec_len};
 ghost use Rattle.tlsf_class.specs.Classes.{unit, greatest_size, class};
 ghost use Rattle.tlsf_store.specs.declared.records.State.TheVariants.{Vacant};
 ghost use Rattle.tlsf_store.specs.Records.{record_at};
 ghost use Rattle.tlsf_store.specs.Cells.{head_at, pool_entries};
 ghost use Rattle.tlsf_heap.specs.Edits.{IsUsed};
-ghost use Rattle.tlsf_heap.specs.Layout.{entries_of};
-ghost use Rattle.tlsf_heap.specs.Pools.{can_be_pool as can_be};
+ghost use Rattle.tlsf_heap.specs.Layout.{Stands, content_of, entries_of};
+ghost use Rattle.tlsf_heap.specs.Pools.{can_be_pool as can_be, add_pool as added};
 ghost use Rattle.tlsf_heap.specs.Entries.{free_record, pool_entered};
 
-use crate::entries::{MOST_POOLS, place_for, set_entries};
+use crate::Refusal;
+use crate::entries::{MOST_POOLS, entries, is_apart, place_for, set_entries};
 use crate::free_lists::link;
 use crate::pool_entry::PoolEntry;
 use arrayvec::ArrayVec;
@@ -36,6 +37,39 @@ fn can_be_pool(base: u64, bytes: u64) -> bool
         && UNIT <= bytes
         && bytes <= GREATEST_POOL
         && base <= END_OF_PLACES - bytes
+}
+
+/// A pool of `bytes` bytes from the place `base` on enters the store, as one free block. At most 64
+/// touches.
+///
+/// # Errors
+///
+/// As `Heap::add_pool`.
+pub(crate) fn add_pool(store: &mut Store, base: u64, bytes: u64) -> Result<(), Refusal>
+    requires { Stands store.old }
+    ensures stands { Stands store.new }
+    ensures ok { OnOk result (added base bytes (content_of store.old) ≡ Ok (content_of store.new)) }
+    ensures refused { IfErr result (λ refusal. added base bytes (content_of store.old) ≡ Err refusal) }
+    ensures unchanged { OnErr result (content_of store.new ≡ content_of store.old) }
+    ensures bound { store.new.touches ≤ store.old.touches + 64 }
+{
+    let entries = entries(store);
+    if !can_be_pool(base, bytes) || !is_apart(entries.as_slice(), base, bytes) {
+        return Err(Refusal::BadPool);
+    }
+    if entries.is_full() {
+        return Err(Refusal::PoolsFull);
+    }
+    let Some(slot) = store.take_vacant() else {
+        return Err(Refusal::TableFull);
+    };
+    let entry = PoolEntry {
+        base: base as u32,
+        bytes: bytes as u32,
+        first: slot.0,
+    };
+    put_pool(store, entries, entry);
+    Ok(())
 }
 
 /// Makes a pool one free block, the first of its class's list, and puts its entry among the others. At
