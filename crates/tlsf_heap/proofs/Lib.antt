@@ -11,4 +11,5 @@ pub mod NewArea
 pub mod Followed
 pub mod NewPool
 pub mod AddPool
+pub mod HeapStands
 mod HeapRows

@@ -17,6 +17,10 @@ entry_place base entries = position_or_len (λ entry. nat_lt base entry.base) en
 abbrev pub is_entry_apart : ℕ → ℕ → PoolEntry → Bool
 is_entry_apart base bytes entry = nat_le (base + bytes) entry.base || nat_le (entry.base + entry.bytes) base
 
+-- where the entry's pool begins, and its bytes
+abbrev pub entry_range : PoolEntry → ℕ × ℕ
+entry_range entry = (entry.base, entry.bytes)
+
 -- the item stands in front of the first one whose key is greater
 abbrev pub inserted : {A : Type 0} → (A → ℕ) → A → List A → List A
 inserted key item [] = item ∷ []

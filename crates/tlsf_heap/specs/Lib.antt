@@ -8,3 +8,4 @@ pub mod Edits
 pub mod Bitmaps
 pub mod Layout
 pub mod Entries
+pub mod Counted

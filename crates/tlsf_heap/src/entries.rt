@@ -1,12 +1,12 @@
 //! The pool entries of a store, in order of base.
 
-ghost use Rattle.std.specs.Prelude.{◌≡◌, ◌+◌, ◌<◌, ◌≤◌, ◌++◌, [], length, All, ◌∷◌};
+ghost use Rattle.std.specs.Prelude.{◌≡◌, ◌+◌, ◌<◌, ◌≤◌, ◌++◌, [], length, map, All, ◌∷◌};
 ghost use Rattle.std.specs.List.{list_all, insert};
 ghost use Rattle.arrayvec.specs.ArrayVec.{array_vec_len};
 ghost use Rattle.tlsf_store.specs.Cells.{touched, pool_entries};
 ghost use Rattle.tlsf_heap.specs.Layout.{entries_of, padded_at};
 ghost use Rattle.tlsf_heap.specs.Pools.{end_of_places};
-ghost use Rattle.tlsf_heap.specs.Entries.{entry_place, with_entry, with_entries, is_entry_apart};
+ghost use Rattle.tlsf_heap.specs.Entries.{entry_place, with_entry, with_entries, is_entry_apart, entry_range};
 
 use crate::pool_entry::PoolEntry;
 use arrayvec::ArrayVec;
@@ -84,4 +84,16 @@ pub(crate) fn place_for(entries: &[PoolEntry], base: u32) -> usize
         }
     }
     entries.len()
+}
+
+/// Where the pools of the entries begin and how many bytes they have.
+pub(crate) fn pool_ranges(entries: &[PoolEntry]) -> ArrayVec<(u64, u64), MOST_POOLS>
+    requires { length entries.now ≤ 8 }
+    ensures { result.items ≡ map entry_range entries.now }
+{
+    let mut ranges = ArrayVec::new();
+    for entry in entries {
+        ranges.push((u64::from(entry.base), u64::from(entry.bytes)));
+    }
+    ranges
 }

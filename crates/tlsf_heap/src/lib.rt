@@ -4,9 +4,11 @@
 
 mod entries;
 mod free_lists;
+mod heap;
 mod marks;
 mod pool_entry;
 mod pools;
 mod refusal;
 
+pub use crate::heap::Heap;
 pub use crate::refusal::Refusal;
