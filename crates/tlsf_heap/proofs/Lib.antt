@@ -4,4 +4,13 @@ pub mod Replacing
 pub mod FreeLists
 pub mod GoodContent
 pub mod Merging
+pub mod EntryLists
+pub mod Marking
+pub mod Linking
+pub mod LinkedLayout
+pub mod NewArea
+pub mod Followed
+pub mod NewPool
+pub mod AddPool
+pub mod HeapStands
 mod HeapRows

@@ -5,3 +5,8 @@ pub mod Malloc
 pub mod Pools
 pub mod Good
 pub mod Free
+pub mod Edits
+pub mod Bitmaps
+pub mod Layout
+pub mod Entries
+pub mod Counted

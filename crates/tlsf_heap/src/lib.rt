@@ -2,6 +2,13 @@
 //! found by bitmaps.
 #![tactic(auto)]
 
+mod entries;
+mod free_lists;
+mod heap;
+mod marks;
+mod pool_entry;
+mod pools;
 mod refusal;
 
+pub use crate::heap::Heap;
 pub use crate::refusal::Refusal;

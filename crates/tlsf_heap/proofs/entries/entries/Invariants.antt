@@ -1,0 +1,15 @@
+use Rattle.std.proofs.Common.{◌≡◌, ◌≤◌, ◌<◌, ℕ, take, length}
+use Rattle.std.specs.Prelude.{All}
+use Rattle.arrayvec.specs.ArrayVec.{array_vec_len}
+use Rattle.tlsf_store.specs.Cells.{touched}
+use Rattle.tlsf_heap.specs.Layout.{entries_of}
+use Rattle.tlsf_heap.proofs.entries.entries.Given as goal
+
+-- the entries so far
+abbrev pub invariant-loop-number : goal.invariant-loop-number
+invariant-loop-number l = record {
+  items : l.entries.items ≡ entries_of (take l.number l.initial.store.pools);
+  few : length l.entries.items ≤ l.number;
+  below : All (λ entry. entry.first < length l.initial.store.records) l.entries.items;
+  store : l.store ≡ touched l.number l.initial.store;
+}

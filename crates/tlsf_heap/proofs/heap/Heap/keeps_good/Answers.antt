@@ -1,0 +1,8 @@
+use Rattle.std.proofs.Common.{◌≡◌, ℕ, ap, subst}
+use Rattle.tlsf_heap.specs.Good.{IsGood}
+use Rattle.tlsf_heap.specs.Counted.{Counted}
+use Rattle.tlsf_heap.proofs.HeapStands.{content_is_good}
+use Rattle.tlsf_heap.proofs.heap.Heap.keeps_good.Goals as goal
+
+pub returns : goal.returns
+returns c = let P : Counted → Type 0 = λ h. IsGood h.content in subst P c.self.view_is (content_is_good c.self.inside.store c.self.invariant)

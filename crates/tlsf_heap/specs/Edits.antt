@@ -1,0 +1,81 @@
+-- Edits of a store's cells: links of the class lists, heads and bitmap words.
+use Rattle.std.specs.Prelude.{◌≢◌, ℕ, ◌<◌, ◌/◌, ◌%◌, ◌^◌, ◌==◌, if◌then◌else◌, List, length, Option, Some, None, slice_index, slice_set}
+use Rattle.std.specs.Int.{bit_not, w32}
+use Rattle.std.specs.Int.RustNames.{bit_or}
+use lib.Bits.{bit_and}
+use Rattle.tlsf_class.specs.Classes.{steps}
+use Rattle.tlsf_store.specs.declared.records.Record.{Record}
+use Rattle.tlsf_store.specs.declared.records.State.TheVariants.{Vacant}
+use Rattle.tlsf_store.specs.Records.{record_at}
+use Rattle.tlsf_store.specs.Cells.{Cells, with_head, with_level_word, with_step_word, head_at}
+
+-- the record of the slot, if there is one, is edited
+abbrev pub edited_in : (Record → Record) → Option ℕ → List Record → List Record
+edited_in edit None records = records
+edited_in edit (Some slot) records = slice_set records slot (edit (record_at records slot))
+
+-- the same in the cells
+abbrev pub edited : (Record → Record) → Option ℕ → Cells → Cells
+edited edit slot cells = record cells { records = edited_in edit slot cells.records }
+
+-- the block in front of the slot in its class's list
+abbrev pub with_prev_free : Option ℕ → Option ℕ → Cells → Cells
+with_prev_free slot prev cells = edited (λ r. record r { prev_free = prev }) slot cells
+
+-- the block behind the slot in its class's list
+abbrev pub with_next_free : Option ℕ → Option ℕ → Cells → Cells
+with_next_free slot next cells = edited (λ r. record r { next_free = next }) slot cells
+
+-- both neighbours of the slot in its class's list
+abbrev pub with_free_links : ℕ → Option ℕ → Option ℕ → Cells → Cells
+with_free_links slot prev next cells = edited (λ r. record r { prev_free = prev; next_free = next }) (Some slot) cells
+
+-- the word with this bit set
+abbrev pub with_bit : ℕ → ℕ → ℕ
+with_bit word bit = bit_or word (2 ^ bit)
+
+-- the word of 32 bits with this bit cleared
+abbrev pub without_bit : ℕ → ℕ → ℕ
+without_bit word bit = bit_and word (bit_not w32 (2 ^ bit))
+
+-- the class's bit is set, and that of its first level
+abbrev pub marked : ℕ → Cells → Cells
+marked class cells =
+    with_level_word (with_step_word cells (class / steps) (with_bit (slice_index cells.step_words (class / steps)) (class % steps))) (with_bit cells.level_word (class / steps))
+
+-- the first level's bit is cleared where its step word is 0
+abbrev pub with_level_cleared : ℕ → ℕ → Cells → Cells
+with_level_cleared level word cells = if word == 0 then with_level_word cells (without_bit cells.level_word level) else cells
+
+-- the class's bit is cleared, and that of its first level where no other class of it has a bit
+abbrev pub unmarked : ℕ → Cells → Cells
+unmarked class cells =
+    let word = without_bit (slice_index cells.step_words (class / steps)) (class % steps) in
+    with_level_cleared (class / steps) word (with_step_word cells (class / steps) word)
+
+-- the slot's free block enters the class's list in front of the others
+abbrev pub linked : ℕ → ℕ → Cells → Cells
+linked class slot cells =
+    let first = head_at cells.heads class in
+    marked class (with_head (with_prev_free first (Some slot) (with_free_links slot None first cells)) class (Some slot))
+
+-- the slot, if there is one, is of a record that isn't vacant
+abbrev pub IsUsed : List Record → Option ℕ → Type 0
+IsUsed records None = Unit {0}
+IsUsed records (Some slot) = (slot < length records) × ((record_at records slot).state ≢ Vacant)
+
+-- the first of the class's list; where there is none the class's bit is cleared
+abbrev pub with_first : ℕ → Option ℕ → Cells → Cells
+with_first class None cells = unmarked class (with_head cells class None)
+with_first class (Some slot) cells = with_head cells class (Some slot)
+
+-- what stands behind the block in front, or first where none is in front
+abbrev pub with_behind : ℕ → Option ℕ → Option ℕ → Cells → Cells
+with_behind class None next cells = with_first class next cells
+with_behind class (Some slot) next cells = with_next_free (Some slot) next cells
+
+-- the slot's free block leaves its class's list, wherever it stands in it
+abbrev pub unlinked : ℕ → ℕ → Cells → Cells
+unlinked class slot cells =
+    let old = record_at cells.records slot in
+    with_behind class old.prev_free old.next_free (with_prev_free old.next_free old.prev_free cells)

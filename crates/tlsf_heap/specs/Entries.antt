@@ -1,0 +1,44 @@
+-- The pool entries of a store, and a pool that enters it.
+use Rattle.std.specs.Prelude.{ℕ, ◌+◌, ◌||◌, nat_le, Bool, List, [], ◌∷◌, Some, None, if◌then◌else◌, nat_lt}
+use Rattle.std.specs.List.{position_or_len}
+use Rattle.tlsf_class.specs.Classes.{class}
+use Rattle.tlsf_store.specs.declared.records.State.TheVariants.{Free}
+use Rattle.tlsf_store.specs.declared.records.Record.{Record}
+use Rattle.tlsf_heap.specs.declared.pool_entry.PoolEntry.{PoolEntry}
+use Rattle.tlsf_store.specs.Cells.{Cells, with_record}
+use Rattle.tlsf_heap.specs.Edits.{linked}
+use Rattle.tlsf_heap.specs.Layout.{padded, entries_of}
+
+-- how many entries stand in front of the first that begins behind the base
+abbrev pub entry_place : ℕ → List PoolEntry → ℕ
+entry_place base entries = position_or_len (λ entry. nat_lt base entry.base) entries
+
+-- whether the bytes from base on lie before or behind the entry's pool
+abbrev pub is_entry_apart : ℕ → ℕ → PoolEntry → Bool
+is_entry_apart base bytes entry = nat_le (base + bytes) entry.base || nat_le (entry.base + entry.bytes) base
+
+-- where the entry's pool begins, and its bytes
+abbrev pub entry_range : PoolEntry → ℕ × ℕ
+entry_range entry = (entry.base, entry.bytes)
+
+-- the item stands in front of the first one whose key is greater
+abbrev pub inserted : {A : Type 0} → (A → ℕ) → A → List A → List A
+inserted key item [] = item ∷ []
+inserted key item (other ∷ items) = if nat_lt (key item) (key other) then item ∷ other ∷ items else other ∷ inserted key item items
+
+-- the entries in order of base, with this one among them
+abbrev pub with_entry : PoolEntry → List PoolEntry → List PoolEntry
+with_entry entry entries = inserted (λ e. e.base) entry entries
+
+-- the cells with these entries, and none behind them
+abbrev pub with_entries : List PoolEntry → Cells → Cells
+with_entries entries cells = record cells { pools = padded entries }
+
+-- the record of a free block without neighbours
+abbrev pub free_record : ℕ → ℕ → Record
+free_record place size = record { place = place; size = size; state = Free; prev = None; next = None; prev_free = None; next_free = None }
+
+-- the entry's pool is one free block, first in its class's list
+abbrev pub pool_entered : PoolEntry → Cells → Cells
+pool_entered entry cells =
+    linked (class entry.bytes) entry.first (with_entries (with_entry entry (entries_of cells.pools)) (with_record cells entry.first (free_record entry.base entry.bytes)))

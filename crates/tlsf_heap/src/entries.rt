@@ -1,0 +1,99 @@
+//! The pool entries of a store, in order of base.
+
+ghost use Rattle.std.specs.Prelude.{◌≡◌, ◌+◌, ◌<◌, ◌≤◌, ◌++◌, [], length, map, All, ◌∷◌};
+ghost use Rattle.std.specs.List.{list_all, insert};
+ghost use Rattle.arrayvec.specs.ArrayVec.{array_vec_len};
+ghost use Rattle.tlsf_store.specs.Cells.{touched, pool_entries};
+ghost use Rattle.tlsf_heap.specs.Layout.{entries_of, padded_at};
+ghost use Rattle.tlsf_heap.specs.Pools.{end_of_places};
+ghost use Rattle.tlsf_heap.specs.Entries.{entry_place, with_entry, with_entries, is_entry_apart, entry_range};
+
+use crate::pool_entry::PoolEntry;
+use arrayvec::ArrayVec;
+use tlsf_store::{Pool, Store};
+
+/// At most so many pools.
+pub(crate) const MOST_POOLS: usize = 8;
+
+/// The entries of the store's pools. Eight touches.
+pub(crate) fn entries(store: &mut Store) -> ArrayVec<PoolEntry, MOST_POOLS>
+    requires { length store.old.pools ≡ pool_entries }
+    ensures value { result.items ≡ entries_of store.old.pools }
+    ensures below { All (λ entry. entry.first < length store.old.records) result.items }
+    ensures touches { store.new ≡ touched 8 store.old }
+{
+    let mut entries = ArrayVec::new();
+    for number in 0..MOST_POOLS as u32 {
+        push_entry(&mut entries, store.pool(number));
+    }
+    entries
+}
+
+/// Appends an entry, if there is one.
+fn push_entry(entries: &mut ArrayVec<PoolEntry, MOST_POOLS>, pool: Option<Pool>)
+    requires { array_vec_len entries.old < 8 }
+    ensures items { entries.new.items ≡ entries.old.items ++ entries_of (pool ∷ []) }
+{
+    if let Some(pool) = pool {
+        entries.push(PoolEntry::of(pool));
+    }
+}
+
+/// The pool of this number; none behind the last entry.
+fn pool_at(entries: &[PoolEntry], number: usize) -> Option<Pool>
+    ensures { result ≡ padded_at entries.now number }
+{
+    match entries.get(number) {
+        Some(entry) => Some(entry.pool()),
+        None => None,
+    }
+}
+
+/// Writes these entries, and none behind them. Eight touches.
+pub(crate) fn set_entries(store: &mut Store, entries: &[PoolEntry])
+    requires count { length store.old.pools ≡ pool_entries }
+    requires few { length entries.now ≤ pool_entries }
+    requires below { All (λ entry. entry.first < length store.old.records) entries.now }
+    ensures { store.new ≡ touched 8 (with_entries entries.now store.old) }
+{
+    for number in 0..MOST_POOLS {
+        store.set_pool(number as u32, pool_at(entries, number));
+    }
+}
+
+/// Whether the bytes from `base` on overlap no pool of the entries.
+pub(crate) fn is_apart(entries: &[PoolEntry], base: u64, bytes: u64) -> bool
+    requires { base + bytes ≤ end_of_places }
+    ensures { result ≡ list_all (is_entry_apart base bytes) entries.now }
+{
+    entries.iter().all(|entry| {
+        let first = u64::from(entry.base);
+        let end = first + u64::from(entry.bytes);
+        base + bytes <= first || end <= base
+    })
+}
+
+/// How many pools begin at or below `base`, in front of the first that begins behind it.
+pub(crate) fn place_for(entries: &[PoolEntry], base: u32) -> usize
+    ensures within { result ≤ length entries.now }
+    ensures place { result ≡ entry_place base entries.now }
+{
+    for (number, entry) in entries.iter().enumerate() {
+        if base < entry.base {
+            return number;
+        }
+    }
+    entries.len()
+}
+
+/// Where the pools of the entries begin and how many bytes they have.
+pub(crate) fn pool_ranges(entries: &[PoolEntry]) -> ArrayVec<(u64, u64), MOST_POOLS>
+    requires { length entries.now ≤ 8 }
+    ensures { result.items ≡ map entry_range entries.now }
+{
+    let mut ranges = ArrayVec::new();
+    for entry in entries {
+        ranges.push((u64::from(entry.base), u64::from(entry.bytes)));
+    }
+    ranges
+}

@@ -1,0 +1,146 @@
+//! The free lists: for each class its free blocks, linked both ways.
+
+ghost use Rattle.std.specs.Prelude.{◌≡◌, ◌≢◌, ◌+◌, ◌<◌, ◌≤◌, length, Some, None};
+ghost use Rattle.tlsf_class.specs.Classes.{classes};
+ghost use Rattle.tlsf_store.specs.declared.records.State.TheVariants.{Vacant};
+ghost use Rattle.tlsf_store.specs.Records.{record_at, IsBelow};
+ghost use Rattle.tlsf_store.specs.Cells.{touched, head_at};
+ghost use Rattle.tlsf_heap.specs.Edits.{IsUsed, with_prev_free, with_next_free, with_free_links, with_first, with_behind, linked, unlinked};
+
+use crate::marks::{mark, unmark};
+use tlsf_class::Class;
+use tlsf_store::{Record, Slot, Store};
+
+/// Makes a free block the first of its class's list. At most ten touches.
+pub(crate) fn link(store: &mut Store, class: Class, slot: Slot)
+    requires slot_used { IsUsed store.old.records (Some slot) }
+    requires first_used { IsUsed store.old.records (head_at store.old.heads class) }
+    ensures cells { store.new ≡ record (linked class slot store.old) { touches = store.new.touches } }
+    ensures bound { store.new.touches ≤ store.old.touches + 12 }
+{
+    let first = store.head(class);
+    set_in_front(store, slot, first);
+    store.set_head(class, Some(slot));
+    mark(store, class);
+}
+
+/// Takes a free block out of its class's list, wherever it stands in it. At most eleven touches.
+pub(crate) fn unlink(store: &mut Store, class: Class, slot: Slot)
+    requires within { slot < length store.old.records }
+    requires prev_used { IsUsed store.old.records (record_at store.old.records slot).prev_free }
+    requires next_used { IsUsed store.old.records (record_at store.old.records slot).next_free }
+    ensures cells { store.new ≡ record (unlinked class slot store.old) { touches = store.new.touches } }
+    ensures bound { store.new.touches ≤ store.old.touches + 16 }
+{
+    let block = store.read(slot);
+    set_in_back(store, block.next_free, block.prev_free);
+    set_behind(store, class, block.prev_free, block.next_free);
+}
+
+/// Links a free block, with none in front of it, to the one that was first, if there was one. At most
+/// four touches.
+fn set_in_front(store: &mut Store, slot: Slot, first: Option<Slot>)
+    requires slot_used { IsUsed store.old.records (Some slot) }
+    requires first_used { IsUsed store.old.records first }
+    ensures cells { store.new ≡ record (with_prev_free first (Some slot) (with_free_links slot None first store.old)) { touches = store.new.touches } }
+    ensures bound { store.new.touches ≤ store.old.touches + 4 }
+{
+    match first {
+        Some(next) => {
+            set_free_links(store, slot, None, Some(next));
+            set_prev_free(store, next, Some(slot));
+        }
+        None => set_free_links(store, slot, None, None),
+    }
+}
+
+/// Links a free block to both its neighbours in its class's list. Two touches.
+fn set_free_links(store: &mut Store, slot: Slot, prev: Option<Slot>, next: Option<Slot>)
+    requires used { IsUsed store.old.records (Some slot) }
+    requires prev_below { IsBelow (length store.old.records) prev }
+    requires next_below { IsBelow (length store.old.records) next }
+    ensures { store.new ≡ touched 2 (with_free_links slot prev next store.old) }
+{
+    let block = store.read(slot);
+    store.write(
+        slot,
+        Record {
+            prev_free: prev,
+            next_free: next,
+            ..block
+        },
+    );
+}
+
+/// Links a free block to the one in front of it. Two touches.
+fn set_prev_free(store: &mut Store, slot: Slot, prev: Option<Slot>)
+    requires used { IsUsed store.old.records (Some slot) }
+    requires prev_below { IsBelow (length store.old.records) prev }
+    ensures { store.new ≡ touched 2 (with_prev_free (Some slot) prev store.old) }
+{
+    let block = store.read(slot);
+    store.write(
+        slot,
+        Record {
+            prev_free: prev,
+            ..block
+        },
+    );
+}
+
+/// Links the block behind, if there is one, to the one in front. At most two touches.
+fn set_in_back(store: &mut Store, next: Option<Slot>, prev: Option<Slot>)
+    requires used { IsUsed store.old.records next }
+    requires prev_below { IsBelow (length store.old.records) prev }
+    ensures cells { store.new ≡ record (with_prev_free next prev store.old) { touches = store.new.touches } }
+    ensures bound { store.new.touches ≤ store.old.touches + 2 }
+{
+    if let Some(slot) = next {
+        set_prev_free(store, slot, prev);
+    }
+}
+
+/// Links a free block to the one behind it. Two touches.
+fn set_next_free(store: &mut Store, slot: Slot, next: Option<Slot>)
+    requires used { IsUsed store.old.records (Some slot) }
+    requires next_below { IsBelow (length store.old.records) next }
+    ensures { store.new ≡ touched 2 (with_next_free (Some slot) next store.old) }
+{
+    let block = store.read(slot);
+    store.write(
+        slot,
+        Record {
+            next_free: next,
+            ..block
+        },
+    );
+}
+
+/// Makes a block, or none, the first of a class's list. At most five touches.
+fn set_first(store: &mut Store, class: Class, first: Option<Slot>)
+    requires { IsBelow (length store.old.records) first }
+    ensures cells { store.new ≡ record (with_first class first store.old) { touches = store.new.touches } }
+    ensures bound { store.new.touches ≤ store.old.touches + 5 }
+{
+    match first {
+        Some(slot) => store.set_head(class, Some(slot)),
+        None => {
+            store.set_head(class, None);
+            unmark(store, class);
+        }
+    }
+}
+
+/// Puts a block, or none, behind the one in front, or first where none is in front. At most five
+/// touches.
+fn set_behind(store: &mut Store, class: Class, prev: Option<Slot>, next: Option<Slot>)
+    requires used { IsUsed store.old.records prev }
+    requires next_below { IsBelow (length store.old.records) next }
+    ensures cells { store.new ≡ record (with_behind class prev next store.old) { touches = store.new.touches } }
+    ensures bound { store.new.touches ≤ store.old.touches + 5 }
+{
+    match prev {
+        Some(slot) => set_next_free(store, slot, next),
+        None => set_first(store, class, next),
+    }
+}

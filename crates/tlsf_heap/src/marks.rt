@@ -1,0 +1,66 @@
+//! The bitmaps: a bit for each class whose list isn't empty, and one for each first level that has such
+//! a class.
+
+ghost use Rattle.std.specs.Prelude.{◌≡◌, ◌+◌, ◌<◌, ◌≤◌, ◌^◌};
+ghost use Rattle.tlsf_class.specs.Classes.{levels};
+ghost use Rattle.tlsf_store.specs.Cells.{touched};
+ghost use Rattle.tlsf_heap.specs.Edits.{with_bit, without_bit, marked, unmarked, with_level_cleared};
+
+use tlsf_class::Class;
+use tlsf_store::Store;
+
+/// How many classes a first level has.
+pub(crate) const STEPS: u32 = u32::BITS;
+
+/// The word with this bit set.
+pub(crate) fn set_bit(word: u32, bit: u32) -> u32
+    requires { bit < 32 }
+    ensures value { result ≡ with_bit word bit }
+    ensures below { word < 2 ^ levels → bit < levels → result < 2 ^ levels }
+{
+    word | 1 << bit
+}
+
+/// The word with this bit cleared.
+pub(crate) fn clear_bit(word: u32, bit: u32) -> u32
+    requires { bit < 32 }
+    ensures value { result ≡ without_bit word bit }
+    ensures below { result ≤ word }
+{
+    word & !(1 << bit)
+}
+
+/// Sets the bit of a class, and that of its first level. Four touches.
+pub(crate) fn mark(store: &mut Store, class: Class)
+    ensures { store.new ≡ touched 4 (marked class store.old) }
+{
+    let level = class.number() / STEPS;
+    let word = store.step_word(level);
+    store.set_step_word(level, set_bit(word, class.number() % STEPS));
+    let levels = store.level_word();
+    store.set_level_word(set_bit(levels, level));
+}
+
+/// Clears the bit of a class, and that of its first level where no other class of it has one. At most
+/// four touches.
+pub(crate) fn unmark(store: &mut Store, class: Class)
+    ensures cells { store.new ≡ record (unmarked class store.old) { touches = store.new.touches } }
+    ensures bound { store.new.touches ≤ store.old.touches + 4 }
+{
+    let level = class.number() / STEPS;
+    let word = clear_bit(store.step_word(level), class.number() % STEPS);
+    store.set_step_word(level, word);
+    clear_level(store, level, word);
+}
+
+/// Clears the bit of a first level where its step word is 0. At most two touches.
+fn clear_level(store: &mut Store, level: u32, word: u32)
+    requires { level < levels }
+    ensures cells { store.new ≡ record (with_level_cleared level word store.old) { touches = store.new.touches } }
+    ensures bound { store.new.touches ≤ store.old.touches + 2 }
+{
+    if word == 0 {
+        let levels = store.level_word();
+        store.set_level_word(clear_bit(levels, level));
+    }
+}
