@@ -4,6 +4,7 @@ pub mod Replacing
 pub mod FreeLists
 pub mod GoodContent
 pub mod Merging
+pub mod Freeing
 pub mod EntryLists
 pub mod Marking
 pub mod Linking
