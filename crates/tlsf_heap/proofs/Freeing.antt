@@ -1,7 +1,7 @@
 -- free of a live block: how many free blocks of a class stand at a place, before and after.
-use Rattle.std.proofs.Common.{◌≡◌, ◌≢◌, ℕ, ◌+◌, ◌<◌, ◌≤◌, Bool, true, false, cond, ◌&&◌, List, [], ◌∷◌, ◌++◌, map, refl, sym, ap, ◌∙◌, subst, arith, IsTrue, not, count_by, Option, Some, None, inl, inr}
+use Rattle.std.proofs.Common.{◌≡◌, ℕ, ◌+◌, ◌<◌, ◌≤◌, Bool, true, false, cond, ◌&&◌, List, [], ◌∷◌, map, refl, sym, ap, ◌∙◌, subst, arith, IsTrue, not, count_by, Option, Some, None, inl, inr}
 use Rattle.std.specs.Prelude.{⊤, ◌||◌, ◌==◌, if◌then◌else◌, find, option_map, unwrap_or, is_none}
-use Rattle.std.proofs.lemmas.Bool.{cases_Bool, eq-eqb, ne_eqb, eqb-true, and_parts, and_left, or_cases}
+use Rattle.std.proofs.lemmas.Bool.{cases_Bool, eq-eqb, eqb-true, and_parts, or_cases}
 use Rattle.tlsf_class.specs.Classes.{class}
 use Rattle.tlsf_heap.specs.Content.{Block, is_free, is_at, size_at}
 use Rattle.tlsf_heap.specs.Free.{is_owned_by, is_live, freed, join, merged, in_front_of, behind, if_free, size_of, start_of}
@@ -92,19 +92,19 @@ module _ {A : Type 0} where
       let same : block.size ≡ block.size + 0 = omega arith in
       ap (λ n. record block { size = n } ∷ []) same
   join_form block (next ∷ blocks) free = elim (cases_Bool (is_free next)) [
-      inl yes_free ↦ rw (free, yes_free) refl
+    | inl yes_free ↦ rw (free, yes_free) refl
     | inr not_free ↦
         let same : block.size ≡ block.size + 0 = omega arith in
         rw (free, not_free) (ap (λ n. record block { size = n } ∷ next ∷ blocks) same)
-    ]
+  ]
 
   count_left : (q p : ℕ) (blocks : List (Block A)) → count_by (is_listed q p) (left blocks) + stands_of q p (if_free (first blocks)) ≡ count_by (is_listed q p) blocks
   count_left q p [] = refl
   count_left q p (block ∷ blocks) =
       let P : Bool → Type 0 = λ f. count_by (is_listed q p) (cond f blocks (block ∷ blocks)) + stands_of q p (cond f (Some block) None) ≡ count_by (is_listed q p) (block ∷ blocks) in
       elim (cases_Bool (is_free block)) [
-        inl yes_free ↦ subst P (sym yes_free) (omega (arith, count_by-cons (is_listed q p) block blocks, listed_free q p block yes_free))
-      | inr not_free ↦ subst P (sym not_free) (omega arith)
+        | inl yes_free ↦ subst P (sym yes_free) (omega (arith, count_by-cons (is_listed q p) block blocks, listed_free q p block yes_free))
+        | inr not_free ↦ subst P (sym not_free) (omega arith)
       ]
 
   first_listed : (blocks : List (Block A)) → IsListedIn blocks (if_free (first blocks))
@@ -112,8 +112,8 @@ module _ {A : Type 0} where
   first_listed (block ∷ blocks) =
       let P : Bool → Type 0 = λ f. IsListedIn (block ∷ blocks) (cond f (Some block) None) in
       elim (cases_Bool (is_free block)) [
-        inl yes_free ↦ subst P (sym yes_free) (listed_front block blocks yes_free)
-      | inr not_free ↦ subst P (sym not_free) tt
+        | inl yes_free ↦ subst P (sym yes_free) (listed_front block blocks yes_free)
+        | inr not_free ↦ subst P (sym not_free) tt
       ]
 
   first_above : (place from : ℕ) (blocks : List (Block A)) → place < from → Ascends from blocks → StartsAbove place (if_free (first blocks))
@@ -147,16 +147,16 @@ module _ {A : Type 0} where
   -- a block in front of one that isn't free with it stays
   join_apart : (block next : Block A) (blocks : List (Block A)) → IsTrue (not (is_free block && is_free next)) → join block (join next blocks) ≡ block ∷ join next blocks
   join_apart block next [] n = elim (cases_Bool (is_free block && is_free next)) [
-      inl both ↦ let P : Bool → Type 0 = λ b. IsTrue (not b) in absurd (let never : IsTrue (not true) = subst P both n in cc)
+    | inl both ↦ let P : Bool → Type 0 = λ b. IsTrue (not b) in absurd (let never : IsTrue (not true) = subst P both n in cc)
     | inr apart ↦ rw apart refl
-    ]
+  ]
   join_apart block next (other ∷ blocks) n = elim (cases_Bool (is_free block && is_free next)) [
-      inl both ↦ let P : Bool → Type 0 = λ b. IsTrue (not b) in absurd (let never : IsTrue (not true) = subst P both n in cc)
+    | inl both ↦ let P : Bool → Type 0 = λ b. IsTrue (not b) in absurd (let never : IsTrue (not true) = subst P both n in cc)
     | inr apart ↦ elim (is_free next && is_free other) as (λ b. join block (cond b (record next { size = next.size + other.size } ∷ blocks) (next ∷ other ∷ blocks)) ≡ block ∷ cond b (record next { size = next.size + other.size } ∷ blocks) (next ∷ other ∷ blocks)) [
-        true ↦ rw apart refl
+      | true ↦ rw apart refl
       | false ↦ rw apart refl
-      ]
     ]
+  ]
 
   -- the block at the place is the second: the free one in front takes it in
   merge_second : (place : ℕ) (front block : Block A) (blocks : List (Block A)) → front.place < place → block.place ≡ place → is_free block ≡ false → 0 < block.size → Ascends (block.place + block.size) blocks
@@ -164,37 +164,48 @@ module _ {A : Type 0} where
   merge_second place front block blocks below here live positive a =
       let behind_front = merge_first place block blocks here live positive a in
       elim (cases_Bool (is_free front)) [
-        inl free ↦
-          let s : ℕ = size_of (if_free (first blocks)) in
-          let taken : Block A = record block { owner = None; size = block.size + s } in
-          let F : Option (Block A) → Type 0 = λ x. IsMerge place x (if_free (first blocks)) block.size (join front (join (record block { owner = None }) blocks)) (front ∷ block ∷ blocks) in
-          let some : if_free (Some front) ≡ Some front = rw free refl in
-          subst F (sym some) (record {
-            balanced = λ q p.
-              let form = ap (λ xs. count_by (is_listed q p) (join front xs)) (join_form (record block { owner = None }) blocks refl) in
-              let taken_in : join front (taken ∷ left blocks) ≡ record front { size = front.size + taken.size } ∷ left blocks = rw free refl in
-              let new = count_by-cons (is_listed q p) (record front { size = front.size + taken.size }) (left blocks) in
-              let old = count_by-cons (is_listed q p) front (block ∷ blocks) in
-              let old_behind = count_by-cons (is_listed q p) block blocks in
-              let sizes : front.size + (block.size + s) ≡ front.size + block.size + s = omega arith in
-              omega (arith, form, ap (count_by (is_listed q p)) taken_in, new, listed_free q p (record front { size = front.size + taken.size }) free, ap (stands q p front.place) sizes,
-                old, listed_free q p front free, old_behind, listed_live q p block live, count_left q p blocks);
-            front_listed = listed_front front (block ∷ blocks) free;
-            back_listed = IsListedIn-cons front (block ∷ blocks) (if_free (first blocks)) behind_front.back_listed;
-            front_below = below;
-            back_above = behind_front.back_above;
-          })
-      | inr live_front ↦
-          let none : if_free (Some front) ≡ None = rw live_front refl in
-          IsMerge-same none refl refl (join_live front (join (record block { owner = None }) blocks) live_front)
+        | inl free ↦
+            let s : ℕ = size_of (if_free (first blocks)) in
+            let taken : Block A = record block { owner = None; size = block.size + s } in
+            let F : Option (Block A) → Type 0 = λ x. IsMerge place x (if_free (first blocks)) block.size (join front (join (record block { owner = None }) blocks)) (front ∷ block ∷ blocks) in
+            let some : if_free (Some front) ≡ Some front = rw free refl in
+            subst F (sym some) (record {
+              balanced = λ q p.
+                  let form = ap (λ xs. count_by (is_listed q p) (join front xs)) (join_form (record block { owner = None }) blocks refl) in
+                  let taken_in : join front (taken ∷ left blocks) ≡ record front { size = front.size + taken.size } ∷ left blocks = rw free refl in
+                  let new = count_by-cons (is_listed q p) (record front { size = front.size + taken.size }) (left blocks) in
+                  let old = count_by-cons (is_listed q p) front (block ∷ blocks) in
+                  let old_behind = count_by-cons (is_listed q p) block blocks in
+                  let sizes : front.size + (block.size + s) ≡ front.size + block.size + s = omega arith in
+                  omega (
+                    arith,
+                    form,
+                    ap (count_by (is_listed q p)) taken_in,
+                    new,
+                    listed_free q p (record front { size = front.size + taken.size }) free,
+                    ap (stands q p front.place) sizes,
+                    old,
+                    listed_free q p front free,
+                    old_behind,
+                    listed_live q p block live,
+                    count_left q p blocks,
+                  );
+              front_listed = listed_front front (block ∷ blocks) free;
+              back_listed = IsListedIn-cons front (block ∷ blocks) (if_free (first blocks)) behind_front.back_listed;
+              front_below = below;
+              back_above = behind_front.back_above;
+            })
+        | inr live_front ↦
+            let none : if_free (Some front) ≡ None = rw live_front refl in
+            IsMerge-same none refl refl (join_live front (join (record block { owner = None }) blocks) live_front)
             (IsMerge-cons front place None (if_free (first blocks)) block.size (join (record block { owner = None }) blocks) (block ∷ blocks) behind_front)
       ]
 
-  freed_none : (place : ℕ) (blocks : List (Block A)) → NoneAt place blocks → map (freed place) blocks ≡ blocks
+  pub freed_none : (place : ℕ) (blocks : List (Block A)) → NoneAt place blocks → map (freed place) blocks ≡ blocks
   freed_none place [] n = refl
   freed_none place (block ∷ blocks) n = ap (λ b. cond b (record block { owner = None }) block ∷ map (freed place) blocks) n.0 ∙ ap (λ xs. block ∷ xs) (freed_none place blocks n.1)
 
-  in_front_none : (place : ℕ) (block : Block A) (blocks : List (Block A)) → NoneAt place blocks → in_front_of place (block ∷ blocks) ≡ None
+  pub in_front_none : (place : ℕ) (block : Block A) (blocks : List (Block A)) → NoneAt place blocks → in_front_of place (block ∷ blocks) ≡ None
   in_front_none place block [] n = refl
   in_front_none place block (next ∷ blocks) n = rw n.0 (in_front_none place next blocks n.1)
 
@@ -202,31 +213,31 @@ module _ {A : Type 0} where
   behind_here place block [] here = refl
   behind_here place block (next ∷ blocks) here = rw here refl
 
-  size_at-here : (place : ℕ) (block : Block A) (blocks : List (Block A)) → is_at place block ≡ true → size_at place (block ∷ blocks) ≡ block.size
+  pub size_at-here : (place : ℕ) (block : Block A) (blocks : List (Block A)) → is_at place block ≡ true → size_at place (block ∷ blocks) ≡ block.size
   size_at-here place block blocks here = ap (λ b. unwrap_or (option_map (λ (found : Block A). found.size) (cond b (Some block) (find (is_at place) blocks))) 0) here
 
-  size_at-elsewhere : (place : ℕ) (block : Block A) (blocks : List (Block A)) → is_at place block ≡ false → size_at place (block ∷ blocks) ≡ size_at place blocks
+  pub size_at-elsewhere : (place : ℕ) (block : Block A) (blocks : List (Block A)) → is_at place block ≡ false → size_at place (block ∷ blocks) ≡ size_at place blocks
   size_at-elsewhere place block blocks elsewhere = ap (λ b. unwrap_or (option_map (λ (found : Block A). found.size) (cond b (Some block) (find (is_at place) blocks))) 0) elsewhere
 
-  none_live : (is_meant : A → Bool) (place : ℕ) (blocks : List (Block A)) → NoneAt place blocks → is_live is_meant place blocks ≡ false
+  pub none_live : (is_meant : A → Bool) (place : ℕ) (blocks : List (Block A)) → NoneAt place blocks → is_live is_meant place blocks ≡ false
   none_live is_meant place [] n = refl
   none_live is_meant place (block ∷ blocks) n = rw n.0 (none_live is_meant place blocks n.1)
 
   owned_is_live : (is_meant : A → Bool) (block : Block A) → is_owned_by is_meant block.owner ≡ true → is_free block ≡ false
   owned_is_live is_meant block h = owned_is_some block.owner h
-   where
-    owned_is_some : (owner : Option A) → is_owned_by is_meant owner ≡ true → is_none owner ≡ false
-    owned_is_some None h = absurd (cc)
-    owned_is_some (Some owner) h = refl
+    where
+      owned_is_some : (owner : Option A) → is_owned_by is_meant owner ≡ true → is_none owner ≡ false
+      owned_is_some None h = absurd (cc)
+      owned_is_some (Some owner) h = refl
 
   -- where the first block is at the place, it is the live one
   live_here : (is_meant : A → Bool) (place : ℕ) (block : Block A) (blocks : List (Block A)) → NoneAt place blocks → is_live is_meant place (block ∷ blocks) ≡ true → is_free block ≡ false
   live_here is_meant place block blocks none h = elim (or_cases _ _ h) [
-      inl both ↦ owned_is_live is_meant block (and_parts _ _ both).1
+    | inl both ↦ owned_is_live is_meant block (and_parts _ _ both).1
     | inr later ↦ absurd (let never : false ≡ true = sym (none_live is_meant place blocks none) ∙ later in cc)
-    ]
+  ]
 
-  live_later : (is_meant : A → Bool) (place : ℕ) (block : Block A) (blocks : List (Block A)) → is_at place block ≡ false → is_live is_meant place (block ∷ blocks) ≡ true → is_live is_meant place blocks ≡ true
+  pub live_later : (is_meant : A → Bool) (place : ℕ) (block : Block A) (blocks : List (Block A)) → is_at place block ≡ false → is_live is_meant place (block ∷ blocks) ≡ true → is_live is_meant place blocks ≡ true
   live_later is_meant place block blocks elsewhere h = let P : Bool → Type 0 = λ b. ((b && is_owned_by is_meant block.owner) || is_live is_meant place blocks) ≡ true in subst P elsewhere h
 
   -- the same, where the first block isn't the one
@@ -236,44 +247,44 @@ module _ {A : Type 0} where
       → IsMerge place (if_free (in_front_of place (block ∷ blocks))) (if_free (behind place (block ∷ blocks))) (size_at place (block ∷ blocks)) (merged (map (freed place) (block ∷ blocks))) (block ∷ blocks)
   merge_later is_meant place was block [] elsewhere positive a n h behind_block = absurd (cc)
   merge_later is_meant place was block (next ∷ blocks) elsewhere positive a n h behind_block = elim (cases_Bool (is_at place next)) [
-      inl here ↦
+    | inl here ↦
         let at : next.place ≡ place = eqb-true next.place place here in
         let none : NoneAt place blocks = NoneAt-below place (next.place + next.size) blocks (omega (arith, a.1, at)) a.2 in
         let live = live_here is_meant place next blocks none h in
         let taken : Block A = record next { owner = None } in
         let rest : merged (map (freed place) (next ∷ blocks)) ≡ join taken blocks =
-            ap (λ b. join (cond b taken next) (merged (map (freed place) blocks))) here ∙ ap (join taken) (ap merged (freed_none place blocks none) ∙ merged_id (is_free next) blocks n.1.1) in
+        ap (λ b. join (cond b taken next) (merged (map (freed place) blocks))) here ∙ ap (join taken) (ap merged (freed_none place blocks none) ∙ merged_id (is_free next) blocks n.1.1) in
         IsMerge-same (ap (λ b. if_free (cond b (Some block) (in_front_of place (next ∷ blocks)))) here)
-          (ap (λ b. if_free (cond b (Some next) (behind place (next ∷ blocks)))) elsewhere ∙ ap if_free (behind_here place next blocks here))
-          (size_at-elsewhere place block (next ∷ blocks) elsewhere ∙ size_at-here place next blocks here)
-          (ap (λ b. join (cond b (record block { owner = None }) block) (merged (map (freed place) (next ∷ blocks)))) elsewhere ∙ ap (join block) rest)
-          (merge_second place block next blocks (omega (arith, positive, a.0, at)) at live a.1 a.2)
+        (ap (λ b. if_free (cond b (Some next) (behind place (next ∷ blocks)))) elsewhere ∙ ap if_free (behind_here place next blocks here))
+        (size_at-elsewhere place block (next ∷ blocks) elsewhere ∙ size_at-here place next blocks here)
+        (ap (λ b. join (cond b (record block { owner = None }) block) (merged (map (freed place) (next ∷ blocks)))) elsewhere ∙ ap (join block) rest)
+        (merge_second place block next blocks (omega (arith, positive, a.0, at)) at live a.1 a.2)
     | inr later ↦
         let same : freed place next ≡ next = ap (λ b. cond b (record next { owner = None }) next) later in
         let stays : join block (merged (map (freed place) (next ∷ blocks))) ≡ block ∷ merged (map (freed place) (next ∷ blocks)) =
-            let P : Block A → Type 0 = λ x. join block (join x (merged (map (freed place) blocks))) ≡ block ∷ join x (merged (map (freed place) blocks)) in
-            subst P (sym same) (join_apart block next (merged (map (freed place) blocks)) n.1.0) in
+        let P : Block A → Type 0 = λ x. join block (join x (merged (map (freed place) blocks))) ≡ block ∷ join x (merged (map (freed place) blocks)) in
+        subst P (sym same) (join_apart block next (merged (map (freed place) blocks)) n.1.0) in
         IsMerge-same (ap (λ b. if_free (cond b (Some block) (in_front_of place (next ∷ blocks)))) later)
-          (ap (λ b. if_free (cond b (Some next) (behind place (next ∷ blocks)))) elsewhere)
-          (size_at-elsewhere place block (next ∷ blocks) elsewhere)
-          (ap (λ b. join (cond b (record block { owner = None }) block) (merged (map (freed place) (next ∷ blocks)))) elsewhere ∙ stays)
-          (IsMerge-cons block place _ _ _ _ _ behind_block)
-    ]
+        (ap (λ b. if_free (cond b (Some next) (behind place (next ∷ blocks)))) elsewhere)
+        (size_at-elsewhere place block (next ∷ blocks) elsewhere)
+        (ap (λ b. join (cond b (record block { owner = None }) block) (merged (map (freed place) (next ∷ blocks)))) elsewhere ∙ stays)
+        (IsMerge-cons block place _ _ _ _ _ behind_block)
+  ]
 
   -- the live block at the place, and its free neighbours, become one free block
   pub blocks_merge : (is_meant : A → Bool) (place from : ℕ) (was : Bool) (blocks : List (Block A)) → Ascends from blocks → NoFreeNeighbours was blocks → is_live is_meant place blocks ≡ true
       → IsMerge place (if_free (in_front_of place blocks)) (if_free (behind place blocks)) (size_at place blocks) (merged (map (freed place) blocks)) blocks
   blocks_merge is_meant place from was [] a n h = absurd (cc)
   blocks_merge is_meant place from was (block ∷ blocks) a n h = elim (cases_Bool (is_at place block)) [
-      inl here ↦
+    | inl here ↦
         let at : block.place ≡ place = eqb-true block.place place here in
         let none : NoneAt place blocks = NoneAt-below place (block.place + block.size) blocks (omega (arith, a.1, at)) a.2 in
         let live = live_here is_meant place block blocks none h in
         let taken : Block A = record block { owner = None } in
         IsMerge-same (ap if_free (in_front_none place block blocks none)) (ap if_free (behind_here place block blocks here)) (size_at-here place block blocks here)
-          (ap (λ b. join (cond b taken block) (merged (map (freed place) blocks))) here ∙ ap (join taken) (ap merged (freed_none place blocks none) ∙ merged_id (is_free block) blocks n.1))
-          (merge_first place block blocks at live a.1 a.2)
+        (ap (λ b. join (cond b taken block) (merged (map (freed place) blocks))) here ∙ ap (join taken) (ap merged (freed_none place blocks none) ∙ merged_id (is_free block) blocks n.1))
+        (merge_first place block blocks at live a.1 a.2)
     | inr elsewhere ↦
         let live = live_later is_meant place block blocks elsewhere h in
         merge_later is_meant place was block blocks elsewhere a.1 a.2 n live (blocks_merge is_meant place (block.place + block.size) (is_free block) blocks a.2 n.1 live)
-    ]
+  ]

@@ -75,7 +75,7 @@ pub record Picked {A : Type 0} (m place : ℕ) (content : Content A) : Type 0 wh
   pub once : times place (list_of (class (size_at place (blocks_of content.pools))) content.lists) ≡ 1
 
 module _ {A : Type 0} where
-  one_at_most : (number place : ℕ) (blocks : List (Block A)) (found : Found place blocks) → count_by (is_listed number place) blocks ≤ 1
+  pub one_at_most : (number place : ℕ) (blocks : List (Block A)) (found : Found place blocks) → count_by (is_listed number place) blocks ≤ 1
   one_at_most number place blocks found =
       let kind : Block A → Bool = is_listed number place in
       let before = ap (count_by kind) found.whole in

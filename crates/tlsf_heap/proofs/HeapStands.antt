@@ -1,5 +1,5 @@
 -- What the cells of a heap stand for: from the start on, and as its callers read it.
-use Rattle.std.proofs.Common.{◌≡◌, ℕ, zero, suc, ◌+◌, ◌<◌, ◌≤◌, ◌/◌, ◌%◌, List, [], ◌∷◌, length, map, replicate, get_or, refl, sym, ap, ◌∙◌, subst, arith, Option, Some, None, ◌⊎◌, inl, inr}
+use Rattle.std.proofs.Common.{◌≡◌, ℕ, zero, suc, ◌/◌, ◌%◌, List, [], ◌∷◌, map, replicate, get_or, refl, sym, ap, ◌∙◌, subst, arith, Option, None, inl, inr}
 use Rattle.std.specs.Int.{bit_at}
 use Rattle.std.proofs.lemmas.Bool.{cases_lt}
 use Rattle.std.proofs.lemmas.List.{length-replicate, get_or-replicate, get_or_past}
@@ -8,8 +8,7 @@ use Rattle.tlsf_class.specs.Classes.{classes, levels, steps}
 use Rattle.tlsf_store.specs.declared.records.Record.{Record}
 use Rattle.tlsf_store.specs.Records.{blank, record_at}
 use Rattle.tlsf_store.specs.Cells.{Cells, empty_cells}
-use Rattle.tlsf_heap.specs.declared.pool_entry.PoolEntry.{PoolEntry}
-use Rattle.tlsf_heap.specs.Content.{Pool, Content}
+use Rattle.tlsf_heap.specs.Content.{Content}
 use Rattle.tlsf_heap.specs.Lists.{list_of}
 use Rattle.tlsf_heap.specs.Pools.{created}
 use Rattle.tlsf_heap.specs.Good.{times, IsGood}
@@ -84,7 +83,7 @@ module _ (cells : Cells) (stands : Stands cells) where
   -- the entries tell where the pools are
   pub ranges_are : map entry_range (entries_of cells.pools) ≡ map range_of (content_of cells).pools
   ranges_are = ap (map entry_range) (entries_are cells stands) ∙ of_areas stands.layout.areas ∙ sym (ap (λ content. map range_of content.pools) was)
-   where
-    of_areas : (areas : List Area) → map entry_range (map (λ (a : Area). a.entry) areas) ≡ map range_of (map (pool_of cells.records) areas)
-    of_areas [] = refl
-    of_areas (area ∷ areas) = ap (λ rs. (area.entry.base, area.entry.bytes) ∷ rs) (of_areas areas)
+    where
+      of_areas : (areas : List Area) → map entry_range (map (λ (a : Area). a.entry) areas) ≡ map range_of (map (pool_of cells.records) areas)
+      of_areas [] = refl
+      of_areas (area ∷ areas) = ap (λ rs. (area.entry.base, area.entry.bytes) ∷ rs) (of_areas areas)

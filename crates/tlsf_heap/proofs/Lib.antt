@@ -5,6 +5,7 @@ pub mod FreeLists
 pub mod GoodContent
 pub mod Merging
 pub mod Freeing
+pub mod FreeIsGood
 pub mod EntryLists
 pub mod Marking
 pub mod Linking

@@ -1,8 +1,8 @@
 -- Bits set and cleared in the bitmaps.
-use Rattle.std.proofs.Common.{◌≡◌, ◌≢◌, ℕ, ◌+◌, ◌/◌, ◌%◌, ◌*◌, ◌^◌, ◌<◌, ◌≤◌, Bool, true, false, cond, eqb, List, length, set, get_or, refl, sym, ap, ◌∙◌, subst, arith, Option, Some, None, ◌⊎◌, inl, inr, max, bit_or}
+use Rattle.std.proofs.Common.{◌≡◌, ◌≢◌, ℕ, ◌/◌, ◌%◌, ◌^◌, ◌<◌, cond, List, length, set, get_or, sym, ap, ◌∙◌, subst, arith, Option, Some, None, inl, inr}
 use Rattle.std.specs.Int.{bit_at}
-use Rattle.std.proofs.lemmas.Bool.{cases_eq, eq-eqb, ne_eqb}
-use Rattle.std.proofs.lemmas.List.{get_or-set_same, get_or-set_other, length-set}
+use Rattle.std.proofs.lemmas.Bool.{cases_eq, ne_eqb}
+use Rattle.std.proofs.lemmas.List.{get_or-set_same, get_or-set_other}
 use Rattle.std.proofs.lemmas.Nat.Bits.{bit_at_or, bit_at-pow_same, bit_at-pow_other, bit_at-lt, bit_at-zero}
 use Rattle.tlsf_class.specs.Classes.{steps, levels, classes}
 use Rattle.tlsf_store.specs.Cells.{head_at}
@@ -32,8 +32,8 @@ module _ (heads : List (Option ℕ)) (words : List ℕ) (level_word class : ℕ)
           | inl same ↦
               let P : ℕ → Type 0 = λ n. bit_at (get_or (set words (class / steps) new) (n / steps) 0) (n % steps) ≡ head_bit (head_at (set heads class (Some slot)) n) in
               subst P (sym same) (
-                ap (λ w. bit_at w (class % steps)) (get_or-set_same words (class / steps) new 0 level_within) ∙ bit_set_same (get_or words (class / steps) 0) (class % steps)
-                ∙ sym (ap head_bit (get_or-set_same heads class (Some slot) None (omega (arith, within, heads_count)))))
+              ap (λ w. bit_at w (class % steps)) (get_or-set_same words (class / steps) new 0 level_within) ∙ bit_set_same (get_or words (class / steps) 0) (class % steps)
+              ∙ sym (ap head_bit (get_or-set_same heads class (Some slot) None (omega (arith, within, heads_count)))))
           | inr apart ↦
               let head_same : head_bit (head_at (set heads class (Some slot)) k) ≡ head_bit (head_at heads k) = ap head_bit (get_or-set_other heads class k (Some slot) None apart) in
               elim (cases_eq (k / steps) (class / steps)) [
@@ -52,8 +52,8 @@ module _ (heads : List (Option ℕ)) (words : List ℕ) (level_word class : ℕ)
           | inl same ↦
               let P : ℕ → Type 0 = λ n. bit_at (with_bit level_word (class / steps)) n ≡ word_bit (get_or (set words (class / steps) new) n 0) in
               subst P (sym same) (
-                bit_set_same level_word (class / steps)
-                ∙ sym (ap word_bit (get_or-set_same words (class / steps) new 0 level_within) ∙ word_bit-some new (class % steps) (bit_set_same (get_or words (class / steps) 0) (class % steps))))
+              bit_set_same level_word (class / steps)
+              ∙ sym (ap word_bit (get_or-set_same words (class / steps) new 0 level_within) ∙ word_bit-some new (class % steps) (bit_set_same (get_or words (class / steps) 0) (class % steps))))
           | inr apart ↦
               bit_set_other level_word (class / steps) l apart ∙ were.by_level l l_within ∙ sym (ap word_bit (get_or-set_other words (class / steps) l new 0 apart))
         ];

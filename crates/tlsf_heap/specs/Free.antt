@@ -1,6 +1,7 @@
 -- free: the block becomes free and is joined with its free neighbours in the pool.
-use Rattle.std.specs.Prelude.{ℕ, ◌+◌, Bool, false, ◌&&◌, List, [], ◌∷◌, map, find, Option, Some, None, Result, Ok, Err, if◌then◌else◌, option_and_then}
+use Rattle.std.specs.Prelude.{ℕ, ◌+◌, Bool, false, ◌&&◌, List, [], ◌∷◌, map, Option, Some, None, Result, Ok, Err, if◌then◌else◌}
 use Rattle.std.specs.List.{list_any}
+use Rattle.std.specs.Option.{option_or}
 use Rattle.tlsf_heap.specs.declared.refusal.Refusal.{Refusal}
 use Rattle.tlsf_heap.specs.declared.refusal.Refusal.TheVariants.{BadPointer}
 use Rattle.tlsf_heap.specs.Content.{Block, Pool, Content, blocks_of, is_free, is_at, size_at}
@@ -53,11 +54,7 @@ module _ {A : Type 0} where
   -- the first of the pools in which there is such a block tells it
   abbrev pub first_in_pools : (List (Block A) → Option (Block A)) → List (Pool A) → Option (Block A)
   first_in_pools tell [] = None
-  first_in_pools tell (pool ∷ pools) = first_or (tell pool.blocks) (first_in_pools tell pools)
-    where
-    first_or : Option (Block A) → Option (Block A) → Option (Block A)
-    first_or None other = other
-    first_or (Some block) other = Some block
+  first_in_pools tell (pool ∷ pools) = option_or (tell pool.blocks) (first_in_pools tell pools)
 
   -- the free neighbours in the pool
   abbrev pub free_in_front : ℕ → Content A → Option (Block A)
@@ -84,12 +81,12 @@ module _ {A : Type 0} where
   -- the content after free: the neighbours leave their lists, and the block that is left enters its own in front
   abbrev pub after_free : ℕ → Content A → Content A
   after_free place content =
-    let front = free_in_front place content in
-    let back = free_behind place content in
-    record content {
-      pools = map (merged_in place) content.pools;
-      lists = link (start_of front place) (size_of front + size_at place (blocks_of content.pools) + size_of back) (unlink_block back (unlink_block front content.lists));
-    }
+      let front = free_in_front place content in
+      let back = free_behind place content in
+      record content {
+        pools = map (merged_in place) content.pools;
+        lists = link (start_of front place) (size_of front + size_at place (blocks_of content.pools) + size_of back) (unlink_block back (unlink_block front content.lists));
+      }
 
   -- free of the block at the place whose owner is meant: the new content, or BadPointer
   abbrev pub free : (A → Bool) → ℕ → Content A → Result (Content A) Refusal
