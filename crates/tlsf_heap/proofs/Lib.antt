@@ -4,6 +4,7 @@ pub mod Replacing
 pub mod FreeLists
 pub mod GoodContent
 pub mod EntryLists
+pub mod Searching
 pub mod Marking
 pub mod Linking
 pub mod LinkedLayout
