@@ -8,6 +8,8 @@ pub mod Searching
 pub mod Marking
 pub mod Linking
 pub mod LinkedLayout
+pub mod Unlinking
+pub mod UnlinkedLayout
 pub mod NewArea
 pub mod Followed
 pub mod NewPool
