@@ -10,6 +10,7 @@ pub mod Linking
 pub mod LinkedLayout
 pub mod Unlinking
 pub mod UnlinkedLayout
+pub mod ListMeaning
 pub mod NewArea
 pub mod Followed
 pub mod NewPool

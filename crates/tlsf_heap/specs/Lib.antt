@@ -9,3 +9,4 @@ pub mod Bitmaps
 pub mod Layout
 pub mod Entries
 pub mod Counted
+pub mod GoodSlots
