@@ -3,12 +3,17 @@ use Rattle.std.proofs.Common.{◌≡◌, ◌≢◌, ℕ, ◌+◌, ◌<◌, ◌�
 use Rattle.std.proofs.lemmas.Bool.{cases_eq, eq-eqb, ne_eqb}
 use Rattle.std.proofs.lemmas.List.{get_or-map, map-set, length-map, drop-map, ext_get_or}
 use Rattle.tlsf_class.specs.Classes.{classes, class}
+use Rattle.tlsf_store.specs.declared.records.Record.{Record}
+use Rattle.tlsf_store.specs.Records.{record_at}
 use Rattle.tlsf_store.specs.Cells.{Cells, head_at}
 use Rattle.tlsf_heap.specs.Content.{Block}
 use Rattle.tlsf_heap.specs.Lists.{list_of, without, link, unlink, first_of_lists}
-use Rattle.tlsf_heap.specs.Good.{times}
+use Rattle.tlsf_heap.specs.Good.{times, IsGood}
 use Rattle.tlsf_heap.specs.Bitmaps.{first_head}
-use Rattle.tlsf_heap.specs.Layout.{Layout, IsLayout, first_slot}
+use Rattle.tlsf_heap.specs.Layout.{Layout, IsLayout, first_slot, slots_of, place_at, block_of, pool_of, content_by}
+use Rattle.tlsf_heap.proofs.Blocks.{one_if, Ascends, Ascends-pools}
+use Rattle.tlsf_heap.proofs.FreeLists.{times-cons}
+use Rattle.tlsf_heap.proofs.Followed.{blocks_of_areas}
 use Rattle.tlsf_heap.proofs.Linking.{times-front, times-behind}
 use Rattle.tlsf_heap.proofs.Unlinking.{without-here, without-apart}
 
@@ -57,3 +62,33 @@ first_is_picked home cells layout place number is =
     ∙ ap (λ hs. option_map place (first_head hs)) (drop-map first_slot number layout.lists)
     ∙ sym (first-places place (drop number layout.lists))
     ∙ ap first_of_lists (sym (drop-map (map place) number layout.lists))
+
+place_above : (records : List Record) (from : ℕ) (slots : List ℕ) (q : ℕ) → Ascends from (map (block_of records) slots) → 1 ≤ times q slots → from ≤ place_at records q
+place_above records from [] q a stands = absurd (omega (arith, stands))
+place_above records from (s ∷ slots) q a stands = elim (cases_eq s q) [
+  | inl here ↦ let P : ℕ → Type 0 = λ n. from ≤ place_at records n in subst P here a.0
+  | inr apart ↦ omega (arith, a.0, place_above records (place_at records s + (record_at records s).size) slots q a.2 (omega (arith, stands, times-cons q s slots, ap one_if (ne_eqb s q apart))))
+]
+
+places_ascend : (records : List Record) (from : ℕ) (slots : List ℕ) (q s : ℕ) → Ascends from (map (block_of records) slots) → 1 ≤ times q slots → 1 ≤ times s slots → place_at records q ≡ place_at records s → q ≡ s
+places_ascend records from [] q s a q_stands s_stands same = absurd (omega (arith, q_stands))
+places_ascend records from (x ∷ slots) q s a q_stands s_stands same =
+    let behind : (y : ℕ) → x ≢ y → 1 ≤ times y (x ∷ slots) → 1 ≤ times y slots = λ y apart stands. omega (arith, stands, times-cons y x slots, ap one_if (ne_eqb x y apart)) in
+    let higher : (y : ℕ) → x ≢ y → 1 ≤ times y (x ∷ slots) → place_at records x < place_at records y =
+        λ y apart stands. omega (arith, a.1, place_above records (place_at records x + (record_at records x).size) slots y a.2 (behind y apart stands)) in
+    elim (cases_eq x q) [
+      | inl q_here ↦ elim (cases_eq x s) [
+          | inl s_here ↦ sym q_here ∙ s_here
+          | inr s_apart ↦ absurd (omega (arith, higher s s_apart s_stands, ap (place_at records) q_here, same))
+        ]
+      | inr q_apart ↦ elim (cases_eq x s) [
+          | inl s_here ↦ absurd (omega (arith, higher q q_apart q_stands, ap (place_at records) s_here, same))
+          | inr s_apart ↦ places_ascend records (place_at records x + (record_at records x).size) slots q s a.2 (behind q q_apart q_stands) (behind s s_apart s_stands) same
+        ]
+    ]
+
+-- blocks of a good content at one place are one block
+pub places_apart : (records : List Record) (layout : Layout) → IsGood (content_by records layout) → (q s : ℕ) → 1 ≤ times q (slots_of layout.areas) → 1 ≤ times s (slots_of layout.areas) → place_at records q ≡ place_at records s → q ≡ s
+places_apart records layout good q s q_stands s_stands same =
+    let P : List (Block ℕ) → Type 0 = λ blocks. Ascends 0 blocks in
+    places_ascend records 0 (slots_of layout.areas) q s (subst P (blocks_of_areas records layout.areas) (Ascends-pools 0 (map (pool_of records) layout.areas) good.pools_good)) q_stands s_stands same
