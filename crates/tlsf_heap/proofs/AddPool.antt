@@ -1,5 +1,5 @@
 -- What add_pool reads off the cells, and what each of its answers means for the content.
-use Rattle.std.proofs.Common.{◌≡◌, ◌≢◌, ℕ, zero, suc, ◌+◌, ◌%◌, ◌<◌, ◌≤◌, Bool, true, false, cond, eqb, List, [], ◌∷◌, length, map, set, get_or, refl, sym, ap, ◌∙◌, subst, arith, Option, Some, None, Ok, Err, ◌⊎◌, inl, inr, ◌&&◌}
+use Rattle.std.proofs.Common.{◌≡◌, ◌≢◌, ℕ, ◌+◌, ◌%◌, ◌<◌, ◌≤◌, true, false, eqb, List, [], ◌∷◌, length, map, set, refl, sym, ap, ◌∙◌, subst, arith, Option, Some, None, Ok, Err, inl, inr, ◌&&◌}
 use Rattle.std.specs.Prelude.{nat_le}
 use Rattle.std.specs.List.{list_all}
 use Rattle.std.proofs.lemmas.Bool.{cases_eq, cases_lt, le-leb, lt-leb, and_from, and_right, true≢false}
@@ -12,13 +12,12 @@ use Rattle.tlsf_store.specs.Records.{blank, blank_in, record_at, vacant_count}
 use Rattle.tlsf_store.specs.Cells.{Cells, head_at, touched, with_taken}
 use Rattle.tlsf_store.proofs.RecordLaws.{record_at-set_same, record_at-set_other, vacant_count-take}
 use Rattle.tlsf_heap.specs.declared.refusal.Refusal.TheVariants.{BadPool, PoolsFull, TableFull}
-use Rattle.tlsf_heap.specs.declared.pool_entry.PoolEntry.{PoolEntry}
-use Rattle.tlsf_heap.specs.Content.{Pool, used_records}
+use Rattle.tlsf_heap.specs.Content.{used_records}
 use Rattle.tlsf_heap.specs.Lists.{list_of}
 use Rattle.tlsf_heap.specs.Pools.{add_pool, with_pool, can_be_pool, is_apart, most_pools}
 use Rattle.tlsf_heap.specs.Good.{times}
 use Rattle.tlsf_heap.specs.Edits.{IsUsed}
-use Rattle.tlsf_heap.specs.Layout.{Area, Layout, IsLayout, Stands, home_in, home_of, at_home, first_slot, pool_of, content_by, content_of, entries_of}
+use Rattle.tlsf_heap.specs.Layout.{Area, Stands, home_in, home_of, at_home, first_slot, pool_of, content_by, content_of, entries_of}
 use Rattle.tlsf_heap.specs.Entries.{is_entry_apart, pool_entered}
 use Rattle.tlsf_heap.proofs.EntryLists.{entries_of-padded}
 use Rattle.tlsf_heap.proofs.Linking.{times-front}
@@ -43,9 +42,9 @@ free_if_home k r Live h = absurd (omega (arith, h))
 
 used_if_free : (s : State) → s ≡ Free → s ≢ Vacant
 used_if_free s e = λ v. absurd (free_apart (sym e ∙ v))
- where
-  free_apart : Free ≢ Vacant
-  free_apart = λ e. cc
+  where
+    free_apart : Free ≢ Vacant
+    free_apart = λ e. cc
 
 module _ (cells : Cells) (stands : Stands cells) where
   was : content_of cells ≡ content_by cells.records stands.layout
@@ -75,17 +74,17 @@ module _ (cells : Cells) (stands : Stands cells) where
   head_used k within =
       let P : Option ℕ → Type 0 = λ o. IsUsed cells.records o in
       subst P (sym (stands.represented.firsts k within)) (of_list (list_of k stands.layout.lists) (λ q. stands.represented.homes k q within))
-   where
-    of_list : (slots : List ℕ) → ((q : ℕ) → times q slots ≡ at_home k (home_of cells.records q)) → IsUsed cells.records (first_slot slots)
-    of_list [] homes = tt
-    of_list (h ∷ slots) homes =
-        let front = times-front h slots in
-        let free : (record_at cells.records h).state ≡ Free = free_if_home k (record_at cells.records h) (record_at cells.records h).state (omega (arith, front, homes h)) in
-        let below : h < length cells.records = elim (cases_lt h (length cells.records)) [
-          | inl below ↦ below
-          | inr past ↦ absurd (used_if_free (record_at cells.records h).state free (ap (λ (r : Record). r.state) (get_or_past cells.records h blank past)))
-        ] in
-        (below, used_if_free (record_at cells.records h).state free)
+    where
+      of_list : (slots : List ℕ) → ((q : ℕ) → times q slots ≡ at_home k (home_of cells.records q)) → IsUsed cells.records (first_slot slots)
+      of_list [] homes = tt
+      of_list (h ∷ slots) homes =
+          let front = times-front h slots in
+          let free : (record_at cells.records h).state ≡ Free = free_if_home k (record_at cells.records h) (record_at cells.records h).state (omega (arith, front, homes h)) in
+          let below : h < length cells.records = elim (cases_lt h (length cells.records)) [
+            | inl below ↦ below
+            | inr past ↦ absurd (used_if_free (record_at cells.records h).state free (ap (λ (r : Record). r.state) (get_or_past cells.records h blank past)))
+          ] in
+          (below, used_if_free (record_at cells.records h).state free)
 
   module _ (base bytes : ℕ) where
     pub refused_bad : (can_be_pool base bytes && list_all (is_entry_apart base bytes) (entries_of cells.pools)) ≡ false → add_pool base bytes (content_of cells) ≡ Err BadPool
@@ -120,13 +119,13 @@ module _ (cells : Cells) (stands : Stands cells) where
 pub used_after_take : (records : List Record) (slot : ℕ) (o : Option ℕ) → slot < length records → IsUsed records o → IsUsed (set records slot (blank_in Free)) o
 used_after_take records slot None within used = tt
 used_after_take records slot (Some q) within used = (
-    omega (arith, used.0, length-set records slot (blank_in Free)),
-    elim (cases_eq q slot) [
-      | inl here ↦
-          used_if_free _ (let P : ℕ → Type 0 = λ n. (record_at (set records slot (blank_in Free)) n).state ≡ Free in subst P (sym here) (ap (λ (r : Record). r.state) (record_at-set_same records slot (blank_in Free) within)))
-      | inr apart ↦ λ v. used.1 (sym (ap (λ (r : Record). r.state) (record_at-set_other records slot q (blank_in Free) apart)) ∙ v)
-    ],
-  )
+  omega (arith, used.0, length-set records slot (blank_in Free)),
+  elim (cases_eq q slot) [
+    | inl here ↦
+        used_if_free _ (let P : ℕ → Type 0 = λ n. (record_at (set records slot (blank_in Free)) n).state ≡ Free in subst P (sym here) (ap (λ (r : Record). r.state) (record_at-set_same records slot (blank_in Free) within)))
+    | inr apart ↦ λ v. used.1 (sym (ap (λ (r : Record). r.state) (record_at-set_other records slot q (blank_in Free) apart)) ∙ v)
+  ],
+)
 
 some_bytes : (base bytes : ℕ) → can_be_pool base bytes ≡ true → bytes ≢ 0
 some_bytes base bytes can e =

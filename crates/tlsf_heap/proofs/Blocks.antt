@@ -1,16 +1,13 @@
 -- Blocks in order of place: the one at a place, and how many there are of a kind once it gives way to others.
-use Rattle.std.proofs.Common.{◌≡◌, ◌≢◌, ℕ, ◌+◌, ◌-◌, ◌%◌, ◌<◌, ◌≤◌, Bool, true, false, cond, eqb, not, ◌&&◌, List, [], ◌∷◌, ◌++◌, length, map, refl, sym, ap, ◌∙◌, subst, arith, count_by, sum_by, flat_map, find, IsTrue, Option, Some, None, is_none}
+use Rattle.std.proofs.Common.{◌≡◌, ℕ, ◌+◌, ◌<◌, ◌≤◌, Bool, true, false, cond, ◌&&◌, List, [], ◌∷◌, ◌++◌, refl, sym, ap, ◌∙◌, subst, arith, count_by}
 use Rattle.std.specs.Prelude.{⊤, ◌==◌}
 use Rattle.std.proofs.lemmas.List.Sums.{sum_by-cons, sum_by-append}
-use Rattle.std.proofs.lemmas.Grind.{common_steps}
-use Rattle.std.proofs.lemmas.Bool.Decides.{nat_tests}
-use Rattle.std.proofs.lemmas.Bool.{cases_Bool, cases_eq, eqb-true, eqb-false, ne_eqb, eq-eqb, and_parts, and_left, and_from, true≢false}
+use Rattle.std.proofs.lemmas.Bool.{cases_Bool, eqb-true, ne_eqb, and_parts, and_left}
 use Rattle.std.specs.List.{AllByRecursion}
-use Rattle.std.proofs.Common.{append_assoc, ◌⊎◌, inl, inr}
-use Rattle.tlsf_class.specs.Classes.{unit, class}
-use Rattle.tlsf_heap.specs.Content.{Block, Pool, Content, blocks_of, is_free, is_at, size_at}
-use Rattle.tlsf_heap.specs.Good.{Covers, NoFreeNeighbours, IsGoodPool, AreGoodPools, is_listed}
-use Rattle.tlsf_heap.specs.Malloc.{replaced, replaced_in}
+use Rattle.std.proofs.Common.{inl, inr}
+use Rattle.tlsf_class.specs.Classes.{class}
+use Rattle.tlsf_heap.specs.Content.{Block, Pool, blocks_of, is_free, is_at}
+use Rattle.tlsf_heap.specs.Good.{Covers, AreGoodPools, is_listed}
 
 -- each block begins at or above the end of the one before
 abbrev pub Ascends : {A : Type 0} → ℕ → List (Block A) → Type 0

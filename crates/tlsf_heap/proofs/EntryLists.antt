@@ -1,7 +1,6 @@
 -- Lists of pool entries: read, written, and in order of base.
-use Rattle.std.proofs.Common.{◌≡◌, ◌≢◌, ℕ, zero, suc, one-add, ◌+◌, ◌-◌, ◌<◌, ◌≤◌, Bool, true, false, cond, not, List, [], ◌∷◌, ◌++◌, length, map, replicate, take, get_or, refl, sym, ap, ◌∙◌, subst, arith, Option, Some, None, ◌⊎◌, inl, inr}
+use Rattle.std.proofs.Common.{◌≡◌, ℕ, zero, suc, one-add, ◌+◌, ◌-◌, ◌<◌, ◌≤◌, not, List, [], ◌∷◌, ◌++◌, length, map, replicate, take, get_or, refl, sym, ap, ◌∙◌, subst, arith, Option, Some, None, inl, inr}
 use Rattle.std.specs.Prelude.{All, nat_lt, insert}
-use Rattle.std.specs.List.{position_or_len, prefix_len}
 use Rattle.std.proofs.lemmas.Bool.{cases_Bool, cases_lt, lt-ltb, le-ltb, not_from_true, not_from_false}
 use Rattle.std.proofs.lemmas.List.{take_more, get_or-map, get_or_past, get_or_append_left, get_or-append_right, get_or-replicate, length-append, length-map, length-replicate, ext_get_or}
 use Rattle.std.proofs.lemmas.List.Elements.{All-push}
@@ -10,7 +9,7 @@ use Rattle.tlsf_store.specs.declared.pools.Pool.{Pool as StoredPool}
 use Rattle.tlsf_store.specs.Cells.{pool_at, pool_entries, IsPoolBelow}
 use Rattle.tlsf_heap.specs.declared.pool_entry.PoolEntry.{PoolEntry}
 use Rattle.tlsf_heap.specs.Layout.{pool_in, entry_in, padded, padded_at, entries_of}
-use Rattle.tlsf_heap.specs.Entries.{entry_place, inserted, with_entry}
+use Rattle.tlsf_heap.specs.Entries.{entry_place, with_entry}
 
 -- the entry that fills no place
 abbrev pub no_entry : PoolEntry
@@ -33,26 +32,32 @@ length-entries_more entries (Some pool) = omega (arith, length-append {A = PoolE
 
 pub entries_below_more : (count : ℕ) (entries : List PoolEntry) (pool : Option StoredPool) → All (FirstBelow count) entries → IsPoolBelow count pool → All (FirstBelow count) (entries ++ entries_of (pool ∷ []))
 entries_below_more count entries None all below = let P : List PoolEntry → Type 0 = λ es. All (FirstBelow count) es in subst P (sym (append-none entries)) all
- where
-  append-none : (es : List PoolEntry) → es ++ [] ≡ es
-  append-none [] = refl
-  append-none (e ∷ es) = ap (λ r. e ∷ r) (append-none es)
+  where
+    append-none : (es : List PoolEntry) → es ++ [] ≡ es
+    append-none [] = refl
+    append-none (e ∷ es) = ap (λ r. e ∷ r) (append-none es)
 entries_below_more count entries (Some pool) all below = All-push (FirstBelow count) entries (entry_in pool) all below
 
 -- the entries of what was written from them
 pub entries_of-padded : (entries : List PoolEntry) → entries_of (padded entries) ≡ entries
 entries_of-padded entries = entries_of-append (map (λ e. Some (pool_in e)) entries) (replicate (pool_entries - length entries) None) ∙ whole entries (pool_entries - length entries)
- where
-  nothing : (n : ℕ) → entries_of (replicate n None) ≡ []
-  nothing zero = refl
-  nothing (suc n) = nothing n
-  whole : (es : List PoolEntry) (n : ℕ) → entries_of (map (λ e. Some (pool_in e)) es) ++ entries_of (replicate n None) ≡ es
-  whole [] n = nothing n
-  whole (e ∷ es) n = ap (λ r. e ∷ r) (whole es n)
+  where
+    nothing : (n : ℕ) → entries_of (replicate n None) ≡ []
+    nothing zero = refl
+    nothing (suc n) = nothing n
+
+    whole : (es : List PoolEntry) (n : ℕ) → entries_of (map (λ e. Some (pool_in e)) es) ++ entries_of (replicate n None) ≡ es
+    whole [] n = nothing n
+    whole (e ∷ es) n = ap (λ r. e ∷ r) (whole es n)
 
 pub length-padded : (entries : List PoolEntry) → length entries ≤ pool_entries → length (padded entries) ≡ pool_entries
-length-padded entries few = omega (arith, few, length-append (map (λ (e : PoolEntry). Some (pool_in e)) entries) (replicate (pool_entries - length entries) None),
-    length-map {A = PoolEntry} {B = Option StoredPool} entries (λ e. Some (pool_in e)), length-replicate {A = Option StoredPool} (pool_entries - length entries) None)
+length-padded entries few = omega (
+  arith,
+  few,
+  length-append (map (λ (e : PoolEntry). Some (pool_in e)) entries) (replicate (pool_entries - length entries) None),
+  length-map {A = PoolEntry} {B = Option StoredPool} entries (λ e. Some (pool_in e)),
+  length-replicate {A = Option StoredPool} (pool_entries - length entries) None,
+)
 
 pub padded_at_is : (entries : List PoolEntry) (k : ℕ) → k < pool_entries → padded_at entries k ≡ pool_at (padded entries) k
 padded_at_is entries k within =
@@ -64,7 +69,7 @@ padded_at_is entries k within =
           let behind : k - length pools < pool_entries - length entries = omega (arith, past, same, within) in
           get_or_past pools k None past
           ∙ sym (get_or-append_right pools (replicate (pool_entries - length entries) None) (length pools) k None refl past
-            ∙ get_or-replicate (pool_entries - length entries) (k - length pools) None None behind)
+          ∙ get_or-replicate (pool_entries - length entries) (k - length pools) None None behind)
     ]
 
 pub written_is_padded : (pools : List (Option StoredPool)) (entries : List PoolEntry) → length pools ≡ pool_entries → length entries ≤ pool_entries → ((k : ℕ) → k < pool_entries → pool_at pools k ≡ padded_at entries k) → pools ≡ padded entries

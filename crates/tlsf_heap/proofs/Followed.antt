@@ -1,7 +1,6 @@
 -- Following the links of cells that represent a layout gives the layout; how many slots are in use.
-use Rattle.std.proofs.Common.{◌≡◌, ◌≢◌, ℕ, zero, suc, ◌+◌, ◌<◌, ◌≤◌, Bool, true, false, cond, eqb, List, [], ◌∷◌, ◌++◌, length, map, get_or, refl, sym, ap, ◌∙◌, subst, arith, Option, Some, None, ◌⊎◌, inl, inr}
-use Rattle.std.specs.Prelude.{◌==◌}
-use Rattle.std.proofs.lemmas.Bool.{cases_Bool, cases_eq, cases_lt, eq-eqb, ne_eqb}
+use Rattle.std.proofs.Common.{◌≡◌, ℕ, zero, suc, ◌+◌, ◌<◌, ◌≤◌, eqb, List, [], ◌∷◌, ◌++◌, length, map, refl, sym, ap, ◌∙◌, subst, arith, Option, Some, None, inl, inr}
+use Rattle.std.proofs.lemmas.Bool.{cases_Bool, cases_eq}
 use Rattle.std.proofs.lemmas.List.{length-map, length-append, get_or-map, get_or_past, ext_get_or, map-append}
 use Rattle.std.proofs.lemmas.List.Sums.{sum_by-cons}
 use Rattle.tlsf_class.specs.Classes.{classes}
@@ -11,14 +10,13 @@ use Rattle.tlsf_store.specs.declared.records.State.TheVariants.{Vacant, Free, Li
 use Rattle.tlsf_store.specs.Records.{blank, record_at, vacant_count}
 use Rattle.tlsf_store.specs.Cells.{Cells, head_at}
 use Rattle.tlsf_store.proofs.RecordLaws.{mark}
-use Rattle.tlsf_heap.specs.declared.pool_entry.PoolEntry.{PoolEntry}
-use Rattle.tlsf_heap.specs.Content.{Block, Pool, Content, blocks_of, used_records}
+use Rattle.tlsf_heap.specs.Content.{blocks_of, used_records}
 use Rattle.tlsf_heap.specs.Lists.{list_of, without}
 use Rattle.tlsf_heap.specs.Good.{times}
 use Rattle.tlsf_heap.specs.Layout.{Area, Layout, IsLayout, IsLinked, AreChains, first_slot, at_home, held_in, home_in, home_of, slots_of, entries_of, next_at, next_free_at, follow, area_from, layout_from, content_of, content_by, pool_of, block_of}
 use Rattle.tlsf_heap.proofs.Blocks.{one_if}
 use Rattle.tlsf_heap.proofs.FreeLists.{times-cons, times-without_same, times-without_other}
-use Rattle.tlsf_heap.proofs.EntryLists.{entries_of-padded, no_entry}
+use Rattle.tlsf_heap.proofs.EntryLists.{entries_of-padded}
 use Rattle.tlsf_heap.proofs.Linking.{times-front}
 use Rattle.tlsf_heap.proofs.LinkedLayout.{at_home-most}
 
@@ -110,7 +108,7 @@ module _ (home : ℕ → Option ℕ) (cells : Cells) (layout : Layout) (is : IsL
       let vacant = vacant_sum cells.records in
       let held = times_sum n (slots_of layout.areas) none_past in
       let both = sum_below-both (λ s. mark (record_at cells.records s)) (λ s. times s (slots_of layout.areas)) n (λ s below.
-        omega (arith, is.held s, marked_or_held (record_at cells.records s) (record_at cells.records s).state refl)) in
+      omega (arith, is.held s, marked_or_held (record_at cells.records s) (record_at cells.records s).state refl)) in
       omega (arith, vacant, held, both)
 
 -- the blocks of the pools are those of the slots
@@ -131,14 +129,14 @@ module _ (cells : Cells) (layout : Layout) (is : IsLayout (home_of cells.records
   layout_followed : layout_from cells ≡ layout
   layout_followed =
       let areas : map (area_from cells.records) (entries_of cells.pools) ≡ layout.areas =
-          ap (map (area_from cells.records)) (ap entries_of is.entries ∙ entries_of-padded (map (λ (a : Area). a.entry) layout.areas))
-          ∙ areas_followed cells.records _ layout.areas (omega (arith, in_use (home_of cells.records) cells layout is)) is.chained in
+      ap (map (area_from cells.records)) (ap entries_of is.entries ∙ entries_of-padded (map (λ (a : Area). a.entry) layout.areas))
+      ∙ areas_followed cells.records _ layout.areas (omega (arith, in_use (home_of cells.records) cells layout is)) is.chained in
       let lists : map (follow (length cells.records) (next_free_at cells.records)) cells.heads ≡ layout.lists =
-          ext_get_or [] _ layout.lists (length-map cells.heads _ ∙ is.heads_count ∙ sym is.lists_count) (λ k within.
-            let below : k < length cells.heads = omega (arith, within, length-map cells.heads (follow (length cells.records) (next_free_at cells.records))) in
-            let class_below : k < classes = omega (arith, below, is.heads_count) in
-            get_or-map (follow (length cells.records) (next_free_at cells.records)) cells.heads k None [] below
-            ∙ follow_is (length cells.records) _ (next_free_at cells.records) None (list_of k layout.lists) (head_at cells.heads k) (is.firsts k class_below) (list_few k class_below) (is.listed k class_below)) in
+      ext_get_or [] _ layout.lists (length-map cells.heads _ ∙ is.heads_count ∙ sym is.lists_count) (λ k within.
+      let below : k < length cells.heads = omega (arith, within, length-map cells.heads (follow (length cells.records) (next_free_at cells.records))) in
+      let class_below : k < classes = omega (arith, below, is.heads_count) in
+      get_or-map (follow (length cells.records) (next_free_at cells.records)) cells.heads k None [] below
+      ∙ follow_is (length cells.records) _ (next_free_at cells.records) None (list_of k layout.lists) (head_at cells.heads k) (is.firsts k class_below) (list_few k class_below) (is.listed k class_below)) in
       ap (λ others. record { areas = others; lists = map (follow (length cells.records) (next_free_at cells.records)) cells.heads }) areas
       ∙ ap (λ ls. record { areas = layout.areas; lists = ls }) lists
 

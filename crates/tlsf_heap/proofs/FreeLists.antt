@@ -1,13 +1,11 @@
 -- How often a place stands in a class's list, after a block entered or left its list.
-use Rattle.std.proofs.Common.{◌≡◌, ◌≢◌, ℕ, suc, ◌+◌, ◌-◌, ◌<◌, ◌≤◌, Bool, true, false, cond, eqb, not, ◌&&◌, List, [], ◌∷◌, ◌++◌, length, refl, sym, ap, ◌∙◌, subst, arith, zero-add, count_by, filter, get_or, set, Option, Some, None, drop, option_and_then, ◌⊎◌, inl, inr}
+use Rattle.std.proofs.Common.{◌≡◌, ◌≢◌, ℕ, suc, ◌+◌, ◌<◌, ◌≤◌, true, false, cond, eqb, ◌&&◌, List, [], ◌∷◌, length, refl, sym, ap, ◌∙◌, subst, arith, zero-add, count_by, set, Some, None, inl, inr}
 use Rattle.std.specs.Prelude.{◌==◌}
-use Rattle.std.proofs.lemmas.Bool.{cases_Bool, cases_eq, eq-eqb, ne_eqb, eqb-true, eqb-false, true≢false, and_left, and_right}
-use Rattle.std.proofs.lemmas.List.{get_or-set_same, get_or-set_other, length-set, get_or-drop, length-drop}
-use Rattle.std.proofs.Math.ListN.{get_or-eq_default}
-use Rattle.tlsf_class.specs.Classes.{classes, class, need}
-use Rattle.tlsf_class.proofs.ClassLaws.{class-lt, need-lt}
-use Rattle.tlsf_heap.specs.Content.{Block, is_free, is_at}
-use Rattle.tlsf_heap.specs.Lists.{list_of, without, link, unlink, first_of_lists, pick}
+use Rattle.std.proofs.lemmas.Bool.{cases_Bool, cases_eq, eq-eqb, ne_eqb, eqb-true, and_right}
+use Rattle.std.proofs.lemmas.List.{get_or-set_same, get_or-set_other, length-set}
+use Rattle.tlsf_class.specs.Classes.{classes, class}
+use Rattle.tlsf_class.proofs.ClassLaws.{class-lt}
+use Rattle.tlsf_heap.specs.Lists.{list_of, without, link, unlink, first_of_lists}
 use Rattle.tlsf_heap.specs.Good.{times, is_listed}
 use Rattle.tlsf_heap.specs.Malloc.{gap, link_gap}
 use Rattle.tlsf_heap.proofs.Blocks.{count_by-cons, one_if}

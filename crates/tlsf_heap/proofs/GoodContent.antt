@@ -1,17 +1,17 @@
 -- create, add_pool and malloc keep a content good.
-use Rattle.std.proofs.Common.{◌≡◌, ◌≢◌, ℕ, suc, ◌+◌, ◌-◌, ◌*◌, ◌%◌, ◌<◌, ◌≤◌, Bool, true, false, cond, eqb, not, ◌&&◌, List, [], ◌∷◌, ◌++◌, length, map, refl, sym, ap, ◌∙◌, subst, arith, count_by, flat_map, Option, Some, None, drop, option_and_then, replicate, ◌⊎◌, inl, inr, length-append, zero-add}
-use Rattle.std.specs.Prelude.{⊤, ◌==◌, Result, Ok, Err, nat_lt, nat_le}
+use Rattle.std.proofs.Common.{◌≡◌, ◌≢◌, ℕ, suc, ◌+◌, ◌-◌, ◌%◌, ◌<◌, ◌≤◌, Bool, true, false, cond, ◌&&◌, List, [], ◌∷◌, ◌++◌, length, refl, sym, ap, ◌∙◌, subst, arith, count_by, Option, Some, None, drop, option_and_then, inl, inr, length-append, zero-add}
+use Rattle.std.specs.Prelude.{◌==◌, Ok, Err, nat_lt, nat_le}
 use Rattle.std.specs.List.{AllByRecursion, list_all}
-use Rattle.std.proofs.lemmas.Bool.{cases_Bool, eq-eqb, ne_eqb, eqb-true, eqb-false, ltb-true, ltb-false, leb-true, leb-false, true≢false, and_parts, and_cases, and_from, or_cases}
+use Rattle.std.proofs.lemmas.Bool.{cases_Bool, ne_eqb, eqb-true, eqb-false, ltb-true, ltb-false, leb-true, leb-false, and_parts, and_cases, or_cases}
 use Rattle.std.proofs.lemmas.List.{get_or-drop, length-drop, get_or-replicate, length-replicate, length-map}
 use Rattle.tlsf_class.specs.Classes.{unit, classes, greatest_size, class, need}
 use Rattle.tlsf_class.specs.Rounding.{round}
 use Rattle.tlsf_class.proofs.ClassLaws.{need_holds}
 use Rattle.tlsf_class.proofs.RoundingLaws.{round-Some}
-use Rattle.tlsf_heap.specs.declared.refusal.Refusal.TheVariants.{ZeroSize, NoFit, TableFull, BadPool, PoolsFull}
+use Rattle.tlsf_heap.specs.declared.refusal.Refusal.TheVariants.{ZeroSize, TableFull, BadPool, PoolsFull}
 use Rattle.tlsf_heap.specs.Content.{Block, Pool, Content, blocks_of, is_free, is_at, size_at, used_records}
-use Rattle.tlsf_heap.specs.Lists.{list_of, link, unlink, first_of_lists, pick}
-use Rattle.tlsf_heap.specs.Malloc.{gap, cut, replaced, replaced_in, link_gap, allocated, allocate, malloc_picked, malloc_rounded, malloc}
+use Rattle.tlsf_heap.specs.Lists.{list_of, unlink, first_of_lists, pick}
+use Rattle.tlsf_heap.specs.Malloc.{gap, cut, replaced_in, allocated, allocate, malloc_picked, malloc_rounded, malloc}
 use Rattle.tlsf_heap.specs.Pools.{most_pools, end_of_places, created, add_pool, with_pool, can_be_pool, is_apart, in_order_of_base}
 use Rattle.tlsf_heap.specs.Good.{Covers, NoFreeNeighbours, IsGoodPool, AreGoodPools, AreLists, IsGood, times, is_listed}
 use Rattle.tlsf_heap.proofs.Blocks.{Found, found_listed, Ascends-pools, count_by-cons, count_by-append, count_listed-none, one_if}

@@ -1,12 +1,12 @@
 -- The worked rows of the heap, computed by the definitions.
-use Rattle.std.proofs.Common.{◌≡◌, ℕ, List, [], ◌∷◌, ◌++◌, Option, Some, None, refl, Bool, true, false, map, not, flat_map, option_map}
+use Rattle.std.proofs.Common.{◌≡◌, ℕ, List, [], ◌∷◌, ◌++◌, refl, Bool, true, false, map, not}
 use Rattle.std.specs.Prelude.{Result, Ok, Err}
 use Rattle.tlsf_heap.specs.declared.refusal.Refusal.{Refusal}
-use Rattle.tlsf_heap.specs.declared.refusal.Refusal.TheVariants.{ZeroSize, NoFit, TableFull, BadPool, PoolsFull}
+use Rattle.tlsf_heap.specs.declared.refusal.Refusal.TheVariants.{ZeroSize, NoFit, TableFull, BadPool}
 use Rattle.tlsf_class.specs.Classes.{class, need, low}
 use Rattle.tlsf_class.specs.Rounding.{rounded}
 use Rattle.tlsf_heap.specs.Lists.{list_of}
-use Rattle.tlsf_heap.specs.Content.{Block, Pool, Content, blocks_of, is_free}
+use Rattle.tlsf_heap.specs.Content.{Content, blocks_of, is_free}
 use Rattle.tlsf_heap.specs.Malloc.{malloc}
 use Rattle.tlsf_heap.specs.Pools.{created, add_pool}
 

@@ -1,5 +1,5 @@
 -- What the cells of a heap stand for: from the start on, and as its callers read it.
-use Rattle.std.proofs.Common.{◌≡◌, Bool, eqb, ℕ, zero, suc, ◌+◌, ◌<◌, ◌≤◌, ◌/◌, ◌%◌, List, [], ◌∷◌, length, map, replicate, get_or, refl, sym, ap, ◌∙◌, subst, arith, Option, Some, None, ◌⊎◌, inl, inr}
+use Rattle.std.proofs.Common.{◌≡◌, Bool, eqb, ℕ, zero, suc, ◌≤◌, ◌/◌, ◌%◌, List, [], ◌∷◌, map, replicate, get_or, refl, sym, ap, ◌∙◌, subst, arith, Option, None, inl, inr}
 use Rattle.std.specs.Int.{bit_at}
 use Rattle.std.proofs.lemmas.Bool.{cases_lt}
 use Rattle.std.proofs.lemmas.List.{length-replicate, get_or-replicate, get_or_past}
@@ -10,8 +10,7 @@ use Rattle.tlsf_store.specs.declared.records.State.{State}
 use Rattle.tlsf_store.specs.declared.records.State.TheVariants.{Vacant, Free, Live}
 use Rattle.tlsf_store.specs.Records.{blank, record_at}
 use Rattle.tlsf_store.specs.Cells.{Cells, empty_cells}
-use Rattle.tlsf_heap.specs.declared.pool_entry.PoolEntry.{PoolEntry}
-use Rattle.tlsf_heap.specs.Content.{Block, Pool, Content, blocks_of}
+use Rattle.tlsf_heap.specs.Content.{Block, Content, blocks_of}
 use Rattle.tlsf_heap.specs.Lists.{list_of}
 use Rattle.tlsf_heap.specs.Pools.{created}
 use Rattle.tlsf_heap.specs.Good.{times, IsGood}
@@ -89,10 +88,10 @@ module _ (cells : Cells) (stands : Stands cells) where
   -- the entries tell where the pools are
   pub ranges_are : map entry_range (entries_of cells.pools) ≡ map range_of (content_of cells).pools
   ranges_are = ap (map entry_range) (entries_are cells stands) ∙ of_areas stands.layout.areas ∙ sym (ap (λ content. map range_of content.pools) was)
-   where
-    of_areas : (areas : List Area) → map entry_range (map (λ (a : Area). a.entry) areas) ≡ map range_of (map (pool_of cells.records) areas)
-    of_areas [] = refl
-    of_areas (area ∷ areas) = ap (λ rs. (area.entry.base, area.entry.bytes) ∷ rs) (of_areas areas)
+    where
+      of_areas : (areas : List Area) → map entry_range (map (λ (a : Area). a.entry) areas) ≡ map range_of (map (pool_of cells.records) areas)
+      of_areas [] = refl
+      of_areas (area ∷ areas) = ap (λ rs. (area.entry.base, area.entry.bytes) ∷ rs) (of_areas areas)
 
 owner_is : (s : State) (slot q : ℕ) → one_if (is_slot slot (owner_in s q)) ≤ one_if (eqb q slot)
 owner_is Vacant slot q = omega arith
@@ -111,7 +110,7 @@ slots_are_good cells stands =
     let records : List Record = cells.records in
     let layout : Layout = stands.layout in
     let few : (slot : ℕ) → slot_times slot (blocks_of (map (pool_of records) layout.areas)) ≤ times slot (slots_of layout.areas) =
-        λ slot. omega (arith, ap (slot_times slot) (blocks_of_areas records layout.areas), slots_few records slot (slots_of layout.areas)) in
+    λ slot. omega (arith, ap (slot_times slot) (blocks_of_areas records layout.areas), slots_few records slot (slots_of layout.areas)) in
     let P : Content ℕ → Type 0 = λ x. HasGoodSlots x in
     subst P (sym (content_is cells layout stands.represented)) (record {
       distinct = λ slot. omega (arith, few slot, stands.represented.held slot, held_most (record_at records slot).state);

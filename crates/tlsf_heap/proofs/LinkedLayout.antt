@@ -1,6 +1,5 @@
 -- What the cells represent after a block entered its class's list.
-use Rattle.std.proofs.Common.{◌≡◌, ◌≢◌, ℕ, suc, ◌+◌, ◌/◌, ◌%◌, ◌<◌, ◌≤◌, Bool, true, false, cond, eqb, List, [], ◌∷◌, ◌++◌, length, map, set, refl, sym, ap, ◌∙◌, subst, arith, Option, Some, None, ◌⊎◌, inl, inr}
-use Rattle.std.specs.Prelude.{◌==◌, if◌then◌else◌}
+use Rattle.std.proofs.Common.{◌≡◌, ◌≢◌, ℕ, ◌+◌, ◌<◌, ◌≤◌, true, false, cond, eqb, List, [], ◌∷◌, length, set, refl, sym, ap, ◌∙◌, subst, arith, Option, Some, None, inl, inr}
 use Rattle.std.proofs.lemmas.Bool.{cases_eq, eq-eqb, ne_eqb}
 use Rattle.std.proofs.lemmas.List.{get_or-set_same, get_or-set_other, length-set}
 use Rattle.tlsf_class.specs.Classes.{classes}
@@ -10,11 +9,11 @@ use Rattle.tlsf_store.specs.Cells.{Cells, head_at, with_head}
 use Rattle.tlsf_heap.specs.Lists.{list_of}
 use Rattle.tlsf_heap.specs.Good.{times}
 use Rattle.tlsf_heap.specs.Edits.{with_prev_free, with_free_links, marked, linked}
-use Rattle.tlsf_heap.specs.Layout.{Area, Layout, IsLayout, IsLinked, AreChains, first_slot, at_home, held_in, slots_of}
+use Rattle.tlsf_heap.specs.Layout.{Layout, IsLayout, IsLinked, AreChains, first_slot, at_home, held_in, slots_of}
 use Rattle.tlsf_heap.proofs.Blocks.{one_if}
 use Rattle.tlsf_heap.proofs.FreeLists.{times-cons, list_of-set_same, list_of-set_other}
 use Rattle.tlsf_heap.proofs.Marking.{marks_set}
-use Rattle.tlsf_heap.proofs.Linking.{field_at, times-front, front_records, front_fields, length-front, front_is_linked, front_is_linked_elsewhere}
+use Rattle.tlsf_heap.proofs.Linking.{field_at, times-front, front_records, front_fields, front_is_linked, front_is_linked_elsewhere}
 
 -- the home of each slot, where one slot gets this class as its home
 abbrev pub with_home : ℕ → ℕ → (ℕ → Option ℕ) → ℕ → Option ℕ
@@ -59,20 +58,25 @@ module _ (home : ℕ → Option ℕ) (cells : Cells) (layout : Layout) (class sl
       let stands : 1 ≤ times q (list_of class layout.lists) = first_stands_in (list_of class layout.lists) q is in
       let q_home : home q ≡ Some class = home_is class (home q) (omega (arith, stands, were.homes class q class_within)) in
       were.homes k q k_within ∙ ap (at_home k) q_home ∙ at_home-elsewhere k class (λ e. apart (sym e))
-   where
-    first_stands_in : (slots : List ℕ) (q : ℕ) → first_slot slots ≡ Some q → 1 ≤ times q slots
-    first_stands_in [] q is = absurd (cc)
-    first_stands_in (s ∷ slots) q is = let P : ℕ → Type 0 = λ n. 1 ≤ times n (s ∷ slots) in subst P (let e : s ≡ q = cc in e) (times-front s slots)
+    where
+      first_stands_in : (slots : List ℕ) (q : ℕ) → first_slot slots ≡ Some q → 1 ≤ times q slots
+      first_stands_in [] q is = absurd (cc)
+      first_stands_in (s ∷ slots) q is = let P : ℕ → Type 0 = λ n. 1 ≤ times n (s ∷ slots) in subst P (let e : s ≡ q = cc in e) (times-front s slots)
 
   homes_after : (k q : ℕ) → k < classes → times q (list_of k (set layout.lists class (slot ∷ list_of class layout.lists))) ≡ at_home k (with_home slot class home q)
   homes_after k q k_within = elim (cases_eq k class) [
     | inl same ↦
         let P : ℕ → Type 0 = λ n. times q (list_of n (set layout.lists class (slot ∷ list_of class layout.lists))) ≡ at_home n (with_home slot class home q) in
         let list : times q (list_of class (set layout.lists class (slot ∷ list_of class layout.lists))) ≡ one_if (eqb slot q) + times q (list_of class layout.lists) =
-            ap (times q) (list_of-set_same class _ layout.lists (omega (arith, class_within, were.lists_count))) ∙ times-cons q slot (list_of class layout.lists) in
+        ap (times q) (list_of-set_same class _ layout.lists (omega (arith, class_within, were.lists_count))) ∙ times-cons q slot (list_of class layout.lists) in
         subst P (sym same) (list ∙ (elim (cases_eq q slot) [
-          | inl here ↦ omega (arith, ap one_if (eq-eqb slot q (sym here)), (let S : ℕ → Type 0 = λ n. times n (list_of class layout.lists) ≡ 0 in subst S (sym here) (none_in class class_within)),
-              ap (at_home class) (ap (λ b. cond b (Some class) (home q)) (eq-eqb q slot here)), at_home-here class)
+          | inl here ↦ omega (
+            arith,
+            ap one_if (eq-eqb slot q (sym here)),
+            (let S : ℕ → Type 0 = λ n. times n (list_of class layout.lists) ≡ 0 in subst S (sym here) (none_in class class_within)),
+            ap (at_home class) (ap (λ b. cond b (Some class) (home q)) (eq-eqb q slot here)),
+            at_home-here class,
+          )
           | inr apart ↦ omega (arith, ap one_if (ne_eqb slot q (λ e. apart (sym e))), were.homes class q class_within, ap (at_home class) (ap (λ b. cond b (Some class) (home q)) (ne_eqb q slot apart)))
         ]))
     | inr other ↦
@@ -89,7 +93,7 @@ module _ (home : ℕ → Option ℕ) (cells : Cells) (layout : Layout) (class sl
     | inl same ↦
         let P : ℕ → Type 0 = λ n. head_at (set cells.heads class (Some slot)) n ≡ first_slot (list_of n (set layout.lists class (slot ∷ list_of class layout.lists))) in
         subst P (sym same) (get_or-set_same cells.heads class (Some slot) None (omega (arith, class_within, were.heads_count))
-          ∙ sym (ap first_slot (list_of-set_same class (slot ∷ list_of class layout.lists) layout.lists (omega (arith, class_within, were.lists_count)))))
+        ∙ sym (ap first_slot (list_of-set_same class (slot ∷ list_of class layout.lists) layout.lists (omega (arith, class_within, were.lists_count)))))
     | inr other ↦ get_or-set_other cells.heads class k (Some slot) None other ∙ were.firsts k k_within ∙ sym (ap first_slot (list_of-set_other class k (slot ∷ list_of class layout.lists) layout.lists other))
   ]
 
@@ -102,11 +106,11 @@ module _ (home : ℕ → Option ℕ) (cells : Cells) (layout : Layout) (class sl
         let P : ℕ → Type 0 = λ n. Linked (list_of n (set layout.lists class (slot ∷ list_of class layout.lists))) in
         let Q : List ℕ → Type 0 = λ slots. Linked slots in
         subst P (sym same) (subst Q (sym (list_of-set_same class (slot ∷ list_of class layout.lists) layout.lists (omega (arith, class_within, were.lists_count))))
-          (front_is_linked slot cells.records (list_of class layout.lists) within below (none_in class class_within) (λ q. once_in class q class_within) (were.listed class class_within)))
+        (front_is_linked slot cells.records (list_of class layout.lists) within below (none_in class class_within) (λ q. once_in class q class_within) (were.listed class class_within)))
     | inr other ↦
         let Q : List ℕ → Type 0 = λ slots. Linked slots in
         subst Q (sym (list_of-set_other class k (slot ∷ list_of class layout.lists) layout.lists other))
-          (front_is_linked_elsewhere (first_slot (list_of class layout.lists)) slot cells.records (list_of k layout.lists) (none_in k k_within) (λ q is. first_elsewhere k q k_within other is) (were.listed k k_within))
+        (front_is_linked_elsewhere (first_slot (list_of class layout.lists)) slot cells.records (list_of k layout.lists) (none_in k k_within) (λ q is. first_elsewhere k q k_within other is) (were.listed k k_within))
   ]
 
   -- the chains don't see the links of the lists
@@ -116,7 +120,7 @@ module _ (home : ℕ → Option ℕ) (cells : Cells) (layout : Layout) (class sl
       let P : (ℕ → Option ℕ) → Type 0 = λ f. AreChains f (field_at (λ r. r.next) cells.records) layout.areas in
       let Q : (ℕ → Option ℕ) → Type 0 = λ f. AreChains (field_at (λ r. r.prev) new) f layout.areas in
       subst Q (sym (front_fields (first_slot (list_of class layout.lists)) slot cells.records (λ r. r.next) (λ r. refl) (λ r. refl)))
-        (subst P (sym (front_fields (first_slot (list_of class layout.lists)) slot cells.records (λ r. r.prev) (λ r. refl) (λ r. refl))) were.chained)
+      (subst P (sym (front_fields (first_slot (list_of class layout.lists)) slot cells.records (λ r. r.prev) (λ r. refl) (λ r. refl))) were.chained)
 
   held_after : (q : ℕ) → times q (slots_of layout.areas) ≡ held_in (record_at (front_records (first_slot (list_of class layout.lists)) slot cells.records) q).state
   held_after q =

@@ -1,16 +1,13 @@
 -- A block enters its class's list: what the edited cells stand for.
-use Rattle.std.proofs.Common.{◌≡◌, ◌≢◌, ℕ, suc, ◌+◌, ◌-◌, ◌/◌, ◌%◌, ◌*◌, ◌^◌, ◌<◌, ◌≤◌, Bool, true, false, cond, eqb, List, [], ◌∷◌, ◌++◌, length, map, set, refl, sym, ap, ◌∙◌, subst, arith, Option, Some, None, ◌⊎◌, inl, inr}
-use Rattle.std.specs.Prelude.{◌==◌}
-use Rattle.std.proofs.lemmas.Bool.{cases_Bool, cases_eq, cases_lt, eq-eqb, ne_eqb, eqb-true, eqb-false}
-use Rattle.std.proofs.lemmas.List.{get_or-set_same, get_or-set_other, length-set, set_past}
-use Rattle.tlsf_class.specs.Classes.{steps, levels, classes}
+use Rattle.std.proofs.Common.{◌≡◌, ◌≢◌, ℕ, ◌<◌, ◌≤◌, List, [], ◌∷◌, length, set, refl, sym, ap, ◌∙◌, subst, arith, Option, Some, None, inl, inr}
+use Rattle.std.proofs.lemmas.Bool.{cases_eq, cases_lt, eq-eqb}
+use Rattle.std.proofs.lemmas.List.{length-set, set_past}
 use Rattle.tlsf_store.specs.declared.records.Record.{Record}
-use Rattle.tlsf_store.specs.Records.{blank, record_at}
+use Rattle.tlsf_store.specs.Records.{record_at}
 use Rattle.tlsf_store.proofs.RecordLaws.{record_at-set_same, record_at-set_other}
 use Rattle.tlsf_heap.specs.Good.{times}
-use Rattle.tlsf_heap.specs.Edits.{edited_in, with_bit, marked, linked}
-use Rattle.tlsf_heap.specs.Bitmaps.{head_bit, word_bit, AreMarked}
-use Rattle.tlsf_heap.specs.Layout.{first_slot, IsLinked, AreChains, Area}
+use Rattle.tlsf_heap.specs.Edits.{edited_in}
+use Rattle.tlsf_heap.specs.Layout.{first_slot, IsLinked}
 use Rattle.tlsf_heap.proofs.Blocks.{one_if}
 use Rattle.tlsf_heap.proofs.FreeLists.{times-cons}
 
@@ -20,11 +17,11 @@ pub same_field : {B : Type 0} (field : Record → B) (edit : Record → Record) 
 same_field field edit same None records q = refl
 same_field field edit same (Some slot) records q = elim (cases_eq q slot) [
   | inl here ↦ elim (cases_lt slot (length records)) [
-      | inl within ↦
-          let P : ℕ → Type 0 = λ n. field (record_at (set records slot (edit (record_at records slot))) n) ≡ field (record_at records n) in
-          subst P (sym here) (ap field (record_at-set_same records slot _ within) ∙ same (record_at records slot))
-      | inr past ↦ ap (λ (rs : List Record). field (record_at rs q)) (set_past records slot _ past)
-    ]
+    | inl within ↦
+        let P : ℕ → Type 0 = λ n. field (record_at (set records slot (edit (record_at records slot))) n) ≡ field (record_at records n) in
+        subst P (sym here) (ap field (record_at-set_same records slot _ within) ∙ same (record_at records slot))
+    | inr past ↦ ap (λ (rs : List Record). field (record_at rs q)) (set_past records slot _ past)
+  ]
   | inr apart ↦ ap field (record_at-set_other records slot q _ apart)
 ]
 
@@ -109,16 +106,17 @@ front_is_linked slot records [] within below none once l =
 front_is_linked slot records (h ∷ rest) within below none once l =
     let apart : h ≢ slot = λ e. omega (arith, times-cons slot h rest, ap one_if (eq-eqb h slot e), none) in
     let other : Some h ≢ Some slot = λ e. apart (Some-same h slot e) in
-    let alone : times h rest ≡ 0 = omega (arith, once h, times-cons h h rest, ap one_if (eq-eqb h h refl)) in
-    (
+    let alone : times h rest ≡ 0 = omega (arith, once h, times-cons h h rest, ap one_if (eq-eqb h h refl)) in (
       prev_front (Some h) slot records within other,
-      next_front (Some h) slot records within, (
-      prev_first h slot records (below h (times-front h rest)),
-      next_other (Some h) slot records h apart ∙ l.1,
-      IsLinked-same _ _ _ _ (Some h) rest (λ q stands.
-        let q_apart : q ≢ slot = λ e. let S : ℕ → Type 0 = λ n. 1 ≤ times n rest in omega (arith, subst S e stands, times-cons slot h rest, none) in
-        let q_other : Some h ≢ Some q = λ e. let S : ℕ → Type 0 = λ n. 1 ≤ times n rest in omega (arith, subst S (sym (Some-same h q e)) stands, alone) in
-        (prev_other (Some h) slot records q q_apart q_other, next_other (Some h) slot records q q_apart)) l.2),
+      next_front (Some h) slot records within,
+      (
+        prev_first h slot records (below h (times-front h rest)),
+        next_other (Some h) slot records h apart ∙ l.1,
+        IsLinked-same _ _ _ _ (Some h) rest (λ q stands.
+            let q_apart : q ≢ slot = λ e. let S : ℕ → Type 0 = λ n. 1 ≤ times n rest in omega (arith, subst S e stands, times-cons slot h rest, none) in
+            let q_other : Some h ≢ Some q = λ e. let S : ℕ → Type 0 = λ n. 1 ≤ times n rest in omega (arith, subst S (sym (Some-same h q e)) stands, alone) in
+            (prev_other (Some h) slot records q q_apart q_other, next_other (Some h) slot records q q_apart)) l.2,
+      ),
     )
 
 -- a list in which neither the slot nor the first stands is linked as before
@@ -127,5 +125,5 @@ pub front_is_linked_elsewhere : (first : Option ℕ) (slot : ℕ) (records : Lis
     → IsLinked (field_at (λ r. r.prev_free) (front_records first slot records)) (field_at (λ r. r.next_free) (front_records first slot records)) None slots
 front_is_linked_elsewhere first slot records slots none others l =
     IsLinked-same _ _ _ _ None slots (λ q stands.
-      let q_apart : q ≢ slot = λ e. let S : ℕ → Type 0 = λ n. 1 ≤ times n slots in omega (arith, subst S e stands, none) in
-      (prev_other first slot records q q_apart (λ e. omega (arith, others q e, stands)), next_other first slot records q q_apart)) l
+    let q_apart : q ≢ slot = λ e. let S : ℕ → Type 0 = λ n. 1 ≤ times n slots in omega (arith, subst S e stands, none) in
+    (prev_other first slot records q q_apart (λ e. omega (arith, others q e, stands)), next_other first slot records q q_apart)) l

@@ -1,11 +1,11 @@
 -- What link, unlink and search over slots are over the lists of places.
-use Rattle.std.proofs.Common.{◌≡◌, ◌≢◌, ℕ, ◌+◌, ◌<◌, ◌≤◌, Bool, true, false, cond, eqb, not, List, [], ◌∷◌, length, map, set, drop, get_or, refl, sym, ap, ◌∙◌, subst, arith, Option, Some, None, option_map, ◌⊎◌, inl, inr}
-use Rattle.std.proofs.lemmas.Bool.{cases_eq, eq-eqb, ne_eqb}
+use Rattle.std.proofs.Common.{◌≡◌, ◌≢◌, ℕ, ◌+◌, ◌<◌, ◌≤◌, List, [], ◌∷◌, length, map, set, drop, refl, sym, ap, ◌∙◌, subst, arith, Option, None, option_map, inl, inr}
+use Rattle.std.proofs.lemmas.Bool.{cases_eq, ne_eqb}
 use Rattle.std.proofs.lemmas.List.{get_or-map, map-set, length-map, drop-map, ext_get_or}
-use Rattle.tlsf_class.specs.Classes.{classes, class}
+use Rattle.tlsf_class.specs.Classes.{class}
 use Rattle.tlsf_store.specs.declared.records.Record.{Record}
 use Rattle.tlsf_store.specs.Records.{record_at}
-use Rattle.tlsf_store.specs.Cells.{Cells, head_at}
+use Rattle.tlsf_store.specs.Cells.{Cells}
 use Rattle.tlsf_heap.specs.Content.{Block}
 use Rattle.tlsf_heap.specs.Lists.{list_of, without, link, unlink, first_of_lists}
 use Rattle.tlsf_heap.specs.Good.{times, IsGood}
@@ -56,8 +56,8 @@ pub first_is_picked : (home : ℕ → Option ℕ) (cells : Cells) (layout : Layo
     → option_map place (first_head (drop number cells.heads)) ≡ first_of_lists (drop number (map (map place) layout.lists))
 first_is_picked home cells layout place number is =
     let heads : cells.heads ≡ map first_slot layout.lists =
-        ext_get_or None cells.heads (map first_slot layout.lists) (is.heads_count ∙ sym (length-map layout.lists first_slot ∙ is.lists_count))
-          (λ k within. is.firsts k (omega (arith, within, is.heads_count)) ∙ sym (get_or-map first_slot layout.lists k [] None (omega (arith, within, is.heads_count, is.lists_count)))) in
+    ext_get_or None cells.heads (map first_slot layout.lists) (is.heads_count ∙ sym (length-map layout.lists first_slot ∙ is.lists_count))
+    (λ k within. is.firsts k (omega (arith, within, is.heads_count)) ∙ sym (get_or-map first_slot layout.lists k [] None (omega (arith, within, is.heads_count, is.lists_count)))) in
     ap (λ hs. option_map place (first_head (drop number hs))) heads
     ∙ ap (λ hs. option_map place (first_head hs)) (drop-map first_slot number layout.lists)
     ∙ sym (first-places place (drop number layout.lists))
@@ -75,16 +75,16 @@ places_ascend records from [] q s a q_stands s_stands same = absurd (omega (arit
 places_ascend records from (x ∷ slots) q s a q_stands s_stands same =
     let behind : (y : ℕ) → x ≢ y → 1 ≤ times y (x ∷ slots) → 1 ≤ times y slots = λ y apart stands. omega (arith, stands, times-cons y x slots, ap one_if (ne_eqb x y apart)) in
     let higher : (y : ℕ) → x ≢ y → 1 ≤ times y (x ∷ slots) → place_at records x < place_at records y =
-        λ y apart stands. omega (arith, a.1, place_above records (place_at records x + (record_at records x).size) slots y a.2 (behind y apart stands)) in
+    λ y apart stands. omega (arith, a.1, place_above records (place_at records x + (record_at records x).size) slots y a.2 (behind y apart stands)) in
     elim (cases_eq x q) [
       | inl q_here ↦ elim (cases_eq x s) [
-          | inl s_here ↦ sym q_here ∙ s_here
-          | inr s_apart ↦ absurd (omega (arith, higher s s_apart s_stands, ap (place_at records) q_here, same))
-        ]
+        | inl s_here ↦ sym q_here ∙ s_here
+        | inr s_apart ↦ absurd (omega (arith, higher s s_apart s_stands, ap (place_at records) q_here, same))
+      ]
       | inr q_apart ↦ elim (cases_eq x s) [
-          | inl s_here ↦ absurd (omega (arith, higher q q_apart q_stands, ap (place_at records) s_here, same))
-          | inr s_apart ↦ places_ascend records (place_at records x + (record_at records x).size) slots q s a.2 (behind q q_apart q_stands) (behind s s_apart s_stands) same
-        ]
+        | inl s_here ↦ absurd (omega (arith, higher q q_apart q_stands, ap (place_at records) s_here, same))
+        | inr s_apart ↦ places_ascend records (place_at records x + (record_at records x).size) slots q s a.2 (behind q q_apart q_stands) (behind s s_apart s_stands) same
+      ]
     ]
 
 -- blocks of a good content at one place are one block

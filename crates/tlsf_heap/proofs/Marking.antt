@@ -1,10 +1,10 @@
 -- Bits set and cleared in the bitmaps.
-use Rattle.std.proofs.Common.{◌≡◌, ◌≢◌, ℕ, ◌+◌, ◌-◌, min, w32, bit_and, ◌/◌, ◌%◌, ◌*◌, ◌^◌, ◌<◌, ◌≤◌, Bool, true, false, cond, eqb, List, length, set, get_or, refl, sym, ap, ◌∙◌, subst, arith, Option, Some, None, ◌⊎◌, inl, inr, max, bit_or}
+use Rattle.std.proofs.Common.{◌≡◌, ◌≢◌, ℕ, ◌-◌, min, w32, ◌/◌, ◌%◌, ◌^◌, ◌<◌, cond, eqb, List, length, set, get_or, sym, ap, ◌∙◌, subst, arith, Option, Some, None, inl, inr}
 use Rattle.std.specs.Int.{bit_at, bit_not}
 use Rattle.std.proofs.Math.Pow.{pow-lt}
-use Rattle.std.proofs.lemmas.Bool.{cases_Bool, eqb-true, eqb-false}
-use Rattle.std.proofs.lemmas.Bool.{cases_eq, eq-eqb, ne_eqb}
-use Rattle.std.proofs.lemmas.List.{get_or-set_same, get_or-set_other, length-set}
+use Rattle.std.proofs.lemmas.Bool.{cases_Bool, eqb-true}
+use Rattle.std.proofs.lemmas.Bool.{cases_eq, ne_eqb}
+use Rattle.std.proofs.lemmas.List.{get_or-set_same, get_or-set_other}
 use Rattle.std.proofs.lemmas.Nat.Bits.{bit_at_or, bit_at-pow_same, bit_at-pow_other, bit_at-lt, bit_at-zero, bit_at_and, bit_at_not}
 use Rattle.tlsf_class.specs.Classes.{steps, levels, classes}
 use Rattle.tlsf_store.specs.Cells.{head_at}
@@ -34,8 +34,8 @@ module _ (heads : List (Option ℕ)) (words : List ℕ) (level_word class : ℕ)
           | inl same ↦
               let P : ℕ → Type 0 = λ n. bit_at (get_or (set words (class / steps) new) (n / steps) 0) (n % steps) ≡ head_bit (head_at (set heads class (Some slot)) n) in
               subst P (sym same) (
-                ap (λ w. bit_at w (class % steps)) (get_or-set_same words (class / steps) new 0 level_within) ∙ bit_set_same (get_or words (class / steps) 0) (class % steps)
-                ∙ sym (ap head_bit (get_or-set_same heads class (Some slot) None (omega (arith, within, heads_count)))))
+              ap (λ w. bit_at w (class % steps)) (get_or-set_same words (class / steps) new 0 level_within) ∙ bit_set_same (get_or words (class / steps) 0) (class % steps)
+              ∙ sym (ap head_bit (get_or-set_same heads class (Some slot) None (omega (arith, within, heads_count)))))
           | inr apart ↦
               let head_same : head_bit (head_at (set heads class (Some slot)) k) ≡ head_bit (head_at heads k) = ap head_bit (get_or-set_other heads class k (Some slot) None apart) in
               elim (cases_eq (k / steps) (class / steps)) [
@@ -54,8 +54,8 @@ module _ (heads : List (Option ℕ)) (words : List ℕ) (level_word class : ℕ)
           | inl same ↦
               let P : ℕ → Type 0 = λ n. bit_at (with_bit level_word (class / steps)) n ≡ word_bit (get_or (set words (class / steps) new) n 0) in
               subst P (sym same) (
-                bit_set_same level_word (class / steps)
-                ∙ sym (ap word_bit (get_or-set_same words (class / steps) new 0 level_within) ∙ word_bit-some new (class % steps) (bit_set_same (get_or words (class / steps) 0) (class % steps))))
+              bit_set_same level_word (class / steps)
+              ∙ sym (ap word_bit (get_or-set_same words (class / steps) new 0 level_within) ∙ word_bit-some new (class % steps) (bit_set_same (get_or words (class / steps) 0) (class % steps))))
           | inr apart ↦
               bit_set_other level_word (class / steps) l apart ∙ were.by_level l l_within ∙ sym (ap word_bit (get_or-set_other words (class / steps) l new 0 apart))
         ];
@@ -88,7 +88,7 @@ module _ (heads : List (Option ℕ)) (words : List ℕ) (level_word class : ℕ)
   -- the class's bit is cleared as its list has no block left, and its first level's where no other class has one
   pub marks_cleared : head_bit (head_at heads class) ≡ 1
       → AreMarked (set heads class None) (set words (class / steps) (without_bit (get_or words (class / steps) 0) (class % steps)))
-          (cond (eqb (without_bit (get_or words (class / steps) 0) (class % steps)) 0) (without_bit level_word (class / steps)) level_word)
+      (cond (eqb (without_bit (get_or words (class / steps) 0) (class % steps)) 0) (without_bit level_word (class / steps)) level_word)
   marks_cleared some =
       let level_within : class / steps < length words = omega (arith, within, words_count) in
       let level_below : class / steps < 32 = omega (arith, within) in
@@ -101,8 +101,8 @@ module _ (heads : List (Option ℕ)) (words : List ℕ) (level_word class : ℕ)
           | inl same ↦
               let P : ℕ → Type 0 = λ n. bit_at (get_or (set words (class / steps) new) (n / steps) 0) (n % steps) ≡ head_bit (head_at (set heads class None) n) in
               subst P (sym same) (
-                ap (λ w. bit_at w (class % steps)) (get_or-set_same words (class / steps) new 0 level_within) ∙ bit_clear_same old (class % steps) step_below
-                ∙ sym (ap head_bit (get_or-set_same heads class None None (omega (arith, within, heads_count)))))
+              ap (λ w. bit_at w (class % steps)) (get_or-set_same words (class / steps) new 0 level_within) ∙ bit_clear_same old (class % steps) step_below
+              ∙ sym (ap head_bit (get_or-set_same heads class None None (omega (arith, within, heads_count)))))
           | inr apart ↦
               let head_same : head_bit (head_at (set heads class None) k) ≡ head_bit (head_at heads k) = ap head_bit (get_or-set_other heads class k None None apart) in
               elim (cases_eq (k / steps) (class / steps)) [

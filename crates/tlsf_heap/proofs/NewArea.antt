@@ -1,24 +1,22 @@
 -- A pool of one vacant slot enters the layout.
-use Rattle.std.proofs.Common.{◌≡◌, ◌≢◌, ℕ, zero, suc, ◌+◌, ◌<◌, ◌≤◌, Bool, true, false, cond, eqb, List, [], ◌∷◌, ◌++◌, length, map, set, get_or, refl, sym, ap, ◌∙◌, subst, arith, Option, Some, None, ◌⊎◌, inl, inr}
+use Rattle.std.proofs.Common.{◌≡◌, ◌≢◌, ℕ, ◌+◌, ◌<◌, ◌≤◌, List, [], ◌∷◌, ◌++◌, length, map, set, refl, sym, ap, ◌∙◌, subst, arith, Option, Some, None, inl, inr}
 use Rattle.std.specs.Prelude.{◌==◌, nat_lt}
 use Rattle.std.proofs.lemmas.Bool.{cases_Bool, cases_eq, eq-eqb, ne_eqb}
-use Rattle.std.proofs.lemmas.List.{length-set}
-use Rattle.tlsf_class.specs.Classes.{classes, class}
+use Rattle.tlsf_class.specs.Classes.{classes}
 use Rattle.tlsf_store.specs.declared.records.Record.{Record}
-use Rattle.tlsf_store.specs.declared.records.State.{State}
-use Rattle.tlsf_store.specs.declared.records.State.TheVariants.{Vacant, Free, Live}
-use Rattle.tlsf_store.specs.Records.{blank, record_at}
+use Rattle.tlsf_store.specs.declared.records.State.TheVariants.{Vacant, Free}
+use Rattle.tlsf_store.specs.Records.{record_at}
 use Rattle.tlsf_store.proofs.RecordLaws.{record_at-set_same, record_at-set_other}
 use Rattle.tlsf_store.specs.Cells.{Cells, with_record}
 use Rattle.tlsf_heap.specs.declared.pool_entry.PoolEntry.{PoolEntry}
 use Rattle.tlsf_heap.specs.Lists.{list_of}
 use Rattle.tlsf_heap.specs.Good.{times}
-use Rattle.tlsf_heap.specs.Layout.{Area, Layout, IsLayout, IsLinked, AreChains, first_slot, at_home, held_in, home_of, home_in, slots_of, padded, entries_of}
-use Rattle.tlsf_heap.specs.Entries.{inserted, with_entry, with_entries, free_record}
+use Rattle.tlsf_heap.specs.Layout.{Area, Layout, IsLayout, IsLinked, AreChains, first_slot, at_home, held_in, slots_of, padded, entries_of}
+use Rattle.tlsf_heap.specs.Entries.{inserted, with_entry, with_entries}
 use Rattle.tlsf_heap.proofs.Blocks.{one_if, count_by-append}
 use Rattle.tlsf_heap.proofs.FreeLists.{times-cons}
 use Rattle.tlsf_heap.proofs.EntryLists.{entries_of-padded}
-use Rattle.tlsf_heap.proofs.Linking.{field_at, times-front, IsLinked-same}
+use Rattle.tlsf_heap.proofs.Linking.{field_at, IsLinked-same}
 
 -- an item in its place, seen through a function that keeps the keys
 pub map-inserted : {A B : Type 0} (f : A → B) (key : A → ℕ) (new_key : B → ℕ) → ((a : A) → new_key (f a) ≡ key a) → (item : A) (items : List A) → map f (inserted key item items) ≡ inserted new_key (f item) (map f items)
@@ -55,10 +53,10 @@ AreChains-inserted back fore area (other ∷ areas) first linked c = elim (cases
 pub AreChains-same : (back back_new fore fore_new : ℕ → Option ℕ) (areas : List Area) → ((q : ℕ) → 1 ≤ times q (slots_of areas) → (back_new q ≡ back q) × (fore_new q ≡ fore q)) → AreChains back fore areas → AreChains back_new fore_new areas
 AreChains-same back back_new fore fore_new [] same c = tt
 AreChains-same back back_new fore fore_new (area ∷ areas) same c = (
-    c.0,
-    IsLinked-same back back_new fore fore_new None area.slots (λ q stands. same q (omega (arith, stands, times-append q area.slots (slots_of areas)))) c.1,
-    AreChains-same back back_new fore fore_new areas (λ q stands. same q (omega (arith, stands, times-append q area.slots (slots_of areas)))) c.2,
-  )
+  c.0,
+  IsLinked-same back back_new fore fore_new None area.slots (λ q stands. same q (omega (arith, stands, times-append q area.slots (slots_of areas)))) c.1,
+  AreChains-same back back_new fore fore_new areas (λ q stands. same q (omega (arith, stands, times-append q area.slots (slots_of areas)))) c.2,
+)
 
 -- the layout with the area in order of base
 abbrev pub with_area : Area → Layout → Layout
@@ -117,7 +115,7 @@ module _ (home : ℕ → Option ℕ) (cells : Cells) (layout : Layout) (entry : 
         held = held_after;
         chained = AreChains-inserted (field_at (λ r. r.prev) records) (field_at (λ r. r.next) records) area layout.areas refl (prev_here, next_here, tt)
             (AreChains-same (field_at (λ r. r.prev) cells.records) (field_at (λ r. r.prev) records) (field_at (λ r. r.next) cells.records) (field_at (λ r. r.next) records) layout.areas
-              (λ q stands. (ap (λ (r : Record). r.prev) (at_other q (held_apart q stands)), ap (λ (r : Record). r.next) (at_other q (held_apart q stands)))) were.chained);
+            (λ q stands. (ap (λ (r : Record). r.prev) (at_other q (held_apart q stands)), ap (λ (r : Record). r.next) (at_other q (held_apart q stands)))) were.chained);
         homes = were.homes;
         firsts = were.firsts;
         listed = λ k k_within. IsLinked-same (field_at (λ r. r.prev_free) cells.records) (field_at (λ r. r.prev_free) records) (field_at (λ r. r.next_free) cells.records) (field_at (λ r. r.next_free) records) None (list_of k layout.lists)

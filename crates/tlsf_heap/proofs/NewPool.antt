@@ -1,10 +1,10 @@
 -- What the cells stand for after a pool entered them.
-use Rattle.std.proofs.Common.{◌≡◌, ◌≢◌, ℕ, zero, suc, ◌+◌, ◌<◌, ◌≤◌, Bool, true, false, cond, eqb, List, [], ◌∷◌, ◌++◌, length, map, set, get_or, refl, sym, ap, ◌∙◌, subst, arith, Option, Some, None, ◌⊎◌, inl, inr, ◌&&◌}
-use Rattle.std.specs.Prelude.{◌==◌, nat_lt}
+use Rattle.std.proofs.Common.{◌≡◌, ◌≢◌, ℕ, ◌+◌, ◌<◌, ◌≤◌, true, false, cond, List, [], ◌∷◌, length, map, set, refl, sym, ap, ◌∙◌, subst, arith, Option, Some, None, inl, inr}
+use Rattle.std.specs.Prelude.{nat_lt}
 use Rattle.std.specs.List.{list_all}
 use Rattle.std.proofs.lemmas.Bool.{cases_eq, cases_lt, eq-eqb, ne_eqb}
 use Rattle.std.proofs.lemmas.List.{length-set, length-map, get_or-map, get_or_past, map-set, ext_get_or}
-use Rattle.tlsf_class.specs.Classes.{classes, class, unit}
+use Rattle.tlsf_class.specs.Classes.{classes, class}
 use Rattle.tlsf_class.proofs.ClassLaws.{class-lt}
 use Rattle.tlsf_store.specs.declared.records.Record.{Record}
 use Rattle.tlsf_store.specs.declared.records.State.{State}
@@ -14,7 +14,7 @@ use Rattle.tlsf_store.specs.Cells.{Cells, head_at, with_record, with_taken}
 use Rattle.tlsf_store.proofs.RecordLaws.{record_at-set_same, record_at-set_other}
 use Rattle.tlsf_store.proofs.CellLaws.{with_record-with_record}
 use Rattle.tlsf_heap.specs.declared.pool_entry.PoolEntry.{PoolEntry}
-use Rattle.tlsf_heap.specs.Content.{Block, Pool, Content, blocks_of, used_records}
+use Rattle.tlsf_heap.specs.Content.{Block, Pool, Content, used_records}
 use Rattle.tlsf_heap.specs.Lists.{list_of, link}
 use Rattle.tlsf_heap.specs.Malloc.{gap}
 use Rattle.tlsf_heap.specs.Pools.{in_order_of_base, with_pool, can_be_pool, is_apart, most_pools}
@@ -23,7 +23,7 @@ use Rattle.tlsf_heap.specs.Edits.{linked}
 use Rattle.tlsf_heap.specs.Layout.{Area, Layout, IsLayout, Stands, owner_in, held_in, home_in, home_of, at_home, slots_of, place_at, block_of, pool_of, content_by, content_of, entries_of}
 use Rattle.tlsf_heap.specs.Entries.{inserted, with_entry, with_entries, free_record, pool_entered}
 use Rattle.tlsf_heap.proofs.GoodContent.{with_pool_is_good}
-use Rattle.tlsf_heap.proofs.Linking.{field_at, times-front, times-behind, front_records, front_fields, length-front}
+use Rattle.tlsf_heap.proofs.Linking.{times-front, times-behind, front_records, front_fields, length-front}
 use Rattle.tlsf_heap.proofs.LinkedLayout.{with_home, with_linked, linked_is_layout}
 use Rattle.tlsf_heap.proofs.NewArea.{map-inserted, area_base, times-append, with_area, area_is_layout}
 use Rattle.tlsf_heap.proofs.Followed.{content_is}
@@ -128,7 +128,7 @@ module _ (cells : Cells) (layout : Layout) (were : IsLayout (home_of cells.recor
       let sizes = front_fields (head_at cells.heads (class bytes)) slot new (λ r. r.size) (λ r. refl) (λ r. refl) in
       let states = front_fields (head_at cells.heads (class bytes)) slot new (λ r. r.state) (λ r. refl) (λ r. refl) in
       let edited : home_of last q ≡ home_of new q =
-          home_size (record_at last q) (record_at new q) (record_at last q).state (ap (λ f. f q) sizes) ∙ ap (home_in (record_at new q)) (ap (λ f. f q) states) in
+      home_size (record_at last q) (record_at new q) (record_at last q).state (ap (λ f. f q) sizes) ∙ ap (home_in (record_at new q)) (ap (λ f. f q) states) in
       (elim (cases_eq q slot) [
         | inl here ↦
             let P : ℕ → Type 0 = λ n. with_home slot (class bytes) (home_of cells.records) n ≡ home_of new n in
@@ -157,7 +157,7 @@ module _ (cells : Cells) (layout : Layout) (were : IsLayout (home_of cells.recor
       let block : block_of new slot ≡ record { place = base; size = bytes; owner = None } = ap (λ (r : Record). record { place = r.place; size = r.size; owner = owner_in r.state slot }) at_slot in
       let pool : pool_of new area ≡ record { base = base; bytes = bytes; blocks = gap base bytes } = ap (λ bs. record { base = base; bytes = bytes; blocks = bs }) (ap (λ b. b ∷ []) block ∙ sym one) in
       let others : map (pool_by (block_of new)) layout.areas ≡ map (pool_by (block_of cells.records)) layout.areas =
-          pools_same (block_of new) (block_of cells.records) layout.areas (λ q stands. ap (λ (r : Record). record { place = r.place; size = r.size; owner = owner_in r.state q }) (at_other q (apart_of_areas q stands))) in
+      pools_same (block_of new) (block_of cells.records) layout.areas (λ q stands. ap (λ (r : Record). record { place = r.place; size = r.size; owner = owner_in r.state q }) (at_other q (apart_of_areas q stands))) in
       ap (λ f. map (pool_by f) (with_area area layout).areas) block_after
       ∙ map-inserted (pool_of new) area_base (λ (p : Pool ℕ). p.base) (λ a. refl) area layout.areas
       ∙ inserted_is (pool_of new area) (map (pool_of new) layout.areas)
@@ -169,13 +169,13 @@ module _ (cells : Cells) (layout : Layout) (were : IsLayout (home_of cells.recor
       let places : place_at last ≡ place_at new = front_fields (head_at cells.heads (class bytes)) slot new (λ r. r.place) (λ r. refl) (λ r. refl) in
       let in_lists : class bytes < length layout.lists = omega (arith, class-lt bytes, were.lists_count) in
       let others : map (map (place_at new)) layout.lists ≡ map (map (place_at cells.records)) layout.lists =
-          ext_get_or [] _ _ (length-map layout.lists _ ∙ sym (length-map layout.lists _)) (λ k k_below.
-            let k_within : k < length layout.lists = omega (arith, k_below, length-map {A = List ℕ} {B = List ℕ} layout.lists (map (place_at new))) in
-            get_or-map (map (place_at new)) layout.lists k [] [] k_within
-            ∙ map-same (place_at new) (place_at cells.records) (list_of k layout.lists) (λ q stands. ap (λ (r : Record). r.place) (at_other q (apart_of_lists k q (omega (arith, k_within, were.lists_count)) stands)))
-            ∙ sym (get_or-map (map (place_at cells.records)) layout.lists k [] [] k_within)) in
+      ext_get_or [] _ _ (length-map layout.lists _ ∙ sym (length-map layout.lists _)) (λ k k_below.
+      let k_within : k < length layout.lists = omega (arith, k_below, length-map {A = List ℕ} {B = List ℕ} layout.lists (map (place_at new))) in
+      get_or-map (map (place_at new)) layout.lists k [] [] k_within
+      ∙ map-same (place_at new) (place_at cells.records) (list_of k layout.lists) (λ q stands. ap (λ (r : Record). r.place) (at_other q (apart_of_lists k q (omega (arith, k_within, were.lists_count)) stands)))
+      ∙ sym (get_or-map (map (place_at cells.records)) layout.lists k [] [] k_within)) in
       let listed : map (place_at new) (list_of (class bytes) layout.lists) ≡ list_of (class bytes) (map (map (place_at new)) layout.lists) =
-          sym (get_or-map (map (place_at new)) layout.lists (class bytes) [] [] in_lists) in
+      sym (get_or-map (map (place_at new)) layout.lists (class bytes) [] [] in_lists) in
       ap (λ f. map (map f) after.lists) places
       ∙ map-set (map (place_at new)) layout.lists (class bytes) (slot ∷ list_of (class bytes) layout.lists)
       ∙ ap (λ place. set (map (map (place_at new)) layout.lists) (class bytes) (place ∷ map (place_at new) (list_of (class bytes) layout.lists))) (ap (λ (r : Record). r.place) at_slot)
@@ -185,7 +185,7 @@ module _ (cells : Cells) (layout : Layout) (were : IsLayout (home_of cells.recor
   pub content_after : content_by last after ≡ with_pool base bytes (content_by cells.records layout)
   content_after =
       ap (λ n. record { records = n; pools = map (pool_of last) after.areas; lists = map (map (place_at last)) after.lists })
-          (length-front (head_at cells.heads (class bytes)) slot new ∙ length-set cells.records slot (free_record base bytes))
+      (length-front (head_at cells.heads (class bytes)) slot new ∙ length-set cells.records slot (free_record base bytes))
       ∙ ap (λ ps. record { records = length cells.records; pools = ps; lists = map (map (place_at last)) after.lists }) pools_after
       ∙ ap (λ ls. record { records = length cells.records; pools = in_order_of_base (record { base = base; bytes = bytes; blocks = gap base bytes }) (map (pool_of cells.records) layout.areas); lists = ls }) lists_after
 

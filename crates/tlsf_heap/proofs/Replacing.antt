@@ -1,13 +1,11 @@
 -- The block at a place gives way to others: what stays covered, what is counted, and that free blocks stay apart.
-use Rattle.std.proofs.Common.{◌≡◌, ◌≢◌, ℕ, ◌+◌, ◌-◌, ◌%◌, ◌<◌, ◌≤◌, Bool, true, false, cond, eqb, not, ◌&&◌, List, [], ◌∷◌, ◌++◌, length, map, refl, sym, ap, ◌∙◌, subst, arith, count_by, flat_map, find, IsTrue, Option, Some, None, is_none, option_map, unwrap_or, append_assoc, length-append, ◌⊎◌, inl, inr}
-use Rattle.std.specs.Prelude.{⊤, ◌==◌}
+use Rattle.std.proofs.Common.{◌≡◌, ℕ, ◌+◌, ◌-◌, ◌%◌, ◌<◌, ◌≤◌, Bool, true, false, cond, eqb, not, ◌&&◌, List, [], ◌∷◌, ◌++◌, length, map, refl, sym, ap, ◌∙◌, subst, arith, count_by, find, IsTrue, Some, None, option_map, unwrap_or, length-append, inl, inr}
 use Rattle.std.specs.List.{AllByRecursion}
-use Rattle.std.proofs.lemmas.Grind.{common_steps, flat_map-append}
+use Rattle.std.proofs.lemmas.Grind.{flat_map-append}
 use Rattle.std.proofs.lemmas.Bool.{cases_Bool, eq-eqb, eqb-true, eqb-false, true≢false}
-use Rattle.std.proofs.lemmas.List.{append-nil}
-use Rattle.tlsf_class.specs.Classes.{unit, class}
-use Rattle.tlsf_heap.specs.Content.{Block, Pool, Content, blocks_of, is_free, is_at, size_at}
-use Rattle.tlsf_heap.specs.Good.{Covers, NoFreeNeighbours, IsGoodPool, AreGoodPools, is_listed}
+use Rattle.tlsf_class.specs.Classes.{unit}
+use Rattle.tlsf_heap.specs.Content.{Block, Pool, blocks_of, is_free, is_at, size_at}
+use Rattle.tlsf_heap.specs.Good.{Covers, NoFreeNeighbours, AreGoodPools}
 use Rattle.tlsf_heap.specs.Malloc.{gap, cut, replaced, replaced_in}
 use Rattle.tlsf_heap.proofs.Blocks.{NoneAt, Found, count_by-cons, count_by-append, one_if}
 

@@ -1,7 +1,7 @@
 -- The search by bitmaps finds the first head that isn't none.
-use Rattle.std.proofs.Common.{◌≡◌, ◌≢◌, ℕ, zero, suc, ◌+◌, ◌-◌, ◌*◌, ◌/◌, ◌%◌, ◌^◌, ◌<◌, ◌≤◌, Bool, true, false, cond, List, [], ◌∷◌, length, get_or, drop, refl, sym, ap, ◌∙◌, subst, arith, Option, Some, None, ◌⊎◌, inl, inr, w32}
+use Rattle.std.proofs.Common.{◌≡◌, ◌≢◌, ℕ, zero, suc, ◌+◌, ◌-◌, ◌*◌, ◌/◌, ◌%◌, ◌^◌, ◌<◌, ◌≤◌, cond, List, ◌∷◌, length, get_or, drop, refl, sym, ap, ◌∙◌, arith, Option, Some, None, inl, inr, w32}
 use Rattle.std.specs.Int.{bit_at, trailing_zeros}
-use Rattle.std.proofs.lemmas.Bool.{cases_eq, cases_lt, eq-eqb, ne_eqb}
+use Rattle.std.proofs.lemmas.Bool.{cases_eq, cases_lt, ne_eqb}
 use Rattle.std.proofs.lemmas.List.{drop_more, drop_all}
 use Rattle.std.proofs.lemmas.Nat.{shr-shr, shr_le}
 use Rattle.std.proofs.lemmas.Nat.Bits.{bit_at-zero, bit_at-trailing_zeros, bit_at_above, same_from_bits_below}
@@ -23,8 +23,7 @@ lowest_above word from fits some =
     let rest : ℕ = word / 2 ^ from in
     let place : ℕ = trailing_zeros w32 rest in
     let lowest = bit_at-trailing_zeros w32 rest (omega (arith, some)) (omega (arith, fits, shr_le word from)) in
-    let set : bit_at word (from + place) ≡ 1 = shifted word from (from + place) (omega arith) ∙ ap (bit_at rest) (let e : (from + place) - from ≡ place = omega arith in e) ∙ lowest.1 in
-    (
+    let set : bit_at word (from + place) ≡ 1 = shifted word from (from + place) (omega arith) ∙ ap (bit_at rest) (let e : (from + place) - from ≡ place = omega arith in e) ∙ lowest.1 in (
       omega arith,
       (elim (cases_lt (from + place) 32) [
         | inl below ↦ below
@@ -78,19 +77,19 @@ module _ (heads : List (Option ℕ)) (words : List ℕ) (level_word : ℕ) (mark
       → head_at heads class ≡ first_head (drop from heads)
   found_is_first from class level step within of_level of_step above none set =
       let is : head_bit (head_at heads class) ≡ 1 =
-          sym (marked.by_class class within) ∙ ap (λ l. bit_at (get_or words l 0) (class % steps)) of_level ∙ ap (bit_at (get_or words level 0)) of_step ∙ set in
+      sym (marked.by_class class within) ∙ ap (λ l. bit_at (get_or words l 0) (class % steps)) of_level ∙ ap (bit_at (get_or words level 0)) of_step ∙ set in
       let here : drop class heads ≡ head_at heads class ∷ drop (class + 1) heads = drop_more heads class None (omega (arith, within, count)) in
       let reached : from + (class - from) ≡ class = omega (arith, above) in
       sym (first_head_passes heads from (class - from) (omega (arith, above, within, count)) (λ k lower below. none k lower (omega (arith, below, reached)))
-        ∙ ap (λ k. first_head (drop k heads)) reached ∙ ap first_head here ∙ first_is (head_at heads class) (drop (class + 1) heads) is)
+      ∙ ap (λ k. first_head (drop k heads)) reached ∙ ap first_head here ∙ first_is (head_at heads class) (drop (class + 1) heads) is)
 
   -- the lowest bit of the class's own level
   pub found_in_level : (class step : ℕ) → class < classes → IsLowestFrom (get_or words (class / steps) 0) (class % steps) step → head_at heads (class / steps * steps + step) ≡ first_head (drop class heads)
   found_in_level class step within lowest =
       found_is_first class (class / steps * steps + step) (class / steps) step (omega (arith, within, lowest.1)) (omega (arith, lowest.1)) (omega (arith, lowest.1)) (omega (arith, lowest.0))
       (λ k above below.
-        let of : k / steps ≡ class / steps = omega (arith, above, below, lowest.1) in
-        no_bit_no_head k (omega (arith, below, within, lowest.1)) (ap (λ l. bit_at (get_or words l 0) (k % steps)) of ∙ lowest.3 (k % steps) (omega (arith, above, of)) (omega (arith, below, of))))
+      let of : k / steps ≡ class / steps = omega (arith, above, below, lowest.1) in
+      no_bit_no_head k (omega (arith, below, within, lowest.1)) (ap (λ l. bit_at (get_or words l 0) (k % steps)) of ∙ lowest.3 (k % steps) (omega (arith, above, of)) (omega (arith, below, of))))
       lowest.2
 
   -- none in the class's own level: it is the first of the levels above
@@ -98,9 +97,9 @@ module _ (heads : List (Option ℕ)) (words : List ℕ) (level_word : ℕ) (mark
   passes_level class within none =
       let next : class + ((class / steps + 1) * steps - class) ≡ (class / steps + 1) * steps = omega arith in
       first_head_passes heads class ((class / steps + 1) * steps - class) (omega (arith, within, count, next))
-        (λ k above below.
-          let of : k / steps ≡ class / steps = omega (arith, above, below, next) in
-          no_bit_no_head k (omega (arith, below, within, next)) (ap (λ l. bit_at (get_or words l 0) (k % steps)) of ∙ none (k % steps) (omega (arith, above, of)) (omega arith)))
+      (λ k above below.
+      let of : k / steps ≡ class / steps = omega (arith, above, below, next) in
+      no_bit_no_head k (omega (arith, below, within, next)) (ap (λ l. bit_at (get_or words l 0) (k % steps)) of ∙ none (k % steps) (omega (arith, above, of)) (omega arith)))
       ∙ ap (λ k. first_head (drop k heads)) next
 
   -- no level from here on has a head
@@ -108,9 +107,9 @@ module _ (heads : List (Option ℕ)) (words : List ℕ) (level_word : ℕ) (mark
   passes_all from within none =
       let all : from * steps + (classes - from * steps) ≡ classes = omega (arith, within) in
       first_head_passes heads (from * steps) (classes - from * steps) (omega (arith, all, count))
-        (λ k above below.
-          let level_within : k / steps < levels = omega (arith, below, all) in
-          no_head_of_level (k / steps) k (omega (arith, below, all)) refl (no_level_no_word (k / steps) level_within (none (k / steps) (omega (arith, above)) (omega (arith, level_within)))))
+      (λ k above below.
+      let level_within : k / steps < levels = omega (arith, below, all) in
+      no_head_of_level (k / steps) k (omega (arith, below, all)) refl (no_level_no_word (k / steps) level_within (none (k / steps) (omega (arith, above)) (omega (arith, level_within)))))
       ∙ ap (λ k. first_head (drop k heads)) all ∙ ap first_head (drop_all classes heads (omega (arith, count)))
 
   -- the lowest bit of the lowest level

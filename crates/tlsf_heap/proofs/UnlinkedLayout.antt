@@ -1,22 +1,21 @@
 -- What the cells represent after a block left its class's list.
-use Rattle.std.proofs.Common.{◌≡◌, ◌≢◌, ℕ, suc, ◌+◌, ◌/◌, ◌%◌, ◌<◌, ◌≤◌, Bool, true, false, cond, eqb, List, [], ◌∷◌, length, map, set, get_or, refl, sym, ap, ◌∙◌, subst, arith, Option, Some, None, ◌⊎◌, inl, inr}
+use Rattle.std.proofs.Common.{◌≡◌, ◌≢◌, ℕ, ◌/◌, ◌%◌, ◌<◌, ◌≤◌, true, false, cond, eqb, List, [], ◌∷◌, length, set, get_or, refl, sym, ap, ◌∙◌, subst, arith, Option, Some, None, inl, inr}
 use Rattle.std.proofs.lemmas.Bool.{cases_eq, eq-eqb, ne_eqb}
 use Rattle.std.proofs.lemmas.List.{get_or-set_same, get_or-set_other, length-set}
 use Rattle.tlsf_class.specs.Classes.{classes, levels, steps}
 use Rattle.tlsf_store.specs.declared.records.Record.{Record}
 use Rattle.tlsf_store.specs.Records.{record_at}
-use Rattle.tlsf_store.specs.Cells.{Cells, head_at, with_head, with_step_word, with_level_word}
+use Rattle.tlsf_store.specs.Cells.{Cells, head_at, with_level_word}
 use Rattle.tlsf_heap.specs.Lists.{list_of, without}
 use Rattle.tlsf_heap.specs.Good.{times}
 use Rattle.tlsf_heap.specs.Bitmaps.{AreMarked, head_bit}
 use Rattle.tlsf_heap.specs.Edits.{without_bit, with_prev_free, with_behind, with_level_cleared, unlinked}
-use Rattle.tlsf_heap.specs.Layout.{Area, Layout, IsLayout, IsLinked, AreChains, first_slot, at_home, held_in, slots_of}
-use Rattle.tlsf_heap.proofs.Blocks.{one_if}
-use Rattle.tlsf_heap.proofs.FreeLists.{times-cons, times-without_same, times-without_other, list_of-set_same, list_of-set_other}
+use Rattle.tlsf_heap.specs.Layout.{Layout, IsLayout, IsLinked, AreChains, first_slot, at_home, held_in, slots_of}
+use Rattle.tlsf_heap.proofs.FreeLists.{times-without_same, times-without_other, list_of-set_same, list_of-set_other}
 use Rattle.tlsf_heap.proofs.Marking.{marks_kept, marks_cleared}
-use Rattle.tlsf_heap.proofs.Linking.{field_at, IsLinked-same, Some-same, None≢Some}
+use Rattle.tlsf_heap.proofs.Linking.{field_at, IsLinked-same, None≢Some}
 use Rattle.tlsf_heap.proofs.LinkedLayout.{at_home-here, at_home-elsewhere, at_home-most, home_is}
-use Rattle.tlsf_heap.proofs.Unlinking.{joined_records, joined_fields, length-joined, prev_kept, prev_moved, next_kept, next_moved, next_stands, prev_stands, unlinked_is_linked, first_when_none, first_when_some}
+use Rattle.tlsf_heap.proofs.Unlinking.{joined_records, joined_fields, prev_kept, prev_moved, next_kept, next_moved, next_stands, prev_stands, unlinked_is_linked, first_when_none, first_when_some}
 
 -- the home of each slot, where one slot has none any more
 abbrev pub without_home : ℕ → (ℕ → Option ℕ) → ℕ → Option ℕ
@@ -116,18 +115,18 @@ module _ (home : ℕ → Option ℕ) (cells : Cells) (layout : Layout) (class sl
         let P : ℕ → Type 0 = λ n. IsLinked back_new fore_new None (list_of n lists) in
         let Q : List ℕ → Type 0 = λ slots. IsLinked back_new fore_new None slots in
         subst P (sym same) (subst Q (sym (list_of-set_same class (without slot listed) layout.lists (omega (arith, class_within, were.lists_count))))
-          (unlinked_is_linked back fore slot back_new fore_new
-            keeps_back (λ q is. prev_moved prev next cells.records q (below q (next_in q is)) is)
-            keeps_fore (λ q is. next_moved prev next cells.records q (below q (prev_in q is)) is)
-            None listed linked (λ q. once class q class_within) (λ q e. absurd (None≢Some q e)) stands))
+        (unlinked_is_linked back fore slot back_new fore_new
+        keeps_back (λ q is. prev_moved prev next cells.records q (below q (next_in q is)) is)
+        keeps_fore (λ q is. next_moved prev next cells.records q (below q (prev_in q is)) is)
+        None listed linked (λ q. once class q class_within) (λ q e. absurd (None≢Some q e)) stands))
     | inr other ↦
         let Q : List ℕ → Type 0 = λ slots. IsLinked back_new fore_new None slots in
         subst Q (sym (list_of-set_other class k (without slot listed) layout.lists other))
-          (IsLinked-same back back_new fore fore_new None (list_of k layout.lists)
-            (λ q there. (
-              keeps_back q (λ e. omega (arith, next_in q e, not_listed k q k_within other there)),
-              keeps_fore q (λ e. omega (arith, prev_in q e, not_listed k q k_within other there)),
-            )) (were.listed k k_within))
+        (IsLinked-same back back_new fore fore_new None (list_of k layout.lists)
+        (λ q there. (
+          keeps_back q (λ e. omega (arith, next_in q e, not_listed k q k_within other there)),
+          keeps_fore q (λ e. omega (arith, prev_in q e, not_listed k q k_within other there)),
+        )) (were.listed k k_within))
   ]
 
   chained_after : AreChains (field_at (λ r. r.prev) new) (field_at (λ r. r.next) new) layout.areas
@@ -135,7 +134,7 @@ module _ (home : ℕ → Option ℕ) (cells : Cells) (layout : Layout) (class sl
       let P : (ℕ → Option ℕ) → Type 0 = λ f. AreChains f (field_at (λ r. r.next) cells.records) layout.areas in
       let Q : (ℕ → Option ℕ) → Type 0 = λ f. AreChains (field_at (λ r. r.prev) new) f layout.areas in
       subst Q (sym (joined_fields prev next cells.records (λ r. r.next) (λ r. refl) (λ r. refl)))
-        (subst P (sym (joined_fields prev next cells.records (λ r. r.prev) (λ r. refl) (λ r. refl))) were.chained)
+      (subst P (sym (joined_fields prev next cells.records (λ r. r.prev) (λ r. refl) (λ r. refl))) were.chained)
 
   held_after : (q : ℕ) → times q (slots_of layout.areas) ≡ held_in (record_at new q).state
   held_after q =
@@ -173,10 +172,10 @@ module _ (home : ℕ → Option ℕ) (cells : Cells) (layout : Layout) (class sl
 
   some_head : head_bit (head_at cells.heads class) ≡ 1
   some_head = ap head_bit (were.firsts class class_within) ∙ some listed stands
-   where
-    some : (slots : List ℕ) → 1 ≤ times slot slots → head_bit (first_slot slots) ≡ 1
-    some [] h = absurd (omega (arith, h))
-    some (s ∷ slots) h = refl
+    where
+      some : (slots : List ℕ) → 1 ≤ times slot slots → head_bit (first_slot slots) ≡ 1
+      some [] h = absurd (omega (arith, h))
+      some (s ∷ slots) h = refl
 
   class_in_heads : class < length cells.heads
   class_in_heads = omega (arith, class_within, were.heads_count)
@@ -187,13 +186,13 @@ module _ (home : ℕ → Option ℕ) (cells : Cells) (layout : Layout) (class sl
       let same : new ≡ joined_records (Some p) n cells.records = ap (λ o. joined_records o next cells.records) prev_is ∙ ap (λ o. joined_records (Some p) o cells.records) next_is in
       let P : List Record → Type 0 = λ rs. IsLayout (without_home slot home) (record cells { records = rs }) (with_unlinked class slot layout) in
       subst P same (rebuilt cells.heads cells.step_words cells.level_word were.heads_count were.words_count
-        (were.firsts class class_within ∙ sym (first_when_some back fore slot listed p linked stands prev_is)) (λ k apart. refl) were.marked)
+      (were.firsts class class_within ∙ sym (first_when_some back fore slot listed p linked stands prev_is)) (λ k apart. refl) were.marked)
   left None (Some n) prev_is next_is =
       let same : new ≡ joined_records None (Some n) cells.records = ap (λ o. joined_records o next cells.records) prev_is ∙ ap (λ o. joined_records None o cells.records) next_is in
       let P : List Record → Type 0 = λ rs. IsLayout (without_home slot home) (record cells { records = rs; heads = set cells.heads class (Some n) }) (with_unlinked class slot layout) in
       subst P same (rebuilt (set cells.heads class (Some n)) cells.step_words cells.level_word (length-set cells.heads class _ ∙ were.heads_count) were.words_count
-        (get_or-set_same cells.heads class (Some n) None class_in_heads ∙ sym (was_first prev_is ∙ next_is)) (λ k apart. get_or-set_other cells.heads class k (Some n) None apart)
-        (marks_kept cells.heads cells.step_words cells.level_word class were.heads_count were.words_count class_within were.marked n some_head))
+      (get_or-set_same cells.heads class (Some n) None class_in_heads ∙ sym (was_first prev_is ∙ next_is)) (λ k apart. get_or-set_other cells.heads class k (Some n) None apart)
+      (marks_kept cells.heads cells.step_words cells.level_word class were.heads_count were.words_count class_within were.marked n some_head))
   left None None prev_is next_is =
       let word : ℕ = without_bit (get_or cells.step_words (class / steps) 0) (class % steps) in
       let words : List ℕ = set cells.step_words (class / steps) word in
@@ -202,9 +201,9 @@ module _ (home : ℕ → Option ℕ) (cells : Cells) (layout : Layout) (class sl
       let P : List Record → Type 0 = λ rs. IsLayout (without_home slot home) (record cells { records = rs; heads = set cells.heads class None; step_words = words; level_word = level }) (with_unlinked class slot layout) in
       let Q : Cells → Type 0 = λ s. IsLayout (without_home slot home) s (with_unlinked class slot layout) in
       subst Q (sym (cleared_is (class / steps) word (record cells { heads = set cells.heads class None; step_words = words })))
-        (subst P same (rebuilt (set cells.heads class None) words level (length-set cells.heads class _ ∙ were.heads_count) (length-set cells.step_words _ _ ∙ were.words_count)
-          (get_or-set_same cells.heads class None None class_in_heads ∙ sym (was_first prev_is ∙ next_is)) (λ k apart. get_or-set_other cells.heads class k None None apart)
-          (marks_cleared cells.heads cells.step_words cells.level_word class were.heads_count were.words_count class_within were.marked some_head)))
+      (subst P same (rebuilt (set cells.heads class None) words level (length-set cells.heads class _ ∙ were.heads_count) (length-set cells.step_words _ _ ∙ were.words_count)
+      (get_or-set_same cells.heads class None None class_in_heads ∙ sym (was_first prev_is ∙ next_is)) (λ k apart. get_or-set_other cells.heads class k None None apart)
+      (marks_cleared cells.heads cells.step_words cells.level_word class were.heads_count were.words_count class_within were.marked some_head)))
 
   -- a slot whose home is the class leaves the class's list, and has no home then
   pub unlinked_is_layout : IsLayout (without_home slot home) (unlinked class slot cells) (with_unlinked class slot layout)

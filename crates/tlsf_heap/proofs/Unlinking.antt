@@ -1,5 +1,5 @@
 -- A block leaves its class's list, wherever it stands in it: the links of what is left.
-use Rattle.std.proofs.Common.{◌≡◌, ◌≢◌, ℕ, suc, ◌+◌, ◌<◌, ◌≤◌, Bool, true, false, cond, eqb, List, [], ◌∷◌, length, refl, sym, ap, ◌∙◌, subst, arith, Option, Some, None, ◌⊎◌, inl, inr}
+use Rattle.std.proofs.Common.{◌≡◌, ◌≢◌, ℕ, ◌<◌, ◌≤◌, List, [], ◌∷◌, length, refl, sym, ap, ◌∙◌, subst, arith, Option, Some, None, ◌⊎◌, inl, inr}
 use Rattle.std.proofs.lemmas.Bool.{cases_eq, eq-eqb, ne_eqb}
 use Rattle.tlsf_store.specs.declared.records.Record.{Record}
 use Rattle.tlsf_store.specs.Records.{record_at}
@@ -49,9 +49,9 @@ module _ (back fore : ℕ → Option ℕ) (slot : ℕ) where
   prev_stands before (s ∷ slots) q l stands is = elim (cases_eq s slot) [
     | inl here ↦ inl (sym l.0 ∙ ap back here ∙ is)
     | inr apart ↦ elim (prev_stands (Some s) slots q l.2 (stands_behind s slots apart stands) is) [
-        | inl same ↦ inr (let P : ℕ → Type 0 = λ n. 1 ≤ times n (s ∷ slots) in subst P (Some-same s q same) (times-front s slots))
-        | inr later ↦ inr (times-behind q s slots later)
-      ]
+      | inl same ↦ inr (let P : ℕ → Type 0 = λ n. 1 ≤ times n (s ∷ slots) in subst P (Some-same s q same) (times-front s slots))
+      | inr later ↦ inr (times-behind q s slots later)
+    ]
   ]
 
   -- behind another block it has one in front
@@ -125,7 +125,7 @@ module _ (back fore : ℕ → Option ℕ) (slot : ℕ) where
           | inl here ↦
               let alone : times slot slots ≡ 0 = (let S : ℕ → Type 0 = λ n. times n slots ≡ 0 in subst S here s_alone) in
               subst P (sym (without-here slot s slots here ∙ without-none slot slots alone))
-                (after_slot before s slots (ap fore (sym here) ∙ l.1) (ap back (sym here) ∙ l.0) l.2 fewer (λ q e. omega (arith, none q e, times-cons q s slots)))
+              (after_slot before s slots (ap fore (sym here) ∙ l.1) (ap back (sym here) ∙ l.0) l.2 fewer (λ q e. omega (arith, none q e, times-cons q s slots)))
           | inr apart ↦
               let later : 1 ≤ times slot slots = stands_behind s slots apart stands in
               subst P (sym (without-apart slot s slots apart)) (

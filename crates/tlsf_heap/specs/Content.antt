@@ -1,5 +1,5 @@
 -- What a heap holds: its pools with their blocks, and the free list of each class.
-use Rattle.std.specs.Prelude.{ℕ, ◌+◌, Bool, List, length, Option, None, Some, is_none, flat_map, find, option_map, unwrap_or, ◌==◌}
+use Rattle.std.specs.Prelude.{ℕ, Bool, List, length, Option, is_none, flat_map, find, option_map, unwrap_or, ◌==◌}
 
 -- a block: where it begins, its size in bytes, and what its owner knows it by; a free block has none
 pub record Block (A : Type 0) : Type 0 where

@@ -1,5 +1,5 @@
 -- The pool entries of a store, and a pool that enters it.
-use Rattle.std.specs.Prelude.{ℕ, ◌+◌, ◌||◌, nat_le, Bool, List, [], ◌∷◌, Some, None, if◌then◌else◌, nat_lt}
+use Rattle.std.specs.Prelude.{ℕ, ◌+◌, ◌||◌, nat_le, Bool, List, [], ◌∷◌, None, if◌then◌else◌, nat_lt}
 use Rattle.std.specs.List.{position_or_len}
 use Rattle.tlsf_class.specs.Classes.{class}
 use Rattle.tlsf_store.specs.declared.records.State.TheVariants.{Free}

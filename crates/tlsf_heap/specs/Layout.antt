@@ -1,6 +1,6 @@
 -- What the linked records of a store stand for: a layout, which lists the slots of each pool in order of
 -- place and the slots of each class from the first on.
-use Rattle.std.specs.Prelude.{◌≡◌, ℕ, ◌+◌, ◌-◌, ◌<◌, ◌==◌, if◌then◌else◌, zero, suc, List, [], ◌∷◌, ◌++◌, length, map, flat_map, replicate, Option, Some, None, slice_index_or, ⊤}
+use Rattle.std.specs.Prelude.{◌≡◌, ℕ, ◌-◌, ◌<◌, ◌==◌, if◌then◌else◌, zero, suc, List, [], ◌∷◌, ◌++◌, length, map, flat_map, replicate, Option, Some, None, slice_index_or, ⊤}
 use Rattle.tlsf_class.specs.Classes.{levels, classes, class}
 use Rattle.tlsf_store.specs.declared.records.State.{State}
 use Rattle.tlsf_store.specs.declared.records.State.TheVariants.{Vacant, Free, Live}

@@ -4,7 +4,6 @@ use super::*;
 use std::process::Abort;
 use tlsf_store::StoreError;
 
-
 /// Whether these are the heap's pools.
 fn has_pools(heap: &mut Heap, ranges: &[(u64, u64)]) -> bool {
     heap.pools().as_slice() == ranges
@@ -36,7 +35,10 @@ fn pool_limits(rt: HostRuntime) {
     assert_eq!(rt; heap.add_pool(4, 64), Err(Refusal::BadPool));
     assert_eq!(rt; heap.add_pool(0, 0), Err(Refusal::BadPool));
     assert_eq!(rt; heap.add_pool(4_294_967_168, 72), Err(Refusal::BadPool));
-    assert_eq!(rt; heap.add_pool(18_446_744_073_709_551_552, 64), Err(Refusal::BadPool));
+    assert_eq!(rt;
+        heap.add_pool(18_446_744_073_709_551_552, 64),
+        Err(Refusal::BadPool)
+    );
     assert!(rt; has_pools(&mut heap, &[(4_294_967_232, 64)]));
 }
 

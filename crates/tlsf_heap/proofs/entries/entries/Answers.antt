@@ -1,7 +1,7 @@
-use Rattle.std.proofs.Common.{◌≡◌, ◌+◌, ◌<◌, ℕ, ◌++◌, ◌∷◌, [], length, take, List, Option, sym, ap, ◌∙◌, subst, arith}
+use Rattle.std.proofs.Common.{◌≡◌, ◌<◌, ℕ, ◌++◌, ◌∷◌, [], length, take, List, Option, sym, ap, ◌∙◌, subst, arith}
 use Rattle.std.specs.Prelude.{All}
 use Rattle.tlsf_store.specs.declared.pools.Pool.{Pool as StoredPool}
-use Rattle.tlsf_store.specs.Cells.{Cells, touched, pool_at, pool_entries, IsPoolBelow}
+use Rattle.tlsf_store.specs.Cells.{Cells, touched, pool_at, IsPoolBelow}
 use Rattle.tlsf_store.proofs.CellLaws.{touched-touched}
 use Rattle.tlsf_heap.specs.declared.pool_entry.PoolEntry.{PoolEntry}
 use Rattle.tlsf_heap.specs.Layout.{entries_of}
@@ -17,7 +17,7 @@ loop-number-preserved c =
     let within : n < length pools = omega (arith, c.loop-number-test.true, c.requires) in
     let all_below : All (FirstBelow count) c.loop-number.entries.items = c.loop-number.invariant.below in
     let below : IsPoolBelow count c.pool.result =
-        let B : List _ → Type 0 = λ rs. IsPoolBelow (length rs) c.pool.result in subst B (ap (λ (s : Cells). s.records) c.loop-number.invariant.store) c.pool.ensures.below in
+    let B : List _ → Type 0 = λ rs. IsPoolBelow (length rs) c.pool.result in subst B (ap (λ (s : Cells). s.records) c.loop-number.invariant.store) c.pool.ensures.below in
     let P : List PoolEntry → Type 0 = λ es. All (FirstBelow count) es in
     record {
       items = c.push_entry.ensures.items ∙ ap (λ es. es ++ entries_of (c.pool.result ∷ [])) c.loop-number.invariant.items

@@ -1,6 +1,5 @@
-use Rattle.std.proofs.Common.{◌≡◌, ◌≤◌, ◌<◌, ℕ, take, length}
+use Rattle.std.proofs.Common.{◌≡◌, ◌≤◌, ◌<◌, take, length}
 use Rattle.std.specs.Prelude.{All}
-use Rattle.arrayvec.specs.ArrayVec.{array_vec_len}
 use Rattle.tlsf_store.specs.Cells.{touched}
 use Rattle.tlsf_heap.specs.Layout.{entries_of}
 use Rattle.tlsf_heap.proofs.entries.entries.Given as goal

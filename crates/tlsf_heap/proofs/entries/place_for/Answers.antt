@@ -1,4 +1,4 @@
-use Rattle.std.proofs.Common.{◌<◌, arith, length}
+use Rattle.std.proofs.Common.{arith, length}
 use Rattle.tlsf_heap.proofs.EntryLists.{no_entry, entry_place_is}
 use Rattle.tlsf_heap.proofs.entries.place_for.Goals as goal
 

@@ -1,4 +1,4 @@
-use Rattle.std.proofs.Common.{◌≡◌, ◌≤◌, ◌<◌, ℕ, get_or}
+use Rattle.std.proofs.Common.{◌≤◌, ◌<◌, ℕ, get_or}
 use Rattle.tlsf_heap.proofs.entries.place_for.Given as goal
 
 -- the pools so far begin at or below the base

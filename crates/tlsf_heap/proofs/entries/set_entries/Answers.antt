@@ -1,4 +1,4 @@
-use Rattle.std.proofs.Common.{◌≡◌, ◌+◌, ◌<◌, ℕ, length, List, Option, sym, ap, ◌∙◌, subst, arith}
+use Rattle.std.proofs.Common.{◌≡◌, ◌+◌, length, List, Option, sym, ap, ◌∙◌, subst, arith}
 use Rattle.tlsf_store.specs.declared.records.Record.{Record}
 use Rattle.tlsf_store.specs.declared.pools.Pool.{Pool as StoredPool}
 use Rattle.tlsf_store.specs.Cells.{Cells, IsPoolBelow}
@@ -11,14 +11,14 @@ set_pool-requires-clause-below c =
     let P : Option StoredPool → Type 0 = λ p. IsPoolBelow (length c.loop-number.store.records) p in
     let Q : List Record → Type 0 = λ rs. IsPoolBelow (length rs) (c.pool_at.result) in
     subst Q (sym (ap (λ (s : Cells). s.records) c.loop-number.invariant.rest))
-      (let R : Option StoredPool → Type 0 = λ p. IsPoolBelow (length c.args.store.now.records) p in
-       subst R (sym c.pool_at.ensures) (padded_at-below (length c.args.store.now.records) c.args.entries.now c.loop-number.number c.requires.below))
+    (let R : Option StoredPool → Type 0 = λ p. IsPoolBelow (length c.args.store.now.records) p in
+    subst R (sym c.pool_at.ensures) (padded_at-below (length c.args.store.now.records) c.args.entries.now c.loop-number.number c.requires.below))
 
 pub returns : goal.returns
 returns c =
     let end : c.loop-number.number ≡ 8 = omega (arith, c.loop-number-test.false, c.loop-number.auto.number-end) in
     c.loop-number.invariant.rest
     ∙ ap (λ pools. record c.args.store.now { pools = pools; touches = c.args.store.now.touches + c.loop-number.number })
-        (written_is_padded c.loop-number.store.pools c.args.entries.now c.loop-number.invariant.count c.requires.few
-          (λ k within. c.loop-number.invariant.written k (omega (arith, end, within))))
+    (written_is_padded c.loop-number.store.pools c.args.entries.now c.loop-number.invariant.count c.requires.few
+    (λ k within. c.loop-number.invariant.written k (omega (arith, end, within))))
     ∙ ap (λ n. record c.args.store.now { pools = padded c.args.entries.now; touches = c.args.store.now.touches + n }) end

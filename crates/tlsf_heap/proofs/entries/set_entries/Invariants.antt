@@ -1,4 +1,4 @@
-use Rattle.std.proofs.Common.{◌≡◌, ◌≤◌, ◌<◌, ◌+◌, ℕ, length}
+use Rattle.std.proofs.Common.{◌≡◌, ◌<◌, ◌+◌, ℕ, length}
 use Rattle.tlsf_store.specs.Cells.{pool_at, pool_entries}
 use Rattle.tlsf_heap.specs.Layout.{padded_at}
 use Rattle.tlsf_heap.proofs.entries.set_entries.Given as goal

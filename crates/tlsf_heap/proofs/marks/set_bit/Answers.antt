@@ -1,8 +1,6 @@
-use Rattle.std.proofs.Common.{◌≡◌, ℕ, ◌<◌, ◌*◌, ◌%◌, ◌^◌, bit_or, subst, sym, ap, ◌∙◌, arith}
+use Rattle.std.proofs.Common.{arith}
 use Rattle.std.proofs.Math.Pow.{pow-lt}
-use Rattle.std.proofs.Math.Nat.{mod-lt}
 use Rattle.std.proofs.lemmas.Nat.{or_lt}
-use Rattle.tlsf_class.specs.Classes.{levels}
 use Rattle.tlsf_heap.proofs.marks.set_bit.Goals as goal
 
 pub returns-clause-below : goal.returns-clause-below

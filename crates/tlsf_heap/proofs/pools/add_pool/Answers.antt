@@ -1,22 +1,16 @@
-use Rattle.std.proofs.Common.{◌≡◌, ◌≢◌, ℕ, ◌+◌, ◌<◌, ◌≤◌, Bool, true, false, ◌&&◌, List, length, set, sym, ap, ◌∙◌, subst, arith, Option, Some, None, Ok, Err}
-use Rattle.std.specs.Prelude.{IfNone, IfSome, ◌==◌}
+use Rattle.std.proofs.Common.{◌≡◌, ℕ, ◌+◌, ◌<◌, ◌≤◌, Bool, true, false, length, sym, ap, ◌∙◌, subst, arith, Option, Some, None, Ok}
+use Rattle.std.specs.Prelude.{IfNone, ◌==◌}
 use Rattle.std.specs.List.{list_all}
-use Rattle.std.proofs.lemmas.Bool.{eqb-true, eqb-false, and_left, and_right, and_from, true≢false}
+use Rattle.std.proofs.lemmas.Bool.{eqb-true, eqb-false, and_left, and_right}
 use Rattle.tlsf_class.specs.Classes.{class}
 use Rattle.tlsf_class.proofs.ClassLaws.{class-lt}
-use Rattle.tlsf_store.specs.declared.records.Record.{Record}
 use Rattle.tlsf_store.specs.Records.{blank, record_at, vacant_count}
-use Rattle.tlsf_store.specs.Cells.{Cells, head_at, touched, with_taken}
-use Rattle.tlsf_store.proofs.RecordLaws.{vacant_count-le}
-use Rattle.tlsf_heap.specs.declared.pool_entry.PoolEntry.{PoolEntry}
-use Rattle.tlsf_heap.specs.declared.refusal.Refusal.TheVariants.{BadPool}
-use Rattle.tlsf_heap.specs.Pools.{can_be_pool, most_pools, add_pool, with_pool}
-use Rattle.tlsf_heap.specs.Content.{used_records}
-use Rattle.tlsf_heap.specs.Edits.{IsUsed}
+use Rattle.tlsf_store.specs.Cells.{Cells, touched, with_taken}
+use Rattle.tlsf_heap.specs.Pools.{can_be_pool, most_pools}
 use Rattle.tlsf_heap.specs.Layout.{Stands, content_of, entries_of}
 use Rattle.tlsf_heap.specs.Entries.{is_entry_apart, pool_entered}
-use Rattle.tlsf_heap.proofs.NewPool.{Stands-touches, content_of-touches, pool_stands, pool_content}
-use Rattle.tlsf_heap.proofs.AddPool.{touched_stands, touched_content, refused_bad, refused_pools, refused_records, is_added, head_used, put_cells, put_stands, put_added, taken_used}
+use Rattle.tlsf_heap.proofs.NewPool.{Stands-touches, content_of-touches}
+use Rattle.tlsf_heap.proofs.AddPool.{touched_stands, touched_content, refused_bad, refused_pools, refused_records, put_cells, put_stands, put_added, taken_used}
 use Rattle.tlsf_heap.proofs.pools.add_pool.Goals.{then-not-can_be_pool-via-then-not-can_be_pool, then-not-can_be_pool-via-else-not-can_be_pool+then-not-is_apart}
 use Rattle.tlsf_heap.proofs.pools.add_pool.Goals as goal
 
@@ -44,7 +38,7 @@ returns-then-is_full-clause-refused c =
     let old : Cells = c.args.store.now in
     let can : can_be_pool c.args.base c.args.bytes ≡ true = sym c.can_be_pool.ensures ∙ c.if-not-can_be_pool.false in
     let apart : list_all (is_entry_apart c.args.base c.args.bytes) (entries_of old.pools) ≡ true =
-        ap (list_all (is_entry_apart c.args.base c.args.bytes)) (sym c.entries-entries.ensures.value ∙ sym c.as_slice.ensures.value) ∙ sym c.is_apart.ensures ∙ c.if-not-is_apart.false in
+    ap (list_all (is_entry_apart c.args.base c.args.bytes)) (sym c.entries-entries.ensures.value ∙ sym c.as_slice.ensures.value) ∙ sym c.is_apart.ensures ∙ c.if-not-is_apart.false in
     let full : length c.entries-entries.result.items ≡ 8 = eqb-true _ _ (sym c.is_full.ensures.value ∙ c.if-is_full.true) in
     refused_pools old c.requires c.args.base c.args.bytes can apart (omega (arith, full, ap length c.entries-entries.ensures.value))
 
@@ -77,7 +71,7 @@ returns-in_default-clause-refused c =
     let old : Cells = c.args.store.now in
     let can : can_be_pool c.args.base c.args.bytes ≡ true = sym c.can_be_pool.ensures ∙ c.if-not-can_be_pool.false in
     let apart : list_all (is_entry_apart c.args.base c.args.bytes) (entries_of old.pools) ≡ true =
-        ap (list_all (is_entry_apart c.args.base c.args.bytes)) (sym c.entries-entries.ensures.value ∙ sym c.as_slice.ensures.value) ∙ sym c.is_apart.ensures ∙ c.if-not-is_apart.false in
+    ap (list_all (is_entry_apart c.args.base c.args.bytes)) (sym c.entries-entries.ensures.value ∙ sym c.as_slice.ensures.value) ∙ sym c.is_apart.ensures ∙ c.if-not-is_apart.false in
     let few : length (entries_of old.pools) < most_pools = few_entries c.is_full.result (length c.entries-entries.result.items) (length (entries_of old.pools)) c.is_full.ensures.value c.if-is_full.false c.is_full.ensures.fits (ap length c.entries-entries.ensures.value) in
     let P : Option ℕ → Type 0 = λ o. IfNone o (vacant_count c.entries-entries.new.store.records ≡ 0) in
     let none : vacant_count c.entries-entries.new.store.records ≡ 0 = subst P c.in_default.is c.take_vacant.ensures.none in

@@ -1,4 +1,4 @@
-use Rattle.std.proofs.Common.{◌≡◌, ◌≢◌, ◌<◌, ℕ, arith}
+use Rattle.std.proofs.Common.{arith}
 use Rattle.tlsf_heap.proofs.Searching.{none_above, lowest_above}
 use Rattle.tlsf_heap.proofs.search.lowest_from.Goals as goal
 

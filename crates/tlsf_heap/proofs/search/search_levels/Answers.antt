@@ -1,9 +1,8 @@
-use Rattle.std.proofs.Common.{◌≡◌, ◌+◌, ◌*◌, ◌^◌, ◌<◌, ℕ, List, Option, get_or, drop, sym, ap, ◌∙◌, subst, arith}
+use Rattle.std.proofs.Common.{◌≡◌, ◌+◌, ◌^◌, ◌<◌, ℕ, Option, get_or, sym, ap, ◌∙◌, subst, arith}
 use Rattle.std.specs.Prelude.{IfNone}
 use Rattle.std.specs.Int.{bit_at}
-use Rattle.tlsf_class.specs.Classes.{steps, levels, classes}
 use Rattle.tlsf_store.specs.Cells.{Cells, head_at}
-use Rattle.tlsf_heap.specs.Bitmaps.{HasNoBit, IsLowestFrom, first_head}
+use Rattle.tlsf_heap.specs.Bitmaps.{HasNoBit, IsLowestFrom}
 use Rattle.tlsf_heap.proofs.Searching.{passes_all, found_above, has_step, level_within}
 use Rattle.tlsf_heap.proofs.search.search_levels.Goals as goal
 

@@ -1,4 +1,4 @@
-use Rattle.std.proofs.Common.{◌≡◌, map, sym, ap, ◌∙◌}
+use Rattle.std.proofs.Common.{map, ap, ◌∙◌}
 use Rattle.tlsf_heap.specs.Entries.{entry_range}
 use Rattle.tlsf_heap.specs.Counted.{Counted, range_of}
 use Rattle.tlsf_heap.proofs.AddPool.{touched_stands, touched_content}
