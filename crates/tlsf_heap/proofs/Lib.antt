@@ -16,4 +16,5 @@ pub mod Followed
 pub mod NewPool
 pub mod AddPool
 pub mod HeapStands
+mod LayoutRows
 mod HeapRows
