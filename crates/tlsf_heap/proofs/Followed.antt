@@ -87,7 +87,7 @@ areas_followed records back (area ∷ areas) few c =
     let rest = areas_followed records back areas (omega (arith, few, both)) c.2 in
     ap (λ ss. record { entry = area.entry; slots = ss } ∷ map (area_from records) (map (λ (a : Area). a.entry) areas)) slots ∙ ap (λ others. area ∷ others) rest
 
-held_most : (s : State) → held_in s ≤ 1
+pub held_most : (s : State) → held_in s ≤ 1
 held_most Vacant = omega arith
 held_most Free = omega arith
 held_most Live = omega arith

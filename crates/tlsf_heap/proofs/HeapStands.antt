@@ -1,23 +1,28 @@
 -- What the cells of a heap stand for: from the start on, and as its callers read it.
-use Rattle.std.proofs.Common.{◌≡◌, ℕ, zero, suc, ◌/◌, ◌%◌, List, [], ◌∷◌, map, replicate, get_or, refl, sym, ap, ◌∙◌, subst, arith, Option, None, inl, inr}
+use Rattle.std.proofs.Common.{◌≡◌, Bool, eqb, ℕ, zero, suc, ◌≤◌, ◌/◌, ◌%◌, List, [], ◌∷◌, map, replicate, get_or, refl, sym, ap, ◌∙◌, subst, arith, Option, None, inl, inr}
 use Rattle.std.specs.Int.{bit_at}
 use Rattle.std.proofs.lemmas.Bool.{cases_lt}
 use Rattle.std.proofs.lemmas.List.{length-replicate, get_or-replicate, get_or_past}
 use Rattle.std.proofs.lemmas.Nat.Bits.{bit_at-zero}
 use Rattle.tlsf_class.specs.Classes.{classes, levels, steps}
 use Rattle.tlsf_store.specs.declared.records.Record.{Record}
+use Rattle.tlsf_store.specs.declared.records.State.{State}
+use Rattle.tlsf_store.specs.declared.records.State.TheVariants.{Vacant, Free, Live}
 use Rattle.tlsf_store.specs.Records.{blank, record_at}
 use Rattle.tlsf_store.specs.Cells.{Cells, empty_cells}
-use Rattle.tlsf_heap.specs.Content.{Content}
+use Rattle.tlsf_heap.specs.Content.{Block, Content, blocks_of}
 use Rattle.tlsf_heap.specs.Lists.{list_of}
 use Rattle.tlsf_heap.specs.Pools.{created}
 use Rattle.tlsf_heap.specs.Good.{times, IsGood}
-use Rattle.tlsf_heap.specs.Layout.{Area, Layout, IsLayout, IsLinked, Stands, held_in, home_in, home_of, at_home, first_slot, pool_of, place_at, content_by, content_of, entries_of}
+use Rattle.tlsf_heap.specs.Layout.{Area, Layout, IsLayout, IsLinked, Stands, held_in, home_in, home_of, at_home, first_slot, slots_of, owner_in, block_of, pool_of, place_at, content_by, content_of, entries_of}
 use Rattle.tlsf_heap.specs.Bitmaps.{head_bit, word_bit}
 use Rattle.tlsf_heap.specs.Entries.{entry_range}
 use Rattle.tlsf_heap.specs.Counted.{range_of}
 use Rattle.tlsf_heap.proofs.GoodContent.{created_is_good}
-use Rattle.tlsf_heap.proofs.Followed.{content_is}
+use Rattle.tlsf_heap.specs.GoodSlots.{is_slot, slot_times, HasGoodSlots}
+use Rattle.tlsf_heap.proofs.Blocks.{one_if, count_by-cons}
+use Rattle.tlsf_heap.proofs.FreeLists.{times-cons}
+use Rattle.tlsf_heap.proofs.Followed.{content_is, held_most, blocks_of_areas}
 use Rattle.tlsf_heap.proofs.AddPool.{entries_are}
 use Rattle.tlsf_heap.proofs.Linking.{field_at}
 
@@ -87,3 +92,27 @@ module _ (cells : Cells) (stands : Stands cells) where
       of_areas : (areas : List Area) → map entry_range (map (λ (a : Area). a.entry) areas) ≡ map range_of (map (pool_of cells.records) areas)
       of_areas [] = refl
       of_areas (area ∷ areas) = ap (λ rs. (area.entry.base, area.entry.bytes) ∷ rs) (of_areas areas)
+
+owner_is : (s : State) (slot q : ℕ) → one_if (is_slot slot (owner_in s q)) ≤ one_if (eqb q slot)
+owner_is Vacant slot q = omega arith
+owner_is Free slot q = omega arith
+owner_is Live slot q = omega arith
+
+slots_few : (records : List Record) (slot : ℕ) (slots : List ℕ) → slot_times slot (map (block_of records) slots) ≤ times slot slots
+slots_few records slot [] = omega arith
+slots_few records slot (q ∷ slots) =
+    let kind : Block ℕ → Bool = λ block. is_slot slot block.owner in
+    omega (arith, slots_few records slot slots, count_by-cons kind (block_of records q) (map (block_of records) slots), times-cons slot q slots, owner_is (record_at records q).state slot q)
+
+-- live slots are distinct and in range
+pub slots_are_good : (cells : Cells) (stands : Stands cells) → HasGoodSlots (content_of cells)
+slots_are_good cells stands =
+    let records : List Record = cells.records in
+    let layout : Layout = stands.layout in
+    let few : (slot : ℕ) → slot_times slot (blocks_of (map (pool_of records) layout.areas)) ≤ times slot (slots_of layout.areas) =
+    λ slot. omega (arith, ap (slot_times slot) (blocks_of_areas records layout.areas), slots_few records slot (slots_of layout.areas)) in
+    let P : Content ℕ → Type 0 = λ x. HasGoodSlots x in
+    subst P (sym (content_is cells layout stands.represented)) (record {
+      distinct = λ slot. omega (arith, few slot, stands.represented.held slot, held_most (record_at records slot).state);
+      below = λ slot past. omega (arith, few slot, stands.represented.held slot, ap (λ (r : Record). held_in r.state) (get_or_past records slot blank past));
+    })

@@ -7,12 +7,17 @@ pub mod Merging
 pub mod Freeing
 pub mod FreeIsGood
 pub mod EntryLists
+pub mod Searching
 pub mod Marking
 pub mod Linking
 pub mod LinkedLayout
+pub mod Unlinking
+pub mod UnlinkedLayout
+pub mod ListMeaning
 pub mod NewArea
 pub mod Followed
 pub mod NewPool
 pub mod AddPool
 pub mod HeapStands
+mod LayoutRows
 mod HeapRows

@@ -27,17 +27,17 @@ with_linked class slot layout = record layout { lists = set layout.lists class (
 abbrev pub linked_before : Option ℕ → ℕ → ℕ → Cells → Cells
 linked_before first class slot cells = marked class (with_head (with_prev_free first (Some slot) (with_free_links slot None first cells)) class (Some slot))
 
-at_home-here : (class : ℕ) → at_home class (Some class) ≡ 1
+pub at_home-here : (class : ℕ) → at_home class (Some class) ≡ 1
 at_home-here class = ap (λ b. cond b 1 0) (eq-eqb class class refl)
 
-at_home-elsewhere : (class other : ℕ) → other ≢ class → at_home class (Some other) ≡ 0
+pub at_home-elsewhere : (class other : ℕ) → other ≢ class → at_home class (Some other) ≡ 0
 at_home-elsewhere class other apart = ap (λ b. cond b 1 0) (ne_eqb other class apart)
 
 pub at_home-most : (class : ℕ) (home : Option ℕ) → at_home class home ≤ 1
 at_home-most class None = omega arith
 at_home-most class (Some other) = elim (eqb other class) as (λ b. cond b 1 0 ≤ 1) [ true ↦ omega arith | false ↦ omega arith ]
 
-home_is : (class : ℕ) (home : Option ℕ) → 1 ≤ at_home class home → home ≡ Some class
+pub home_is : (class : ℕ) (home : Option ℕ) → 1 ≤ at_home class home → home ≡ Some class
 home_is class None h = absurd (omega (arith, h))
 home_is class (Some other) h = elim (cases_eq other class) [
   | inl same ↦ ap Some same

@@ -91,10 +91,10 @@ prev_front (Some h) slot records within other =
 prev_first : (h slot : ℕ) (records : List Record) → h < length records → (record_at (front_records (Some h) slot records) h).prev_free ≡ Some slot
 prev_first h slot records within = ap (λ (r : Record). r.prev_free) (record_at-set_same (edited_in (in_front (Some h)) (Some slot) records) h _ (omega (arith, within, length-edited_in (in_front (Some h)) (Some slot) records)))
 
-None≢Some : (q : ℕ) → None ≢ Some q
+pub None≢Some : (q : ℕ) → None ≢ Some q
 None≢Some q = λ e. absurd (cc)
 
-Some-same : (a b : ℕ) → Some a ≡ Some b → a ≡ b
+pub Some-same : (a b : ℕ) → Some a ≡ Some b → a ≡ b
 Some-same a b e = cc
 
 -- the list with the slot in front is linked

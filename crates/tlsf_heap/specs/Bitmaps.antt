@@ -1,5 +1,5 @@
 -- The bitmaps: which classes have a free block, and which first levels have such a class.
-use Rattle.std.specs.Prelude.{◌≡◌, ℕ, ◌<◌, ◌/◌, ◌%◌, ◌==◌, if◌then◌else◌, List, [], ◌∷◌, Option, Some, None, slice_index}
+use Rattle.std.specs.Prelude.{◌≡◌, ℕ, ◌<◌, ◌≤◌, ◌/◌, ◌%◌, ◌==◌, if◌then◌else◌, List, [], ◌∷◌, Option, Some, None, slice_index}
 use Rattle.std.specs.Int.{bit_at}
 use Rattle.tlsf_class.specs.Classes.{steps, levels, classes}
 use Rattle.tlsf_store.specs.Cells.{head_at}
@@ -23,3 +23,11 @@ abbrev pub first_head : List (Option ℕ) → Option ℕ
 first_head [] = None
 first_head (None ∷ heads) = first_head heads
 first_head (Some slot ∷ heads) = Some slot
+
+-- no bit is set from one place up to another
+abbrev pub HasNoBit : ℕ → ℕ → ℕ → Type 0
+HasNoBit word from to = (bit : ℕ) → from ≤ bit → bit < to → bit_at word bit ≡ 0
+
+-- the lowest bit set at or above a place, in a word of 32 bits
+abbrev pub IsLowestFrom : ℕ → ℕ → ℕ → Type 0
+IsLowestFrom word from bit = (from ≤ bit) × (bit < 32) × (bit_at word bit ≡ 1) × HasNoBit word from bit

@@ -10,3 +10,4 @@ pub mod Bitmaps
 pub mod Layout
 pub mod Entries
 pub mod Counted
+pub mod GoodSlots

@@ -32,6 +32,7 @@ impl Heap {
     ghost use Rattle.std.specs.Prelude.{◌≡◌, ◌+◌, ◌≤◌, ◌^◌, ◌⊎◌, ◌↔◌, map, Ok, Err, IfOk, IfErr, OnOk, OnErr};
     ghost use Rattle.tlsf_store.specs.declared.errors.StoreError.TheVariants.{BadCount};
     ghost use Rattle.tlsf_heap.specs.Good.{IsGood};
+    ghost use Rattle.tlsf_heap.specs.GoodSlots.{HasGoodSlots};
     ghost use Rattle.tlsf_heap.specs.Pools.{created, add_pool as added};
     ghost use Rattle.tlsf_heap.specs.Counted.{range_of};
 
@@ -79,7 +80,8 @@ impl Heap {
 
     /// Says what every heap keeps; it does nothing.
     pub fn keeps_good(&self)
-        ensures { IsGood self.now.content }
+        ensures good { IsGood self.now.content }
+        ensures slots { HasGoodSlots self.now.content }
     {
         let _store = &self.store;
     }

@@ -6,9 +6,14 @@ mod entries;
 mod free_lists;
 mod heap;
 mod marks;
+mod pointer;
 mod pool_entry;
 mod pools;
 mod refusal;
+mod search;
+#[cfg(test)]
+mod tests;
 
 pub use crate::heap::Heap;
+pub use crate::pointer::Ptr;
 pub use crate::refusal::Refusal;

@@ -1,8 +1,12 @@
 use Rattle.std.proofs.Common.{subst}
 use Rattle.tlsf_heap.specs.Good.{IsGood}
+use Rattle.tlsf_heap.specs.GoodSlots.{HasGoodSlots}
 use Rattle.tlsf_heap.specs.Counted.{Counted}
-use Rattle.tlsf_heap.proofs.HeapStands.{content_is_good}
+use Rattle.tlsf_heap.proofs.HeapStands.{content_is_good, slots_are_good}
 use Rattle.tlsf_heap.proofs.heap.Heap.keeps_good.Goals as goal
 
-pub returns : goal.returns
-returns c = let P : Counted → Type 0 = λ h. IsGood h.content in subst P c.self.view_is (content_is_good c.self.inside.store c.self.invariant)
+pub returns-clause-good : goal.returns-clause-good
+returns-clause-good c = let P : Counted → Type 0 = λ h. IsGood h.content in subst P c.self.view_is (content_is_good c.self.inside.store c.self.invariant)
+
+pub returns-clause-slots : goal.returns-clause-slots
+returns-clause-slots c = let P : Counted → Type 0 = λ h. HasGoodSlots h.content in subst P c.self.view_is (slots_are_good c.self.inside.store c.self.invariant)

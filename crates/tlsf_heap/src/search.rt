@@ -1,0 +1,61 @@
+//! The search for a free block, by the bitmaps.
+
+ghost use Rattle.std.specs.Prelude.{◌≡◌, ◌+◌, ◌*◌, ◌≤◌, length, drop, IfSome, IfNone};
+ghost use Rattle.tlsf_class.specs.Classes.{steps, levels, classes};
+ghost use Rattle.tlsf_heap.specs.Bitmaps.{AreMarked, HasNoBit, IsLowestFrom, first_head};
+
+use crate::marks::STEPS;
+use tlsf_class::Class;
+use tlsf_store::{Slot, Store};
+
+/// The lowest bit set in the word at or above a place.
+fn lowest_from(word: u32, from: u32) -> Option<u32>
+    ensures found { IfSome result (λ bit. IsLowestFrom word from bit) }
+    ensures none { IfNone result (HasNoBit word from 32) }
+{
+    if from >= u32::BITS {
+        return None;
+    }
+    let rest = word >> from;
+    if rest == 0 {
+        return None;
+    }
+    Some(from + rest.trailing_zeros())
+}
+
+/// The first block of the first class, from this one on, whose list isn't empty. At most four touches.
+pub(crate) fn search(store: &mut Store, class: Class) -> Option<Slot>
+    requires marked { AreMarked store.old.heads store.old.step_words store.old.level_word }
+    requires count { length store.old.heads ≡ classes }
+    ensures value { result ≡ first_head (drop class store.old.heads) }
+    ensures cells { store.new ≡ record store.old { touches = store.new.touches } }
+    ensures bound { store.new.touches ≤ store.old.touches + 4 }
+{
+    let level = class.number() / STEPS;
+    let word = store.step_word(level);
+    let Some(step) = lowest_from(word, class.number() % STEPS) else {
+        return search_levels(store, level + 1);
+    };
+    store.head(Class::new(level * STEPS + step))
+}
+
+/// The first block of the first class, from this first level on, whose list isn't empty. At most three
+/// touches.
+fn search_levels(store: &mut Store, from: u32) -> Option<Slot>
+    requires within { from ≤ levels }
+    requires marked { AreMarked store.old.heads store.old.step_words store.old.level_word }
+    requires count { length store.old.heads ≡ classes }
+    ensures value { result ≡ first_head (drop (from * steps) store.old.heads) }
+    ensures cells { store.new ≡ record store.old { touches = store.new.touches } }
+    ensures bound { store.new.touches ≤ store.old.touches + 3 }
+{
+    let word = store.level_word();
+    let Some(level) = lowest_from(word, from) else {
+        return None;
+    };
+    let word = store.step_word(level);
+    let Some(step) = lowest_from(word, 0) else {
+        return None;
+    };
+    store.head(Class::new(level * STEPS + step))
+}
