@@ -69,10 +69,11 @@ impl Heap {
         add_pool(&mut self.store, base, bytes)
     }
 
-    /// Where each pool begins and how many bytes it has, in order of base.
+    /// Where each pool begins and how many bytes it has, in order of base. At most eight touches.
     pub fn pools(&mut self) -> ArrayVec<(u64, u64), MOST_POOLS>
         ensures value { result.items ≡ map range_of self.old.content.pools }
         ensures unchanged { self.new.content ≡ self.old.content }
+        ensures bound { self.new.touches ≤ self.old.touches + 8 }
     {
         let entries = entries(&mut self.store);
         pool_ranges(entries.as_slice())
