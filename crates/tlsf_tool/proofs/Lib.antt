@@ -9,3 +9,4 @@ mod RunLemmas
 mod WordLemmas
 mod HeldLemmas
 mod SortedLemmas
+mod StartLemmas

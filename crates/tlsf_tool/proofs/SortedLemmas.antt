@@ -1,5 +1,5 @@
 -- Entries in order of address, told by their look-ups.
-use Rattle.std.proofs.Common.{◌≡◌, ◌≢◌, ℕ, ◌<◌, ◌≤◌, List, [], ◌∷◌, ◌⊎◌, inl, inr, Option, Some, None, Bool, true, false, cond, refl, sym, ap, ◌∙◌, subst, arith, Less}
+use Rattle.std.proofs.Common.{◌≡◌, ◌≢◌, ℕ, ◌<◌, ◌≤◌, List, [], ◌∷◌, inl, inr, Some, None, true, false, cond, refl, sym, ap, ◌∙◌, subst, arith, Less}
 use Rattle.std.specs.List.{AllByRecursion}
 use Rattle.std.specs.Map.{lookup, keys_of}
 use Rattle.std.specs.Ordering.{nat_cmp}
@@ -9,7 +9,7 @@ use Rattle.std.proofs.lemmas.Bool.{cases_order, cases_eq}
 use Rattle.std.proofs.lemmas.Bool.Decides.{nat_tests}
 use Rattle.std.proofs.lemmas.Map.Keys.{sorted_head, sorted_tail}
 use Rattle.tlsf_tool.specs.declared.entry.Entry.{Entry}
-use Rattle.tlsf_tool.specs.History.{Moment, AreHeld, held}
+use Rattle.tlsf_tool.specs.History.{Moment, AreHeld}
 
 abbrev Held : Type 0
 Held = ℕ × Entry
@@ -56,23 +56,23 @@ same_entries [] [] s t h = refl
 same_entries [] (f ∷ fs) s t h = absurd (some_is_not_none f.1 (sym (first_found f fs) ∙ sym (h f.0)))
 same_entries (e ∷ es) [] s t h = absurd (some_is_not_none e.1 (sym (first_found e es) ∙ h e.0))
 same_entries (e ∷ es) (f ∷ fs) s t h = elim (cases_order e.0 f.0) [
-    inl same ↦
+  | inl same ↦
       let P : ℕ → Type 0 = λ q. lookup (is_at (nat_cmp q)) (f ∷ fs) ≡ Some f.1 in
       let values : Some e.1 ≡ Some f.1 = sym (first_found e es) ∙ h e.0 ∙ subst P (sym same) (first_found f fs) in
       let value : e.1 ≡ f.1 = cc in
       let rests : (q : ℕ) → lookup (is_at (nat_cmp q)) es ≡ lookup (is_at (nat_cmp q)) fs = λ q. elim (cases_eq q e.0) [
-          inl here ↦
+        | inl here ↦
             absent q e.0 es (omega (arith, here)) (sorted_head nat_cmp e.0 (keys_of es) s)
             ∙ sym (absent q f.0 fs (omega (arith, here, same)) (sorted_head nat_cmp f.0 (keys_of fs) t))
         | inr apart ↦ sym (rest_found q e es apart) ∙ h q ∙ rest_found q f fs (λ is. apart (is ∙ sym same))
-        ] in
+      ] in
       ap (λ (x : Held). x ∷ es) (same_pair e f same value)
       ∙ ap (λ (xs : List Held). f ∷ xs) (same_entries es fs (sorted_tail nat_cmp e.0 (keys_of es) s) (sorted_tail nat_cmp f.0 (keys_of fs) t) rests)
   | inr order ↦ elim order [
-      inl less ↦ absurd (some_is_not_none e.1 (sym (first_found e es) ∙ h e.0 ∙ not_found e.0 f fs less t))
+    | inl less ↦ absurd (some_is_not_none e.1 (sym (first_found e es) ∙ h e.0 ∙ not_found e.0 f fs less t))
     | inr more ↦ absurd (some_is_not_none f.1 (sym (first_found f fs) ∙ sym (h f.0) ∙ not_found f.0 e es more s))
-    ]
   ]
+]
 
 -- what is held is one list
 pub one_list : (past : List Moment) (one other : List Held) → AreHeld one past → AreHeld other past → one ≡ other

@@ -1,5 +1,5 @@
 -- The statuses that the program ends with.
-use Rattle.std.specs.Prelude.{◌≡◌, ℕ, List, [], ◌∷◌, map, codes, string_bytes, String, Result, Ok, Err}
+use Rattle.std.specs.Prelude.{◌≡◌, ℕ, List, [], ◌∷◌, map, codes, string_bytes, String}
 use Rattle.std.specs.declared.alloc.Global.{Global}
 use Rattle.tlsf_tool.specs.declared.asked.Command.{Command}
 use Rattle.tlsf_tool.specs.declared.asked.Command.TheVariants.{Report}
@@ -26,11 +26,6 @@ abbrev pub status_of_fault : ToolFault → ℕ
 status_of_fault Usage = 2
 status_of_fault (CannotOpen log) = 3
 status_of_fault (Run fault) = status_of_run_fault fault
-
--- the status of what a run answered
-abbrev pub status_of_answer : Result Status RunFault → ℕ
-status_of_answer (Ok status) = status_of_end status
-status_of_answer (Err fault) = status_of_run_fault fault
 
 -- the settings where none are given
 abbrev pub default_settings : Settings
