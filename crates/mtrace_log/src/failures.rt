@@ -3,7 +3,7 @@ ghost use Rattle.std.specs.Borrow.{ftrue};
 
 use std::marker::Model;
 
-// How often a reader or a writer has failed. Contracts alone see it, and it takes no bytes.
+/// How often a reader or a writer has failed. Contracts alone see it, and it takes no bytes.
 #[derive(Drop)]
 pub struct Failures {
     pub ghost count: { ℕ },
