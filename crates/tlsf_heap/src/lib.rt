@@ -2,6 +2,8 @@
 //! found by bitmaps.
 #![tactic(auto)]
 
+mod allocation;
+mod chains;
 mod entries;
 mod free_lists;
 mod heap;
