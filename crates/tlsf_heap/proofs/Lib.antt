@@ -15,6 +15,10 @@ pub mod Unlinking
 pub mod UnlinkedLayout
 pub mod ListMeaning
 pub mod NewArea
+pub mod Rechained
+pub mod PutBehind
+pub mod SplitLayout
+pub mod Slots
 pub mod Followed
 pub mod NewPool
 pub mod AddPool
