@@ -19,6 +19,9 @@ pub mod Rechained
 pub mod PutBehind
 pub mod SplitLayout
 pub mod Slots
+pub mod SameBlocks
+pub mod SlotsReplaced
+pub mod TakenWhole
 pub mod Followed
 pub mod NewPool
 pub mod AddPool

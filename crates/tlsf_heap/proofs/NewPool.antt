@@ -50,7 +50,7 @@ inserted_is pool (other ∷ pools) = elim (nat_lt pool.base other.base) as (λ b
   | false ↦ ap (λ ps. other ∷ ps) (inserted_is pool pools)
 ]
 
-home_size : (a b : Record) (s : State) → a.size ≡ b.size → home_in a s ≡ home_in b s
+pub home_size : (a b : Record) (s : State) → a.size ≡ b.size → home_in a s ≡ home_in b s
 home_size a b Vacant same = refl
 home_size a b Free same = ap (λ n. Some (class n)) same
 home_size a b Live same = refl

@@ -25,7 +25,7 @@ without_home slot home q = cond (eqb q slot) None (home q)
 abbrev pub with_unlinked : ℕ → ℕ → Layout → Layout
 with_unlinked class slot layout = record layout { lists = set layout.lists class (without slot (list_of class layout.lists)) }
 
-cleared_is : (level word : ℕ) (cells : Cells) → with_level_cleared level word cells ≡ record cells { level_word = cond (eqb word 0) (without_bit cells.level_word level) cells.level_word }
+pub cleared_is : (level word : ℕ) (cells : Cells) → with_level_cleared level word cells ≡ record cells { level_word = cond (eqb word 0) (without_bit cells.level_word level) cells.level_word }
 cleared_is level word cells = elim (eqb word 0) as (λ b. cond b (with_level_word cells (without_bit cells.level_word level)) cells ≡ record cells { level_word = cond b (without_bit cells.level_word level) cells.level_word }) [
   | true ↦ refl
   | false ↦ refl
