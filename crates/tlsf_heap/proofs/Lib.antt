@@ -22,6 +22,7 @@ pub mod Slots
 pub mod SameBlocks
 pub mod SlotsReplaced
 pub mod TakenWhole
+pub mod TakenPart
 pub mod Followed
 pub mod NewPool
 pub mod AddPool
