@@ -27,5 +27,6 @@ pub mod Followed
 pub mod NewPool
 pub mod AddPool
 pub mod HeapStands
+pub mod Allocating
 mod LayoutRows
 mod HeapRows

@@ -21,7 +21,7 @@ use Rattle.tlsf_heap.specs.Layout.{Area, Layout, IsLayout, Stands, first_slot, h
 use Rattle.tlsf_heap.proofs.Linking.{same_field, length-edited_in, times-front}
 use Rattle.tlsf_heap.proofs.LinkedLayout.{with_home, with_linked, linked_is_layout, home_is}
 use Rattle.tlsf_heap.proofs.UnlinkedLayout.{without_home, with_unlinked, unlinked_is_layout}
-use Rattle.tlsf_heap.proofs.Followed.{held_most}
+use Rattle.tlsf_heap.proofs.Followed.{held_most, content_is}
 use Rattle.tlsf_heap.proofs.ListMeaning.{places_apart, places-linked, places-unlinked}
 use Rattle.tlsf_heap.proofs.NewArea.{with_held}
 use Rattle.tlsf_heap.proofs.NewPool.{home_size}
@@ -355,26 +355,32 @@ module _ (cells : Cells) (stands : Stands cells) (slot rest bytes : ℕ) (free :
       places-linked (place_at last) two.lists rest (size - bytes) (omega (arith, class-lt (size - bytes), cut_is_layout.lists_count))
       ∙ ap (λ p. link p (size - bytes) (map (map (place_at last)) two.lists)) rest_place
       ∙ ap (link (place + bytes) (size - bytes)) (places-unlinked (place_at last) layout.lists slot size (omega (arith, class-lt size, stands.represented.lists_count)) (λ q listed e.
-        places_apart cells.records layout stands.good q slot (listed_in_chains cells stands (class size) q (class-lt size) listed) there
-        (sym (place_kept q (listed_not_rest (class size) q (class-lt size) listed)) ∙ e ∙ place_kept slot (λ s. rest_apart (sym s)))))
+      places_apart cells.records layout stands.good q slot (listed_in_chains cells stands (class size) q (class-lt size) listed) there
+      (sym (place_kept q (listed_not_rest (class size) q (class-lt size) listed)) ∙ e ∙ place_kept slot (λ s. rest_apart (sym s)))))
       ∙ ap (λ p. link (place + bytes) (size - bytes) (unlink p size (map (map (place_at last)) layout.lists))) (place_kept slot (λ s. rest_apart (sym s)))
       ∙ ap (λ lists. link (place + bytes) (size - bytes) (unlink place size lists)) (lists_same (place_at last) (place_at cells.records) layout.lists (λ k q within listed.
-        place_kept q (listed_not_rest k q (omega (arith, within, stands.represented.lists_count)) listed)))
+      place_kept q (listed_not_rest k q (omega (arith, within, stands.represented.lists_count)) listed)))
       ∙ sym (ap (λ b. cond b (unlink place size old_lists) (link (place + bytes) (size - bytes) (unlink place size old_lists))) some_left)
 
   last_count : length last ≡ length cells.records
   last_count = length-edited_in live (Some slot) entered.records ∙ linked_in.count ∙ cut_count
 
   -- the content is the old one with the block cut
-  pub part_content : content_by last three ≡ allocated slot place bytes size (content_by cells.records layout)
+  part_content : content_by last three ≡ allocated slot place bytes size (content_by cells.records layout)
   part_content =
       ap (λ n. record { records = n; pools = map (pool_of last) three.areas; lists = map (map (place_at last)) three.lists }) last_count
       ∙ ap (λ ps. record { records = length cells.records; pools = ps; lists = map (map (place_at last)) three.lists }) pools_are
       ∙ ap (λ ls. record { records = length cells.records; pools = map (replaced_in place (cut_blocks slot place bytes size)) (map (pool_of cells.records) layout.areas); lists = ls }) lists_are
 
-  pub part_stands : IsGood (allocated slot place bytes size (content_by cells.records layout)) → Stands (taken_part slot rest bytes size base)
+  was : content_of cells ≡ content_by cells.records layout
+  was = content_is cells layout stands.represented
+
+  pub part_becomes : content_of (taken_part slot rest bytes size base) ≡ allocated slot place bytes size (content_of cells)
+  part_becomes = content_is (taken_part slot rest bytes size base) three part_is_layout ∙ part_content ∙ ap (allocated slot place bytes size) (sym was)
+
+  pub part_stands : IsGood (allocated slot place bytes size (content_of cells)) → Stands (taken_part slot rest bytes size base)
   part_stands good = record {
     layout = three;
     represented = part_is_layout;
-    good = let P : Content ℕ → Type 0 = λ x. IsGood x in subst P (sym part_content) good;
+    good = let P : Content ℕ → Type 0 = λ x. IsGood x in subst P (sym (part_content ∙ ap (allocated slot place bytes size) (sym was))) good;
   }
