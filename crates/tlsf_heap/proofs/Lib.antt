@@ -6,6 +6,7 @@ pub mod GoodContent
 pub mod Merging
 pub mod Freeing
 pub mod FreeIsGood
+pub mod Joining
 pub mod EntryLists
 pub mod Searching
 pub mod Marking
