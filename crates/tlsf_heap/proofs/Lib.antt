@@ -20,6 +20,8 @@ pub mod Rechained
 pub mod PutBehind
 pub mod SplitLayout
 pub mod Slots
+pub mod Neighbours
+pub mod AbsorbedLayout
 pub mod SameBlocks
 pub mod SlotsReplaced
 pub mod TakenWhole
