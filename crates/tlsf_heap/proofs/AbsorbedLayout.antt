@@ -108,7 +108,7 @@ module _ (home : ℕ → Option ℕ) (held : ℕ → ℕ) (cells : Cells) (layou
       (λ slots stands_there within l. (
         first_when_some back fore behind slots slot l stands_there back_is,
         unlinked_is_linked back fore behind (field_at (λ r. r.prev) new) (field_at (λ r. r.next) new) keeps_back moves_back keeps_fore moves_fore None slots l
-        (λ q. omega (arith, within q, once q)) (λ q e. absurd (None≢Some q e)) stands_there,
+            (λ q. omega (arith, within q, once q)) (λ q e. absurd (None≢Some q e)) stands_there,
       )) were.chained
 
   holds_after : (q : ℕ) → times q (slots_of (map (edited_area (without behind)) layout.areas)) ≡ with_held behind 0 held q

@@ -198,7 +198,7 @@ module _ {A : Type 0} where
       )
 
   -- the content after free is good
-  after_free_is_good : (is_meant : A → Bool) (place : ℕ) (content : Content A) → IsGood content → is_live is_meant place (blocks_of content.pools) ≡ true → IsGood (after_free place content)
+  pub after_free_is_good : (is_meant : A → Bool) (place : ℕ) (content : Content A) → IsGood content → is_live is_meant place (blocks_of content.pools) ≡ true → IsGood (after_free place content)
   after_free_is_good is_meant place content good live =
       let front = free_in_front place content in
       let back = free_behind place content in

@@ -183,7 +183,7 @@ module _ {A : Type 0} where
   ]
 
   -- in all pools at once
-  abbrev joined_pool : ℕ → Option (Block A) → Option (Block A) → Pool A → Pool A
+  abbrev pub joined_pool : ℕ → Option (Block A) → Option (Block A) → Pool A → Pool A
   joined_pool place front back pool = record pool { blocks = back_in (start_of front place) back (front_in front (map (freed place) pool.blocks)) }
 
   -- a pool in which neither stands is as it was

@@ -22,6 +22,10 @@ pub mod SplitLayout
 pub mod Slots
 pub mod Neighbours
 pub mod AbsorbedLayout
+pub mod Loose
+pub mod Releasing
+pub mod Released
+pub mod JoinSteps
 pub mod SameBlocks
 pub mod SlotsReplaced
 pub mod TakenWhole

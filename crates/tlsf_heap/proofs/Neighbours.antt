@@ -57,6 +57,26 @@ module _ (back fore : ℕ → Option ℕ) (slot : ℕ) where
     ]
   ]
 
+  -- no slot has the same one in front of it and behind it
+  linked_not_both : (before : Option ℕ) (slots : List ℕ) (q : ℕ) → IsLinked back fore before slots → ((s : ℕ) → times s slots ≤ 1) → (before ≡ Some q → times q slots ≡ 0) → 1 ≤ times slot slots → back slot ≡ Some q → fore slot ≢ Some q
+  linked_not_both before [] q l once out stands is = absurd (omega (arith, stands))
+  linked_not_both before (s ∷ slots) q l once out stands is = elim (cases_eq s slot) [
+    | inl here ↦ λ e. omega (arith, out (sym l.0 ∙ ap back here ∙ is), times-cons q s slots, first_stands_in slots q (sym l.1 ∙ ap fore here ∙ e))
+    | inr apart ↦
+        let s_alone : times s slots ≡ 0 = omega (arith, once s, times-cons s s slots, ap one_if (eq-eqb s s refl)) in
+        linked_not_both (Some s) slots q l.2 (λ n. omega (arith, once n, times-cons n s slots)) (λ e. let S : ℕ → Type 0 = λ n. times n slots ≡ 0 in subst S (Some-same s q e) s_alone)
+        (omega (arith, stands, times-cons slot s slots, ap one_if (ne_eqb s slot apart))) is
+  ]
+
+  pub not_both : (areas : List Area) (q : ℕ) → AreChains back fore areas → ((s : ℕ) → times s (slots_of areas) ≤ 1) → 1 ≤ times slot (slots_of areas) → back slot ≡ Some q → fore slot ≢ Some q
+  not_both [] q c once stands is = absurd (omega (arith, stands))
+  not_both (area ∷ areas) q c once stands is =
+      let both : (s : ℕ) → times s (slots_of (area ∷ areas)) ≡ times s area.slots + times s (slots_of areas) = λ s. times-append s area.slots (slots_of areas) in
+      elim (cases_lt 0 (times slot area.slots)) [
+        | inl here ↦ linked_not_both None area.slots q c.1 (λ s. omega (arith, once s, both s)) (λ e. absurd (None≢Some q e)) (omega (arith, here)) is
+        | inr later ↦ not_both areas q c.2 (λ s. omega (arith, once s, both s)) (omega (arith, later, both slot, stands)) is
+      ]
+
   -- the same in the chains
   pub next_has_prev : (areas : List Area) (q : ℕ) → AreChains back fore areas → ((s : ℕ) → times s (slots_of areas) ≤ 1) → 1 ≤ times slot (slots_of areas) → fore slot ≡ Some q → (back q ≡ Some slot) × (q ≢ slot)
   next_has_prev [] q c once stands is = absurd (omega (arith, stands))

@@ -41,17 +41,17 @@ free_used s e = λ v. absurd (Free≢Vacant (sym e ∙ v))
 pub live_used : (s : State) → s ≡ Live → s ≢ Vacant
 live_used s e = λ v. absurd (Live≢Vacant (sym e ∙ v))
 
-held_if_used : (s : State) → s ≢ Vacant → held_in s ≡ 1
+pub held_if_used : (s : State) → s ≢ Vacant → held_in s ≡ 1
 held_if_used Vacant used = absurd (used refl)
 held_if_used Free used = refl
 held_if_used Live used = refl
 
-used_if_held : (s : State) → 1 ≤ held_in s → s ≢ Vacant
+pub used_if_held : (s : State) → 1 ≤ held_in s → s ≢ Vacant
 used_if_held Vacant h = absurd (omega (arith, h))
 used_if_held Free h = Free≢Vacant
 used_if_held Live h = Live≢Vacant
 
-home_tells : (r : Record) (s : State) (k : ℕ) → home_in r s ≡ Some k → (s ≡ Free) × (class r.size ≡ k)
+pub home_tells : (r : Record) (s : State) (k : ℕ) → home_in r s ≡ Some k → (s ≡ Free) × (class r.size ≡ k)
 home_tells r Vacant k is = absurd (None≢Some k is)
 home_tells r Free k is = (refl, some_same (class r.size) k is)
   where
@@ -64,7 +64,7 @@ home_of_free r Vacant is = absurd (Free≢Vacant (sym is))
 home_of_free r Free is = refl
 home_of_free r Live is = absurd (Live≢Free is)
 
-all_at : {X : Type 0} (P : X → Type 0) (f : ℕ → X) (slots : List ℕ) (q : ℕ) → AllByRecursion P (map f slots) → 1 ≤ times q slots → P (f q)
+pub all_at : {X : Type 0} (P : X → Type 0) (f : ℕ → X) (slots : List ℕ) (q : ℕ) → AllByRecursion P (map f slots) → 1 ≤ times q slots → P (f q)
 all_at P f [] q all stands = absurd (omega (arith, stands))
 all_at P f (s ∷ slots) q all stands = elim (cases_eq s q) [
   | inl here ↦ let Q : ℕ → Type 0 = λ n. P (f n) in subst Q here all.0

@@ -1,17 +1,19 @@
 -- The cells of a heap while a block is freed: free, but in no list yet.
-use Rattle.std.specs.Prelude.{◌≡◌, ℕ, ◌+◌, ◌≤◌, ◌==◌, if◌then◌else◌, List, [], ◌∷◌, map, Option, Some, None, ⊤}
+use Rattle.std.specs.Prelude.{◌≡◌, Bool, true, false, ℕ, ◌+◌, ◌≤◌, ◌==◌, if◌then◌else◌, List, [], ◌∷◌, map, Option, Some, None, ⊤}
 use Rattle.tlsf_class.specs.Classes.{greatest_size, class}
-use Rattle.tlsf_store.specs.declared.records.State.TheVariants.{Free}
+use Rattle.tlsf_store.specs.declared.records.State.TheVariants.{Vacant, Free, Live}
+use Rattle.tlsf_store.specs.declared.records.State.{State}
+use Rattle.tlsf_store.specs.declared.records.Record.{Record}
 use Rattle.tlsf_store.specs.Records.{record_at}
 use Rattle.tlsf_store.specs.Cells.{Cells}
-use Rattle.tlsf_heap.specs.Content.{Block, Pool, Content, is_at, blocks_of, size_at}
+use Rattle.tlsf_heap.specs.Content.{Block, Pool, Content, is_at}
 use Rattle.tlsf_heap.specs.Lists.{link, unlink}
-use Rattle.tlsf_heap.specs.Free.{freed, free_in_front, free_behind, start_of}
+use Rattle.tlsf_heap.specs.Free.{freed, if_free}
 use Rattle.tlsf_heap.specs.Pools.{end_of_places}
 use Rattle.tlsf_heap.specs.Good.{Covers}
 use Rattle.tlsf_heap.specs.Edits.{unlinked}
 use Rattle.tlsf_heap.specs.Chains.{absorbed}
-use Rattle.tlsf_heap.specs.Layout.{Layout, IsLayout, home_of, held_of, content_by}
+use Rattle.tlsf_heap.specs.Layout.{Layout, IsLayout, home_of, held_of, block_of, content_by}
 
 -- the blocks of the pool cover it
 pub record IsCovered {A : Type 0} (pool : Pool A) : Type 0 where
@@ -67,6 +69,24 @@ module _ {A : Type 0} where
   joined_to_back place None content = content
   joined_to_back place (Some back) content = joined_at place back content
 
-  -- the block at the place enters its list
-  abbrev pub entered : ℕ → Content A → Content A
-  entered place content = record content { lists = link place (size_at place (blocks_of content.pools)) content.lists }
+  -- a block of this size at the place enters its list
+  abbrev pub entered : ℕ → ℕ → Content A → Content A
+  entered place size content = record content { lists = link place size content.lists }
+
+-- whether a record in this state is of a free block
+abbrev pub is_state_free : State → Bool
+is_state_free Vacant = false
+is_state_free Free = true
+is_state_free Live = false
+
+-- the block of the slot, where it is free
+abbrev pub block_if_free : List Record → Option ℕ → Option (Block ℕ)
+block_if_free records None = None
+block_if_free records (Some slot) = if_free (Some (block_of records slot))
+
+-- the free block in front of the slot's in its pool, and the one behind it
+abbrev pub free_front : List Record → ℕ → Option (Block ℕ)
+free_front records slot = block_if_free records (record_at records slot).prev
+
+abbrev pub free_back : List Record → ℕ → Option (Block ℕ)
+free_back records slot = block_if_free records (record_at records slot).next

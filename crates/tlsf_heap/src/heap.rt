@@ -3,6 +3,7 @@
 use crate::allocation::malloc;
 use crate::entries::{MOST_POOLS, entries, pool_ranges};
 use crate::pools::add_pool;
+use crate::release::free;
 use crate::{Ptr, Refusal};
 use arrayvec::ArrayVec;
 use std::alloc::Global;
@@ -30,12 +31,13 @@ impl Model for Heap {
 }
 
 impl Heap {
-    ghost use Rattle.std.specs.Prelude.{◌≡◌, ℕ, ◌+◌, ◌<◌, ◌≤◌, ◌^◌, ◌⊎◌, ◌↔◌, map, Ok, Err, IfOk, IfErr, OnOk, OnErr};
+    ghost use Rattle.std.specs.Prelude.{◌≡◌, ℕ, ◌+◌, ◌<◌, ◌≤◌, ◌^◌, ◌==◌, ◌⊎◌, ◌↔◌, map, Ok, Err, IfOk, IfErr, OnOk, OnErr};
     ghost use Rattle.tlsf_store.specs.declared.errors.StoreError.TheVariants.{BadCount};
     ghost use Rattle.tlsf_heap.specs.Good.{IsGood};
     ghost use Rattle.tlsf_heap.specs.GoodSlots.{HasGoodSlots, slot_times};
     ghost use Rattle.tlsf_heap.specs.Content.{blocks_of};
     ghost use Rattle.tlsf_heap.specs.Malloc.{malloc as served};
+    ghost use Rattle.tlsf_heap.specs.Free.{free as freed};
     ghost use Rattle.tlsf_heap.specs.Pools.{created, add_pool as added};
     ghost use Rattle.tlsf_heap.specs.Counted.{range_of};
 
@@ -91,6 +93,22 @@ impl Heap {
         ensures bound { self.new.touches ≤ self.old.touches + 96 }
     {
         malloc(&mut self.store, n)
+    }
+
+    /// The block becomes free. It and its free neighbours in the pool are one free block then, the first
+    /// of its class's list. At most 96 touches.
+    ///
+    /// # Errors
+    ///
+    /// `BadPointer` unless a live block has both the pointer's place and its slot.
+    pub fn free(&mut self, ptr: Ptr) -> Result<(), Refusal>
+        ensures ok { OnOk result (freed (λ slot. slot == ptr.1) ptr.0 self.old.content ≡ Ok self.new.content) }
+        ensures refused { IfErr result (λ refusal. freed (λ slot. slot == ptr.1) ptr.0 self.old.content ≡ Err refusal) }
+        ensures unchanged { OnErr result (self.new.content ≡ self.old.content) }
+        ensures floor { self.old.touches ≤ self.new.touches }
+        ensures bound { self.new.touches ≤ self.old.touches + 96 }
+    {
+        free(&mut self.store, ptr)
     }
 
     /// Where each pool begins and how many bytes it has, in order of base. At most eight touches.

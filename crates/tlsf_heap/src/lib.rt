@@ -12,6 +12,7 @@ mod pointer;
 mod pool_entry;
 mod pools;
 mod refusal;
+mod release;
 mod search;
 #[cfg(test)]
 mod tests;
