@@ -19,5 +19,7 @@ pub mod Followed
 pub mod NewPool
 pub mod AddPool
 pub mod HeapStands
+pub mod RunSteps
 mod LayoutRows
 mod HeapRows
+mod RunRows

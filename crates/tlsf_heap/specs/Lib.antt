@@ -12,3 +12,4 @@ pub mod Entries
 pub mod Counted
 pub mod GoodSlots
 pub mod Rows
+pub mod Run

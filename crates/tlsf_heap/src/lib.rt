@@ -2,6 +2,7 @@
 //! found by bitmaps.
 #![tactic(auto)]
 
+mod answer;
 mod cursor;
 mod entries;
 mod free_lists;
@@ -12,14 +13,19 @@ mod pointer;
 mod pool_entry;
 mod pools;
 mod refusal;
+mod request;
 mod row;
+mod runs;
 mod search;
 #[cfg(test)]
 mod tests;
 
+pub use crate::answer::Answer;
 pub use crate::cursor::Cursor;
 pub use crate::heap::Heap;
 pub use crate::heaped::Heaped;
 pub use crate::pointer::Ptr;
 pub use crate::refusal::Refusal;
+pub use crate::request::Request;
 pub use crate::row::Row;
+pub use crate::runs::run;
