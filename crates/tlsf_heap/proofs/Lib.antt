@@ -20,6 +20,7 @@ pub mod NewPool
 pub mod AddPool
 pub mod HeapStands
 pub mod RunSteps
+pub mod BareSteps
 mod LayoutRows
 mod HeapRows
 mod RunRows

@@ -13,3 +13,4 @@ pub mod Counted
 pub mod GoodSlots
 pub mod Rows
 pub mod Run
+pub mod Bare
