@@ -29,3 +29,4 @@ pub use crate::refusal::Refusal;
 pub use crate::request::Request;
 pub use crate::row::Row;
 pub use crate::runs::run;
+pub use tlsf_store::StoreError;
