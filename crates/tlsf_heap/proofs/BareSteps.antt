@@ -14,7 +14,7 @@ use Rattle.tlsf_heap.specs.Pools.{created, is_apart, can_be_pool, in_order_of_ba
 use Rattle.tlsf_heap.specs.Bare.{renamed_block, renamed_pool, renamed, renamed_result, renamed_given}
 
 -- a function of a choice is the choice of what it gives
-ap-cond : {X Y : Type 0} (f : X → Y) (b : Bool) (x y : X) → f (cond b x y) ≡ cond b (f x) (f y)
+pub ap-cond : {X Y : Type 0} (f : X → Y) (b : Bool) (x y : X) → f (cond b x y) ≡ cond b (f x) (f y)
 ap-cond f b x y = elim b as (λ v. f (cond v x y) ≡ cond v (f x) (f y)) [ true ↦ refl | false ↦ refl ]
 
 module _ {A B : Type 0} (rename : A → B) where

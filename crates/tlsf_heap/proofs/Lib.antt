@@ -21,6 +21,7 @@ pub mod AddPool
 pub mod HeapStands
 pub mod RunSteps
 pub mod BareSteps
+pub mod BareFree
 mod LayoutRows
 mod HeapRows
 mod RunRows
