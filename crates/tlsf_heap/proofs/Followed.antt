@@ -13,7 +13,7 @@ use Rattle.tlsf_store.proofs.RecordLaws.{mark}
 use Rattle.tlsf_heap.specs.Content.{blocks_of, used_records}
 use Rattle.tlsf_heap.specs.Lists.{list_of, without}
 use Rattle.tlsf_heap.specs.Good.{times}
-use Rattle.tlsf_heap.specs.Layout.{Area, Layout, IsLayout, IsLinked, AreChains, first_slot, at_home, held_in, home_in, home_of, slots_of, entries_of, next_at, next_free_at, follow, area_from, layout_from, content_of, content_by, pool_of, block_of}
+use Rattle.tlsf_heap.specs.Layout.{Area, Layout, IsLayout, IsLinked, AreChains, first_slot, at_home, held_in, held_of, home_in, home_of, slots_of, entries_of, next_at, next_free_at, follow, area_from, layout_from, content_of, content_by, pool_of, block_of}
 use Rattle.tlsf_heap.proofs.Blocks.{one_if}
 use Rattle.tlsf_heap.proofs.FreeLists.{times-cons, times-without_same, times-without_other}
 use Rattle.tlsf_heap.proofs.EntryLists.{entries_of-padded}
@@ -97,9 +97,9 @@ marked_or_held r Vacant is = rw is refl
 marked_or_held r Free is = rw is refl
 marked_or_held r Live is = rw is refl
 
-module _ (home : ℕ → Option ℕ) (cells : Cells) (layout : Layout) (is : IsLayout home cells layout) where
+module _ (home : ℕ → Option ℕ) (cells : Cells) (layout : Layout) (is : IsLayout home (held_of cells.records) cells layout) where
   none_past : (q : ℕ) → length cells.records ≤ q → times q (slots_of layout.areas) ≡ 0
-  none_past q past = is.held q ∙ ap (λ (r : Record). held_in r.state) (get_or_past cells.records q blank past)
+  none_past q past = is.holds q ∙ ap (λ (r : Record). held_in r.state) (get_or_past cells.records q blank past)
 
   -- each record is vacant, or of a block
   pub in_use : vacant_count cells.records + length (slots_of layout.areas) ≡ length cells.records
@@ -108,7 +108,7 @@ module _ (home : ℕ → Option ℕ) (cells : Cells) (layout : Layout) (is : IsL
       let vacant = vacant_sum cells.records in
       let held = times_sum n (slots_of layout.areas) none_past in
       let both = sum_below-both (λ s. mark (record_at cells.records s)) (λ s. times s (slots_of layout.areas)) n (λ s below.
-      omega (arith, is.held s, marked_or_held (record_at cells.records s) (record_at cells.records s).state refl)) in
+      omega (arith, is.holds s, marked_or_held (record_at cells.records s) (record_at cells.records s).state refl)) in
       omega (arith, vacant, held, both)
 
 -- the blocks of the pools are those of the slots
@@ -120,7 +120,7 @@ blocks_of_areas records (area ∷ areas) =
 pub used_is : (records : List Record) (layout : Layout) → used_records (content_by records layout) ≡ length (slots_of layout.areas)
 used_is records layout = ap length (blocks_of_areas records layout.areas) ∙ length-map (slots_of layout.areas) (block_of records)
 
-module _ (cells : Cells) (layout : Layout) (is : IsLayout (home_of cells.records) cells layout) where
+module _ (cells : Cells) (layout : Layout) (is : IsLayout (home_of cells.records) (held_of cells.records) cells layout) where
   list_few : (class : ℕ) → class < classes → length (list_of class layout.lists) ≤ length cells.records
   list_few class within = few_slots (length cells.records) (list_of class layout.lists)
       (λ q. omega (arith, is.homes class q within, at_home-most class (home_of cells.records q)))

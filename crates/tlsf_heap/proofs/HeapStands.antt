@@ -14,7 +14,7 @@ use Rattle.tlsf_heap.specs.Content.{Block, Content, blocks_of}
 use Rattle.tlsf_heap.specs.Lists.{list_of}
 use Rattle.tlsf_heap.specs.Pools.{created}
 use Rattle.tlsf_heap.specs.Good.{times, IsGood}
-use Rattle.tlsf_heap.specs.Layout.{Area, Layout, IsLayout, IsLinked, Stands, held_in, home_in, home_of, at_home, first_slot, slots_of, owner_in, block_of, pool_of, place_at, content_by, content_of, entries_of}
+use Rattle.tlsf_heap.specs.Layout.{Area, Layout, IsLayout, IsLinked, Stands, held_in, held_of, home_in, home_of, at_home, first_slot, slots_of, owner_in, block_of, pool_of, place_at, content_by, content_of, entries_of}
 use Rattle.tlsf_heap.specs.Bitmaps.{head_bit, word_bit}
 use Rattle.tlsf_heap.specs.Entries.{entry_range}
 use Rattle.tlsf_heap.specs.Counted.{range_of}
@@ -45,7 +45,7 @@ empty_content records =
     ap (λ n. record { records = n; pools = []; lists = map (map (place_at (replicate records blank))) (replicate classes []) }) (length-replicate records blank)
     ∙ ap (λ ls. record { records = records; pools = []; lists = ls }) (map-replicate (map (place_at (replicate records blank))) classes [])
 
-empty_is_layout : (records : ℕ) → IsLayout (home_of (replicate records blank)) (empty_cells records) empty
+empty_is_layout : (records : ℕ) → IsLayout (home_of (replicate records blank)) (held_of (replicate records blank)) (empty_cells records) empty
 empty_is_layout records =
     let at : (q : ℕ) → record_at (replicate records blank) q ≡ blank = λ q. get_or-same records q blank in
     let list : (k : ℕ) → list_of k (replicate classes []) ≡ [] = λ k. get_or-same {A = List ℕ} classes k [] in
@@ -55,7 +55,7 @@ empty_is_layout records =
       words_count = length-replicate {A = ℕ} levels 0;
       lists_count = length-replicate {A = List ℕ} classes [];
       entries = refl;
-      held = λ q. sym (ap (λ (r : Record). held_in r.state) (at q));
+      holds = λ q. sym (ap (λ (r : Record). held_in r.state) (at q));
       chained = tt;
       homes = λ k q within. ap (times q) (list k) ∙ sym (ap (λ (r : Record). at_home k (home_in r r.state)) (at q));
       firsts = λ k within. get_or-same {A = Option ℕ} classes k None ∙ sym (ap first_slot (list k));
@@ -113,6 +113,6 @@ slots_are_good cells stands =
     λ slot. omega (arith, ap (slot_times slot) (blocks_of_areas records layout.areas), slots_few records slot (slots_of layout.areas)) in
     let P : Content ℕ → Type 0 = λ x. HasGoodSlots x in
     subst P (sym (content_is cells layout stands.represented)) (record {
-      distinct = λ slot. omega (arith, few slot, stands.represented.held slot, held_most (record_at records slot).state);
-      below = λ slot past. omega (arith, few slot, stands.represented.held slot, ap (λ (r : Record). held_in r.state) (get_or_past records slot blank past));
+      distinct = λ slot. omega (arith, few slot, stands.represented.holds slot, held_most (record_at records slot).state);
+      below = λ slot past. omega (arith, few slot, stands.represented.holds slot, ap (λ (r : Record). held_in r.state) (get_or_past records slot blank past));
     })

@@ -15,6 +15,14 @@ pub mod Unlinking
 pub mod UnlinkedLayout
 pub mod ListMeaning
 pub mod NewArea
+pub mod Rechained
+pub mod PutBehind
+pub mod SplitLayout
+pub mod Slots
+pub mod SameBlocks
+pub mod SlotsReplaced
+pub mod TakenWhole
+pub mod TakenPart
 pub mod Followed
 pub mod NewPool
 pub mod AddPool

@@ -9,7 +9,7 @@ use Rattle.tlsf_store.specs.Cells.{Cells, head_at, with_head}
 use Rattle.tlsf_heap.specs.Lists.{list_of}
 use Rattle.tlsf_heap.specs.Good.{times}
 use Rattle.tlsf_heap.specs.Edits.{with_prev_free, with_free_links, marked, linked}
-use Rattle.tlsf_heap.specs.Layout.{Layout, IsLayout, IsLinked, AreChains, first_slot, at_home, held_in, slots_of}
+use Rattle.tlsf_heap.specs.Layout.{Layout, IsLayout, IsLinked, AreChains, first_slot, at_home}
 use Rattle.tlsf_heap.proofs.Blocks.{one_if}
 use Rattle.tlsf_heap.proofs.FreeLists.{times-cons, list_of-set_same, list_of-set_other}
 use Rattle.tlsf_heap.proofs.Marking.{marks_set}
@@ -44,7 +44,7 @@ home_is class (Some other) h = elim (cases_eq other class) [
   | inr apart ↦ absurd (omega (arith, h, at_home-elsewhere class other apart))
 ]
 
-module _ (home : ℕ → Option ℕ) (cells : Cells) (layout : Layout) (class slot : ℕ) (were : IsLayout home cells layout) (class_within : class < classes)
+module _ (home : ℕ → Option ℕ) (held : ℕ → ℕ) (cells : Cells) (layout : Layout) (class slot : ℕ) (were : IsLayout home held cells layout) (class_within : class < classes)
     (within : slot < length cells.records) (below : (q : ℕ) → 1 ≤ times q (list_of class layout.lists) → q < length cells.records) (homeless : home slot ≡ None) where
   none_in : (k : ℕ) → k < classes → times slot (list_of k layout.lists) ≡ 0
   none_in k k_within = were.homes k slot k_within ∙ ap (at_home k) homeless
@@ -122,18 +122,13 @@ module _ (home : ℕ → Option ℕ) (cells : Cells) (layout : Layout) (class sl
       subst Q (sym (front_fields (first_slot (list_of class layout.lists)) slot cells.records (λ r. r.next) (λ r. refl) (λ r. refl)))
       (subst P (sym (front_fields (first_slot (list_of class layout.lists)) slot cells.records (λ r. r.prev) (λ r. refl) (λ r. refl))) were.chained)
 
-  held_after : (q : ℕ) → times q (slots_of layout.areas) ≡ held_in (record_at (front_records (first_slot (list_of class layout.lists)) slot cells.records) q).state
-  held_after q =
-      let same = front_fields (first_slot (list_of class layout.lists)) slot cells.records (λ r. r.state) (λ r. refl) (λ r. refl) in
-      were.held q ∙ ap held_in (sym (ap (λ f. f q) same))
-
-  linked_before_is_layout : IsLayout (with_home slot class home) (linked_before (first_slot (list_of class layout.lists)) class slot cells) (with_linked class slot layout)
+  linked_before_is_layout : IsLayout (with_home slot class home) held (linked_before (first_slot (list_of class layout.lists)) class slot cells) (with_linked class slot layout)
   linked_before_is_layout = record {
     heads_count = length-set cells.heads class (Some slot) ∙ were.heads_count;
     words_count = length-set cells.step_words _ _ ∙ were.words_count;
     lists_count = length-set layout.lists class _ ∙ were.lists_count;
     entries = were.entries;
-    held = held_after;
+    holds = were.holds;
     chained = chained_after;
     homes = homes_after;
     firsts = firsts_after;
@@ -142,7 +137,7 @@ module _ (home : ℕ → Option ℕ) (cells : Cells) (layout : Layout) (class sl
   }
 
   -- where the slot's home was none, linked it stands in front of the class's list, and its home is the class
-  pub linked_is_layout : IsLayout (with_home slot class home) (linked class slot cells) (with_linked class slot layout)
+  pub linked_is_layout : IsLayout (with_home slot class home) held (linked class slot cells) (with_linked class slot layout)
   linked_is_layout =
-      let P : Option ℕ → Type 0 = λ head. IsLayout (with_home slot class home) (linked_before head class slot cells) (with_linked class slot layout) in
+      let P : Option ℕ → Type 0 = λ head. IsLayout (with_home slot class home) held (linked_before head class slot cells) (with_linked class slot layout) in
       subst P (sym (were.firsts class class_within)) linked_before_is_layout

@@ -52,9 +52,9 @@ first-places place ([] ∷ lists) = first-places place lists
 first-places place ((s ∷ slots) ∷ lists) = refl
 
 -- the first head that isn't none is the first place of the first list that isn't empty
-pub first_is_picked : (home : ℕ → Option ℕ) (cells : Cells) (layout : Layout) (place : ℕ → ℕ) (number : ℕ) → IsLayout home cells layout
+pub first_is_picked : (home : ℕ → Option ℕ) (held : ℕ → ℕ) (cells : Cells) (layout : Layout) (place : ℕ → ℕ) (number : ℕ) → IsLayout home held cells layout
     → option_map place (first_head (drop number cells.heads)) ≡ first_of_lists (drop number (map (map place) layout.lists))
-first_is_picked home cells layout place number is =
+first_is_picked home held cells layout place number is =
     let heads : cells.heads ≡ map first_slot layout.lists =
     ext_get_or None cells.heads (map first_slot layout.lists) (is.heads_count ∙ sym (length-map layout.lists first_slot ∙ is.lists_count))
     (λ k within. is.firsts k (omega (arith, within, is.heads_count)) ∙ sym (get_or-map first_slot layout.lists k [] None (omega (arith, within, is.heads_count, is.lists_count)))) in

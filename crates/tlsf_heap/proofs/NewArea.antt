@@ -1,17 +1,16 @@
 -- A pool of one vacant slot enters the layout.
-use Rattle.std.proofs.Common.{◌≡◌, ◌≢◌, ℕ, ◌+◌, ◌<◌, ◌≤◌, List, [], ◌∷◌, ◌++◌, length, map, set, refl, sym, ap, ◌∙◌, subst, arith, Option, Some, None, inl, inr}
+use Rattle.std.proofs.Common.{◌≡◌, ◌≢◌, ℕ, ◌+◌, ◌<◌, ◌≤◌, cond, eqb, List, [], ◌∷◌, ◌++◌, length, map, set, refl, sym, ap, ◌∙◌, subst, arith, Option, Some, None, inl, inr}
 use Rattle.std.specs.Prelude.{◌==◌, nat_lt}
 use Rattle.std.proofs.lemmas.Bool.{cases_Bool, cases_eq, eq-eqb, ne_eqb}
 use Rattle.tlsf_class.specs.Classes.{classes}
 use Rattle.tlsf_store.specs.declared.records.Record.{Record}
-use Rattle.tlsf_store.specs.declared.records.State.TheVariants.{Vacant, Free}
 use Rattle.tlsf_store.specs.Records.{record_at}
 use Rattle.tlsf_store.proofs.RecordLaws.{record_at-set_same, record_at-set_other}
 use Rattle.tlsf_store.specs.Cells.{Cells, with_record}
 use Rattle.tlsf_heap.specs.declared.pool_entry.PoolEntry.{PoolEntry}
 use Rattle.tlsf_heap.specs.Lists.{list_of}
 use Rattle.tlsf_heap.specs.Good.{times}
-use Rattle.tlsf_heap.specs.Layout.{Area, Layout, IsLayout, IsLinked, AreChains, first_slot, at_home, held_in, slots_of, padded, entries_of}
+use Rattle.tlsf_heap.specs.Layout.{Area, Layout, IsLayout, IsLinked, AreChains, first_slot, at_home, slots_of, padded, entries_of}
 use Rattle.tlsf_heap.specs.Entries.{inserted, with_entry, with_entries}
 use Rattle.tlsf_heap.proofs.Blocks.{one_if, count_by-append}
 use Rattle.tlsf_heap.proofs.FreeLists.{times-cons}
@@ -62,9 +61,13 @@ AreChains-same back back_new fore fore_new (area ∷ areas) same c = (
 abbrev pub with_area : Area → Layout → Layout
 with_area area layout = record layout { areas = inserted area_base area layout.areas }
 
-module _ (home : ℕ → Option ℕ) (cells : Cells) (layout : Layout) (entry : PoolEntry) (new : Record) (were : IsLayout home cells layout)
-    (within : entry.first < length cells.records) (vacant : (record_at cells.records entry.first).state ≡ Vacant) (homeless : home entry.first ≡ None)
-    (new_free : new.state ≡ Free) (no_prev : new.prev ≡ None) (no_next : new.next ≡ None) where
+-- how often each slot is held, where one is held so often
+abbrev pub with_held : ℕ → ℕ → (ℕ → ℕ) → ℕ → ℕ
+with_held slot n held q = cond (eqb q slot) n (held q)
+
+module _ (home : ℕ → Option ℕ) (held : ℕ → ℕ) (cells : Cells) (layout : Layout) (entry : PoolEntry) (new : Record) (were : IsLayout home held cells layout)
+    (within : entry.first < length cells.records) (spare : held entry.first ≡ 0) (homeless : home entry.first ≡ None)
+    (no_prev : new.prev ≡ None) (no_next : new.next ≡ None) where
   at_new : record_at (set cells.records entry.first new) entry.first ≡ new
   at_new = record_at-set_same cells.records entry.first new within
 
@@ -72,7 +75,7 @@ module _ (home : ℕ → Option ℕ) (cells : Cells) (layout : Layout) (entry : 
   at_other q apart = record_at-set_other cells.records entry.first q new apart
 
   not_held : times entry.first (slots_of layout.areas) ≡ 0
-  not_held = were.held entry.first ∙ ap held_in vacant
+  not_held = were.holds entry.first ∙ spare
 
   held_apart : (q : ℕ) → 1 ≤ times q (slots_of layout.areas) → q ≢ entry.first
   held_apart q stands e = let S : ℕ → Type 0 = λ n. 1 ≤ times n (slots_of layout.areas) in absurd (omega (arith, subst S e stands, not_held))
@@ -82,25 +85,25 @@ module _ (home : ℕ → Option ℕ) (cells : Cells) (layout : Layout) (entry : 
       let S : ℕ → Type 0 = λ n. 1 ≤ times n (list_of k layout.lists) in
       absurd (omega (arith, subst S e stands, were.homes k entry.first k_within, ap (at_home k) homeless))
 
-  held_after : (q : ℕ) → times q (slots_of (inserted area_base (record { entry = entry; slots = entry.first ∷ [] }) layout.areas)) ≡ held_in (record_at (set cells.records entry.first new) q).state
+  held_after : (q : ℕ) → times q (slots_of (inserted area_base (record { entry = entry; slots = entry.first ∷ [] }) layout.areas)) ≡ with_held entry.first 1 held q
   held_after q =
       let area : Area = record { entry = entry; slots = entry.first ∷ [] } in
       let both = times-inserted q area layout.areas in
       let one = times-cons q entry.first [] in
       elim (cases_eq q entry.first) [
         | inl here ↦
-            let P : ℕ → Type 0 = λ n. times n (slots_of (inserted area_base area layout.areas)) ≡ held_in (record_at (set cells.records entry.first new) n).state in
+            let P : ℕ → Type 0 = λ n. times n (slots_of (inserted area_base area layout.areas)) ≡ with_held entry.first 1 held n in
             let both_here = times-inserted entry.first area layout.areas in
             let one_here = times-cons entry.first entry.first [] in
-            let is : held_in (record_at (set cells.records entry.first new) entry.first).state ≡ 1 = ap (λ (r : Record). held_in r.state) at_new ∙ ap held_in new_free in
+            let is : with_held entry.first 1 held entry.first ≡ 1 = ap (λ b. cond b 1 (held entry.first)) (eq-eqb entry.first entry.first refl) in
             subst P (sym here) (omega (arith, both_here, one_here, ap one_if (eq-eqb entry.first entry.first refl), not_held, is))
         | inr apart ↦
-            let is : held_in (record_at (set cells.records entry.first new) q).state ≡ held_in (record_at cells.records q).state = ap (λ (r : Record). held_in r.state) (at_other q apart) in
-            omega (arith, both, one, ap one_if (ne_eqb entry.first q (λ e. apart (sym e))), were.held q, is)
+            let is : with_held entry.first 1 held q ≡ held q = ap (λ b. cond b 1 (held q)) (ne_eqb q entry.first apart) in
+            omega (arith, both, one, ap one_if (ne_eqb entry.first q (λ e. apart (sym e))), were.holds q, is)
       ]
 
   -- the vacant slot's record is that of the pool's one free block, in no list yet
-  pub area_is_layout : IsLayout home (with_entries (with_entry entry (entries_of cells.pools)) (with_record cells entry.first new)) (with_area (record { entry = entry; slots = entry.first ∷ [] }) layout)
+  pub area_is_layout : IsLayout home (with_held entry.first 1 held) (with_entries (with_entry entry (entries_of cells.pools)) (with_record cells entry.first new)) (with_area (record { entry = entry; slots = entry.first ∷ [] }) layout)
   area_is_layout =
       let area : Area = record { entry = entry; slots = entry.first ∷ [] } in
       let records : List Record = set cells.records entry.first new in
@@ -112,7 +115,7 @@ module _ (home : ℕ → Option ℕ) (cells : Cells) (layout : Layout) (entry : 
         lists_count = were.lists_count;
         entries = ap padded (ap (with_entry entry) (ap entries_of were.entries ∙ entries_of-padded (map (λ (a : Area). a.entry) layout.areas))
             ∙ sym (map-inserted (λ (a : Area). a.entry) area_base (λ (e : PoolEntry). e.base) (λ a. refl) area layout.areas));
-        held = held_after;
+        holds = held_after;
         chained = AreChains-inserted (field_at (λ r. r.prev) records) (field_at (λ r. r.next) records) area layout.areas refl (prev_here, next_here, tt)
             (AreChains-same (field_at (λ r. r.prev) cells.records) (field_at (λ r. r.prev) records) (field_at (λ r. r.next) cells.records) (field_at (λ r. r.next) records) layout.areas
             (λ q stands. (ap (λ (r : Record). r.prev) (at_other q (held_apart q stands)), ap (λ (r : Record). r.next) (at_other q (held_apart q stands)))) were.chained);

@@ -20,12 +20,12 @@ use Rattle.tlsf_heap.specs.Malloc.{gap}
 use Rattle.tlsf_heap.specs.Pools.{in_order_of_base, with_pool, can_be_pool, is_apart, most_pools}
 use Rattle.tlsf_heap.specs.Good.{times, IsGood}
 use Rattle.tlsf_heap.specs.Edits.{linked}
-use Rattle.tlsf_heap.specs.Layout.{Area, Layout, IsLayout, Stands, owner_in, held_in, home_in, home_of, at_home, slots_of, place_at, block_of, pool_of, content_by, content_of, entries_of}
+use Rattle.tlsf_heap.specs.Layout.{Area, Layout, IsLayout, Stands, owner_in, held_in, held_of, home_in, home_of, at_home, slots_of, place_at, block_of, pool_of, content_by, content_of, entries_of}
 use Rattle.tlsf_heap.specs.Entries.{inserted, with_entry, with_entries, free_record, pool_entered}
 use Rattle.tlsf_heap.proofs.GoodContent.{with_pool_is_good}
 use Rattle.tlsf_heap.proofs.Linking.{times-front, times-behind, front_records, front_fields, length-front}
 use Rattle.tlsf_heap.proofs.LinkedLayout.{with_home, with_linked, linked_is_layout}
-use Rattle.tlsf_heap.proofs.NewArea.{map-inserted, area_base, times-append, with_area, area_is_layout}
+use Rattle.tlsf_heap.proofs.NewArea.{map-inserted, area_base, times-append, with_area, with_held, area_is_layout}
 use Rattle.tlsf_heap.proofs.Followed.{content_is}
 
 pub map-same : {B : Type 0} (f g : ℕ → B) (slots : List ℕ) → ((q : ℕ) → 1 ≤ times q slots → f q ≡ g q) → map f slots ≡ map g slots
@@ -50,7 +50,7 @@ inserted_is pool (other ∷ pools) = elim (nat_lt pool.base other.base) as (λ b
   | false ↦ ap (λ ps. other ∷ ps) (inserted_is pool pools)
 ]
 
-home_size : (a b : Record) (s : State) → a.size ≡ b.size → home_in a s ≡ home_in b s
+pub home_size : (a b : Record) (s : State) → a.size ≡ b.size → home_in a s ≡ home_in b s
 home_size a b Vacant same = refl
 home_size a b Free same = ap (λ n. Some (class n)) same
 home_size a b Live same = refl
@@ -64,7 +64,7 @@ Stands-touches t cells s = record {
     words_count = s.represented.words_count;
     lists_count = s.represented.lists_count;
     entries = s.represented.entries;
-    held = s.represented.held;
+    holds = s.represented.holds;
     chained = s.represented.chained;
     homes = s.represented.homes;
     firsts = s.represented.firsts;
@@ -78,7 +78,7 @@ pub content_of-touches : (t : ℕ) (cells : Cells) → content_of (record cells 
 unfolding content_of
 content_of-touches t cells = refl
 
-module _ (cells : Cells) (layout : Layout) (were : IsLayout (home_of cells.records) cells layout) (slot base bytes : ℕ)
+module _ (cells : Cells) (layout : Layout) (were : IsLayout (home_of cells.records) (held_of cells.records) cells layout) (slot base bytes : ℕ)
     (within : slot < length cells.records) (vacant : record_at cells.records slot ≡ blank) (some_bytes : bytes ≢ 0) where
   abbrev entry : PoolEntry
   entry = record { base = base; bytes = bytes; first = slot }
@@ -110,7 +110,7 @@ module _ (cells : Cells) (layout : Layout) (were : IsLayout (home_of cells.recor
   apart_of_areas : (q : ℕ) → 1 ≤ times q (slots_of layout.areas) → q ≢ slot
   apart_of_areas q stands e =
       let S : ℕ → Type 0 = λ n. 1 ≤ times n (slots_of layout.areas) in
-      absurd (omega (arith, subst S e stands, were.held slot, ap (λ (r : Record). held_in r.state) vacant))
+      absurd (omega (arith, subst S e stands, were.holds slot, ap (λ (r : Record). held_in r.state) vacant))
 
   apart_of_lists : (k q : ℕ) → k < classes → 1 ≤ times q (list_of k layout.lists) → q ≢ slot
   apart_of_lists k q k_within stands e =
@@ -136,13 +136,25 @@ module _ (cells : Cells) (layout : Layout) (were : IsLayout (home_of cells.recor
         | inr apart ↦ ap (λ b. cond b (Some (class bytes)) (home_of cells.records q)) (ne_eqb q slot apart) ∙ sym (ap (λ (r : Record). home_in r r.state) (at_other q apart))
       ]) ∙ sym edited
 
-  pub entered_is_layout : IsLayout (home_of (linked (class bytes) slot entered).records) (linked (class bytes) slot entered) after
+  held_after : (q : ℕ) → with_held slot 1 (held_of cells.records) q ≡ held_of last q
+  held_after q =
+      let states = front_fields (head_at cells.heads (class bytes)) slot new (λ r. r.state) (λ r. refl) (λ r. refl) in
+      (elim (cases_eq q slot) [
+        | inl here ↦
+            let P : ℕ → Type 0 = λ n. with_held slot 1 (held_of cells.records) n ≡ held_of new n in
+            subst P (sym here) (ap (λ b. cond b 1 (held_of cells.records slot)) (eq-eqb slot slot refl) ∙ sym (ap (λ (r : Record). held_in r.state) at_slot))
+        | inr apart ↦ ap (λ b. cond b 1 (held_of cells.records q)) (ne_eqb q slot apart) ∙ sym (ap (λ (r : Record). held_in r.state) (at_other q apart))
+      ]) ∙ sym (ap held_in (ap (λ f. f q) states))
+
+  pub entered_is_layout : IsLayout (home_of (linked (class bytes) slot entered).records) (held_of (linked (class bytes) slot entered).records) (linked (class bytes) slot entered) after
   entered_is_layout =
-      let first = area_is_layout (home_of cells.records) cells layout entry (free_record base bytes) were within (ap (λ (r : Record). r.state) vacant) homeless refl refl refl in
-      let second = linked_is_layout (home_of cells.records) entered (with_area area layout) (class bytes) slot first (class-lt bytes) (omega (arith, within, length-set cells.records slot (free_record base bytes))) below homeless in
+      let first = area_is_layout (home_of cells.records) (held_of cells.records) cells layout entry (free_record base bytes) were within (ap (λ (r : Record). held_in r.state) vacant) homeless refl refl in
+      let second = linked_is_layout (home_of cells.records) (with_held slot 1 (held_of cells.records)) entered (with_area area layout) (class bytes) slot first (class-lt bytes) (omega (arith, within, length-set cells.records slot (free_record base bytes))) below homeless in
       let homes : with_home slot (class bytes) (home_of cells.records) ≡ home_of last = λ i q. home_after q i in
-      let P : (ℕ → Option ℕ) → Type 0 = λ home. IsLayout home (linked (class bytes) slot entered) after in
-      subst P homes second
+      let held : with_held slot 1 (held_of cells.records) ≡ held_of last = λ i q. held_after q i in
+      let P : (ℕ → Option ℕ) → Type 0 = λ home. IsLayout home (held_of last) (linked (class bytes) slot entered) after in
+      let Q : (ℕ → ℕ) → Type 0 = λ often. IsLayout (with_home slot (class bytes) (home_of cells.records)) often (linked (class bytes) slot entered) after in
+      subst P homes (subst Q held second)
 
   block_after : block_of last ≡ block_of new
   block_after =

@@ -10,7 +10,7 @@ use Rattle.tlsf_heap.specs.Lists.{list_of, without}
 use Rattle.tlsf_heap.specs.Good.{times}
 use Rattle.tlsf_heap.specs.Bitmaps.{AreMarked, head_bit}
 use Rattle.tlsf_heap.specs.Edits.{without_bit, with_prev_free, with_behind, with_level_cleared, unlinked}
-use Rattle.tlsf_heap.specs.Layout.{Layout, IsLayout, IsLinked, AreChains, first_slot, at_home, held_in, slots_of}
+use Rattle.tlsf_heap.specs.Layout.{Layout, IsLayout, IsLinked, AreChains, first_slot, at_home}
 use Rattle.tlsf_heap.proofs.FreeLists.{times-without_same, times-without_other, list_of-set_same, list_of-set_other}
 use Rattle.tlsf_heap.proofs.Marking.{marks_kept, marks_cleared}
 use Rattle.tlsf_heap.proofs.Linking.{field_at, IsLinked-same, None≢Some}
@@ -25,13 +25,13 @@ without_home slot home q = cond (eqb q slot) None (home q)
 abbrev pub with_unlinked : ℕ → ℕ → Layout → Layout
 with_unlinked class slot layout = record layout { lists = set layout.lists class (without slot (list_of class layout.lists)) }
 
-cleared_is : (level word : ℕ) (cells : Cells) → with_level_cleared level word cells ≡ record cells { level_word = cond (eqb word 0) (without_bit cells.level_word level) cells.level_word }
+pub cleared_is : (level word : ℕ) (cells : Cells) → with_level_cleared level word cells ≡ record cells { level_word = cond (eqb word 0) (without_bit cells.level_word level) cells.level_word }
 cleared_is level word cells = elim (eqb word 0) as (λ b. cond b (with_level_word cells (without_bit cells.level_word level)) cells ≡ record cells { level_word = cond b (without_bit cells.level_word level) cells.level_word }) [
   | true ↦ refl
   | false ↦ refl
 ]
 
-module _ (home : ℕ → Option ℕ) (cells : Cells) (layout : Layout) (class slot : ℕ) (were : IsLayout home cells layout) (class_within : class < classes)
+module _ (home : ℕ → Option ℕ) (held : ℕ → ℕ) (cells : Cells) (layout : Layout) (class slot : ℕ) (were : IsLayout home held cells layout) (class_within : class < classes)
     (below : (q : ℕ) → 1 ≤ times q (list_of class layout.lists) → q < length cells.records) (at : home slot ≡ Some class) where
   abbrev listed : List ℕ
   listed = list_of class layout.lists
@@ -136,11 +136,6 @@ module _ (home : ℕ → Option ℕ) (cells : Cells) (layout : Layout) (class sl
       subst Q (sym (joined_fields prev next cells.records (λ r. r.next) (λ r. refl) (λ r. refl)))
       (subst P (sym (joined_fields prev next cells.records (λ r. r.prev) (λ r. refl) (λ r. refl))) were.chained)
 
-  held_after : (q : ℕ) → times q (slots_of layout.areas) ≡ held_in (record_at new q).state
-  held_after q =
-      let same = joined_fields prev next cells.records (λ r. r.state) (λ r. refl) (λ r. refl) in
-      were.held q ∙ ap held_in (sym (ap (λ f. f q) same))
-
   -- the head of the class as the list begins now, the others as before
   firsts_after : (heads : List (Option ℕ)) → head_at heads class ≡ first_slot (without slot listed) → ((k : ℕ) → k ≢ class → head_at heads k ≡ head_at cells.heads k) → (k : ℕ) → k < classes → head_at heads k ≡ first_slot (list_of k lists)
   firsts_after heads here others k k_within = elim (cases_eq k class) [
@@ -153,13 +148,13 @@ module _ (home : ℕ → Option ℕ) (cells : Cells) (layout : Layout) (class sl
   -- whatever heads and words the class's list has now
   rebuilt : (heads : List (Option ℕ)) (words : List ℕ) (level_word : ℕ) → length heads ≡ classes → length words ≡ levels → head_at heads class ≡ first_slot (without slot listed)
       → ((k : ℕ) → k ≢ class → head_at heads k ≡ head_at cells.heads k) → AreMarked heads words level_word
-      → IsLayout (without_home slot home) (record cells { records = new; heads = heads; step_words = words; level_word = level_word }) (with_unlinked class slot layout)
+      → IsLayout (without_home slot home) held (record cells { records = new; heads = heads; step_words = words; level_word = level_word }) (with_unlinked class slot layout)
   rebuilt heads words level_word heads_count words_count here others marked = record {
     heads_count = heads_count;
     words_count = words_count;
     lists_count = length-set layout.lists class _ ∙ were.lists_count;
     entries = were.entries;
-    held = held_after;
+    holds = were.holds;
     chained = chained_after;
     homes = homes_after;
     firsts = firsts_after heads here others;
@@ -181,15 +176,15 @@ module _ (home : ℕ → Option ℕ) (cells : Cells) (layout : Layout) (class sl
   class_in_heads = omega (arith, class_within, were.heads_count)
 
   -- by what stood in front of the slot, and behind it
-  left : (p n : Option ℕ) → prev ≡ p → next ≡ n → IsLayout (without_home slot home) (with_behind class p n (with_prev_free n p cells)) (with_unlinked class slot layout)
+  left : (p n : Option ℕ) → prev ≡ p → next ≡ n → IsLayout (without_home slot home) held (with_behind class p n (with_prev_free n p cells)) (with_unlinked class slot layout)
   left (Some p) n prev_is next_is =
       let same : new ≡ joined_records (Some p) n cells.records = ap (λ o. joined_records o next cells.records) prev_is ∙ ap (λ o. joined_records (Some p) o cells.records) next_is in
-      let P : List Record → Type 0 = λ rs. IsLayout (without_home slot home) (record cells { records = rs }) (with_unlinked class slot layout) in
+      let P : List Record → Type 0 = λ rs. IsLayout (without_home slot home) held (record cells { records = rs }) (with_unlinked class slot layout) in
       subst P same (rebuilt cells.heads cells.step_words cells.level_word were.heads_count were.words_count
       (were.firsts class class_within ∙ sym (first_when_some back fore slot listed p linked stands prev_is)) (λ k apart. refl) were.marked)
   left None (Some n) prev_is next_is =
       let same : new ≡ joined_records None (Some n) cells.records = ap (λ o. joined_records o next cells.records) prev_is ∙ ap (λ o. joined_records None o cells.records) next_is in
-      let P : List Record → Type 0 = λ rs. IsLayout (without_home slot home) (record cells { records = rs; heads = set cells.heads class (Some n) }) (with_unlinked class slot layout) in
+      let P : List Record → Type 0 = λ rs. IsLayout (without_home slot home) held (record cells { records = rs; heads = set cells.heads class (Some n) }) (with_unlinked class slot layout) in
       subst P same (rebuilt (set cells.heads class (Some n)) cells.step_words cells.level_word (length-set cells.heads class _ ∙ were.heads_count) were.words_count
       (get_or-set_same cells.heads class (Some n) None class_in_heads ∙ sym (was_first prev_is ∙ next_is)) (λ k apart. get_or-set_other cells.heads class k (Some n) None apart)
       (marks_kept cells.heads cells.step_words cells.level_word class were.heads_count were.words_count class_within were.marked n some_head))
@@ -198,13 +193,13 @@ module _ (home : ℕ → Option ℕ) (cells : Cells) (layout : Layout) (class sl
       let words : List ℕ = set cells.step_words (class / steps) word in
       let level : ℕ = cond (eqb word 0) (without_bit cells.level_word (class / steps)) cells.level_word in
       let same : new ≡ joined_records None None cells.records = ap (λ o. joined_records o next cells.records) prev_is ∙ ap (λ o. joined_records None o cells.records) next_is in
-      let P : List Record → Type 0 = λ rs. IsLayout (without_home slot home) (record cells { records = rs; heads = set cells.heads class None; step_words = words; level_word = level }) (with_unlinked class slot layout) in
-      let Q : Cells → Type 0 = λ s. IsLayout (without_home slot home) s (with_unlinked class slot layout) in
+      let P : List Record → Type 0 = λ rs. IsLayout (without_home slot home) held (record cells { records = rs; heads = set cells.heads class None; step_words = words; level_word = level }) (with_unlinked class slot layout) in
+      let Q : Cells → Type 0 = λ s. IsLayout (without_home slot home) held s (with_unlinked class slot layout) in
       subst Q (sym (cleared_is (class / steps) word (record cells { heads = set cells.heads class None; step_words = words })))
       (subst P same (rebuilt (set cells.heads class None) words level (length-set cells.heads class _ ∙ were.heads_count) (length-set cells.step_words _ _ ∙ were.words_count)
       (get_or-set_same cells.heads class None None class_in_heads ∙ sym (was_first prev_is ∙ next_is)) (λ k apart. get_or-set_other cells.heads class k None None apart)
       (marks_cleared cells.heads cells.step_words cells.level_word class were.heads_count were.words_count class_within were.marked some_head)))
 
   -- a slot whose home is the class leaves the class's list, and has no home then
-  pub unlinked_is_layout : IsLayout (without_home slot home) (unlinked class slot cells) (with_unlinked class slot layout)
+  pub unlinked_is_layout : IsLayout (without_home slot home) held (unlinked class slot cells) (with_unlinked class slot layout)
   unlinked_is_layout = left prev next refl refl

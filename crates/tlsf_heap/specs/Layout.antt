@@ -105,6 +105,9 @@ held_in Vacant = 0
 held_in Free = 1
 held_in Live = 1
 
+abbrev pub held_of : List Record → ℕ → ℕ
+held_of records slot = held_in (record_at records slot).state
+
 -- how often a slot stands in the list of a class: once where the class is its home
 abbrev pub at_home : ℕ → Option ℕ → ℕ
 at_home class None = 0
@@ -119,13 +122,13 @@ home_in r Live = None
 abbrev pub home_of : List Record → ℕ → Option ℕ
 home_of records slot = let r = record_at records slot in home_in r r.state
 
--- the cells represent the layout, where each slot stands in the list of its home
-pub record IsLayout (home : ℕ → Option ℕ) (cells : Cells) (layout : Layout) : Type 0 where
+-- the cells represent the layout, where each slot stands in the list of its home, and as often in the chains as it is held
+pub record IsLayout (home : ℕ → Option ℕ) (held : ℕ → ℕ) (cells : Cells) (layout : Layout) : Type 0 where
   pub heads_count : length cells.heads ≡ classes
   pub words_count : length cells.step_words ≡ levels
   pub lists_count : length layout.lists ≡ classes
   pub entries : cells.pools ≡ padded (map (λ area. area.entry) layout.areas)
-  pub held : (slot : ℕ) → times slot (slots_of layout.areas) ≡ held_in (record_at cells.records slot).state
+  pub holds : (slot : ℕ) → times slot (slots_of layout.areas) ≡ held slot
   pub chained : AreChains (prev_at cells.records) (next_at cells.records) layout.areas
   pub homes : (class slot : ℕ) → class < classes → times slot (list_of class layout.lists) ≡ at_home class (home slot)
   pub firsts : (class : ℕ) → class < classes → head_at cells.heads class ≡ first_slot (list_of class layout.lists)
@@ -135,7 +138,7 @@ pub record IsLayout (home : ℕ → Option ℕ) (cells : Cells) (layout : Layout
 -- the cells represent a layout whose content is good
 pub record Stands (cells : Cells) : Type 0 where
   pub layout : Layout
-  pub represented : IsLayout (home_of cells.records) cells layout
+  pub represented : IsLayout (home_of cells.records) (held_of cells.records) cells layout
   pub good : IsGood (content_by cells.records layout)
 
 -- the slots from the first on, at most so many

@@ -6,6 +6,8 @@ pub mod Pools
 pub mod Good
 pub mod Free
 pub mod Edits
+pub mod Chains
+pub mod Allocation
 pub mod Bitmaps
 pub mod Layout
 pub mod Entries

@@ -16,6 +16,7 @@ pub(crate) fn link(store: &mut Store, class: Class, slot: Slot)
     requires slot_used { IsUsed store.old.records (Some slot) }
     requires first_used { IsUsed store.old.records (head_at store.old.heads class) }
     ensures cells { store.new ≡ record (linked class slot store.old) { touches = store.new.touches } }
+    ensures floor { store.old.touches ≤ store.new.touches }
     ensures bound { store.new.touches ≤ store.old.touches + 12 }
 {
     let first = store.head(class);
@@ -30,6 +31,7 @@ pub(crate) fn unlink(store: &mut Store, class: Class, slot: Slot)
     requires prev_used { IsUsed store.old.records (record_at store.old.records slot).prev_free }
     requires next_used { IsUsed store.old.records (record_at store.old.records slot).next_free }
     ensures cells { store.new ≡ record (unlinked class slot store.old) { touches = store.new.touches } }
+    ensures floor { store.old.touches ≤ store.new.touches }
     ensures bound { store.new.touches ≤ store.old.touches + 16 }
 {
     let block = store.read(slot);
@@ -43,6 +45,7 @@ fn set_in_front(store: &mut Store, slot: Slot, first: Option<Slot>)
     requires slot_used { IsUsed store.old.records (Some slot) }
     requires first_used { IsUsed store.old.records first }
     ensures cells { store.new ≡ record (with_prev_free first (Some slot) (with_free_links slot None first store.old)) { touches = store.new.touches } }
+    ensures floor { store.old.touches ≤ store.new.touches }
     ensures bound { store.new.touches ≤ store.old.touches + 4 }
 {
     match first {
@@ -93,6 +96,7 @@ fn set_in_back(store: &mut Store, next: Option<Slot>, prev: Option<Slot>)
     requires used { IsUsed store.old.records next }
     requires prev_below { IsBelow (length store.old.records) prev }
     ensures cells { store.new ≡ record (with_prev_free next prev store.old) { touches = store.new.touches } }
+    ensures floor { store.old.touches ≤ store.new.touches }
     ensures bound { store.new.touches ≤ store.old.touches + 2 }
 {
     if let Some(slot) = next {
@@ -120,6 +124,7 @@ fn set_next_free(store: &mut Store, slot: Slot, next: Option<Slot>)
 fn set_first(store: &mut Store, class: Class, first: Option<Slot>)
     requires { IsBelow (length store.old.records) first }
     ensures cells { store.new ≡ record (with_first class first store.old) { touches = store.new.touches } }
+    ensures floor { store.old.touches ≤ store.new.touches }
     ensures bound { store.new.touches ≤ store.old.touches + 5 }
 {
     match first {
@@ -137,6 +142,7 @@ fn set_behind(store: &mut Store, class: Class, prev: Option<Slot>, next: Option<
     requires used { IsUsed store.old.records prev }
     requires next_below { IsBelow (length store.old.records) next }
     ensures cells { store.new ≡ record (with_behind class prev next store.old) { touches = store.new.touches } }
+    ensures floor { store.old.touches ≤ store.new.touches }
     ensures bound { store.new.touches ≤ store.old.touches + 5 }
 {
     match prev {

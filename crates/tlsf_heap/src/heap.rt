@@ -64,6 +64,7 @@ impl Heap {
         ensures ok { OnOk result (added base bytes self.old.content ≡ Ok self.new.content) }
         ensures refused { IfErr result (λ refusal. added base bytes self.old.content ≡ Err refusal) }
         ensures unchanged { OnErr result (self.new.content ≡ self.old.content) }
+        ensures floor { self.old.touches ≤ self.new.touches }
         ensures bound { self.new.touches ≤ self.old.touches + 64 }
     {
         add_pool(&mut self.store, base, bytes)
@@ -73,6 +74,7 @@ impl Heap {
     pub fn pools(&mut self) -> ArrayVec<(u64, u64), MOST_POOLS>
         ensures value { result.items ≡ map range_of self.old.content.pools }
         ensures unchanged { self.new.content ≡ self.old.content }
+        ensures floor { self.old.touches ≤ self.new.touches }
         ensures bound { self.new.touches ≤ self.old.touches + 8 }
     {
         let entries = entries(&mut self.store);

@@ -2,7 +2,9 @@
 //! found by bitmaps.
 #![tactic(auto)]
 
+mod allocation;
 mod answer;
+mod chains;
 mod cursor;
 mod entries;
 mod free_lists;

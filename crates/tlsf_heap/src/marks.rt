@@ -45,6 +45,7 @@ pub(crate) fn mark(store: &mut Store, class: Class)
 /// four touches.
 pub(crate) fn unmark(store: &mut Store, class: Class)
     ensures cells { store.new ≡ record (unmarked class store.old) { touches = store.new.touches } }
+    ensures floor { store.old.touches ≤ store.new.touches }
     ensures bound { store.new.touches ≤ store.old.touches + 4 }
 {
     let level = class.number() / STEPS;
@@ -57,6 +58,7 @@ pub(crate) fn unmark(store: &mut Store, class: Class)
 fn clear_level(store: &mut Store, level: u32, word: u32)
     requires { level < levels }
     ensures cells { store.new ≡ record (with_level_cleared level word store.old) { touches = store.new.touches } }
+    ensures floor { store.old.touches ≤ store.new.touches }
     ensures bound { store.new.touches ≤ store.old.touches + 2 }
 {
     if word == 0 {

@@ -51,6 +51,7 @@ pub(crate) fn add_pool(store: &mut Store, base: u64, bytes: u64) -> Result<(), R
     ensures ok { OnOk result (added base bytes (content_of store.old) ≡ Ok (content_of store.new)) }
     ensures refused { IfErr result (λ refusal. added base bytes (content_of store.old) ≡ Err refusal) }
     ensures unchanged { OnErr result (content_of store.new ≡ content_of store.old) }
+    ensures floor { store.old.touches ≤ store.new.touches }
     ensures bound { store.new.touches ≤ store.old.touches + 64 }
 {
     let entries = entries(store);
@@ -86,6 +87,7 @@ fn put_pool(store: &mut Store, mut entries: ArrayVec<PoolEntry, MOST_POOLS>, ent
     requires slot_used { IsUsed store.old.records (Some entry.first) }
     requires first_used { IsUsed store.old.records (head_at store.old.heads (class entry.bytes)) }
     ensures cells { store.new ≡ record (pool_entered entry store.old) { touches = store.new.touches } }
+    ensures floor { store.old.touches ≤ store.new.touches }
     ensures bound { store.new.touches ≤ store.old.touches + 32 }
 {
     let slot = Slot(entry.first);

@@ -29,6 +29,7 @@ pub(crate) fn search(store: &mut Store, class: Class) -> Option<Slot>
     requires count { length store.old.heads ≡ classes }
     ensures value { result ≡ first_head (drop class store.old.heads) }
     ensures cells { store.new ≡ record store.old { touches = store.new.touches } }
+    ensures floor { store.old.touches ≤ store.new.touches }
     ensures bound { store.new.touches ≤ store.old.touches + 4 }
 {
     let level = class.number() / STEPS;
@@ -47,6 +48,7 @@ fn search_levels(store: &mut Store, from: u32) -> Option<Slot>
     requires count { length store.old.heads ≡ classes }
     ensures value { result ≡ first_head (drop (from * steps) store.old.heads) }
     ensures cells { store.new ≡ record store.old { touches = store.new.touches } }
+    ensures floor { store.old.touches ≤ store.new.touches }
     ensures bound { store.new.touches ≤ store.old.touches + 3 }
 {
     let word = store.level_word();
