@@ -219,7 +219,7 @@ module _ {A : Type 0} where
   ]
 
   -- how the blocks change where a pool comes in
-  count_by-pools : (kind : Block A → Bool) (pool : Pool A) (pools : List (Pool A)) → count_by kind (blocks_of (in_order_of_base pool pools)) ≡ count_by kind pool.blocks + count_by kind (blocks_of pools)
+  pub count_by-pools : (kind : Block A → Bool) (pool : Pool A) (pools : List (Pool A)) → count_by kind (blocks_of (in_order_of_base pool pools)) ≡ count_by kind pool.blocks + count_by kind (blocks_of pools)
   count_by-pools kind pool [] = count_by-append kind pool.blocks []
   count_by-pools kind pool (other ∷ pools) = elim (nat_lt pool.base other.base) as (λ b. count_by kind (blocks_of (cond b (pool ∷ other ∷ pools) (other ∷ in_order_of_base pool pools))) ≡ count_by kind pool.blocks + count_by kind (blocks_of (other ∷ pools))) [
     | true ↦ count_by-append kind pool.blocks (blocks_of (other ∷ pools))

@@ -6,6 +6,11 @@ pub mod GoodContent
 pub mod Merging
 pub mod Freeing
 pub mod FreeIsGood
+pub mod GoodSlotsKept
+pub mod SlotsLeft
+pub mod PlainLists
+pub mod PlainPools
+pub mod PlainMalloc
 pub mod EntryLists
 pub mod Searching
 pub mod Marking

@@ -11,3 +11,4 @@ pub mod Layout
 pub mod Entries
 pub mod Counted
 pub mod GoodSlots
+pub mod PlainHeap

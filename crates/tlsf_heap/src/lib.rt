@@ -6,6 +6,7 @@ mod entries;
 mod free_lists;
 mod heap;
 mod marks;
+mod plain_heap;
 mod pointer;
 mod pool_entry;
 mod pools;
@@ -15,5 +16,6 @@ mod search;
 mod tests;
 
 pub use crate::heap::Heap;
+pub use crate::plain_heap::PlainHeap;
 pub use crate::pointer::Ptr;
 pub use crate::refusal::Refusal;

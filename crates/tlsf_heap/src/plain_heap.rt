@@ -1,0 +1,15 @@
+//! A heap kept as plain lists, which are scanned: the reference that the definitions are read off.
+//!
+//! Nothing here is bounded in steps. Each call that changes the heap builds what is new first, so that
+//! refused memory changes nothing.
+
+mod block;
+mod choice;
+mod cut;
+mod heap;
+mod lists;
+mod pool;
+mod pools;
+mod slots;
+
+pub use heap::PlainHeap;

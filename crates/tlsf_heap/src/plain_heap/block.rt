@@ -1,0 +1,71 @@
+use std::marker::Model;
+
+/// A block of a pool: where it begins, its size, and the slot of its owner, where it is live.
+#[derive(Clone, Copy)]
+pub struct Block {
+    place: u32,
+    size: u32,
+    owner: Option<u16>,
+}
+
+impl Model for Block {
+    ghost use Rattle.std.specs.Prelude.{ℕ};
+    ghost use Rattle.tlsf_heap.specs.Content.{Block};
+
+    ghost Value = { Block ℕ };
+
+    ghost view = { λ b. record { place = b.place; size = b.size; owner = b.owner } };
+
+    ghost inverse = { λ b. record { place = b.place; size = b.size; owner = b.owner } };
+}
+
+impl Block {
+    ghost use Rattle.std.specs.Prelude.{◌≡◌, ◌<◌, ◌^◌, None, Some};
+    ghost use Rattle.tlsf_heap.specs.GoodSlots.{is_slot};
+
+    /// A free block of `size` bytes at a place.
+    pub fn free(place: u32, size: u32) -> Self
+        ensures { result ≡ record { place = place; size = size; owner = None } }
+    {
+        Block {
+            place,
+            size,
+            owner: None,
+        }
+    }
+
+    /// A live block of `size` bytes at a place, with this slot.
+    pub fn live(place: u32, size: u32, slot: u16) -> Self
+        ensures { result ≡ record { place = place; size = size; owner = Some slot } }
+    {
+        Block {
+            place,
+            size,
+            owner: Some(slot),
+        }
+    }
+
+    /// Where it begins.
+    pub fn place(&self) -> u32
+        ensures { result ≡ self.now.place }
+    {
+        self.place
+    }
+
+    /// Its size in bytes.
+    pub fn size(&self) -> u32
+        ensures { result ≡ self.now.size }
+    {
+        self.size
+    }
+
+    /// Whether it is live, with this slot.
+    pub fn has_slot(&self, slot: u16) -> bool
+        ensures { result ≡ is_slot slot self.now.owner }
+    {
+        match self.owner {
+            Some(owner) => owner == slot,
+            None => false,
+        }
+    }
+}

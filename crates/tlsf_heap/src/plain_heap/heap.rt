@@ -1,0 +1,203 @@
+use super::choice::Choice;
+use super::cut::cut_in_pools;
+use super::lists::{in_front, list_number, no_places, pick, relink};
+use super::pool::Pool;
+use super::pools::{block_count, can_be_pool, is_apart, place_for, size_at};
+use super::slots::least_slot;
+use crate::{Ptr, Refusal};
+use std::alloc::{AllocError, Global};
+use std::marker::Model;
+use tlsf_class::round;
+use tlsf_store::StoreError;
+
+/// At most so many records.
+const MOST_RECORDS: u32 = 65_535;
+
+/// At most so many pools.
+const MOST_POOLS: usize = 8;
+
+/// A heap of plain lists: its pools in order of base, each with its blocks, and the free list of each
+/// class.
+///
+/// After a refusal its content is as it was.
+#[derive(Drop)]
+pub struct PlainHeap {
+    records: u16,
+    pools: Vec<Pool>,
+    lists: Vec<Vec<u32>>,
+}
+
+impl Model for PlainHeap {
+    ghost use Rattle.std.specs.Prelude.{ℕ};
+    ghost use Rattle.tlsf_heap.specs.Content.{Content};
+    ghost use Rattle.tlsf_heap.specs.PlainHeap.{IsPlain, content_of};
+
+    ghost Value = { Content ℕ };
+
+    ghost view = { λ h. content_of h.records h.pools.items h.lists.items };
+
+    ghost invariant = { λ h. IsPlain (content_of h.records h.pools.items h.lists.items) };
+}
+
+impl PlainHeap {
+    ghost use Rattle.std.specs.Prelude.{◌≡◌, ◌≢◌, ℕ, ◌+◌, ◌^◌, ◌<◌, ◌≤◌, ◌⊎◌, ◌↔◌, true, length, nat_le, Ok, Err, Some, IfOk, IfErr, OnOk, OnErr};
+    ghost use Rattle.std.specs.List.{list_all};
+    ghost use Rattle.tlsf_store.specs.declared.errors.StoreError.TheVariants.{BadCount};
+    ghost use Rattle.tlsf_heap.specs.Content.{blocks_of, used_records};
+    ghost use Rattle.tlsf_heap.specs.GoodSlots.{slot_times};
+    ghost use Rattle.tlsf_heap.specs.Malloc.{malloc as served, allocated};
+    ghost use Rattle.tlsf_heap.specs.Pools.{created, add_pool as added, with_pool, can_be_pool as can_be, is_apart as apart, most_pools};
+    ghost use Rattle.tlsf_heap.specs.PlainHeap.{IsChosen};
+
+    /// A heap of this many records, from 1 to 65,535, with no pool.
+    ///
+    /// # Errors
+    ///
+    /// `BadCount` where the number isn't from 1 to 65,535; `OutOfMemory` where memory is refused.
+    pub fn create(alloc: Global, records: u32) -> Result<Self, StoreError>
+        ensures made { IfOk result (λ heap. heap ≡ created records) }
+        ensures bad_count { (result ≡ Err BadCount) ↔ ((records ≡ 0) ⊎ (2 ^ 16 ≤ records)) }
+    {
+        if records == 0 || records > MOST_RECORDS {
+            return Err(StoreError::BadCount);
+        }
+        let Ok(lists) = no_places(alloc) else {
+            return Err(StoreError::OutOfMemory);
+        };
+        Ok(PlainHeap {
+            records: records as u16,
+            pools: Vec::new(alloc),
+            lists,
+        })
+    }
+
+    /// The block that is to hold `n` bytes: the first of the first list that isn't empty at or above
+    /// the class needed. It gets the least slot that no live block has.
+    ///
+    /// # Errors
+    ///
+    /// `ZeroSize` for 0; `NoFit` where no such block is there, or n is above the greatest size;
+    /// `TableFull` where a rest would be left and each record is in use.
+    fn choose(&self, n: u64) -> Result<Choice, Refusal>
+        ensures chosen { IfOk result (λ choice. IsChosen n choice.place choice.asked choice.size self.now) }
+        ensures slot_below { IfOk result (λ choice. choice.slot < self.now.records) }
+        ensures slot_new { IfOk result (λ choice. slot_times choice.slot (blocks_of self.now.pools) ≡ 0) }
+        ensures refused { IfErr result (λ refusal. (slot : ℕ) → served slot n self.now ≡ Err refusal) }
+        ensures never_memory { IfErr result (λ refusal. refusal ≢ Refusal.OutOfMemory) }
+    {
+        if n == 0 {
+            return Err(Refusal::ZeroSize);
+        }
+        let Some(asked) = round(n) else {
+            return Err(Refusal::NoFit);
+        };
+        let Some(place) = pick(self.lists.as_slice(), asked) else {
+            return Err(Refusal::NoFit);
+        };
+        let size = size_at(self.pools.as_slice(), place);
+        if asked < size && self.is_full() {
+            return Err(Refusal::TableFull);
+        }
+        let slot = least_slot(self.pools.as_slice(), self.records);
+        Ok(Choice {
+            place,
+            asked,
+            size,
+            slot,
+        })
+    }
+
+    /// Whether each record is in use.
+    fn is_full(&self) -> bool
+        ensures { result ≡ nat_le self.now.records (used_records self.now) }
+    {
+        let limit = self.records as usize;
+        block_count(self.pools.as_slice()) >= limit
+    }
+
+    /// The block chosen is cut, leaves its list, and what is left enters its own. An `Err` changes
+    /// nothing.
+    fn take(&mut self, choice: Choice) -> Result<(), AllocError>
+        requires chosen { (n : ℕ) × IsChosen n choice.place choice.asked choice.size self.old }
+        requires slot_below { choice.slot < self.old.records }
+        requires slot_new { slot_times choice.slot (blocks_of self.old.pools) ≡ 0 }
+        ensures ok { OnOk result (self.new ≡ allocated choice.slot choice.place choice.asked choice.size self.old) }
+        ensures err { OnErr result (self.new ≡ self.old) }
+    {
+        let alloc = *self.pools.allocator();
+        let pools = cut_in_pools(alloc, self.pools.as_slice(), choice)?;
+        relink(alloc, &mut self.lists, choice)?;
+        self.pools = pools;
+        Ok(())
+    }
+
+    /// A live block of at least `n` bytes: it begins where the first of the first list that isn't empty
+    /// at or above the class needed does, and has the least slot that no live block has.
+    ///
+    /// # Errors
+    ///
+    /// `ZeroSize` for 0; `NoFit` where no such block is there, or `n` is above the greatest size;
+    /// `TableFull` where a rest would be left and each record is in use; `OutOfMemory` where memory is
+    /// refused.
+    pub fn malloc(&mut self, n: u64) -> Result<Ptr, Refusal>
+        ensures ok { IfOk result (λ ptr. served ptr.1 n self.old ≡ Ok (ptr.0, self.new)) }
+        ensures slot_below { IfOk result (λ ptr. ptr.1 < self.old.records) }
+        ensures slot_new { IfOk result (λ ptr. slot_times ptr.1 (blocks_of self.old.pools) ≡ 0) }
+        ensures refused { IfErr result (λ refusal. refusal ≢ Refusal.OutOfMemory → (slot : ℕ) → served slot n self.old ≡ Err refusal) }
+        ensures unchanged { OnErr result (self.new ≡ self.old) }
+    {
+        let choice = self.choose(n)?;
+        match self.take(choice) {
+            Ok(()) => Ok(Ptr::new(choice.place, choice.slot)),
+            Err(_) => Err(Refusal::OutOfMemory),
+        }
+    }
+
+    /// The pool stands in its place among the pools, and its block in front of its class's list. An
+    /// `Err` changes nothing.
+    fn put_pool(&mut self, base: u32, bytes: u32) -> Result<(), AllocError>
+        requires can { can_be base bytes ≡ true }
+        requires apart { list_all (apart base bytes) self.old.pools ≡ true }
+        requires few { length self.old.pools < most_pools }
+        requires room { used_records self.old < self.old.records }
+        ensures ok { OnOk result (self.new ≡ with_pool base bytes self.old) }
+        ensures err { OnErr result (self.new ≡ self.old) }
+    {
+        let alloc = *self.pools.allocator();
+        let number = list_number(bytes);
+        let entered = in_front(alloc, base, self.lists[number].as_slice())?;
+        let pool = Pool::new(alloc, base, bytes)?;
+        let place = place_for(self.pools.as_slice(), base);
+        self.pools.insert(place, pool)?;
+        self.lists[number] = entered;
+        Ok(())
+    }
+
+    /// A pool of `bytes` bytes from the place `base` on, as one free block.
+    ///
+    /// # Errors
+    ///
+    /// `BadPool` where base or bytes isn't a multiple of the unit, bytes isn't from the unit to the
+    /// greatest size, the end is above 2^32, or the pool overlaps another; `PoolsFull` where there are
+    /// as many pools as there can be; `TableFull` where each record is in use; `OutOfMemory` where
+    /// memory is refused.
+    pub fn add_pool(&mut self, base: u64, bytes: u64) -> Result<(), Refusal>
+        ensures ok { OnOk result (added base bytes self.old ≡ Ok self.new) }
+        ensures refused { IfErr result (λ refusal. refusal ≢ Refusal.OutOfMemory → added base bytes self.old ≡ Err refusal) }
+        ensures unchanged { OnErr result (self.new ≡ self.old) }
+    {
+        if !can_be_pool(base, bytes) || !is_apart(self.pools.as_slice(), base, bytes) {
+            return Err(Refusal::BadPool);
+        }
+        if self.pools.len() >= MOST_POOLS {
+            return Err(Refusal::PoolsFull);
+        }
+        if self.is_full() {
+            return Err(Refusal::TableFull);
+        }
+        match self.put_pool(base as u32, bytes as u32) {
+            Ok(()) => Ok(()),
+            Err(_) => Err(Refusal::OutOfMemory),
+        }
+    }
+}

@@ -1,0 +1,97 @@
+use super::block::Block;
+use super::choice::Choice;
+use super::cut::cut_in;
+use std::alloc::{AllocError, Global};
+use std::marker::Model;
+
+/// A pool: where it begins, its bytes, and its blocks in order of place.
+#[derive(Drop)]
+pub struct Pool {
+    base: u32,
+    bytes: u32,
+    blocks: Vec<Block>,
+}
+
+impl Model for Pool {
+    ghost use Rattle.std.specs.Prelude.{ℕ};
+    ghost use Rattle.tlsf_heap.specs.Content.{Pool};
+
+    ghost Value = { Pool ℕ };
+
+    ghost view = { λ p. record { base = p.base; bytes = p.bytes; blocks = p.blocks.items } };
+}
+
+impl Pool {
+    ghost use Rattle.std.specs.Prelude.{◌≡◌, ◌+◌, ◌<◌, length, IfOk, find, option_map};
+    ghost use Rattle.std.specs.List.{list_any};
+    ghost use Rattle.tlsf_heap.specs.Content.{is_at};
+    ghost use Rattle.tlsf_heap.specs.GoodSlots.{is_slot};
+    ghost use Rattle.tlsf_heap.specs.Malloc.{gap, cut, replaced_in};
+
+    /// A pool that is one free block.
+    pub fn new(alloc: Global, base: u32, bytes: u32) -> Result<Self, AllocError>
+        requires { 0 < bytes }
+        ensures { IfOk result (λ pool. pool ≡ record { base = base; bytes = bytes; blocks = gap base bytes }) }
+    {
+        let mut blocks = Vec::new(alloc);
+        blocks.push(Block::free(base, bytes))?;
+        Ok(Pool {
+            base,
+            bytes,
+            blocks,
+        })
+    }
+
+    /// Where it begins.
+    pub fn base(&self) -> u32
+        ensures { result ≡ self.now.base }
+    {
+        self.base
+    }
+
+    /// Its bytes.
+    pub fn bytes(&self) -> u32
+        ensures { result ≡ self.now.bytes }
+    {
+        self.bytes
+    }
+
+    /// How many blocks it has.
+    pub fn len(&self) -> usize
+        ensures { result ≡ length self.now.blocks }
+    {
+        self.blocks.len()
+    }
+
+    /// The size of the first block that begins at the place.
+    pub fn size_at(&self, place: u32) -> Option<u32>
+        ensures { result ≡ option_map (λ block. block.size) (find (is_at place) self.now.blocks) }
+    {
+        for block in &self.blocks {
+            if block.place() == place {
+                return Some(block.size());
+            }
+        }
+        None
+    }
+
+    /// Whether a live block of it has the slot.
+    pub fn has_slot(&self, slot: u16) -> bool
+        ensures { result ≡ list_any (λ block. is_slot slot block.owner) self.now.blocks }
+    {
+        self.blocks.iter().any(|block| block.has_slot(slot))
+    }
+
+    /// The pool with the block chosen cut.
+    pub fn cut(&self, alloc: Global, choice: Choice) -> Result<Pool, AllocError>
+        ensures { IfOk result (λ pool. pool
+            ≡ replaced_in choice.place (cut choice.slot choice.place choice.asked choice.size) self.now) }
+    {
+        let blocks = cut_in(alloc, self.blocks.as_slice(), choice)?;
+        Ok(Pool {
+            base: self.base,
+            bytes: self.bytes,
+            blocks,
+        })
+    }
+}
