@@ -38,7 +38,7 @@ pub record IsWhole {A : Type 0} (block : Block A) : Type 0 where
   pub at_most : block.size ≤ greatest_size
   pub ends : block.place + block.size ≤ end_of_places
 
-Covers-le : {A : Type 0} (from to : ℕ) (blocks : List (Block A)) → Covers from to blocks → from ≤ to
+pub Covers-le : {A : Type 0} (from to : ℕ) (blocks : List (Block A)) → Covers from to blocks → from ≤ to
 Covers-le from to [] c = omega arith
 Covers-le from to (block ∷ blocks) c = let rest = Covers-le (from + block.size) to blocks c.3 in omega arith
 

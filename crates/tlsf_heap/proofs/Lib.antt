@@ -11,6 +11,8 @@ pub mod SlotsLeft
 pub mod PlainLists
 pub mod PlainPools
 pub mod PlainMalloc
+pub mod MergedInOrder
+pub mod PlainFree
 pub mod EntryLists
 pub mod Searching
 pub mod Marking

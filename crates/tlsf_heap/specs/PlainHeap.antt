@@ -1,8 +1,9 @@
 -- What the fields of the plain heap stand for.
-use Rattle.std.specs.Prelude.{◌≡◌, ◌<◌, ℕ, Some, List, map, Vec, nat_lt}
+use Rattle.std.specs.Prelude.{◌≡◌, ◌<◌, ◌≤◌, ◌%◌, ℕ, ⊤, Option, None, Some, List, map, Vec, nat_lt}
 use Rattle.std.specs.List.{position_or_len}
 use Rattle.std.specs.declared.alloc.Global.{Global}
-use Rattle.tlsf_heap.specs.Content.{Pool, Content, blocks_of, size_at, used_records}
+use Rattle.tlsf_heap.specs.Content.{Block, Pool, Content, blocks_of, size_at, used_records}
+use Rattle.tlsf_class.specs.Classes.{unit, greatest_size}
 use Rattle.tlsf_class.specs.Rounding.{round}
 use Rattle.tlsf_heap.specs.Lists.{pick}
 use Rattle.tlsf_heap.specs.Good.{IsGood}
@@ -31,3 +32,8 @@ pub record IsChosen (n place asked size : ℕ) (content : Content ℕ) : Type 0 
 pub record IsPlain (content : Content ℕ) : Type 0 where
   pub good : IsGood content
   pub slots : HasGoodSlots content
+
+-- a block, where there is one, has a class
+abbrev pub IsSized : Option (Block ℕ) → Type 0
+IsSized None = ⊤
+IsSized (Some block) = (0 < block.size) × (block.size % unit ≡ 0) × (block.size ≤ greatest_size)

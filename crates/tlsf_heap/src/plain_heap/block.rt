@@ -20,7 +20,9 @@ impl Model for Block {
 }
 
 impl Block {
-    ghost use Rattle.std.specs.Prelude.{◌≡◌, ◌<◌, ◌^◌, None, Some};
+    ghost use Rattle.std.specs.Prelude.{◌≡◌, ◌+◌, ◌<◌, ◌^◌, ◌&&◌, ◌==◌, None, Some};
+    ghost use Rattle.tlsf_heap.specs.Content.{is_free, is_at};
+    ghost use Rattle.tlsf_heap.specs.Free.{is_owned_by, freed};
     ghost use Rattle.tlsf_heap.specs.GoodSlots.{is_slot};
 
     /// A free block of `size` bytes at a place.
@@ -57,6 +59,46 @@ impl Block {
         ensures { result ≡ self.now.size }
     {
         self.size
+    }
+
+    /// Whether it is free.
+    pub fn is_free(&self) -> bool
+        ensures { result ≡ is_free self.now }
+    {
+        self.owner.is_none()
+    }
+
+    /// Whether it is live, at this place and with this slot.
+    pub fn is_live_at(&self, place: u32, slot: u16) -> bool
+        ensures { result ≡ (is_at place self.now && is_owned_by (λ owner. owner == slot) self.now.owner) }
+    {
+        match self.owner {
+            Some(owner) => self.place == place && owner == slot,
+            None => false,
+        }
+    }
+
+    /// The block, free where it begins at the place.
+    pub fn freed_at(&self, place: u32) -> Block
+        ensures { result ≡ freed place self.now }
+    {
+        if self.place == place {
+            Block::free(self.place, self.size)
+        } else {
+            *self
+        }
+    }
+
+    /// The block with `bytes` more bytes.
+    pub fn grown(&self, bytes: u32) -> Block
+        requires { self.now.size + bytes < 2 ^ 32 }
+        ensures { result ≡ record self.now { size = self.now.size + bytes } }
+    {
+        Block {
+            place: self.place,
+            size: self.size + bytes,
+            owner: self.owner,
+        }
     }
 
     /// Whether it is live, with this slot.

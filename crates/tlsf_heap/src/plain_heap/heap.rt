@@ -1,6 +1,8 @@
 use super::choice::Choice;
 use super::cut::cut_in_pools;
-use super::lists::{in_front, list_number, no_places, pick, relink};
+use super::lists::{in_front, list_number, no_places, pick, rejoined, relink};
+use super::merge::merge_in_pools;
+use super::neighbours::{is_live, joined};
 use super::pool::Pool;
 use super::pools::{block_count, can_be_pool, is_apart, place_for, size_at};
 use super::slots::least_slot;
@@ -40,11 +42,12 @@ impl Model for PlainHeap {
 }
 
 impl PlainHeap {
-    ghost use Rattle.std.specs.Prelude.{◌≡◌, ◌≢◌, ℕ, ◌+◌, ◌^◌, ◌<◌, ◌≤◌, ◌⊎◌, ◌↔◌, true, length, nat_le, Ok, Err, Some, IfOk, IfErr, OnOk, OnErr};
+    ghost use Rattle.std.specs.Prelude.{◌≡◌, ◌≢◌, ℕ, ◌+◌, ◌^◌, ◌<◌, ◌≤◌, ◌⊎◌, ◌↔◌, ◌==◌, Bool, true, length, nat_le, Ok, Err, Some, IfOk, IfErr, OnOk, OnErr};
     ghost use Rattle.std.specs.List.{list_all};
     ghost use Rattle.tlsf_store.specs.declared.errors.StoreError.TheVariants.{BadCount};
     ghost use Rattle.tlsf_heap.specs.Content.{blocks_of, used_records};
     ghost use Rattle.tlsf_heap.specs.GoodSlots.{slot_times};
+    ghost use Rattle.tlsf_heap.specs.Free.{free as freed, is_live as is_live_in, after_free};
     ghost use Rattle.tlsf_heap.specs.Malloc.{malloc as served, allocated};
     ghost use Rattle.tlsf_heap.specs.Pools.{created, add_pool as added, with_pool, can_be_pool as can_be, is_apart as apart, most_pools};
     ghost use Rattle.tlsf_heap.specs.PlainHeap.{IsChosen};
@@ -196,6 +199,43 @@ impl PlainHeap {
             return Err(Refusal::TableFull);
         }
         match self.put_pool(base as u32, bytes as u32) {
+            Ok(()) => Ok(()),
+            Err(_) => Err(Refusal::OutOfMemory),
+        }
+    }
+
+    /// The live block at the place becomes free and takes in its free neighbours; what is left enters
+    /// its class's list. An `Err` changes nothing.
+    fn release(&mut self, place: u32) -> Result<(), AllocError>
+        requires { (is_meant : ℕ → Bool) × (is_live_in is_meant place (blocks_of self.old.pools) ≡ true) }
+        ensures ok { OnOk result (self.new ≡ after_free place self.old) }
+        ensures err { OnErr result (self.new ≡ self.old) }
+    {
+        let alloc = *self.pools.allocator();
+        let left = joined(self.pools.as_slice(), place);
+        let pools = merge_in_pools(alloc, self.pools.as_slice(), place)?;
+        let lists = rejoined(alloc, self.lists.as_slice(), left)?;
+        self.pools = pools;
+        self.lists = lists;
+        Ok(())
+    }
+
+    /// The live block of the pointer becomes free. With the free neighbours that it has in its pool it is
+    /// one free block, the first of its class's list.
+    ///
+    /// # Errors
+    ///
+    /// `BadPointer` unless a live block has both the place and the slot; `OutOfMemory` where memory is
+    /// refused.
+    pub fn free(&mut self, ptr: Ptr) -> Result<(), Refusal>
+        ensures ok { OnOk result (freed (λ slot. slot == ptr.1) ptr.0 self.old ≡ Ok self.new) }
+        ensures refused { IfErr result (λ refusal. refusal ≢ Refusal.OutOfMemory → freed (λ slot. slot == ptr.1) ptr.0 self.old ≡ Err refusal) }
+        ensures unchanged { OnErr result (self.new ≡ self.old) }
+    {
+        if !is_live(self.pools.as_slice(), ptr.place(), ptr.slot()) {
+            return Err(Refusal::BadPointer);
+        }
+        match self.release(ptr.place()) {
             Ok(()) => Ok(()),
             Err(_) => Err(Refusal::OutOfMemory),
         }

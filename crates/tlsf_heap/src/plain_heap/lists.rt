@@ -2,11 +2,14 @@
 
 ghost use Rattle.std.specs.Prelude.{◌≡◌, ◌+◌, ◌-◌, ◌%◌, ◌<◌, ◌≤◌, [], ◌∷◌, length, replicate, slice_set, vec_len, IfOk, OnOk, OnErr};
 ghost use Rattle.tlsf_class.specs.Classes.{unit, classes, greatest_size, class};
-ghost use Rattle.tlsf_heap.specs.Lists.{list_of, without, unlink, first_of_lists as first_place, pick as picked_place};
+ghost use Rattle.tlsf_heap.specs.Lists.{list_of, without, link, unlink, first_of_lists as first_place, pick as picked_place};
 ghost use Rattle.tlsf_heap.specs.Malloc.{link_gap};
-ghost use Rattle.tlsf_heap.specs.PlainHeap.{lists_of};
+ghost use Rattle.tlsf_heap.specs.Free.{unlink_block};
+ghost use Rattle.tlsf_heap.specs.PlainHeap.{IsSized, lists_of};
 
+use super::block::Block;
 use super::choice::Choice;
+use super::joined::Joined;
 use std::alloc::{AllocError, Global};
 use tlsf_class::{CLASSES, class_for, class_of};
 
@@ -122,4 +125,73 @@ pub fn relink(alloc: Global, lists: &mut Vec<Vec<u32>>, choice: Choice) -> Resul
     let number = list_number(choice.size - choice.asked);
     lists[number] = entered;
     Ok(())
+}
+
+/// The places, copied.
+fn copied(alloc: Global, places: &[u32]) -> Result<Vec<u32>, AllocError>
+    ensures { IfOk result (λ v. v.items ≡ places.now) }
+{
+    let mut all = Vec::new(alloc);
+    all.extend_from_slice(places)?;
+    Ok(all)
+}
+
+/// The lists, copied.
+fn all_copied(alloc: Global, lists: &[Vec<u32>]) -> Result<Vec<Vec<u32>>, AllocError>
+    ensures { IfOk result (λ v. lists_of v.items ≡ lists_of lists.now) }
+{
+    let mut all = Vec::new(alloc);
+    for places in lists {
+        all.push(copied(alloc, places.as_slice())?)?;
+    }
+    Ok(all)
+}
+
+/// A free block of `size` bytes enters its class's list in front.
+fn enter(alloc: Global, lists: &mut Vec<Vec<u32>>, place: u32, size: u32) -> Result<(), AllocError>
+    requires whole { size % unit ≡ 0 }
+    requires some { 0 < size }
+    requires most { size ≤ greatest_size }
+    requires full { vec_len lists.old ≡ classes }
+    ensures { OnOk result (lists_of lists.new.items ≡ link place size (lists_of lists.old.items)) }
+{
+    let number = list_number(size);
+    let entered = in_front(alloc, place, lists[number].as_slice())?;
+    lists[number] = entered;
+    Ok(())
+}
+
+/// A block, where there is one, leaves its class's list.
+fn leave(alloc: Global, lists: &mut Vec<Vec<u32>>, block: Option<Block>) -> Result<(), AllocError>
+    requires sized { IsSized block }
+    requires full { vec_len lists.old ≡ classes }
+    ensures ok { OnOk result (lists_of lists.new.items ≡ unlink_block block (lists_of lists.old.items)) }
+    ensures full { OnOk result (vec_len lists.new ≡ classes) }
+{
+    let Some(block) = block else {
+        return Ok(());
+    };
+    let number = list_number(block.size());
+    let left = others(alloc, lists[number].as_slice(), block.place())?;
+    lists[number] = left;
+    Ok(())
+}
+
+/// The lists after the free neighbours left theirs, and the block that is left entered its own.
+pub fn rejoined(
+    alloc: Global,
+    lists: &[Vec<u32>],
+    joined: Joined,
+) -> Result<Vec<Vec<u32>>, AllocError>
+    requires full { length lists.now ≡ classes }
+    requires front_sized { IsSized joined.front }
+    requires back_sized { IsSized joined.back }
+    ensures { IfOk result (λ v. lists_of v.items
+        ≡ link joined.place joined.size (unlink_block joined.back (unlink_block joined.front (lists_of lists.now)))) }
+{
+    let mut all = all_copied(alloc, lists)?;
+    leave(alloc, &mut all, joined.front)?;
+    leave(alloc, &mut all, joined.back)?;
+    enter(alloc, &mut all, joined.place, joined.size)?;
+    Ok(all)
 }

@@ -1,6 +1,7 @@
 use super::block::Block;
 use super::choice::Choice;
 use super::cut::cut_in;
+use super::merge::merge_in;
 use std::alloc::{AllocError, Global};
 use std::marker::Model;
 
@@ -22,7 +23,8 @@ impl Model for Pool {
 }
 
 impl Pool {
-    ghost use Rattle.std.specs.Prelude.{◌≡◌, ◌+◌, ◌<◌, length, IfOk, find, option_map};
+    ghost use Rattle.std.specs.Prelude.{◌≡◌, ◌+◌, ◌<◌, ◌^◌, ◌==◌, length, sum_by, IfOk, find, option_map};
+    ghost use Rattle.tlsf_heap.specs.Free.{is_live, in_front_of, behind, merged_in};
     ghost use Rattle.std.specs.List.{list_any};
     ghost use Rattle.tlsf_heap.specs.Content.{is_at};
     ghost use Rattle.tlsf_heap.specs.GoodSlots.{is_slot};
@@ -88,6 +90,56 @@ impl Pool {
             ≡ replaced_in choice.place (cut choice.slot choice.place choice.asked choice.size) self.now) }
     {
         let blocks = cut_in(alloc, self.blocks.as_slice(), choice)?;
+        Ok(Pool {
+            base: self.base,
+            bytes: self.bytes,
+            blocks,
+        })
+    }
+
+    /// Whether a live block of it has the place and the slot.
+    pub fn is_live(&self, place: u32, slot: u16) -> bool
+        ensures { result ≡ is_live (λ owner. owner == slot) place self.now.blocks }
+    {
+        self.blocks
+            .iter()
+            .any(|block| block.is_live_at(place, slot))
+    }
+
+    /// The block in front of the one at the place.
+    pub fn in_front_of(&self, place: u32) -> Option<Block>
+        ensures { result ≡ in_front_of place self.now.blocks }
+    {
+        for (number, block) in self.blocks.iter().enumerate() {
+            if let Some(next) = self.blocks.get(number + 1) {
+                if next.place() == place {
+                    return Some(*block);
+                }
+            }
+        }
+        None
+    }
+
+    /// The block behind the one at the place.
+    pub fn behind(&self, place: u32) -> Option<Block>
+        ensures { result ≡ behind place self.now.blocks }
+    {
+        for (number, block) in self.blocks.iter().enumerate() {
+            if let Some(next) = self.blocks.get(number + 1) {
+                if block.place() == place {
+                    return Some(*next);
+                }
+            }
+        }
+        None
+    }
+
+    /// The pool with the block at the place free, and merged.
+    pub fn merged(&self, alloc: Global, place: u32) -> Result<Pool, AllocError>
+        requires { sum_by (λ block. block.size) self.now.blocks < 2 ^ 32 }
+        ensures { IfOk result (λ pool. pool ≡ merged_in place self.now) }
+    {
+        let blocks = merge_in(alloc, self.blocks.as_slice(), place)?;
         Ok(Pool {
             base: self.base,
             bytes: self.bytes,
