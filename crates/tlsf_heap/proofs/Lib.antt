@@ -13,6 +13,7 @@ pub mod PlainPools
 pub mod PlainMalloc
 pub mod MergedInOrder
 pub mod PlainFree
+pub mod PlainRows
 pub mod EntryLists
 pub mod Searching
 pub mod Marking

@@ -1,5 +1,5 @@
 -- What the plain heap's free joins: the neighbours and what is left are blocks of whole units, not above the greatest size.
-use Rattle.std.proofs.Common.{◌≡◌, ℕ, ◌+◌, ◌%◌, ◌<◌, ◌≤◌, ◌^◌, Bool, true, false, cond, List, [], ◌∷◌, ◌++◌, length, refl, sym, ap, ◌∙◌, subst, arith, Option, Some, None, inl, inr, All}
+use Rattle.std.proofs.Common.{◌≡◌, ℕ, ◌+◌, ◌%◌, ◌<◌, ◌≤◌, ◌^◌, Bool, true, false, cond, List, [], ◌∷◌, ◌++◌, refl, sym, ap, ◌∙◌, arith, Option, Some, None, inl, inr, All}
 use Rattle.std.specs.Prelude.{⊤, ◌||◌, ◌==◌, Ok, Err}
 use Rattle.std.specs.List.{AllByRecursion, list_any}
 use Rattle.std.specs.Option.{option_or}
@@ -21,7 +21,7 @@ use Rattle.tlsf_heap.proofs.Blocks.{Ascends-pools}
 use Rattle.tlsf_heap.proofs.MergedInOrder.{sizes, sizes-cons}
 
 -- the fact holds of the block, where there is one
-abbrev OfSome : (Block ℕ → Type 0) → Option (Block ℕ) → Type 0
+abbrev pub OfSome : (Block ℕ → Type 0) → Option (Block ℕ) → Type 0
 OfSome Fact None = ⊤
 OfSome Fact (Some block) = Fact block
 
@@ -33,7 +33,7 @@ front_of_all Fact place (block ∷ next ∷ blocks) a = elim (is_at place next) 
   | false ↦ front_of_all Fact place (next ∷ blocks) a.1
 ]
 
-back_of_all : (Fact : Block ℕ → Type 0) (place : ℕ) (blocks : List (Block ℕ)) → AllByRecursion Fact blocks → OfSome Fact (behind place blocks)
+pub back_of_all : (Fact : Block ℕ → Type 0) (place : ℕ) (blocks : List (Block ℕ)) → AllByRecursion Fact blocks → OfSome Fact (behind place blocks)
 back_of_all Fact place [] a = tt
 back_of_all Fact place (block ∷ []) a = tt
 back_of_all Fact place (block ∷ next ∷ blocks) a = elim (is_at place block) as (λ b. OfSome Fact (cond b (Some next) (behind place (next ∷ blocks)))) [
@@ -49,7 +49,7 @@ of_or : (Fact : Block ℕ → Type 0) (o other : Option (Block ℕ)) → OfSome 
 of_or Fact None other a b = b
 of_or Fact (Some block) other a b = a
 
-first_of_all : (Fact : Block ℕ → Type 0) (tell : List (Block ℕ) → Option (Block ℕ)) (pools : List (Pool ℕ)) → ((blocks : List (Block ℕ)) → AllByRecursion Fact blocks → OfSome Fact (tell blocks))
+pub first_of_all : (Fact : Block ℕ → Type 0) (tell : List (Block ℕ) → Option (Block ℕ)) (pools : List (Pool ℕ)) → ((blocks : List (Block ℕ)) → AllByRecursion Fact blocks → OfSome Fact (tell blocks))
     → AllByRecursion Fact (blocks_of pools) → OfSome Fact (first_in_pools tell pools)
 first_of_all Fact tell [] told a = tt
 first_of_all Fact tell (pool ∷ pools) told a =

@@ -1,12 +1,12 @@
 -- What the loops over the plain heap's pools know of the blocks so far.
-use Rattle.std.proofs.Common.{◌≡◌, ℕ, ◌+◌, ◌<◌, ◌≤◌, Bool, not, List, length, refl, sym, ap, ◌∙◌, arith, get_or, take, drop, find, Option, Some, None, option_map, unwrap_or}
+use Rattle.std.proofs.Common.{◌≡◌, ℕ, ◌+◌, ◌<◌, ◌≤◌, Bool, not, List, length, sym, ap, ◌∙◌, arith, get_or, take, drop, find, Some, None}
 use Rattle.std.specs.Prelude.{nat_lt}
 use Rattle.std.specs.Option.{option_or}
 use Rattle.std.proofs.lemmas.Bool.{lt-ltb, le-ltb, not_from_true, not_from_false}
 use Rattle.std.proofs.lemmas.List.{drop_more}
 use Rattle.std.proofs.lemmas.List.Folds.{find-append, length-flat_map-take}
 use Rattle.std.proofs.lemmas.List.Sums.{prefix_len_is}
-use Rattle.tlsf_heap.specs.Content.{Block, Pool, blocks_of, is_at, size_at}
+use Rattle.tlsf_heap.specs.Content.{Block, Pool, blocks_of, is_at}
 use Rattle.tlsf_heap.specs.PlainHeap.{pool_place}
 
 abbrev Area : Type 0
@@ -29,28 +29,19 @@ find_next test pools index pool below is =
     ∙ find-append test (get_or pools index pool).blocks (blocks_of (drop (index + 1) pools))
     ∙ ap (λ (p : Area). option_or (find test p.blocks) (find test (blocks_of (drop (index + 1) pools)))) (sym is)
 
-or_some : (o other : Option Piece) (size : ℕ) → option_map (λ (b : Piece). b.size) o ≡ Some size → option_map (λ (b : Piece). b.size) (option_or o other) ≡ Some size
-or_some None other size h = absurd (cc)
-or_some (Some b) other size h = h
-
-or_none : (o other : Option Piece) → option_map (λ (b : Piece). b.size) o ≡ None → option_or o other ≡ other
-or_none None other h = refl
-or_none (Some b) other h = absurd (cc)
-
 -- where the next pool has such a block, it is the first of all
-pub size_found : (place size : ℕ) (pools : List Area) (index : ℕ) (pool : Area) → index < length pools → pool ≡ get_or pools index pool
-    → find (is_at place) (blocks_of (drop index pools)) ≡ find (is_at place) (blocks_of pools) → option_map (λ (b : Piece). b.size) (find (is_at place) pool.blocks) ≡ Some size
-    → size ≡ size_at place (blocks_of pools)
-size_found place size pools index pool below is so_far found =
-    sym (ap (λ o. unwrap_or o 0) (ap (option_map (λ (b : Piece). b.size)) (sym so_far ∙ find_next (is_at place) pools index pool below is)
-    ∙ or_some (find (is_at place) pool.blocks) (find (is_at place) (blocks_of (drop (index + 1) pools))) size found))
+pub block_found : (place : ℕ) (block : Piece) (pools : List Area) (index : ℕ) (pool : Area) → index < length pools → pool ≡ get_or pools index pool
+    → find (is_at place) (blocks_of (drop index pools)) ≡ find (is_at place) (blocks_of pools) → find (is_at place) pool.blocks ≡ Some block
+    → Some block ≡ find (is_at place) (blocks_of pools)
+block_found place block pools index pool below is so_far found =
+    sym (ap (λ o. option_or o (find (is_at place) (blocks_of (drop (index + 1) pools)))) found) ∙ sym (find_next (is_at place) pools index pool below is) ∙ so_far
 
 -- where it has none, the search goes on
-pub size_passed : (place : ℕ) (pools : List Area) (index : ℕ) (pool : Area) → index < length pools → pool ≡ get_or pools index pool
-    → find (is_at place) (blocks_of (drop index pools)) ≡ find (is_at place) (blocks_of pools) → option_map (λ (b : Piece). b.size) (find (is_at place) pool.blocks) ≡ None
+pub block_passed : (place : ℕ) (pools : List Area) (index : ℕ) (pool : Area) → index < length pools → pool ≡ get_or pools index pool
+    → find (is_at place) (blocks_of (drop index pools)) ≡ find (is_at place) (blocks_of pools) → find (is_at place) pool.blocks ≡ None
     → find (is_at place) (blocks_of (drop (index + 1) pools)) ≡ find (is_at place) (blocks_of pools)
-size_passed place pools index pool below is so_far none =
-    sym (find_next (is_at place) pools index pool below is ∙ or_none (find (is_at place) pool.blocks) (find (is_at place) (blocks_of (drop (index + 1) pools))) none) ∙ so_far
+block_passed place pools index pool below is so_far none =
+    sym (find_next (is_at place) pools index pool below is ∙ ap (λ o. option_or o (find (is_at place) (blocks_of (drop (index + 1) pools)))) none) ∙ so_far
 
 -- the first pool that begins behind the base
 pub place_is : (base : ℕ) (pools : List Area) (n : ℕ) (d : Area) → n ≤ length pools → ((k : ℕ) (d : Area) → k < n → (get_or pools k d).base ≤ base) → (n < length pools → base < (get_or pools n d).base) → n ≡ pool_place base pools

@@ -11,4 +11,5 @@ pub mod Layout
 pub mod Entries
 pub mod Counted
 pub mod GoodSlots
+pub mod Rows
 pub mod PlainHeap

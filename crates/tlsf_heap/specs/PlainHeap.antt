@@ -1,8 +1,11 @@
 -- What the fields of the plain heap stand for.
-use Rattle.std.specs.Prelude.{◌≡◌, ◌<◌, ◌≤◌, ◌%◌, ℕ, ⊤, Option, None, Some, List, map, Vec, nat_lt}
-use Rattle.std.specs.List.{position_or_len}
+use Rattle.std.specs.Prelude.{◌≡◌, ◌<◌, ◌≤◌, ◌%◌, ℕ, ⊤, Bool, true, Option, None, Some, List, [], ◌∷◌, map, Vec, if◌then◌else◌, nat_lt}
+use Rattle.std.specs.List.{position_or_len, list_any}
 use Rattle.std.specs.declared.alloc.Global.{Global}
-use Rattle.tlsf_heap.specs.Content.{Block, Pool, Content, blocks_of, size_at, used_records}
+use Rattle.tlsf_heap.specs.declared.cursor.Cursor.{Cursor}
+use Rattle.tlsf_heap.specs.declared.row.Row.{Row}
+use Rattle.tlsf_heap.specs.Rows.{row_of}
+use Rattle.tlsf_heap.specs.Content.{Block, Pool, Content, blocks_of, is_at, size_at, used_records}
 use Rattle.tlsf_class.specs.Classes.{unit, greatest_size}
 use Rattle.tlsf_class.specs.Rounding.{round}
 use Rattle.tlsf_heap.specs.Lists.{pick}
@@ -37,3 +40,29 @@ pub record IsPlain (content : Content ℕ) : Type 0 where
 abbrev pub IsSized : Option (Block ℕ) → Type 0
 IsSized None = ⊤
 IsSized (Some block) = (0 < block.size) × (block.size % unit ≡ 0) × (block.size ≤ greatest_size)
+
+-- the rows of the blocks from the one at the place on
+abbrev pub rows_at : ℕ → List (Block ℕ) → List Row
+rows_at place [] = []
+rows_at place (block ∷ blocks) = if is_at place block then map row_of (block ∷ blocks) else rows_at place blocks
+
+-- the rows from the place on of the pool that has a block there
+abbrev pub rest_at : ℕ → List (Pool ℕ) → List Row
+rest_at place [] = []
+rest_at place (pool ∷ pools) = if list_any (is_at place) pool.blocks then rows_at place pool.blocks else rest_at place pools
+
+abbrev pub rest_from : Option ℕ → List (Pool ℕ) → List Row
+rest_from None pools = []
+rest_from (Some place) pools = rest_at place pools
+
+abbrev pub is_from : Option ℕ → List (Pool ℕ) → Bool
+is_from None pools = true
+is_from (Some place) pools = list_any (is_at place) (blocks_of pools)
+
+-- the rows from the cursor on
+abbrev pub rest : Content ℕ → Cursor → List Row
+rest content cursor = rest_from cursor.next content.pools
+
+-- the cursor stands behind the last row, or at a block
+abbrev pub stands : Content ℕ → Cursor → Type 0
+stands content cursor = is_from cursor.next content.pools ≡ true

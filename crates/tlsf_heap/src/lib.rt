@@ -2,6 +2,7 @@
 //! found by bitmaps.
 #![tactic(auto)]
 
+mod cursor;
 mod entries;
 mod free_lists;
 mod heap;
@@ -11,11 +12,14 @@ mod pointer;
 mod pool_entry;
 mod pools;
 mod refusal;
+mod row;
 mod search;
 #[cfg(test)]
 mod tests;
 
+pub use crate::cursor::Cursor;
 pub use crate::heap::Heap;
 pub use crate::plain_heap::PlainHeap;
 pub use crate::pointer::Ptr;
 pub use crate::refusal::Refusal;
+pub use crate::row::Row;

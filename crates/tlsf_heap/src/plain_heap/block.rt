@@ -1,3 +1,4 @@
+use crate::Row;
 use std::marker::Model;
 
 /// A block of a pool: where it begins, its size, and the slot of its owner, where it is live.
@@ -24,6 +25,7 @@ impl Block {
     ghost use Rattle.tlsf_heap.specs.Content.{is_free, is_at};
     ghost use Rattle.tlsf_heap.specs.Free.{is_owned_by, freed};
     ghost use Rattle.tlsf_heap.specs.GoodSlots.{is_slot};
+    ghost use Rattle.tlsf_heap.specs.Rows.{row_of};
 
     /// A free block of `size` bytes at a place.
     pub fn free(place: u32, size: u32) -> Self
@@ -108,6 +110,17 @@ impl Block {
         match self.owner {
             Some(owner) => owner == slot,
             None => false,
+        }
+    }
+
+    /// The block as a reading gives it.
+    pub fn row(&self) -> Row
+        ensures { result ≡ row_of self.now }
+    {
+        Row {
+            place: self.place,
+            size: self.size,
+            used: self.owner.is_some(),
         }
     }
 }

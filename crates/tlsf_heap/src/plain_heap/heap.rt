@@ -2,11 +2,15 @@ use super::choice::Choice;
 use super::cut::cut_in_pools;
 use super::lists::{in_front, list_number, no_places, pick, rejoined, relink};
 use super::merge::merge_in_pools;
-use super::neighbours::{is_live, joined};
+use super::neighbours::{behind, cursor_at, is_live, joined};
 use super::pool::Pool;
-use super::pools::{block_count, can_be_pool, is_apart, place_for, size_at};
+use super::pools::{
+    block_at, block_count, can_be_pool, has_pool, is_apart, place_for, ranges, size_at,
+};
 use super::slots::least_slot;
-use crate::{Ptr, Refusal};
+use crate::entries::MOST_POOLS;
+use crate::{Cursor, Ptr, Refusal, Row};
+use arrayvec::ArrayVec;
 use std::alloc::{AllocError, Global};
 use std::marker::Model;
 use tlsf_class::round;
@@ -14,9 +18,6 @@ use tlsf_store::StoreError;
 
 /// At most so many records.
 const MOST_RECORDS: u32 = 65_535;
-
-/// At most so many pools.
-const MOST_POOLS: usize = 8;
 
 /// A heap of plain lists: its pools in order of base, each with its blocks, and the free list of each
 /// class.
@@ -42,7 +43,7 @@ impl Model for PlainHeap {
 }
 
 impl PlainHeap {
-    ghost use Rattle.std.specs.Prelude.{◌≡◌, ◌≢◌, ℕ, ◌+◌, ◌^◌, ◌<◌, ◌≤◌, ◌⊎◌, ◌↔◌, ◌==◌, Bool, true, length, nat_le, Ok, Err, Some, IfOk, IfErr, OnOk, OnErr};
+    ghost use Rattle.std.specs.Prelude.{◌≡◌, ◌≢◌, ℕ, ◌+◌, ◌^◌, ◌<◌, ◌≤◌, ◌⊎◌, ◌↔◌, ◌==◌, Bool, true, [], ◌∷◌, length, map, nat_le, Ok, Err, Some, IfOk, IfErr, OnOk, OnErr, IfSome, IfNone};
     ghost use Rattle.std.specs.List.{list_all};
     ghost use Rattle.tlsf_store.specs.declared.errors.StoreError.TheVariants.{BadCount};
     ghost use Rattle.tlsf_heap.specs.Content.{blocks_of, used_records};
@@ -50,7 +51,9 @@ impl PlainHeap {
     ghost use Rattle.tlsf_heap.specs.Free.{free as freed, is_live as is_live_in, after_free};
     ghost use Rattle.tlsf_heap.specs.Malloc.{malloc as served, allocated};
     ghost use Rattle.tlsf_heap.specs.Pools.{created, add_pool as added, with_pool, can_be_pool as can_be, is_apart as apart, most_pools};
-    ghost use Rattle.tlsf_heap.specs.PlainHeap.{IsChosen};
+    ghost use Rattle.tlsf_heap.specs.Counted.{range_of};
+    ghost use Rattle.tlsf_heap.specs.Rows.{rows_from};
+    ghost use Rattle.tlsf_heap.specs.PlainHeap.{IsChosen, rest, stands};
 
     /// A heap of this many records, from 1 to 65,535, with no pool.
     ///
@@ -239,5 +242,52 @@ impl PlainHeap {
             Ok(()) => Ok(()),
             Err(_) => Err(Refusal::OutOfMemory),
         }
+    }
+
+    /// Where each pool begins and how many bytes it has, in order of base.
+    pub fn pools(&mut self) -> ArrayVec<(u64, u64), MOST_POOLS>
+        ensures value { result.items ≡ map range_of self.old.pools }
+        ensures unchanged { self.new ≡ self.old }
+    {
+        ranges(self.pools.as_slice())
+    }
+
+    /// The cursor at the first row of the pool that begins at the place `base`.
+    ///
+    /// # Errors
+    ///
+    /// `NoPool` where no pool begins there.
+    pub fn first(&mut self, base: u64) -> Result<Cursor, Refusal>
+        ensures ok { IfOk result (λ cursor. rows_from base self.old.pools ≡ Ok (rest self.new cursor)) }
+        ensures stands { IfOk result (λ cursor. stands self.new cursor) }
+        ensures refused { IfErr result (λ refusal. rows_from base self.old.pools ≡ Err refusal) }
+        ensures unchanged { self.new ≡ self.old }
+    {
+        if !has_pool(self.pools.as_slice(), base) {
+            return Err(Refusal::NoPool);
+        }
+        Ok(Cursor {
+            next: Some(base as u32),
+        })
+    }
+
+    /// The row at the cursor, and the cursor behind it; none behind the last row of the pool.
+    pub fn row(&mut self, cursor: Cursor) -> Option<(Row, Cursor)>
+        requires { stands self.old cursor }
+        ensures some { IfSome result (λ given. rest self.old cursor ≡ given.0 ∷ rest self.new given.1) }
+        ensures next_stands { IfSome result (λ given. stands self.new given.1) }
+        ensures none { IfNone result (rest self.old cursor ≡ []) }
+        ensures others_stand { (other : Cursor) → stands self.old other → stands self.new other }
+        ensures others { (other : Cursor) → rest self.new other ≡ rest self.old other }
+        ensures unchanged { self.new ≡ self.old }
+    {
+        let Some(place) = cursor.next else {
+            return None;
+        };
+        let Some(block) = block_at(self.pools.as_slice(), place) else {
+            return None;
+        };
+        let next = cursor_at(behind(self.pools.as_slice(), place));
+        Some((block.row(), next))
     }
 }

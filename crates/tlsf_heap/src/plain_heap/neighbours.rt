@@ -1,6 +1,6 @@
 //! The live block that is freed, and its neighbours.
 
-ghost use Rattle.std.specs.Prelude.{◌≡◌, ℕ, Bool, true, List, ◌+◌, ◌==◌};
+ghost use Rattle.std.specs.Prelude.{◌≡◌, ℕ, Bool, true, ◌+◌, ◌==◌, option_map};
 ghost use Rattle.std.specs.List.{list_any};
 ghost use Rattle.tlsf_heap.specs.Content.{blocks_of, size_at as size_of_block_at};
 ghost use Rattle.tlsf_heap.specs.Free.{is_live as is_live_in, in_front_of as front_of, behind as back_of, if_free as free_one, first_in_pools, size_of as option_size, start_of};
@@ -11,6 +11,7 @@ use super::block::Block;
 use super::joined::Joined;
 use super::pool::Pool;
 use super::pools::size_at;
+use crate::Cursor;
 
 /// Whether a live block of the pools has the place and the slot.
 pub fn is_live(pools: &[Pool], place: u32, slot: u16) -> bool
@@ -32,7 +33,7 @@ fn in_front_of(pools: &[Pool], place: u32) -> Option<Block>
 }
 
 /// The block behind the one at the place, in the first pool that has one.
-fn behind(pools: &[Pool], place: u32) -> Option<Block>
+pub fn behind(pools: &[Pool], place: u32) -> Option<Block>
     ensures { result ≡ first_in_pools (back_of place) pools.now }
 {
     for pool in pools {
@@ -60,6 +61,18 @@ fn size_of(block: &Option<Block>) -> u32
     match block {
         Some(block) => block.size(),
         None => 0,
+    }
+}
+
+/// The cursor at the block, or behind the last.
+pub fn cursor_at(block: Option<Block>) -> Cursor
+    ensures { result.next ≡ option_map (λ block. block.place) block }
+{
+    match block {
+        Some(block) => Cursor {
+            next: Some(block.place()),
+        },
+        None => Cursor { next: None },
     }
 }
 

@@ -23,7 +23,7 @@ impl Model for Pool {
 }
 
 impl Pool {
-    ghost use Rattle.std.specs.Prelude.{◌≡◌, ◌+◌, ◌<◌, ◌^◌, ◌==◌, length, sum_by, IfOk, find, option_map};
+    ghost use Rattle.std.specs.Prelude.{◌≡◌, ◌+◌, ◌<◌, ◌^◌, ◌==◌, length, sum_by, IfOk, find};
     ghost use Rattle.tlsf_heap.specs.Free.{is_live, in_front_of, behind, merged_in};
     ghost use Rattle.std.specs.List.{list_any};
     ghost use Rattle.tlsf_heap.specs.Content.{is_at};
@@ -65,13 +65,13 @@ impl Pool {
         self.blocks.len()
     }
 
-    /// The size of the first block that begins at the place.
-    pub fn size_at(&self, place: u32) -> Option<u32>
-        ensures { result ≡ option_map (λ block. block.size) (find (is_at place) self.now.blocks) }
+    /// The first block that begins at the place.
+    pub fn block_at(&self, place: u32) -> Option<Block>
+        ensures { result ≡ find (is_at place) self.now.blocks }
     {
         for block in &self.blocks {
             if block.place() == place {
-                return Some(block.size());
+                return Some(*block);
             }
         }
         None

@@ -1,5 +1,4 @@
-use Rattle.std.proofs.Common.{◌≡◌, ◌%◌, arith, sym, ap, ◌∙◌, subst, Option}
-use Rattle.tlsf_class.specs.Classes.{unit}
+use Rattle.std.proofs.Common.{arith, sym, ap, ◌∙◌, subst, Option}
 use Rattle.tlsf_heap.specs.Content.{Block, blocks_of}
 use Rattle.tlsf_heap.specs.Free.{in_front_of, behind, if_free, first_in_pools, size_of}
 use Rattle.tlsf_heap.specs.PlainHeap.{IsSized}

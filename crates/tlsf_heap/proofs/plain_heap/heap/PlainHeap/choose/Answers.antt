@@ -1,4 +1,4 @@
-use Rattle.std.proofs.Common.{◌≡◌, ℕ, ◌≤◌, count_by, Err, nat_le, arith, sym, ap, ◌∙◌, subst}
+use Rattle.std.proofs.Common.{◌≡◌, ℕ, count_by, Err, nat_le, arith, sym, ap, ◌∙◌, subst}
 use Rattle.tlsf_class.proofs.RoundingLaws.{round-Some}
 use Rattle.tlsf_heap.specs.declared.refusal.Refusal.TheVariants.{NoFit, TableFull}
 use Rattle.tlsf_heap.specs.Content.{Content, blocks_of, is_free, size_at, used_records}

@@ -1,4 +1,4 @@
-use Rattle.std.proofs.Common.{◌≡◌, sym, ap, ◌∙◌}
+use Rattle.std.proofs.Common.{sym, ap, ◌∙◌}
 use Rattle.std.specs.Prelude.{◌==◌, Ok}
 use Rattle.tlsf_heap.specs.Free.{after_free}
 use Rattle.tlsf_heap.proofs.PlainFree.{live_found, free_refused, free_served}

@@ -1,6 +1,6 @@
 use Rattle.std.proofs.Common.{◌≡◌, drop, find}
 use Rattle.tlsf_heap.specs.Content.{is_at}
-use Rattle.tlsf_heap.proofs.plain_heap.pool.Pool.size_at.Given as goal
+use Rattle.tlsf_heap.proofs.plain_heap.pool.Pool.block_at.Given as goal
 
 -- no block so far begins there
 abbrev pub invariant-loop-block : goal.invariant-loop-block
