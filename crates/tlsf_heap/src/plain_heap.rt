@@ -14,5 +14,7 @@ mod neighbours;
 mod pool;
 mod pools;
 mod slots;
+#[cfg(test)]
+mod tests;
 
 pub use heap::PlainHeap;
