@@ -17,42 +17,42 @@ use Rattle.tlsf_heap.proofs.GoodContent.{one_at_most}
 use Rattle.tlsf_heap.proofs.Merging.{AreGoodPools-merged, length-merged, merged_id}
 use Rattle.tlsf_heap.proofs.Freeing.{IsMerge, IsMerge-same, IsListedIn, StartsBelow, StartsAbove, stands_of, blocks_merge, freed_none, in_front_none, live_later, size_at-here, size_at-elsewhere}
 
-option_or-None : {B : Type 0} (o : Option B) → option_or o None ≡ o
+pub option_or-None : {B : Type 0} (o : Option B) → option_or o None ≡ o
 option_or-None None = refl
 option_or-None (Some b) = refl
 
 module _ {A : Type 0} where
-  NoneAt-above : (place from to : ℕ) (blocks : List (Block A)) → to ≤ place → Covers from to blocks → NoneAt place blocks × (from ≤ to)
+  pub NoneAt-above : (place from to : ℕ) (blocks : List (Block A)) → to ≤ place → Covers from to blocks → NoneAt place blocks × (from ≤ to)
   NoneAt-above place from to [] h c = (tt, omega (arith, c))
   NoneAt-above place from to (block ∷ blocks) h c =
       let rest = NoneAt-above place (from + block.size) to blocks h c.3 in
       ((ne_eqb block.place place (λ e. absurd (omega (arith, c.0, c.1, rest.1))), rest.0), omega (arith, rest.1))
 
-  none_in_front : (place : ℕ) (blocks : List (Block A)) → NoneAt place blocks → in_front_of place blocks ≡ None
+  pub none_in_front : (place : ℕ) (blocks : List (Block A)) → NoneAt place blocks → in_front_of place blocks ≡ None
   none_in_front place [] n = refl
   none_in_front place (block ∷ blocks) n = in_front_none place block blocks n.1
 
-  none_behind : (place : ℕ) (blocks : List (Block A)) → NoneAt place blocks → behind place blocks ≡ None
+  pub none_behind : (place : ℕ) (blocks : List (Block A)) → NoneAt place blocks → behind place blocks ≡ None
   none_behind place [] n = refl
   none_behind place (block ∷ []) n = refl
   none_behind place (block ∷ next ∷ blocks) n = rw n.0 (none_behind place (next ∷ blocks) n.1)
 
   -- a live block at a place begins at or above where the blocks begin
-  live_above : (is_meant : A → Bool) (place from : ℕ) (blocks : List (Block A)) → Ascends from blocks → is_live is_meant place blocks ≡ true → from ≤ place
+  pub live_above : (is_meant : A → Bool) (place from : ℕ) (blocks : List (Block A)) → Ascends from blocks → is_live is_meant place blocks ≡ true → from ≤ place
   live_above is_meant place from [] a h = absurd (cc)
   live_above is_meant place from (block ∷ blocks) a h = elim (cases_Bool (is_at place block)) [
     | inl here ↦ omega (arith, a.0, eqb-true block.place place here)
     | inr elsewhere ↦ omega (arith, a.0, live_above is_meant place (block.place + block.size) blocks a.2 (live_later is_meant place block blocks elsewhere h))
   ]
 
-  Ascends-covers : (from to : ℕ) (blocks : List (Block A)) → Covers from to blocks → Ascends from blocks
+  pub Ascends-covers : (from to : ℕ) (blocks : List (Block A)) → Covers from to blocks → Ascends from blocks
   Ascends-covers from to [] c = tt
   Ascends-covers from to (block ∷ blocks) c =
       let P : ℕ → Type 0 = λ n. Ascends (n + block.size) blocks in
       (omega (arith, c.0), c.1, subst P (sym c.0) (Ascends-covers (from + block.size) to blocks c.3))
 
   -- a live block at a place begins below where the blocks end
-  live_below : (is_meant : A → Bool) (place from to : ℕ) (blocks : List (Block A)) → Covers from to blocks → is_live is_meant place blocks ≡ true → place < to
+  pub live_below : (is_meant : A → Bool) (place from to : ℕ) (blocks : List (Block A)) → Covers from to blocks → is_live is_meant place blocks ≡ true → place < to
   live_below is_meant place from to [] c h = absurd (cc)
   live_below is_meant place from to (block ∷ blocks) c h = elim (cases_Bool (is_at place block)) [
     | inl here ↦
@@ -61,7 +61,7 @@ module _ {A : Type 0} where
     | inr elsewhere ↦ live_below is_meant place (from + block.size) to blocks c.3 (live_later is_meant place block blocks elsewhere h)
   ]
 
-  live-append : (is_meant : A → Bool) (place : ℕ) (blocks more : List (Block A)) → is_live is_meant place (blocks ++ more) ≡ is_live is_meant place blocks || is_live is_meant place more
+  pub live-append : (is_meant : A → Bool) (place : ℕ) (blocks more : List (Block A)) → is_live is_meant place (blocks ++ more) ≡ is_live is_meant place blocks || is_live is_meant place more
   live-append is_meant place [] more = refl
   live-append is_meant place (block ∷ blocks) more =
       rw (live-append is_meant place blocks more) (or_assoc _ (is_live is_meant place blocks) (is_live is_meant place more))
@@ -70,7 +70,7 @@ module _ {A : Type 0} where
       or_assoc true b c = refl
       or_assoc false b c = refl
 
-  size_at-front : (is_meant : A → Bool) (place : ℕ) (blocks more : List (Block A)) → is_live is_meant place blocks ≡ true → size_at place (blocks ++ more) ≡ size_at place blocks
+  pub size_at-front : (is_meant : A → Bool) (place : ℕ) (blocks more : List (Block A)) → is_live is_meant place blocks ≡ true → size_at place (blocks ++ more) ≡ size_at place blocks
   size_at-front is_meant place [] more h = absurd (cc)
   size_at-front is_meant place (block ∷ blocks) more h = elim (cases_Bool (is_at place block)) [
     | inl here ↦ size_at-here place block (blocks ++ more) here ∙ sym (size_at-here place block blocks here)
@@ -78,17 +78,17 @@ module _ {A : Type 0} where
         size_at-elsewhere place block (blocks ++ more) elsewhere ∙ size_at-front is_meant place blocks more (live_later is_meant place block blocks elsewhere h) ∙ sym (size_at-elsewhere place block blocks elsewhere)
   ]
 
-  size_at-back : (place : ℕ) (blocks more : List (Block A)) → NoneAt place blocks → size_at place (blocks ++ more) ≡ size_at place more
+  pub size_at-back : (place : ℕ) (blocks more : List (Block A)) → NoneAt place blocks → size_at place (blocks ++ more) ≡ size_at place more
   size_at-back place [] more n = refl
   size_at-back place (block ∷ blocks) more n = size_at-elsewhere place block (blocks ++ more) n.0 ∙ size_at-back place blocks more n.1
 
   -- pools without a block at the place stay as they are, and tell no neighbours of it
-  record Untouched (place : ℕ) (pools : List (Pool A)) : Type 0 where
-    same : map (merged_in place) pools ≡ pools
-    front : first_in_pools (in_front_of place) pools ≡ None
-    back : first_in_pools (behind place) pools ≡ None
+  pub record Untouched (place : ℕ) (pools : List (Pool A)) : Type 0 where
+    pub same : map (merged_in place) pools ≡ pools
+    pub front : first_in_pools (in_front_of place) pools ≡ None
+    pub back : first_in_pools (behind place) pools ≡ None
 
-  untouched : (place from : ℕ) (pools : List (Pool A)) → place < from → AreGoodPools from pools → Untouched place pools
+  pub untouched : (place from : ℕ) (pools : List (Pool A)) → place < from → AreGoodPools from pools → Untouched place pools
   untouched place from [] h g = record { same = refl; front = refl; back = refl }
   untouched place from (pool ∷ pools) h g =
       let rest = untouched place (pool.base + pool.bytes) pools (omega (arith, h, g.0)) g.2 in
@@ -198,7 +198,7 @@ module _ {A : Type 0} where
       )
 
   -- the content after free is good
-  after_free_is_good : (is_meant : A → Bool) (place : ℕ) (content : Content A) → IsGood content → is_live is_meant place (blocks_of content.pools) ≡ true → IsGood (after_free place content)
+  pub after_free_is_good : (is_meant : A → Bool) (place : ℕ) (content : Content A) → IsGood content → is_live is_meant place (blocks_of content.pools) ≡ true → IsGood (after_free place content)
   after_free_is_good is_meant place content good live =
       let front = free_in_front place content in
       let back = free_behind place content in

@@ -140,7 +140,7 @@ module _ {A : Type 0} where
     back_above = first_above place (block.place + block.size) blocks (omega (arith, here, positive)) a;
   }
 
-  join_live : (block : Block A) (blocks : List (Block A)) → is_free block ≡ false → join block blocks ≡ block ∷ blocks
+  pub join_live : (block : Block A) (blocks : List (Block A)) → is_free block ≡ false → join block blocks ≡ block ∷ blocks
   join_live block [] live = refl
   join_live block (next ∷ blocks) live = rw live refl
 

@@ -6,6 +6,14 @@ pub mod GoodContent
 pub mod Merging
 pub mod Freeing
 pub mod FreeIsGood
+pub mod GoodSlotsKept
+pub mod SlotsLeft
+pub mod PlainLists
+pub mod PlainPools
+pub mod PlainMalloc
+pub mod MergedInOrder
+pub mod PlainFree
+pub mod PlainRows
 pub mod EntryLists
 pub mod Searching
 pub mod Marking

@@ -145,8 +145,8 @@ module _ (back fore back_new fore_new : ℕ → Option ℕ) (slot rest : ℕ) (a
   AreChains-put areas stands fresh once c =
       AreChains-edited back fore slot back_new fore_new (put_behind slot (rest ∷ [])) (slots_of areas) (λ slots none. put-none slot (rest ∷ []) slots none)
       (λ q there not_slot not_prev not_next.
-          let not_rest : q ≢ rest = λ e. (let S : ℕ → Type 0 = λ n. 1 ≤ times n (slots_of areas) in omega (arith, subst S e there, fresh)) in
-          (keeps_back q not_next not_rest, keeps_fore q not_slot not_rest))
+      let not_rest : q ≢ rest = λ e. (let S : ℕ → Type 0 = λ n. 1 ≤ times n (slots_of areas) in omega (arith, subst S e there, fresh)) in
+      (keeps_back q not_next not_rest, keeps_fore q not_slot not_rest))
       areas (λ q. omega arith) stands once
       (λ slots stands_there within l. (
         first_of_put slot (rest ∷ []) slots,

@@ -80,9 +80,9 @@ module _ (back fore : ℕ → Option ℕ) (slot : ℕ) where
         let Q : List ℕ → Type 0 = λ slots. IsLinked back_new fore_new None slots in (
           subst P (sym kept) c.0,
           subst Q (sym kept) (IsLinked-same back back_new fore fore_new None area.slots (λ q stands. same q (omega (arith, within q, both q, stands))
-          (λ e. let S : ℕ → Type 0 = λ n. 1 ≤ times n area.slots in omega (arith, subst S e stands, none, both slot))
-          (λ e. omega (arith, prev q e, both q, stands))
-          (λ e. omega (arith, next q e, both q, stands))) c.1),
+              (λ e. let S : ℕ → Type 0 = λ n. 1 ≤ times n area.slots in omega (arith, subst S e stands, none, both slot))
+              (λ e. omega (arith, prev q e, both q, stands))
+              (λ e. omega (arith, next q e, both q, stands))) c.1),
           others_same areas (λ q. omega (arith, within q, both q)) (omega (arith, none, both slot)) (λ q e. omega (arith, prev q e, both q)) (λ q e. omega (arith, next q e, both q)) c.2,
         )
 
@@ -98,11 +98,11 @@ module _ (back fore : ℕ → Option ℕ) (slot : ℕ) where
                 linked.0 ∙ c.0,
                 linked.1,
                 others_same areas (λ q. omega (arith, within q, both q)) (omega (arith, in_area, once slot, within slot, both slot))
-                (λ q e. elim (prev_stands back fore slot None area.slots q c.1 (omega (arith, in_area)) e) [
-                  | inl none ↦ absurd (None≢Some q none)
-                  | inr there ↦ omega (arith, once q, within q, both q, there)
-                ])
-                (λ q e. omega (arith, once q, within q, both q, next_stands back fore slot None area.slots q c.1 (omega (arith, in_area)) e)) c.2,
+                    (λ q e. elim (prev_stands back fore slot None area.slots q c.1 (omega (arith, in_area)) e) [
+                      | inl none ↦ absurd (None≢Some q none)
+                      | inr there ↦ omega (arith, once q, within q, both q, there)
+                    ])
+                    (λ q e. omega (arith, once q, within q, both q, next_stands back fore slot None area.slots q c.1 (omega (arith, in_area)) e)) c.2,
               )
           | inr later ↦
               let behind : 1 ≤ times slot (slots_of areas) = omega (arith, later, both slot, stands) in
@@ -111,9 +111,9 @@ module _ (back fore : ℕ → Option ℕ) (slot : ℕ) where
               let Q : List ℕ → Type 0 = λ slots. IsLinked back_new fore_new None slots in (
                 subst P (sym kept) c.0,
                 subst Q (sym kept) (IsLinked-same back back_new fore fore_new None area.slots (λ q there. same q (omega (arith, within q, both q, there))
-                (λ e. let S : ℕ → Type 0 = λ n. 1 ≤ times n area.slots in omega (arith, subst S e there, later))
-                (λ e. omega (arith, once q, within q, both q, there, prev_in_areas areas q c.2 behind e))
-                (λ e. omega (arith, once q, within q, both q, there, next_in_areas areas q c.2 behind e))) c.1),
+                    (λ e. let S : ℕ → Type 0 = λ n. 1 ≤ times n area.slots in omega (arith, subst S e there, later))
+                    (λ e. omega (arith, once q, within q, both q, there, prev_in_areas areas q c.2 behind e))
+                    (λ e. omega (arith, once q, within q, both q, there, next_in_areas areas q c.2 behind e))) c.1),
                 AreChains-edited areas (λ q. omega (arith, within q, both q)) behind once here c.2,
               )
         ]

@@ -355,11 +355,11 @@ module _ (cells : Cells) (stands : Stands cells) (slot rest bytes : ℕ) (free :
       places-linked (place_at last) two.lists rest (size - bytes) (omega (arith, class-lt (size - bytes), cut_is_layout.lists_count))
       ∙ ap (λ p. link p (size - bytes) (map (map (place_at last)) two.lists)) rest_place
       ∙ ap (link (place + bytes) (size - bytes)) (places-unlinked (place_at last) layout.lists slot size (omega (arith, class-lt size, stands.represented.lists_count)) (λ q listed e.
-        places_apart cells.records layout stands.good q slot (listed_in_chains cells stands (class size) q (class-lt size) listed) there
-        (sym (place_kept q (listed_not_rest (class size) q (class-lt size) listed)) ∙ e ∙ place_kept slot (λ s. rest_apart (sym s)))))
+      places_apart cells.records layout stands.good q slot (listed_in_chains cells stands (class size) q (class-lt size) listed) there
+      (sym (place_kept q (listed_not_rest (class size) q (class-lt size) listed)) ∙ e ∙ place_kept slot (λ s. rest_apart (sym s)))))
       ∙ ap (λ p. link (place + bytes) (size - bytes) (unlink p size (map (map (place_at last)) layout.lists))) (place_kept slot (λ s. rest_apart (sym s)))
       ∙ ap (λ lists. link (place + bytes) (size - bytes) (unlink place size lists)) (lists_same (place_at last) (place_at cells.records) layout.lists (λ k q within listed.
-        place_kept q (listed_not_rest k q (omega (arith, within, stands.represented.lists_count)) listed)))
+      place_kept q (listed_not_rest k q (omega (arith, within, stands.represented.lists_count)) listed)))
       ∙ sym (ap (λ b. cond b (unlink place size old_lists) (link (place + bytes) (size - bytes) (unlink place size old_lists))) some_left)
 
   last_count : length last ≡ length cells.records

@@ -16,3 +16,4 @@ pub mod GoodSlots
 pub mod Rows
 pub mod Run
 pub mod Bare
+pub mod PlainHeap
