@@ -4,11 +4,10 @@ use super::lists::{in_front, list_number, no_places, pick, rejoined, relink};
 use super::merge::merge_in_pools;
 use super::neighbours::{behind, cursor_at, is_live, joined};
 use super::pool::Pool;
-use super::pools::{
-    block_at, block_count, can_be_pool, has_pool, is_apart, place_for, ranges, size_at,
-};
+use super::pools::{block_at, block_count, has_pool, is_apart, place_for, ranges, size_at};
 use super::slots::least_slot;
 use crate::entries::MOST_POOLS;
+use crate::pools::can_be_pool;
 use crate::{Cursor, Ptr, Refusal, Row};
 use arrayvec::ArrayVec;
 use std::alloc::{AllocError, Global};

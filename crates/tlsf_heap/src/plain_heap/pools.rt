@@ -2,9 +2,8 @@
 
 ghost use Rattle.std.specs.Prelude.{◌≡◌, ◌+◌, ◌<◌, ◌≤◌, ◌^◌, ◌==◌, length, map, find};
 ghost use Rattle.std.specs.List.{list_all, list_any};
-ghost use Rattle.tlsf_class.specs.Classes.{unit, greatest_size};
 ghost use Rattle.tlsf_heap.specs.Content.{blocks_of, is_at, size_at as size_of_block_at};
-ghost use Rattle.tlsf_heap.specs.Pools.{end_of_places, can_be_pool as can_be, is_apart as apart};
+ghost use Rattle.tlsf_heap.specs.Pools.{end_of_places, is_apart as apart};
 ghost use Rattle.tlsf_heap.specs.Counted.{range_of};
 ghost use Rattle.tlsf_heap.specs.PlainHeap.{pool_place};
 
@@ -12,15 +11,6 @@ use super::block::Block;
 use super::pool::Pool;
 use crate::entries::MOST_POOLS;
 use arrayvec::ArrayVec;
-
-/// Where the last place ends, in bytes.
-const END_OF_PLACES: u64 = 1 << 32;
-
-/// The greatest number of bytes of a pool.
-const GREATEST_POOL: u64 = (1 << 30) - UNIT;
-
-/// Places and sizes are multiples of it, in bytes.
-const UNIT: u64 = 8;
 
 /// How many blocks the pools have.
 pub fn block_count(pools: &[Pool]) -> usize
@@ -73,17 +63,6 @@ pub fn has_pool(pools: &[Pool], base: u64) -> bool
     ensures { result ≡ list_any (λ pool. pool.base == base) pools.now }
 {
     pools.iter().any(|pool| u64::from(pool.base()) == base)
-}
-
-/// Whether base and bytes can be those of a pool.
-pub fn can_be_pool(base: u64, bytes: u64) -> bool
-    ensures { result ≡ can_be base bytes }
-{
-    base % UNIT == 0
-        && bytes % UNIT == 0
-        && UNIT <= bytes
-        && bytes <= GREATEST_POOL
-        && base <= END_OF_PLACES - bytes
 }
 
 /// Whether the bytes from `base` on overlap no pool.
