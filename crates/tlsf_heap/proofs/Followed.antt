@@ -120,17 +120,17 @@ blocks_of_areas records (area ∷ areas) =
 pub used_is : (records : List Record) (layout : Layout) → used_records (content_by records layout) ≡ length (slots_of layout.areas)
 used_is records layout = ap length (blocks_of_areas records layout.areas) ∙ length-map (slots_of layout.areas) (block_of records)
 
-module _ (cells : Cells) (layout : Layout) (is : IsLayout (home_of cells.records) (held_of cells.records) cells layout) where
+module _ (home : ℕ → Option ℕ) (cells : Cells) (layout : Layout) (is : IsLayout home (held_of cells.records) cells layout) (past : (q : ℕ) → length cells.records ≤ q → home q ≡ None) where
   list_few : (class : ℕ) → class < classes → length (list_of class layout.lists) ≤ length cells.records
   list_few class within = few_slots (length cells.records) (list_of class layout.lists)
-      (λ q. omega (arith, is.homes class q within, at_home-most class (home_of cells.records q)))
-      (λ q past. is.homes class q within ∙ ap (λ (r : Record). at_home class (home_in r r.state)) (get_or_past cells.records q blank past))
+      (λ q. omega (arith, is.homes class q within, at_home-most class (home q)))
+      (λ q above. is.homes class q within ∙ ap (at_home class) (past q above))
 
   layout_followed : layout_from cells ≡ layout
   layout_followed =
       let areas : map (area_from cells.records) (entries_of cells.pools) ≡ layout.areas =
       ap (map (area_from cells.records)) (ap entries_of is.entries ∙ entries_of-padded (map (λ (a : Area). a.entry) layout.areas))
-      ∙ areas_followed cells.records _ layout.areas (omega (arith, in_use (home_of cells.records) cells layout is)) is.chained in
+      ∙ areas_followed cells.records _ layout.areas (omega (arith, in_use home cells layout is)) is.chained in
       let lists : map (follow (length cells.records) (next_free_at cells.records)) cells.heads ≡ layout.lists =
       ext_get_or [] _ layout.lists (length-map cells.heads _ ∙ is.heads_count ∙ sym is.lists_count) (λ k within.
       let below : k < length cells.heads = omega (arith, within, length-map cells.heads (follow (length cells.records) (next_free_at cells.records))) in
@@ -141,6 +141,12 @@ module _ (cells : Cells) (layout : Layout) (is : IsLayout (home_of cells.records
       ∙ ap (λ ls. record { areas = layout.areas; lists = ls }) lists
 
   -- the content of cells that represent a layout is that of the layout
-  pub content_is : content_of cells ≡ content_by cells.records layout
+  pub content_is_by : content_of cells ≡ content_by cells.records layout
   unfolding content_of
-  content_is = ap (content_by cells.records) layout_followed
+  content_is_by = ap (content_by cells.records) layout_followed
+
+pub home_past : (records : List Record) (q : ℕ) → length records ≤ q → home_of records q ≡ None
+home_past records q past = ap (λ (r : Record). home_in r r.state) (get_or_past records q blank past)
+
+pub content_is : (cells : Cells) (layout : Layout) → IsLayout (home_of cells.records) (held_of cells.records) cells layout → content_of cells ≡ content_by cells.records layout
+content_is cells layout is = content_is_by (home_of cells.records) cells layout is (home_past cells.records)

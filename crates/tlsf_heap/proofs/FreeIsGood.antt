@@ -100,7 +100,7 @@ module _ {A : Type 0} where
         back = ap (λ o. option_or o (first_in_pools (behind place) pools)) (none_behind place pool.blocks none) ∙ rest.back;
       }
 
-  ascends_in : (pool : Pool A) → IsGoodPool pool → Ascends pool.base pool.blocks
+  pub ascends_in : (pool : Pool A) → IsGoodPool pool → Ascends pool.base pool.blocks
   ascends_in pool g = Ascends-covers pool.base (pool.base + pool.bytes) pool.blocks g.covered
 
   IsListedIn-append : (blocks more : List (Block A)) (o : Option (Block A)) → IsListedIn blocks o → IsListedIn (blocks ++ more) o

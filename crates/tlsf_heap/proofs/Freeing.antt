@@ -78,16 +78,16 @@ module _ {A : Type 0} where
     back_above = m.back_above;
   }
 
-  abbrev first : List (Block A) → Option (Block A)
+  abbrev pub first : List (Block A) → Option (Block A)
   first [] = None
   first (block ∷ blocks) = Some block
 
   -- what a free block in front leaves of the blocks behind it
-  abbrev left : List (Block A) → List (Block A)
+  abbrev pub left : List (Block A) → List (Block A)
   left [] = []
   left (block ∷ blocks) = if is_free block then blocks else block ∷ blocks
 
-  join_form : (block : Block A) (blocks : List (Block A)) → is_free block ≡ true → join block blocks ≡ record block { size = block.size + size_of (if_free (first blocks)) } ∷ left blocks
+  pub join_form : (block : Block A) (blocks : List (Block A)) → is_free block ≡ true → join block blocks ≡ record block { size = block.size + size_of (if_free (first blocks)) } ∷ left blocks
   join_form block [] free =
       let same : block.size ≡ block.size + 0 = omega arith in
       ap (λ n. record block { size = n } ∷ []) same
@@ -145,7 +145,7 @@ module _ {A : Type 0} where
   join_live block (next ∷ blocks) live = rw live refl
 
   -- a block in front of one that isn't free with it stays
-  join_apart : (block next : Block A) (blocks : List (Block A)) → IsTrue (not (is_free block && is_free next)) → join block (join next blocks) ≡ block ∷ join next blocks
+  pub join_apart : (block next : Block A) (blocks : List (Block A)) → IsTrue (not (is_free block && is_free next)) → join block (join next blocks) ≡ block ∷ join next blocks
   join_apart block next [] n = elim (cases_Bool (is_free block && is_free next)) [
     | inl both ↦ let P : Bool → Type 0 = λ b. IsTrue (not b) in absurd (let never : IsTrue (not true) = subst P both n in cc)
     | inr apart ↦ rw apart refl
@@ -209,7 +209,7 @@ module _ {A : Type 0} where
   in_front_none place block [] n = refl
   in_front_none place block (next ∷ blocks) n = rw n.0 (in_front_none place next blocks n.1)
 
-  behind_here : (place : ℕ) (block : Block A) (blocks : List (Block A)) → is_at place block ≡ true → behind place (block ∷ blocks) ≡ first blocks
+  pub behind_here : (place : ℕ) (block : Block A) (blocks : List (Block A)) → is_at place block ≡ true → behind place (block ∷ blocks) ≡ first blocks
   behind_here place block [] here = refl
   behind_here place block (next ∷ blocks) here = rw here refl
 
@@ -223,7 +223,7 @@ module _ {A : Type 0} where
   none_live is_meant place [] n = refl
   none_live is_meant place (block ∷ blocks) n = rw n.0 (none_live is_meant place blocks n.1)
 
-  owned_is_live : (is_meant : A → Bool) (block : Block A) → is_owned_by is_meant block.owner ≡ true → is_free block ≡ false
+  pub owned_is_live : (is_meant : A → Bool) (block : Block A) → is_owned_by is_meant block.owner ≡ true → is_free block ≡ false
   owned_is_live is_meant block h = owned_is_some block.owner h
     where
       owned_is_some : (owner : Option A) → is_owned_by is_meant owner ≡ true → is_none owner ≡ false
@@ -231,7 +231,7 @@ module _ {A : Type 0} where
       owned_is_some (Some owner) h = refl
 
   -- where the first block is at the place, it is the live one
-  live_here : (is_meant : A → Bool) (place : ℕ) (block : Block A) (blocks : List (Block A)) → NoneAt place blocks → is_live is_meant place (block ∷ blocks) ≡ true → is_free block ≡ false
+  pub live_here : (is_meant : A → Bool) (place : ℕ) (block : Block A) (blocks : List (Block A)) → NoneAt place blocks → is_live is_meant place (block ∷ blocks) ≡ true → is_free block ≡ false
   live_here is_meant place block blocks none h = elim (or_cases _ _ h) [
     | inl both ↦ owned_is_live is_meant block (and_parts _ _ both).1
     | inr later ↦ absurd (let never : false ≡ true = sym (none_live is_meant place blocks none) ∙ later in cc)

@@ -42,7 +42,7 @@ pub Covers-le : {A : Type 0} (from to : ℕ) (blocks : List (Block A)) → Cover
 Covers-le from to [] c = omega arith
 Covers-le from to (block ∷ blocks) c = let rest = Covers-le (from + block.size) to blocks c.3 in omega arith
 
-whole_in_pool : {A : Type 0} (base bytes from : ℕ) (blocks : List (Block A)) → bytes ≤ greatest_size → base + bytes ≤ end_of_places → base ≤ from → Covers from (base + bytes) blocks → AllByRecursion IsWhole blocks
+pub whole_in_pool : {A : Type 0} (base bytes from : ℕ) (blocks : List (Block A)) → bytes ≤ greatest_size → base + bytes ≤ end_of_places → base ≤ from → Covers from (base + bytes) blocks → AllByRecursion IsWhole blocks
 whole_in_pool base bytes from [] most ends above c = tt
 whole_in_pool base bytes from (block ∷ blocks) most ends above c =
     let rest = Covers-le (from + block.size) (base + bytes) blocks c.3 in (
@@ -50,7 +50,7 @@ whole_in_pool base bytes from (block ∷ blocks) most ends above c =
       whole_in_pool base bytes (from + block.size) blocks most ends (omega (arith, above)) c.3,
     )
 
-all-append : {X : Type 0} (P : X → Type 0) (xs ys : List X) → AllByRecursion P xs → AllByRecursion P ys → AllByRecursion P (xs ++ ys)
+pub all-append : {X : Type 0} (P : X → Type 0) (xs ys : List X) → AllByRecursion P xs → AllByRecursion P ys → AllByRecursion P (xs ++ ys)
 all-append P [] ys p q = q
 all-append P (x ∷ xs) ys p q = (p.0, all-append P xs ys p.1 q)
 

@@ -14,6 +14,7 @@ pub mod PlainMalloc
 pub mod MergedInOrder
 pub mod PlainFree
 pub mod PlainRows
+pub mod Joining
 pub mod EntryLists
 pub mod Searching
 pub mod Marking
@@ -27,6 +28,8 @@ pub mod Rechained
 pub mod PutBehind
 pub mod SplitLayout
 pub mod Slots
+pub mod Neighbours
+pub mod AbsorbedLayout
 pub mod SameBlocks
 pub mod SlotsReplaced
 pub mod TakenWhole
@@ -38,6 +41,7 @@ pub mod HeapStands
 pub mod RunSteps
 pub mod BareSteps
 pub mod BareFree
+pub mod Allocating
 mod LayoutRows
 mod HeapRows
 mod RunRows

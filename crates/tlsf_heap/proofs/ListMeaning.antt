@@ -70,7 +70,7 @@ place_above records from (s ∷ slots) q a stands = elim (cases_eq s q) [
   | inr apart ↦ omega (arith, a.0, place_above records (place_at records s + (record_at records s).size) slots q a.2 (omega (arith, stands, times-cons q s slots, ap one_if (ne_eqb s q apart))))
 ]
 
-places_ascend : (records : List Record) (from : ℕ) (slots : List ℕ) (q s : ℕ) → Ascends from (map (block_of records) slots) → 1 ≤ times q slots → 1 ≤ times s slots → place_at records q ≡ place_at records s → q ≡ s
+pub places_ascend : (records : List Record) (from : ℕ) (slots : List ℕ) (q s : ℕ) → Ascends from (map (block_of records) slots) → 1 ≤ times q slots → 1 ≤ times s slots → place_at records q ≡ place_at records s → q ≡ s
 places_ascend records from [] q s a q_stands s_stands same = absurd (omega (arith, q_stands))
 places_ascend records from (x ∷ slots) q s a q_stands s_stands same =
     let behind : (y : ℕ) → x ≢ y → 1 ≤ times y (x ∷ slots) → 1 ≤ times y slots = λ y apart stands. omega (arith, stands, times-cons y x slots, ap one_if (ne_eqb x y apart)) in

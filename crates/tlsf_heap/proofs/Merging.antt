@@ -7,7 +7,7 @@ use Rattle.tlsf_heap.specs.Good.{Covers, NoFreeNeighbours, AreGoodPools}
 
 module _ {A : Type 0} where
   -- a block that becomes free covers what it covered
-  Covers-freed : (place from to : ℕ) (blocks : List (Block A)) → Covers from to blocks → Covers from to (map (freed place) blocks)
+  pub Covers-freed : (place from to : ℕ) (blocks : List (Block A)) → Covers from to blocks → Covers from to (map (freed place) blocks)
   Covers-freed place from to [] c = c
   Covers-freed place from to (block ∷ blocks) c = elim (is_at place block) as (λ b. Covers from to (cond b (record block { owner = None }) block ∷ map (freed place) blocks)) [
     | true ↦ (c.0, c.1, c.2, Covers-freed place (from + block.size) to blocks c.3)
@@ -15,7 +15,7 @@ module _ {A : Type 0} where
   ]
 
   -- two blocks side by side cover what the one of both sizes covers
-  Covers-join : (from to : ℕ) (block : Block A) (blocks : List (Block A)) → Covers from to (block ∷ blocks) → Covers from to (join block blocks)
+  pub Covers-join : (from to : ℕ) (block : Block A) (blocks : List (Block A)) → Covers from to (block ∷ blocks) → Covers from to (join block blocks)
   Covers-join from to block [] c = c
   Covers-join from to block (next ∷ blocks) c = elim (is_free block && is_free next) as (λ b. Covers from to (cond b (record block { size = block.size + next.size } ∷ blocks) (block ∷ next ∷ blocks))) [
     | true ↦

@@ -14,8 +14,9 @@ use Rattle.tlsf_heap.specs.Content.{Block, is_at, size_at, blocks_of}
 use Rattle.tlsf_heap.specs.Lists.{list_of}
 use Rattle.tlsf_heap.specs.Good.{times}
 use Rattle.tlsf_heap.specs.Edits.{IsUsed}
-use Rattle.tlsf_heap.specs.Layout.{Area, Layout, Stands, IsLayout, held_in, home_in, home_of, at_home, slots_of, place_at, block_of, pool_of}
-use Rattle.tlsf_heap.proofs.Blocks.{one_if}
+use Rattle.tlsf_heap.specs.Layout.{Area, Layout, Stands, IsLayout, held_in, home_in, home_of, at_home, owner_in, slots_of, place_at, block_of, pool_of}
+use Rattle.tlsf_heap.specs.GoodSlots.{is_slot, slot_times}
+use Rattle.tlsf_heap.proofs.Blocks.{one_if, count_by-cons}
 use Rattle.tlsf_heap.proofs.FreeLists.{times-cons}
 use Rattle.tlsf_heap.proofs.GoodContent.{IsWhole, whole_in_pools}
 use Rattle.tlsf_heap.proofs.Linking.{field_at, times-front, None≢Some}
@@ -167,3 +168,23 @@ module _ (cells : Cells) (stands : Stands cells) where
   size_of_slot slot there =
       ap (size_at (place_at cells.records slot)) (blocks_of_areas cells.records stands.layout.areas)
       ∙ size_at_slot (block_of cells.records) slot (place_at cells.records slot) (slots_of stands.layout.areas) there (slot_here slot) (λ q q_there apart. others_apart slot q there q_there apart)
+
+  -- a slot that isn't live is no live block's
+  pub slot_is_new : (slot : ℕ) → (record_at cells.records slot).state ≡ Free → slot_times slot (blocks_of (map (pool_of cells.records) stands.layout.areas)) ≡ 0
+  slot_is_new slot free = ap (slot_times slot) (blocks_of_areas cells.records stands.layout.areas) ∙ none (slots_of stands.layout.areas)
+    where
+      owner_apart : (s : State) (q : ℕ) → q ≢ slot → one_if (is_slot slot (owner_in s q)) ≡ 0
+      owner_apart Vacant q apart = refl
+      owner_apart Free q apart = refl
+      owner_apart Live q apart = ap one_if (ne_eqb q slot apart)
+
+      none : (slots : List ℕ) → slot_times slot (map (block_of cells.records) slots) ≡ 0
+      none [] = refl
+      none (q ∷ slots) =
+          let kind : Block ℕ → Bool = λ block. is_slot slot block.owner in
+          let counted = count_by-cons kind (block_of cells.records q) (map (block_of cells.records) slots) in
+          let here : one_if (is_slot slot (owner_in (record_at cells.records q).state q)) ≡ 0 = elim (cases_eq q slot) [
+            | inl same ↦ ap (λ s. one_if (is_slot slot (owner_in s q))) (ap (λ n. (record_at cells.records n).state) same ∙ free)
+            | inr apart ↦ owner_apart (record_at cells.records q).state q apart
+          ] in
+          omega (arith, counted, here, none slots)

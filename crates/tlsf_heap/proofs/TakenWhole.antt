@@ -142,15 +142,21 @@ module _ (cells : Cells) (stands : Stands cells) (slot : ℕ) (free : (record_at
       ∙ sym (ap (λ n. link_gap (place + size) n (unlink place size (map (map (place_at cells.records)) layout.lists))) none)
 
   -- the content is the old one with the block taken
-  pub whole_content : content_by last less ≡ allocated slot place size size (content_by cells.records layout)
+  whole_content : content_by last less ≡ allocated slot place size size (content_by cells.records layout)
   whole_content =
       ap (λ n. record { records = n; pools = map (pool_of last) layout.areas; lists = map (map (place_at last)) less.lists }) (length-edited_in (λ r. record r { state = Live }) (Some slot) out ∙ same.count)
       ∙ ap (λ ps. record { records = length cells.records; pools = ps; lists = map (map (place_at last)) less.lists }) pools_are
       ∙ ap (λ ls. record { records = length cells.records; pools = map (replaced_in place (cut slot place size size)) (map (pool_of cells.records) layout.areas); lists = ls }) lists_are
 
-  pub whole_stands : IsGood (allocated slot place size size (content_by cells.records layout)) → Stands (taken_whole slot size cells)
+  was : content_of cells ≡ content_by cells.records layout
+  was = content_is cells layout stands.represented
+
+  pub whole_becomes : content_of (taken_whole slot size cells) ≡ allocated slot place size size (content_of cells)
+  whole_becomes = content_is (taken_whole slot size cells) less whole_is_layout ∙ whole_content ∙ ap (allocated slot place size size) (sym was)
+
+  pub whole_stands : IsGood (allocated slot place size size (content_of cells)) → Stands (taken_whole slot size cells)
   whole_stands good = record {
     layout = less;
     represented = whole_is_layout;
-    good = let P : Content ℕ → Type 0 = λ x. IsGood x in subst P (sym whole_content) good;
+    good = let P : Content ℕ → Type 0 = λ x. IsGood x in subst P (sym (whole_content ∙ ap (allocated slot place size size) (sym was))) good;
   }

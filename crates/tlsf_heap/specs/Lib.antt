@@ -8,6 +8,7 @@ pub mod Free
 pub mod Edits
 pub mod Chains
 pub mod Allocation
+pub mod Release
 pub mod Bitmaps
 pub mod Layout
 pub mod Entries

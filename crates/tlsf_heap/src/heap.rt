@@ -1,8 +1,9 @@
 //! The heap.
 
-use crate::Refusal;
+use crate::allocation::malloc;
 use crate::entries::{MOST_POOLS, entries, pool_ranges};
 use crate::pools::add_pool;
+use crate::{Ptr, Refusal};
 use arrayvec::ArrayVec;
 use std::alloc::Global;
 use std::marker::Model;
@@ -29,10 +30,12 @@ impl Model for Heap {
 }
 
 impl Heap {
-    ghost use Rattle.std.specs.Prelude.{◌≡◌, ◌+◌, ◌≤◌, ◌^◌, ◌⊎◌, ◌↔◌, map, Ok, Err, IfOk, IfErr, OnOk, OnErr};
+    ghost use Rattle.std.specs.Prelude.{◌≡◌, ℕ, ◌+◌, ◌<◌, ◌≤◌, ◌^◌, ◌⊎◌, ◌↔◌, map, Ok, Err, IfOk, IfErr, OnOk, OnErr};
     ghost use Rattle.tlsf_store.specs.declared.errors.StoreError.TheVariants.{BadCount};
     ghost use Rattle.tlsf_heap.specs.Good.{IsGood};
-    ghost use Rattle.tlsf_heap.specs.GoodSlots.{HasGoodSlots};
+    ghost use Rattle.tlsf_heap.specs.GoodSlots.{HasGoodSlots, slot_times};
+    ghost use Rattle.tlsf_heap.specs.Content.{blocks_of};
+    ghost use Rattle.tlsf_heap.specs.Malloc.{malloc as served};
     ghost use Rattle.tlsf_heap.specs.Pools.{created, add_pool as added};
     ghost use Rattle.tlsf_heap.specs.Counted.{range_of};
 
@@ -68,6 +71,26 @@ impl Heap {
         ensures bound { self.new.touches ≤ self.old.touches + 64 }
     {
         add_pool(&mut self.store, base, bytes)
+    }
+
+    /// A live block of at least `n` bytes: the first of the first list that isn't empty, at or above the
+    /// class from which each block holds `n` bytes, rounded up to the unit. What is left of it behind
+    /// these bytes is a free block. At most 96 touches.
+    ///
+    /// # Errors
+    ///
+    /// `ZeroSize` for 0; `NoFit` where no such block is there, or `n` is above the greatest size;
+    /// `TableFull` where a rest would be left and each record is in use.
+    pub fn malloc(&mut self, n: u64) -> Result<Ptr, Refusal>
+        ensures ok { IfOk result (λ ptr. served ptr.1 n self.old.content ≡ Ok (ptr.0, self.new.content)) }
+        ensures slot_below { IfOk result (λ ptr. ptr.1 < self.old.content.records) }
+        ensures slot_new { IfOk result (λ ptr. slot_times ptr.1 (blocks_of self.old.content.pools) ≡ 0) }
+        ensures refused { IfErr result (λ refusal. (slot : ℕ) → served slot n self.old.content ≡ Err refusal) }
+        ensures unchanged { OnErr result (self.new.content ≡ self.old.content) }
+        ensures floor { self.old.touches ≤ self.new.touches }
+        ensures bound { self.new.touches ≤ self.old.touches + 96 }
+    {
+        malloc(&mut self.store, n)
     }
 
     /// Where each pool begins and how many bytes it has, in order of base. At most eight touches.
