@@ -70,7 +70,7 @@ module _ {A : Type 0} where
       or_assoc true b c = refl
       or_assoc false b c = refl
 
-  size_at-front : (is_meant : A → Bool) (place : ℕ) (blocks more : List (Block A)) → is_live is_meant place blocks ≡ true → size_at place (blocks ++ more) ≡ size_at place blocks
+  pub size_at-front : (is_meant : A → Bool) (place : ℕ) (blocks more : List (Block A)) → is_live is_meant place blocks ≡ true → size_at place (blocks ++ more) ≡ size_at place blocks
   size_at-front is_meant place [] more h = absurd (cc)
   size_at-front is_meant place (block ∷ blocks) more h = elim (cases_Bool (is_at place block)) [
     | inl here ↦ size_at-here place block (blocks ++ more) here ∙ sym (size_at-here place block blocks here)
@@ -78,7 +78,7 @@ module _ {A : Type 0} where
         size_at-elsewhere place block (blocks ++ more) elsewhere ∙ size_at-front is_meant place blocks more (live_later is_meant place block blocks elsewhere h) ∙ sym (size_at-elsewhere place block blocks elsewhere)
   ]
 
-  size_at-back : (place : ℕ) (blocks more : List (Block A)) → NoneAt place blocks → size_at place (blocks ++ more) ≡ size_at place more
+  pub size_at-back : (place : ℕ) (blocks more : List (Block A)) → NoneAt place blocks → size_at place (blocks ++ more) ≡ size_at place more
   size_at-back place [] more n = refl
   size_at-back place (block ∷ blocks) more n = size_at-elsewhere place block (blocks ++ more) n.0 ∙ size_at-back place blocks more n.1
 

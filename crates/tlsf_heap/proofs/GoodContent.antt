@@ -38,7 +38,7 @@ pub record IsWhole {A : Type 0} (block : Block A) : Type 0 where
   pub at_most : block.size ≤ greatest_size
   pub ends : block.place + block.size ≤ end_of_places
 
-Covers-le : {A : Type 0} (from to : ℕ) (blocks : List (Block A)) → Covers from to blocks → from ≤ to
+pub Covers-le : {A : Type 0} (from to : ℕ) (blocks : List (Block A)) → Covers from to blocks → from ≤ to
 Covers-le from to [] c = omega arith
 Covers-le from to (block ∷ blocks) c = let rest = Covers-le (from + block.size) to blocks c.3 in omega arith
 
@@ -219,7 +219,7 @@ module _ {A : Type 0} where
   ]
 
   -- how the blocks change where a pool comes in
-  count_by-pools : (kind : Block A → Bool) (pool : Pool A) (pools : List (Pool A)) → count_by kind (blocks_of (in_order_of_base pool pools)) ≡ count_by kind pool.blocks + count_by kind (blocks_of pools)
+  pub count_by-pools : (kind : Block A → Bool) (pool : Pool A) (pools : List (Pool A)) → count_by kind (blocks_of (in_order_of_base pool pools)) ≡ count_by kind pool.blocks + count_by kind (blocks_of pools)
   count_by-pools kind pool [] = count_by-append kind pool.blocks []
   count_by-pools kind pool (other ∷ pools) = elim (nat_lt pool.base other.base) as (λ b. count_by kind (blocks_of (cond b (pool ∷ other ∷ pools) (other ∷ in_order_of_base pool pools))) ≡ count_by kind pool.blocks + count_by kind (blocks_of (other ∷ pools))) [
     | true ↦ count_by-append kind pool.blocks (blocks_of (other ∷ pools))

@@ -6,6 +6,14 @@ pub mod GoodContent
 pub mod Merging
 pub mod Freeing
 pub mod FreeIsGood
+pub mod GoodSlotsKept
+pub mod SlotsLeft
+pub mod PlainLists
+pub mod PlainPools
+pub mod PlainMalloc
+pub mod MergedInOrder
+pub mod PlainFree
+pub mod PlainRows
 pub mod Joining
 pub mod EntryLists
 pub mod Searching
@@ -34,6 +42,10 @@ pub mod Followed
 pub mod NewPool
 pub mod AddPool
 pub mod HeapStands
+pub mod RunSteps
+pub mod BareSteps
+pub mod BareFree
 pub mod Allocating
 mod LayoutRows
 mod HeapRows
+mod RunRows

@@ -48,7 +48,7 @@ module _ {A : Type 0} where
       let before = ap length found.whole in
       omega (arith, after, before, length-append {A = Block A})
 
-  find-none : (place : ℕ) (blocks more : List (Block A)) → NoneAt place blocks → find (is_at place) (blocks ++ more) ≡ find (is_at place) more
+  pub find-none : (place : ℕ) (blocks more : List (Block A)) → NoneAt place blocks → find (is_at place) (blocks ++ more) ≡ find (is_at place) more
   find-none place [] more n = refl
   find-none place (block ∷ blocks) more n = rw n.0 (find-none place blocks more n.1)
 

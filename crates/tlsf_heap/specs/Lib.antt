@@ -14,3 +14,7 @@ pub mod Layout
 pub mod Entries
 pub mod Counted
 pub mod GoodSlots
+pub mod Rows
+pub mod Run
+pub mod Bare
+pub mod PlainHeap

@@ -3,20 +3,35 @@
 #![tactic(auto)]
 
 mod allocation;
+mod answer;
 mod chains;
+mod cursor;
 mod entries;
 mod free_lists;
 mod heap;
+mod heaped;
 mod marks;
+mod plain_heap;
 mod pointer;
 mod pool_entry;
 mod pools;
 mod refusal;
 mod release;
+mod request;
+mod row;
+mod runs;
 mod search;
 #[cfg(test)]
 mod tests;
 
+pub use crate::answer::Answer;
+pub use crate::cursor::Cursor;
 pub use crate::heap::Heap;
+pub use crate::heaped::Heaped;
+pub use crate::plain_heap::PlainHeap;
 pub use crate::pointer::Ptr;
 pub use crate::refusal::Refusal;
+pub use crate::request::Request;
+pub use crate::row::Row;
+pub use crate::runs::run;
+pub use tlsf_store::StoreError;

@@ -29,7 +29,7 @@ const GREATEST_POOL: u64 = (1 << 30) - UNIT;
 const UNIT: u64 = 8;
 
 /// Whether base and bytes can be those of a pool.
-fn can_be_pool(base: u64, bytes: u64) -> bool
+pub(crate) fn can_be_pool(base: u64, bytes: u64) -> bool
     ensures { result ≡ can_be base bytes }
 {
     base % UNIT == 0

@@ -1,5 +1,7 @@
 //! Rows of the heap.
 
+mod rows;
+
 use super::*;
 use std::process::Abort;
 use tlsf_store::StoreError;

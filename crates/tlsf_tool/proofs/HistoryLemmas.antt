@@ -1,6 +1,6 @@
 -- One pool more, one line more, and what is held after it.
 use Rattle.std.proofs.Common.{◌≡◌, ℕ, zero, suc, ◌-◌, ◌*◌, ◌<◌, false, cond, List, [], ◌∷◌, length, refl, sym, ap, ◌∙◌, subst, arith, Option, Some, None, is_some}
-use Rattle.std.specs.Prelude.{Result, Ok, ◌==◌}
+use Rattle.std.specs.Prelude.{Result, Ok, Err, ◌==◌}
 use Rattle.std.specs.Map.{lookup, keys_of}
 use Rattle.std.specs.Ordering.{nat_cmp}
 use Rattle.std.specs.BTreeMap.{is_at}
@@ -11,9 +11,12 @@ use Rattle.mtrace_log.specs.declared.event.Event.{Event}
 use Rattle.mtrace_log.specs.declared.event.LineFault.{LineFault}
 use Rattle.tlsf_tool.specs.declared.settings.Settings.{Settings}
 use Rattle.tlsf_tool.specs.declared.entry.Entry.{Entry}
+use Rattle.tlsf_tool.specs.declared.diagnostic.Diagnostic.{Diagnostic}
+use Rattle.tlsf_tool.specs.declared.diagnostic.Kind.TheVariants.{Refused}
+use Rattle.tlsf_heap.specs.declared.refusal.Refusal.{Refusal}
 use Rattle.tlsf_heap.specs.Malloc.{malloc}
 use Rattle.tlsf_heap.specs.Pools.{add_pool}
-use Rattle.tlsf_tool.specs.History.{Bare, Moment, AreHeld, after_add, with_pools, moments, moment, held, allocation, answered, asked_size, content_after}
+use Rattle.tlsf_tool.specs.History.{Bare, Moment, AreHeld, after_add, with_pools, moments, moment, held, allocation, answered, unserved, note, asked_size, content_after}
 use Rattle.tlsf_tool.specs.Replay.{Replayed, Comes, StandsFor}
 
 -- the highest pool that is left is added
@@ -44,6 +47,10 @@ stands_for_start content start entries is held = record { content_is = is; held 
 same_address : (address other : ℕ) → is_at (nat_cmp address) other ≡ (address == other)
 same_address address other = grind (arith, nat_tests)
 
+not_some : {A : Type 0} (o : Option A) → is_some o ≡ false → o ≡ None
+not_some None h = refl
+not_some (Some a) h = absurd (cc)
+
 -- the line was served: the address is held under its entry
 pub comes_served : (old new : Replayed) (before : List Moment) (number : ℕ) (at : Option (List ℕ)) (address size asked place : ℕ)
     → AreHeld old.entries before → is_some (lookup (is_at (nat_cmp address)) old.entries) ≡ false → asked ≡ asked_size size
@@ -67,7 +74,23 @@ comes_served old new before number at address size asked place are absent same s
       };
       noted = refl;
     })
-  where
-    not_some : {A : Type 0} (o : Option A) → is_some o ≡ false → o ≡ None
-    not_some None h = refl
-    not_some (Some a) h = absurd (cc)
+
+-- the line was refused, and nothing changed
+pub comes_refused : (old new : Replayed) (before : List Moment) (number : ℕ) (at : Option (List ℕ)) (address size asked : ℕ) (refusal : Refusal)
+    → AreHeld old.entries before → is_some (lookup (is_at (nat_cmp address)) old.entries) ≡ false → asked ≡ asked_size size
+    → malloc tt asked old.content ≡ Err refusal → new.content ≡ old.content → new.entries ≡ old.entries
+    → Comes old new (Some (record { line = number; kind = Refused address refusal })) before (allocation number at address size (held before address) old.content)
+comes_refused old new before number at address size asked refusal are absent same refused kept entries_kept =
+    let none : held before address ≡ None = sym (are.each address) ∙ not_some (lookup (is_at (nat_cmp address)) old.entries) absent in
+    let answer : malloc tt (asked_size size) old.content ≡ Err refusal = ap (λ n. malloc tt n old.content) (sym same) ∙ refused in
+    let noted : Option Diagnostic = Some (record { line = number; kind = Refused address refusal }) in
+    let left : Moment = unserved (note number (Refused address refusal)) old.content in
+    let is : allocation number at address size (held before address) old.content ≡ left =
+    ap (λ o. allocation number at address size o old.content) none ∙ ap (answered number at address size old.content) answer in
+    let E : List (ℕ × Entry) → Type 0 = λ entries. AreHeld entries (left ∷ before) in
+    let P : Moment → Type 0 = λ m. Comes old new noted before m in
+    subst P (sym is) (record {
+      content_is = kept;
+      held = subst E (sym entries_kept) (record { in_order = are.in_order; each = are.each });
+      noted = refl;
+    })

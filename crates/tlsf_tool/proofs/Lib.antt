@@ -1,8 +1,6 @@
 mod LogRows
-mod PlainLists
-mod PlainPools
-mod PlainMalloc
 mod Writing
+mod HeapSteps
 mod HistoryLemmas
 mod TextLemmas
 mod RunLemmas

@@ -1,4 +1,3 @@
-pub mod PlainHeap
 pub mod Settings
 pub mod History
 pub mod Texts

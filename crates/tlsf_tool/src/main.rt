@@ -7,7 +7,6 @@ mod entry;
 mod laws;
 mod line_text;
 mod output;
-mod plain_heap;
 mod replay;
 mod report;
 mod run;

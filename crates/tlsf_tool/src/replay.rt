@@ -1,65 +1,80 @@
 ghost use Rattle.std.specs.Prelude.{◌≡◌, false, OnOk, IfOk};
 ghost use Rattle.tlsf_tool.specs.Settings.{are_bad};
-ghost use Rattle.tlsf_heap.specs.Pools.{add_pool as added};
-ghost use Rattle.tlsf_tool.specs.History.{after_add, started};
+ghost use Rattle.tlsf_heap.specs.Bare.{bare};
+ghost use Rattle.tlsf_heap.specs.Pools.{created, add_pool as added};
+ghost use Rattle.tlsf_tool.specs.History.{after_add, asked_size, started};
 
 use crate::diagnostic::{Diagnostic, Kind};
 use crate::entry::Entry;
-use crate::plain_heap::PlainHeap;
 use crate::settings::Settings;
 use mtrace_log::{Addr, Event, Line, LineFault, Location};
 use std::alloc::{AllocError, Global};
 use std::collections::BTreeMap;
 use std::marker::Model;
-use tlsf_heap::Refusal;
+use tlsf_heap::{Heaped, Refusal, StoreError};
 
 /// Adds a pool; a refusal but for want of memory changes nothing.
-fn add_pool(alloc: Global, heap: &mut PlainHeap, base: u64, bytes: u64) -> Result<(), AllocError>
-    ensures { OnOk result (heap.new ≡ after_add heap.old (added base bytes heap.old)) }
+fn add_pool<H: Heaped>(heap: &mut H, base: u64, bytes: u64) -> Result<(), AllocError>
+    ensures { OnOk result (bare (H.content heap.new) ≡ after_add (bare (H.content heap.old)) (added base bytes (bare (H.content heap.old)))) }
 {
-    match heap.add_pool(alloc, base, bytes) {
+    match heap.add_pool(base, bytes) {
         Ok(()) => Ok(()),
         Err(Refusal::OutOfMemory) => Err(AllocError),
         Err(_) => Ok(()),
     }
 }
 
+/// A heap without pools. Settings that aren't bad have a number of records that a heap can have.
+fn empty_heap<H: Heaped>(alloc: Global, settings: Settings) -> Result<H, AllocError>
+    requires { are_bad settings ≡ false }
+    ensures { IfOk result (λ heap. H.content heap ≡ created settings.records) }
+{
+    match H::create(alloc, settings.records) {
+        Ok(heap) => Ok(heap),
+        Err(StoreError::OutOfMemory) => Err(AllocError),
+        Err(StoreError::BadCount) => unreachable!(),
+    }
+}
+
 /// The heap before the first line: its pools one behind the other from place 0 on, the highest added
 /// first, so that place 0 heads the list.
-fn started_heap(alloc: Global, settings: Settings) -> Result<PlainHeap, AllocError>
+fn started_heap<H: Heaped>(alloc: Global, settings: Settings) -> Result<H, AllocError>
     requires { are_bad settings ≡ false }
-    ensures { IfOk result (λ heap. heap ≡ started settings) }
+    ensures { IfOk result (λ heap. bare (H.content heap) ≡ started settings) }
 {
-    let mut heap = PlainHeap::create(alloc, settings.records)?;
+    let mut heap: H = empty_heap(alloc, settings)?;
     let mut left = settings.pools;
     while left > 0 {
         left -= 1;
-        add_pool(
-            alloc,
-            &mut heap,
-            u64::from(left) * settings.pool,
-            settings.pool,
-        )?;
+        add_pool(&mut heap, u64::from(left) * settings.pool, settings.pool)?;
     }
     Ok(heap)
 }
 
+/// How many bytes are asked of the heap: for a block of no byte it is asked for one byte.
+fn asked_bytes(size: u64) -> u64
+    ensures { result ≡ asked_size size }
+{
+    if size == 0 { 1 } else { size }
+}
+
 /// The replay of a log: the heap, and what is held, by address.
 #[derive(Drop)]
-pub struct Replay {
-    heap: PlainHeap,
+pub struct Replay<H: Heaped> {
+    heap: H,
     held: BTreeMap<Addr, Entry>,
 }
 
-impl Model for Replay {
+impl<H: Heaped> Model for Replay<H> {
+    ghost use Rattle.tlsf_heap.specs.Bare.{bare};
     ghost use Rattle.tlsf_tool.specs.Replay.{Replayed};
 
     ghost Value = { Replayed };
 
-    ghost view = { λ r. record { content = r.heap; entries = r.held.entries } };
+    ghost view = { λ r. record { content = bare (H.content r.heap); entries = r.held.entries } };
 }
 
-impl Replay {
+impl<H: Heaped> Replay<H> {
     ghost use Rattle.std.specs.Prelude.{ℕ, List, [], length, IfOk, OnOk};
     ghost use Rattle.tlsf_tool.specs.History.{Moment, AreHeld, held, moment, allocation};
     ghost use Rattle.tlsf_tool.specs.Replay.{StandsFor, Comes};
@@ -126,9 +141,8 @@ impl Replay {
                 kind: Kind::AlreadyHeld(address),
             }));
         }
-        let asked = if size == 0 { 1 } else { size };
-        match self.heap.malloc(alloc, asked) {
-            Ok(_place) => {
+        match self.heap.malloc(asked_bytes(size)) {
+            Ok(_ptr) => {
                 self.held.insert(
                     address,
                     Entry {

@@ -17,6 +17,7 @@ use crate::settings::Settings;
 use crate::status::{RunFault, Status};
 use mtrace_log::{Failed, Line, Lines, Sink, Source};
 use std::alloc::Global;
+use tlsf_heap::{Heaped, PlainHeap};
 
 /// Puts the line of a diagnostic, where there is one.
 fn put_note<W: Sink>(writer: &mut W, note: &Option<Diagnostic>) -> Result<(), Failed>
@@ -32,10 +33,10 @@ fn put_note<W: Sink>(writer: &mut W, note: &Option<Diagnostic>) -> Result<(), Fa
 }
 
 /// Replays one line and puts what is wrong with it. Answers whether anything is.
-fn replay_line<W: Sink>(
+fn replay_line<H: Heaped, W: Sink>(
     alloc: Global,
     writer: &mut W,
-    replay: &mut Replay,
+    replay: &mut Replay<H>,
     line: Line,
 ) -> Result<bool, RunFault>
     ensures done { IfOk result (λ noted. (before : List Moment) → AreHeld replay.old.entries before
@@ -59,11 +60,11 @@ fn replay_line<W: Sink>(
 
 /// Reads and replays all lines of the log; what is wrong with a line is put at once. Answers whether
 /// anything is.
-fn replay_lines<R: Source, W: Sink>(
+fn replay_lines<H: Heaped, R: Source, W: Sink>(
     alloc: Global,
     reader: &mut R,
     writer: &mut W,
-    replay: &mut Replay,
+    replay: &mut Replay<H>,
 ) -> Result<bool, RunFault>
     ensures done { IfOk result (λ noted. (settings : Settings) → StandsFor replay.old (started settings) []
         → HasReplayed settings replay.new noted (R.left reader.old) (R.left reader.new) (W.taken writer.old) (W.taken writer.new)) }
@@ -93,7 +94,11 @@ fn replay_lines<R: Source, W: Sink>(
 }
 
 /// Puts the report and flushes. Answers the status.
-fn finish<W: Sink>(writer: &mut W, replay: &Replay, noted: bool) -> Result<Status, RunFault>
+fn finish<H: Heaped, W: Sink>(
+    writer: &mut W,
+    replay: &Replay<H>,
+    noted: bool,
+) -> Result<Status, RunFault>
     ensures all { OnOk result (Wrote (W.taken writer.old) (W.taken writer.new) (leaks_report replay.now.entries)) }
     ensures status { IfOk result (λ status. status ≡ (if noted || is_some_entry replay.now.entries then Status.Found else Status.Clean)) }
     ensures no_failure { OnOk result (W.failures writer.new ≡ W.failures writer.old) }
@@ -153,7 +158,7 @@ pub fn run_leaks<R: Source, W: Sink>(
     if settings.are_bad() {
         return Err(RunFault::BadSettings);
     }
-    let Ok(mut replay) = Replay::create(alloc, settings) else {
+    let Ok(mut replay) = Replay::<PlainHeap>::create(alloc, settings) else {
         return Err(RunFault::OutOfMemory);
     };
     match replay_lines(alloc, reader, writer, &mut replay) {

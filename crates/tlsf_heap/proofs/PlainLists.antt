@@ -1,0 +1,46 @@
+-- A list of the plain heap is written: the lists are those of the definitions.
+use Rattle.std.proofs.Common.{◌≡◌, ℕ, ◌<◌, List, [], ◌∷◌, length, refl, sym, ap, ◌∙◌, arith, get_or, set, Vec}
+use Rattle.std.proofs.lemmas.Bool.{eq-eqb, ne_eqb}
+use Rattle.std.proofs.lemmas.List.{map-set, get_or-map}
+use Rattle.std.specs.declared.alloc.Global.{Global}
+use Rattle.tlsf_class.specs.Classes.{class}
+use Rattle.tlsf_heap.specs.Lists.{list_of, without, link, unlink}
+use Rattle.tlsf_heap.specs.Malloc.{link_gap}
+use Rattle.tlsf_heap.specs.PlainHeap.{lists_of}
+
+abbrev Places : Type 0
+Places = Vec ℕ Global
+
+-- a list reads as the vector that stands there
+list_of-at : (lists : List Places) (number : ℕ) (places : Places) → number < length lists → places ≡ get_or lists number places → list_of number (lists_of lists) ≡ places.items
+list_of-at lists number places below is = get_or-map (λ v. v.items) lists number places [] below ∙ ap (λ v. v.items) (sym is)
+
+set_list : (lists : List Places) (number : ℕ) (places : Places) (items : List ℕ) → places.items ≡ items → lists_of (set lists number places) ≡ set (lists_of lists) number items
+set_list lists number places items is = map-set (λ v. v.items) lists number places ∙ ap (set (lists_of lists) number) is
+
+pub link_is : (lists : List Places) (number place size : ℕ) (old entered : Places) → number ≡ class size → number < length lists → old ≡ get_or lists number old → entered.items ≡ place ∷ old.items
+    → lists_of (set lists number entered) ≡ link place size (lists_of lists)
+link_is lists number place size old entered same below is items =
+    set_list lists number entered _ (items ∙ ap (λ xs. place ∷ xs) (sym (list_of-at lists number old below is)))
+    ∙ ap (λ n. set (lists_of lists) n (place ∷ list_of n (lists_of lists))) same
+
+pub unlink_is : (lists : List Places) (number place size : ℕ) (old left : Places) → number ≡ class size → number < length lists → old ≡ get_or lists number old → left.items ≡ without place old.items
+    → lists_of (set lists number left) ≡ unlink place size (lists_of lists)
+unlink_is lists number place size old left same below is items =
+    set_list lists number left _ (items ∙ ap (without place) (sym (list_of-at lists number old below is)))
+    ∙ ap (λ n. set (lists_of lists) n (without place (list_of n (lists_of lists)))) same
+
+-- no gap enters a list
+pub link_gap-none : (place size : ℕ) (lists : List (List ℕ)) → size ≡ 0 → link_gap place size lists ≡ lists
+link_gap-none place size lists h = rw (eq-eqb size 0 h) refl
+
+pub link_gap-some : (place size : ℕ) (lists : List (List ℕ)) → 0 < size → link_gap place size lists ≡ link place size lists
+link_gap-some place size lists h = rw (ne_eqb size 0 (λ e. absurd (omega (arith, h, e)))) refl
+
+-- the second list written, whose items were read off the first write
+pub link_after : (lists : List Places) (from number place size : ℕ) (left entered : Places) → number ≡ class size
+    → entered.items ≡ place ∷ list_of (class size) (set (lists_of lists) from left.items)
+    → lists_of (set (set lists from left) number entered) ≡ link place size (lists_of (set lists from left))
+link_after lists from number place size left entered same items =
+    set_list (set lists from left) number entered _ (items ∙ ap (λ xs. place ∷ list_of (class size) xs) (sym (map-set (λ v. v.items) lists from left)))
+    ∙ ap (λ n. set (lists_of (set lists from left)) n (place ∷ list_of (class size) (lists_of (set lists from left)))) same

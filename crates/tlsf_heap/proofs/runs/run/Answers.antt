@@ -1,0 +1,18 @@
+use Rattle.std.proofs.Common.{◌≡◌, ◌+◌, ◌∷◌, [], ◌++◌, ◌∙◌, sym, ap, subst, arith, take, get_or}
+use Rattle.std.proofs.lemmas.List.{take_more}
+use Rattle.tlsf_heap.specs.Run.{Run}
+use Rattle.tlsf_heap.proofs.RunSteps.{run-more}
+use Rattle.tlsf_heap.proofs.runs.run.Goals as goal
+
+pub loop-request-preserved : goal.loop-request-preserved
+loop-request-preserved g c =
+    let asked = c.request-item.result in
+    let longer = take_more c.args.requests.now c.loop-request.request-index asked c.loop-request-test.true
+    ∙ ap (λ r. take c.loop-request.request-index c.args.requests.now ++ r ∷ []) (sym c.request-item.is) in
+    record {
+      count = omega (arith, c.push_reserved.ensures.len, c.loop-request.invariant.count);
+      room = c.push_reserved.ensures.capacity ∙ c.loop-request.invariant.room;
+      answered = rw (longer, c.push_reserved.ensures.items)
+          (run-more _ c.loop-request.answers.items asked c.answer-given.result _ _ _ _ _ _ c.loop-request.invariant.answered
+          c.answer-given.ensures.step c.answer-given.ensures.floor c.answer-given.ensures.bound);
+    }

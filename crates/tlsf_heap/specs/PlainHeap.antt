@@ -1,0 +1,68 @@
+-- What the fields of the plain heap stand for.
+use Rattle.std.specs.Prelude.{◌≡◌, ◌<◌, ◌≤◌, ◌%◌, ℕ, ⊤, Bool, true, Option, None, Some, List, [], ◌∷◌, map, Vec, if◌then◌else◌, nat_lt}
+use Rattle.std.specs.List.{position_or_len, list_any}
+use Rattle.std.specs.declared.alloc.Global.{Global}
+use Rattle.tlsf_heap.specs.declared.cursor.Cursor.{Cursor}
+use Rattle.tlsf_heap.specs.declared.row.Row.{Row}
+use Rattle.tlsf_heap.specs.Rows.{row_of}
+use Rattle.tlsf_heap.specs.Content.{Block, Pool, Content, blocks_of, is_at, size_at, used_records}
+use Rattle.tlsf_class.specs.Classes.{unit, greatest_size}
+use Rattle.tlsf_class.specs.Rounding.{round}
+use Rattle.tlsf_heap.specs.Lists.{pick}
+use Rattle.tlsf_heap.specs.Good.{IsGood}
+use Rattle.tlsf_heap.specs.GoodSlots.{HasGoodSlots}
+
+-- the lists of places
+abbrev pub lists_of : List (Vec ℕ Global) → List (List ℕ)
+lists_of lists = map (λ places. places.items) lists
+
+-- how many pools stand in front of the first that begins behind the base
+abbrev pub pool_place : ℕ → List (Pool ℕ) → ℕ
+pool_place base pools = position_or_len (λ pool. nat_lt base pool.base) pools
+
+-- the content that the fields stand for
+abbrev pub content_of : ℕ → List (Pool ℕ) → List (Vec ℕ Global) → Content ℕ
+content_of records pools lists = record { records = records; pools = pools; lists = lists_of lists }
+
+-- the block that malloc(n) takes: the one picked for n bytes rounded up, where what is left has a record
+pub record IsChosen (n place asked size : ℕ) (content : Content ℕ) : Type 0 where
+  pub rounded : round n ≡ Some asked
+  pub is_picked : pick asked content.lists ≡ Some place
+  pub size_is : size ≡ size_at place (blocks_of content.pools)
+  pub room : asked < size → used_records content < content.records
+
+-- what the plain heap keeps
+pub record IsPlain (content : Content ℕ) : Type 0 where
+  pub good : IsGood content
+  pub slots : HasGoodSlots content
+
+-- a block, where there is one, has a class
+abbrev pub IsSized : Option (Block ℕ) → Type 0
+IsSized None = ⊤
+IsSized (Some block) = (0 < block.size) × (block.size % unit ≡ 0) × (block.size ≤ greatest_size)
+
+-- the rows of the blocks from the one at the place on
+abbrev pub rows_at : ℕ → List (Block ℕ) → List Row
+rows_at place [] = []
+rows_at place (block ∷ blocks) = if is_at place block then map row_of (block ∷ blocks) else rows_at place blocks
+
+-- the rows from the place on of the pool that has a block there
+abbrev pub rest_at : ℕ → List (Pool ℕ) → List Row
+rest_at place [] = []
+rest_at place (pool ∷ pools) = if list_any (is_at place) pool.blocks then rows_at place pool.blocks else rest_at place pools
+
+abbrev pub rest_from : Option ℕ → List (Pool ℕ) → List Row
+rest_from None pools = []
+rest_from (Some place) pools = rest_at place pools
+
+abbrev pub is_from : Option ℕ → List (Pool ℕ) → Bool
+is_from None pools = true
+is_from (Some place) pools = list_any (is_at place) (blocks_of pools)
+
+-- the rows from the cursor on
+abbrev pub rest : Content ℕ → Cursor → List Row
+rest content cursor = rest_from cursor.next content.pools
+
+-- the cursor stands behind the last row, or at a block
+abbrev pub stands : Content ℕ → Cursor → Type 0
+stands content cursor = is_from cursor.next content.pools ≡ true

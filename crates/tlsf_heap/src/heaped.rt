@@ -1,0 +1,125 @@
+//! What every heap does.
+
+ghost use Rattle.std.specs.Prelude.{◌≡◌, ◌≢◌, ℕ, ◌+◌, ◌^◌, ◌<◌, ◌≤◌, ◌==◌, ◌⊎◌, ◌↔◌, List, [], ◌∷◌, map, Ok, Err, IfOk, IfErr, OnOk, OnErr, IfSome, IfNone};
+ghost use Rattle.tlsf_store.specs.declared.errors.StoreError.TheVariants.{BadCount};
+ghost use Rattle.tlsf_heap.specs.declared.cursor.Cursor.{Cursor};
+ghost use Rattle.tlsf_heap.specs.declared.row.Row.{Row};
+ghost use Rattle.tlsf_heap.specs.Content.{Content, blocks_of};
+ghost use Rattle.tlsf_heap.specs.Pools.{created, add_pool as added};
+ghost use Rattle.tlsf_heap.specs.Malloc.{malloc as served};
+ghost use Rattle.tlsf_heap.specs.Free.{free as freed};
+ghost use Rattle.tlsf_heap.specs.GoodSlots.{slot_times};
+ghost use Rattle.tlsf_heap.specs.Counted.{range_of};
+ghost use Rattle.tlsf_heap.specs.Rows.{rows_from};
+
+use crate::{Cursor, Ptr, Refusal, Row};
+use arrayvec::ArrayVec;
+use std::alloc::Global;
+use tlsf_store::StoreError;
+
+/// A heap of pools of blocks. Each call is a step on its content; a refused call leaves the content as
+/// it was.
+///
+/// A heap may answer `OutOfMemory` to `add_pool`, `malloc` and `free` in place of any answer. Contracts
+/// alone see its content and how often it has touched its table of records.
+pub trait Heaped: Drop {
+    // The pools, their blocks and the free lists.
+    ghost content: { Self → Content ℕ };
+
+    // How often the table of records was touched.
+    ghost touches: { Self → ℕ };
+
+    // Whether a cursor stands at a row of this content, or behind the last of a pool.
+    ghost stands: { Self → Cursor → Type 0 };
+
+    // The rows from a cursor on.
+    ghost rest: { Self → Cursor → List Row };
+
+    /// A heap of this many records, from 1 to 65,535, with no pool.
+    ///
+    /// # Errors
+    ///
+    /// `BadCount` where the number isn't from 1 to 65,535; `OutOfMemory` where memory is refused.
+    fn create(alloc: Global, records: u32) -> Result<Self, StoreError>
+        ensures made { IfOk result (λ heap. content heap ≡ created records) }
+        ensures untouched { IfOk result (λ heap. touches heap ≡ 0) }
+        ensures bad_count { (result ≡ Err BadCount) ↔ ((records ≡ 0) ⊎ (2 ^ 16 ≤ records)) };
+
+    /// A pool of `bytes` bytes from the place `base` on, as one free block. At most 64 touches.
+    ///
+    /// # Errors
+    ///
+    /// `BadPool` where base or bytes isn't a multiple of the unit, bytes isn't from the unit to the
+    /// greatest size, the end is above 2^32, or the pool overlaps another; `PoolsFull` where there are
+    /// as many pools as there can be; `TableFull` where each record is in use; `OutOfMemory` where
+    /// memory is refused.
+    fn add_pool(&mut self, base: u64, bytes: u64) -> Result<(), Refusal>
+        ensures ok { OnOk result (added base bytes (content self.old) ≡ Ok (content self.new)) }
+        ensures refused { IfErr result (λ refusal. refusal ≢ Refusal.OutOfMemory → added base bytes (content self.old) ≡ Err refusal) }
+        ensures unchanged { OnErr result (content self.new ≡ content self.old) }
+        ensures floor { touches self.old ≤ touches self.new }
+        ensures bound { touches self.new ≤ touches self.old + 64 };
+
+    /// A live block of at least `n` bytes, with a slot that no other live block has. At most 96 touches.
+    ///
+    /// # Errors
+    ///
+    /// `ZeroSize` where `n` is 0; `NoFit` where no list that may be searched has a block, or `n` is above
+    /// the greatest size; `TableFull` where a rest would be left and each record is in use; `OutOfMemory`
+    /// where memory is refused.
+    fn malloc(&mut self, n: u64) -> Result<Ptr, Refusal>
+        ensures ok { IfOk result (λ ptr. served ptr.1 n (content self.old) ≡ Ok (ptr.0, content self.new)) }
+        ensures slot_below { IfOk result (λ ptr. ptr.1 < (content self.old).records) }
+        ensures slot_new { IfOk result (λ ptr. slot_times ptr.1 (blocks_of (content self.old).pools) ≡ 0) }
+        ensures refused { IfErr result (λ refusal. refusal ≢ Refusal.OutOfMemory → (slot : ℕ) → served slot n (content self.old) ≡ Err refusal) }
+        ensures unchanged { OnErr result (content self.new ≡ content self.old) }
+        ensures floor { touches self.old ≤ touches self.new }
+        ensures bound { touches self.new ≤ touches self.old + 96 };
+
+    /// The live block with the pointer's place and slot becomes free, and is joined with its free
+    /// neighbours. At most 96 touches.
+    ///
+    /// # Errors
+    ///
+    /// `BadPointer` where no live block has both; `OutOfMemory` where memory is refused.
+    fn free(&mut self, ptr: Ptr) -> Result<(), Refusal>
+        ensures ok { OnOk result (freed (λ slot. slot == ptr.1) ptr.0 (content self.old) ≡ Ok (content self.new)) }
+        ensures refused { IfErr result (λ refusal. refusal ≢ Refusal.OutOfMemory → freed (λ slot. slot == ptr.1) ptr.0 (content self.old) ≡ Err refusal) }
+        ensures unchanged { OnErr result (content self.new ≡ content self.old) }
+        ensures floor { touches self.old ≤ touches self.new }
+        ensures bound { touches self.new ≤ touches self.old + 96 };
+
+    /// Where each pool begins and how many bytes it has, in order of base. At most eight touches.
+    fn pools(&mut self) -> ArrayVec<(u64, u64), 8>
+        ensures value { result.items ≡ map range_of (content self.old).pools }
+        ensures unchanged { content self.new ≡ content self.old }
+        ensures floor { touches self.old ≤ touches self.new }
+        ensures bound { touches self.new ≤ touches self.old + 8 };
+
+    /// The cursor at the first row of the pool that begins at the place `base`. At most four touches.
+    ///
+    /// # Errors
+    ///
+    /// `NoPool` where no pool begins there.
+    fn first(&mut self, base: u64) -> Result<Cursor, Refusal>
+        ensures ok { IfOk result (λ cursor. rows_from base (content self.old).pools ≡ Ok (rest self.new cursor)) }
+        ensures stands { IfOk result (λ cursor. stands self.new cursor) }
+        ensures refused { IfErr result (λ refusal. rows_from base (content self.old).pools ≡ Err refusal) }
+        ensures unchanged { content self.new ≡ content self.old }
+        ensures floor { touches self.old ≤ touches self.new }
+        ensures bound { touches self.new ≤ touches self.old + 4 };
+
+    /// The row at the cursor, and the cursor behind it; none behind the last row of the pool. At most
+    /// four touches, and none where there is no row.
+    fn row(&mut self, cursor: Cursor) -> Option<(Row, Cursor)>
+        requires { stands self.old cursor }
+        ensures some { IfSome result (λ given. rest self.old cursor ≡ given.0 ∷ rest self.new given.1) }
+        ensures next_stands { IfSome result (λ given. stands self.new given.1) }
+        ensures none { IfNone result (rest self.old cursor ≡ []) }
+        ensures others_stand { (other : Cursor) → stands self.old other → stands self.new other }
+        ensures others { (other : Cursor) → rest self.new other ≡ rest self.old other }
+        ensures unchanged { content self.new ≡ content self.old }
+        ensures floor { touches self.old ≤ touches self.new }
+        ensures bound { IfSome result (λ given. touches self.new ≤ touches self.old + 4) }
+        ensures no_touch { IfNone result (touches self.new ≡ touches self.old) };
+}

@@ -1,0 +1,103 @@
+//! The live block that is freed, and its neighbours.
+
+ghost use Rattle.std.specs.Prelude.{◌≡◌, ℕ, Bool, true, ◌+◌, ◌==◌, option_map};
+ghost use Rattle.std.specs.List.{list_any};
+ghost use Rattle.tlsf_heap.specs.Content.{blocks_of, size_at as size_of_block_at};
+ghost use Rattle.tlsf_heap.specs.Free.{is_live as is_live_in, in_front_of as front_of, behind as back_of, if_free as free_one, first_in_pools, size_of as option_size, start_of};
+ghost use Rattle.tlsf_heap.specs.Good.{AreGoodPools};
+ghost use Rattle.tlsf_heap.specs.PlainHeap.{IsSized};
+
+use super::block::Block;
+use super::joined::Joined;
+use super::pool::Pool;
+use super::pools::size_at;
+use crate::Cursor;
+
+/// Whether a live block of the pools has the place and the slot.
+pub fn is_live(pools: &[Pool], place: u32, slot: u16) -> bool
+    ensures { result ≡ list_any (λ pool. is_live_in (λ owner. owner == slot) place pool.blocks) pools.now }
+{
+    pools.iter().any(|pool| pool.is_live(place, slot))
+}
+
+/// The block in front of the one at the place, in the first pool that has one.
+fn in_front_of(pools: &[Pool], place: u32) -> Option<Block>
+    ensures { result ≡ first_in_pools (front_of place) pools.now }
+{
+    for pool in pools {
+        if let Some(block) = pool.in_front_of(place) {
+            return Some(block);
+        }
+    }
+    None
+}
+
+/// The block behind the one at the place, in the first pool that has one.
+pub fn behind(pools: &[Pool], place: u32) -> Option<Block>
+    ensures { result ≡ first_in_pools (back_of place) pools.now }
+{
+    for pool in pools {
+        if let Some(block) = pool.behind(place) {
+            return Some(block);
+        }
+    }
+    None
+}
+
+/// The block, where it is free.
+fn if_free(block: Option<Block>) -> Option<Block>
+    ensures { result ≡ free_one block }
+{
+    match block {
+        Some(block) if block.is_free() => Some(block),
+        _ => None,
+    }
+}
+
+/// Its size in bytes, 0 where there is none.
+fn size_of(block: &Option<Block>) -> u32
+    ensures { result ≡ option_size block.now }
+{
+    match block {
+        Some(block) => block.size(),
+        None => 0,
+    }
+}
+
+/// The cursor at the block, or behind the last.
+pub fn cursor_at(block: Option<Block>) -> Cursor
+    ensures { result.next ≡ option_map (λ block. block.place) block }
+{
+    match block {
+        Some(block) => Cursor {
+            next: Some(block.place()),
+        },
+        None => Cursor { next: None },
+    }
+}
+
+/// What the live block at the place becomes that is freed.
+pub fn joined(pools: &[Pool], place: u32) -> Joined
+    requires good { AreGoodPools 0 pools.now }
+    requires live { (is_meant : ℕ → Bool) × (is_live_in is_meant place (blocks_of pools.now) ≡ true) }
+    ensures front { result.front ≡ free_one (first_in_pools (front_of place) pools.now) }
+    ensures back { result.back ≡ free_one (first_in_pools (back_of place) pools.now) }
+    ensures front_sized { IsSized result.front }
+    ensures back_sized { IsSized result.back }
+    ensures place { result.place ≡ start_of result.front place }
+    ensures size { result.size ≡ option_size result.front + size_of_block_at place (blocks_of pools.now) + option_size result.back }
+{
+    let front = if_free(in_front_of(pools, place));
+    let back = if_free(behind(pools, place));
+    let start = match &front {
+        Some(block) => block.place(),
+        None => place,
+    };
+    let size = size_of(&front) + size_at(pools, place) + size_of(&back);
+    Joined {
+        front,
+        back,
+        place: start,
+        size,
+    }
+}

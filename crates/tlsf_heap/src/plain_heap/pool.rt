@@ -1,0 +1,149 @@
+use super::block::Block;
+use super::choice::Choice;
+use super::cut::cut_in;
+use super::merge::merge_in;
+use std::alloc::{AllocError, Global};
+use std::marker::Model;
+
+/// A pool: where it begins, its bytes, and its blocks in order of place.
+#[derive(Drop)]
+pub struct Pool {
+    base: u32,
+    bytes: u32,
+    blocks: Vec<Block>,
+}
+
+impl Model for Pool {
+    ghost use Rattle.std.specs.Prelude.{ℕ};
+    ghost use Rattle.tlsf_heap.specs.Content.{Pool};
+
+    ghost Value = { Pool ℕ };
+
+    ghost view = { λ p. record { base = p.base; bytes = p.bytes; blocks = p.blocks.items } };
+}
+
+impl Pool {
+    ghost use Rattle.std.specs.Prelude.{◌≡◌, ◌+◌, ◌<◌, ◌^◌, ◌==◌, length, sum_by, IfOk, find};
+    ghost use Rattle.tlsf_heap.specs.Free.{is_live, in_front_of, behind, merged_in};
+    ghost use Rattle.std.specs.List.{list_any};
+    ghost use Rattle.tlsf_heap.specs.Content.{is_at};
+    ghost use Rattle.tlsf_heap.specs.GoodSlots.{is_slot};
+    ghost use Rattle.tlsf_heap.specs.Malloc.{gap, cut, replaced_in};
+
+    /// A pool that is one free block.
+    pub fn new(alloc: Global, base: u32, bytes: u32) -> Result<Self, AllocError>
+        requires { 0 < bytes }
+        ensures { IfOk result (λ pool. pool ≡ record { base = base; bytes = bytes; blocks = gap base bytes }) }
+    {
+        let mut blocks = Vec::new(alloc);
+        blocks.push(Block::free(base, bytes))?;
+        Ok(Pool {
+            base,
+            bytes,
+            blocks,
+        })
+    }
+
+    /// Where it begins.
+    pub fn base(&self) -> u32
+        ensures { result ≡ self.now.base }
+    {
+        self.base
+    }
+
+    /// Its bytes.
+    pub fn bytes(&self) -> u32
+        ensures { result ≡ self.now.bytes }
+    {
+        self.bytes
+    }
+
+    /// How many blocks it has.
+    pub fn len(&self) -> usize
+        ensures { result ≡ length self.now.blocks }
+    {
+        self.blocks.len()
+    }
+
+    /// The first block that begins at the place.
+    pub fn block_at(&self, place: u32) -> Option<Block>
+        ensures { result ≡ find (is_at place) self.now.blocks }
+    {
+        for block in &self.blocks {
+            if block.place() == place {
+                return Some(*block);
+            }
+        }
+        None
+    }
+
+    /// Whether a live block of it has the slot.
+    pub fn has_slot(&self, slot: u16) -> bool
+        ensures { result ≡ list_any (λ block. is_slot slot block.owner) self.now.blocks }
+    {
+        self.blocks.iter().any(|block| block.has_slot(slot))
+    }
+
+    /// The pool with the block chosen cut.
+    pub fn cut(&self, alloc: Global, choice: Choice) -> Result<Pool, AllocError>
+        ensures { IfOk result (λ pool. pool
+            ≡ replaced_in choice.place (cut choice.slot choice.place choice.asked choice.size) self.now) }
+    {
+        let blocks = cut_in(alloc, self.blocks.as_slice(), choice)?;
+        Ok(Pool {
+            base: self.base,
+            bytes: self.bytes,
+            blocks,
+        })
+    }
+
+    /// Whether a live block of it has the place and the slot.
+    pub fn is_live(&self, place: u32, slot: u16) -> bool
+        ensures { result ≡ is_live (λ owner. owner == slot) place self.now.blocks }
+    {
+        self.blocks
+            .iter()
+            .any(|block| block.is_live_at(place, slot))
+    }
+
+    /// The block in front of the one at the place.
+    pub fn in_front_of(&self, place: u32) -> Option<Block>
+        ensures { result ≡ in_front_of place self.now.blocks }
+    {
+        for (number, block) in self.blocks.iter().enumerate() {
+            if let Some(next) = self.blocks.get(number + 1) {
+                if next.place() == place {
+                    return Some(*block);
+                }
+            }
+        }
+        None
+    }
+
+    /// The block behind the one at the place.
+    pub fn behind(&self, place: u32) -> Option<Block>
+        ensures { result ≡ behind place self.now.blocks }
+    {
+        for (number, block) in self.blocks.iter().enumerate() {
+            if let Some(next) = self.blocks.get(number + 1) {
+                if block.place() == place {
+                    return Some(*next);
+                }
+            }
+        }
+        None
+    }
+
+    /// The pool with the block at the place free, and merged.
+    pub fn merged(&self, alloc: Global, place: u32) -> Result<Pool, AllocError>
+        requires { sum_by (λ block. block.size) self.now.blocks < 2 ^ 32 }
+        ensures { IfOk result (λ pool. pool ≡ merged_in place self.now) }
+    {
+        let blocks = merge_in(alloc, self.blocks.as_slice(), place)?;
+        Ok(Pool {
+            base: self.base,
+            bytes: self.bytes,
+            blocks,
+        })
+    }
+}

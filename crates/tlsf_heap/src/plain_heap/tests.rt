@@ -1,0 +1,142 @@
+//! Rows of the plain heap.
+
+ghost use Rattle.std.specs.Prelude.{IfSome};
+ghost use Rattle.tlsf_heap.specs.PlainHeap.{stands};
+
+use super::PlainHeap;
+use crate::{Cursor, Ptr, Refusal, Row};
+use std::process::Abort;
+use tlsf_store::StoreError;
+
+/// The cursor behind the row at the cursor, where it is this one.
+fn passed(heap: &mut PlainHeap, cursor: Cursor, place: u32, size: u32, used: bool) -> Option<Cursor>
+    requires { stands heap.old cursor }
+    ensures { IfSome result (λ next. stands heap.new next) }
+{
+    match heap.row(cursor) {
+        Some((row, next)) if row == Row { place, size, used } => Some(next),
+        _ => None,
+    }
+}
+
+/// Whether these are the heap's pools.
+fn has_pools(heap: &mut PlainHeap, ranges: &[(u64, u64)]) -> bool {
+    heap.pools().as_slice() == ranges
+}
+
+/// Whether this is the one row of the pool at 0.
+fn has_row(heap: &mut PlainHeap, place: u32, size: u32, used: bool) -> bool {
+    let Ok(first) = heap.first(0) else {
+        return false;
+    };
+    let Some(end) = passed(heap, first, place, size, used) else {
+        return false;
+    };
+    heap.row(end).is_none()
+}
+
+/// Whether these are the rows of the pool at 0: a live one, and a free one behind it.
+fn has_rows(heap: &mut PlainHeap, live: u32, size: u32, free: u32, left: u32) -> bool {
+    let Ok(first) = heap.first(0) else {
+        return false;
+    };
+    let Some(second) = passed(heap, first, live, size, true) else {
+        return false;
+    };
+    let Some(end) = passed(heap, second, free, left, false) else {
+        return false;
+    };
+    heap.row(end).is_none()
+}
+
+#[test]
+fn bad_counts(rt: HostRuntime) {
+    assert!(rt; PlainHeap::create(rt.alloc(), 0).err() == Some(StoreError::BadCount));
+    assert!(rt; PlainHeap::create(rt.alloc(), 65_536).err() == Some(StoreError::BadCount));
+}
+
+#[test]
+fn first_split(rt: HostRuntime) {
+    let mut heap = PlainHeap::create(rt.alloc(), 4).expect(&rt, "a heap");
+    assert_eq!(rt; heap.add_pool(0, 1024), Ok(()));
+    assert!(rt; heap.malloc(100).ok().map(|ptr| ptr.place()) == Some(0));
+    assert!(rt; has_rows(&mut heap, 0, 104, 104, 920));
+    assert!(rt; has_pools(&mut heap, &[(0, 1024)]));
+    assert!(rt; heap.first(8).err() == Some(Refusal::NoPool));
+}
+
+#[test]
+fn merge_both_sides(rt: HostRuntime) {
+    let mut heap = PlainHeap::create(rt.alloc(), 4).expect(&rt, "a heap");
+    assert_eq!(rt; heap.add_pool(0, 1024), Ok(()));
+    let first = heap.malloc(100).expect(&rt, "a block");
+    let second = heap.malloc(1).expect(&rt, "a block");
+    assert_eq!(rt; second.place(), 104);
+    assert_eq!(rt; heap.free(first), Ok(()));
+    assert_eq!(rt; heap.free(second), Ok(()));
+    assert!(rt; has_row(&mut heap, 0, 1024, false));
+    assert_eq!(rt; heap.free(second), Err(Refusal::BadPointer));
+}
+
+/// The next block of 8 bytes.
+fn eight(heap: &mut PlainHeap) -> Option<Ptr> {
+    heap.malloc(8).ok()
+}
+
+#[test]
+fn newest_freed_first(rt: HostRuntime) {
+    let mut heap = PlainHeap::create(rt.alloc(), 8).expect(&rt, "a heap");
+    assert_eq!(rt; heap.add_pool(0, 64), Ok(()));
+    let first = eight(&mut heap).expect(&rt, "a block");
+    let second = eight(&mut heap).expect(&rt, "a block");
+    let third = eight(&mut heap).expect(&rt, "a block");
+    assert_eq!(rt; first.place(), 0);
+    assert_eq!(rt; second.place(), 8);
+    assert_eq!(rt; third.place(), 16);
+    for number in 3..8 {
+        assert!(rt; eight(&mut heap).map(|ptr| ptr.place()) == Some(number * 8));
+    }
+    assert_eq!(rt; heap.free(first), Ok(()));
+    assert_eq!(rt; heap.free(third), Ok(()));
+    assert!(rt; eight(&mut heap).map(|ptr| ptr.place()) == Some(16));
+    assert!(rt; eight(&mut heap).map(|ptr| ptr.place()) == Some(0));
+    assert!(rt; heap.malloc(8).err() == Some(Refusal::NoFit));
+}
+
+#[test]
+fn least_slots(rt: HostRuntime) {
+    let mut heap = PlainHeap::create(rt.alloc(), 4).expect(&rt, "a heap");
+    assert_eq!(rt; heap.add_pool(0, 1024), Ok(()));
+    assert_eq!(rt; heap.malloc(8), Ok(Ptr::new(0, 0)));
+    assert_eq!(rt; heap.malloc(8), Ok(Ptr::new(8, 1)));
+    assert_eq!(rt; heap.free(Ptr::new(0, 1)), Err(Refusal::BadPointer));
+    assert_eq!(rt; heap.free(Ptr::new(0, 0)), Ok(()));
+    assert_eq!(rt; heap.malloc(8), Ok(Ptr::new(0, 0)));
+}
+
+/// Each call is made again where memory was refused. With one refusal the second call is served, on the
+/// content that was there before the first.
+#[test]
+fn refused_memory(rt: HostRuntime) {
+    let mut heap = match PlainHeap::create(rt.alloc(), 4) {
+        Ok(heap) => heap,
+        Err(error) => {
+            assert!(rt; error == StoreError::OutOfMemory);
+            PlainHeap::create(rt.alloc(), 4).expect(&rt, "a heap")
+        }
+    };
+    if heap.add_pool(0, 1024) == Err(Refusal::OutOfMemory) {
+        assert!(rt; has_pools(&mut heap, &[]));
+        assert_eq!(rt; heap.add_pool(0, 1024), Ok(()));
+    }
+    if heap.malloc(100) == Err(Refusal::OutOfMemory) {
+        assert!(rt; has_row(&mut heap, 0, 1024, false));
+        assert_eq!(rt; heap.malloc(100), Ok(Ptr::new(0, 0)));
+    }
+    assert!(rt; has_rows(&mut heap, 0, 104, 104, 920));
+    if heap.free(Ptr::new(0, 0)) == Err(Refusal::OutOfMemory) {
+        assert!(rt; has_rows(&mut heap, 0, 104, 104, 920));
+        assert_eq!(rt; heap.free(Ptr::new(0, 0)), Ok(()));
+    }
+    assert!(rt; has_row(&mut heap, 0, 1024, false));
+}

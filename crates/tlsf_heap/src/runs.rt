@@ -1,0 +1,57 @@
+//! A run of requests on a heap.
+
+ghost use Rattle.std.specs.Prelude.{◌≡◌, ◌+◌, ◌≤◌, IfOk, IfErr, OnErr};
+ghost use Rattle.tlsf_heap.specs.Run.{Step, Run, most_touches};
+
+use crate::{Answer, Heaped, Request};
+use std::alloc::Global;
+use tlsf_store::StoreError;
+
+/// The heap's answer to one request.
+fn answer<H: Heaped>(heap: &mut H, request: Request) -> Answer
+    ensures step { Step request result (H.content heap.old) (H.content heap.new) }
+    ensures floor { H.touches heap.old ≤ H.touches heap.new }
+    ensures bound { H.touches heap.new ≤ H.touches heap.old + most_touches request }
+{
+    match request {
+        Request::AddPool { base, bytes } => match heap.add_pool(base, bytes) {
+            Ok(()) => Answer::Done,
+            Err(refusal) => Answer::Refused(refusal),
+        },
+        Request::Malloc(n) => match heap.malloc(n) {
+            Ok(ptr) => Answer::Given(ptr),
+            Err(refusal) => Answer::Refused(refusal),
+        },
+        Request::Free(ptr) => match heap.free(ptr) {
+            Ok(()) => Answer::Done,
+            Err(refusal) => Answer::Refused(refusal),
+        },
+    }
+}
+
+/// Asks the heap for each of the requests, one after the other, and gives their answers in order.
+/// Requests may repeat, and pointers may be stale.
+///
+/// It takes memory for all answers first.
+///
+/// # Errors
+///
+/// `OutOfMemory` where that memory is refused: then the heap is untouched.
+pub fn run<H: Heaped>(
+    alloc: Global,
+    heap: &mut H,
+    requests: &[Request],
+) -> Result<Vec<Answer>, StoreError>
+    ensures answers { IfOk result (λ answers. Run requests.now answers.items (H.content heap.old) (H.content heap.new) (H.touches heap.old) (H.touches heap.new)) }
+    ensures untouched { OnErr result (heap.new ≡ heap.old) }
+    ensures no_memory { IfErr result (λ error. error ≡ StoreError.OutOfMemory) }
+{
+    let Ok(mut answers) = Vec::with_capacity(alloc, requests.len()) else {
+        return Err(StoreError::OutOfMemory);
+    };
+    for request in requests {
+        let given = answer(heap, *request);
+        answers.push_reserved(given);
+    }
+    Ok(answers)
+}
