@@ -98,7 +98,7 @@ insert_is pool (other ∷ pools) = elim (cases_Bool (nat_lt pool.base other.base
   | inr after ↦ rw (after, one-add) (ap (λ xs. other ∷ xs) (insert_is pool pools))
 ]
 
-module _ (base bytes : ℕ) (content : Plain) where
+module _ {A : Type 0} (base bytes : ℕ) (content : Content A) where
   pub refused_bad : (can_be_pool base bytes && list_all (is_apart base bytes) content.pools) ≡ false → add_pool base bytes content ≡ Err BadPool
   refused_bad h = rw h refl
 

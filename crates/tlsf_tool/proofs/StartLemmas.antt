@@ -1,6 +1,6 @@
 -- Good settings have all their pools added.
 use Rattle.std.proofs.Common.{◌≡◌, ◌≢◌, ℕ, zero, suc, ◌+◌, ◌*◌, ◌%◌, ◌<◌, ◌≤◌, Bool, true, false, cond, not, List, [], ◌∷◌, length, None, length-append, refl, sym, ap, ◌∙◌, subst, arith}
-use Rattle.std.specs.Prelude.{◌||◌, ◌&&◌, nat_lt, nat_le, Ok}
+use Rattle.std.specs.Prelude.{◌||◌, nat_lt, nat_le, Ok}
 use Rattle.std.specs.List.{AllByRecursion, list_all}
 use Rattle.tlsf_class.specs.Classes.{unit, greatest_size}
 use Rattle.tlsf_heap.specs.Content.{Block, Pool, used_records, blocks_of}
@@ -8,6 +8,7 @@ use Rattle.tlsf_heap.specs.Malloc.{gap}
 use Rattle.tlsf_heap.specs.Pools.{most_pools, end_of_places, add_pool, with_pool, is_apart, can_be_pool, in_order_of_base, created}
 use Rattle.tlsf_tool.specs.declared.settings.Settings.{Settings}
 use Rattle.tlsf_tool.specs.Settings.{are_bad}
+use Rattle.tlsf_heap.proofs.PlainMalloc.{pool_is_added}
 use Rattle.tlsf_tool.specs.History.{Bare, with_pools, after_add, started}
 use Rattle.std.proofs.lemmas.Bool.{ltb-false, lt-ltb, le-leb, lt-leb, eqb-true, eq-eqb, ne_eqb}
 use Rattle.std.proofs.lemmas.Nat.{mul-mod_second}
@@ -48,11 +49,6 @@ are_good settings h =
       room = ltb-false _ _ i.0;
       ends = ltb-false _ _ i.1;
     }
-
--- a pool that is let in is added
-pool_is_added : (base bytes : ℕ) (content : Bare) → (can_be_pool base bytes && list_all (is_apart base bytes) content.pools) ≡ true → length content.pools < most_pools
-    → nat_le content.records (used_records content) ≡ false → add_pool base bytes content ≡ Ok (with_pool base bytes content)
-pool_is_added base bytes content can few room = rw (can, lt-leb most_pools (length content.pools) few, room) refl
 
 -- so many pools are left to add, all below those that stand
 record IsReady (settings : Settings) (left : ℕ) (content : Bare) : Type 0 where
