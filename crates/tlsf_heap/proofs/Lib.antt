@@ -46,6 +46,7 @@ pub mod RunSteps
 pub mod BareSteps
 pub mod BareFree
 pub mod Allocating
+pub mod Implied
 mod LayoutRows
 mod HeapRows
 mod RunRows

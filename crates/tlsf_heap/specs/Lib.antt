@@ -18,3 +18,4 @@ pub mod Rows
 pub mod Run
 pub mod Bare
 pub mod PlainHeap
+pub mod Implied
