@@ -1,5 +1,5 @@
 -- The worked rows of the heap, computed by the definitions.
-use Rattle.std.proofs.Common.{◌≡◌, ℕ, suc, ◌+◌, ◌<◌, ◌≤◌, List, [], ◌∷◌, ◌++◌, refl, sym, subst, arith, Bool, true, false, map, not, Some, None, inl, inr}
+use Rattle.std.proofs.Common.{◌≡◌, ℕ, suc, ◌+◌, ◌<◌, List, [], ◌∷◌, ◌++◌, refl, sym, subst, arith, Bool, true, false, map, not, Some, None, inl, inr}
 use Rattle.std.specs.Prelude.{Result, Ok, Err, ◌==◌, All, AllPairs, IsTrue}
 use Rattle.std.proofs.lemmas.List.Elements.{All-nil, All-from_recursion}
 use Rattle.std.proofs.lemmas.List.Kept.{AllPairs-cons}
@@ -12,6 +12,7 @@ use Rattle.tlsf_heap.specs.Content.{Block, Content, blocks_of, is_free}
 use Rattle.tlsf_heap.specs.Malloc.{malloc}
 use Rattle.tlsf_heap.specs.Free.{free}
 use Rattle.tlsf_heap.specs.Pools.{created, add_pool}
+use Rattle.tlsf_heap.specs.Good.{times}
 use Rattle.tlsf_heap.specs.Implied.{IsAligned, AreDisjoint, HasAlignedBlocks, HasDisjointBlocks, AreFreeBelow, live_blocks, HasFewRecords}
 
 -- a request of the rows
@@ -179,6 +180,10 @@ first_split-disjoint =
     let none_behind : AllPairs {X = Block ℕ} AreDisjoint (last ∷ []) = AllPairs-cons AreDisjoint last [] (All-nil (AreDisjoint last)) (λ i j d less within. absurd (omega (arith, within))) in
     subst P (sym first_split-blocks)
     (AllPairs-cons AreDisjoint (record { place = 0; size = 104; owner = Some 1 }) (last ∷ []) (All-from_recursion (AreDisjoint (record { place = 0; size = 104; owner = Some 1 })) (last ∷ []) (inl (omega arith), tt)) none_behind)
+
+first_split-once : times 104 (list_of (class 920) (from_create 4 (pool 0 1024 ∷ malloc_of 100 ∷ [])).content.lists) ≡ 1
+unfolding class need low rounded
+first_split-once = refl
 
 first_split-live : live_blocks (from_create 4 (pool 0 1024 ∷ malloc_of 100 ∷ [])).content ≡ 1
 unfolding class need low rounded

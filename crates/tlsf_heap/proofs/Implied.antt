@@ -1,9 +1,10 @@
--- A good content's blocks are aligned and disjoint; and what a refusal implies of them.
-use Rattle.std.proofs.Common.{◌≡◌, ℕ, zero, suc, ◌+◌, ◌-◌, ◌*◌, ◌%◌, ◌<◌, ◌≤◌, Bool, true, false, cond, ◌&&◌, not, List, [], ◌∷◌, ◌++◌, length, refl, sym, ap, ◌∙◌, subst, arith, count_by, Option, Some, None, drop, option_and_then, inl, inr, length-append}
-use Rattle.std.specs.Prelude.{◌==◌, Result, Ok, Err, nat_lt, nat_le, All, AllPairs, IsTrue, ⊤}
+-- A good content's blocks are aligned, disjoint and listed once where they are free; and what a refusal implies of them.
+use Rattle.std.proofs.Common.{◌≡◌, ℕ, zero, suc, ◌+◌, ◌-◌, ◌*◌, ◌%◌, ◌<◌, ◌≤◌, Bool, true, false, cond, ◌&&◌, not, List, [], ◌∷◌, length, get_or, refl, sym, ap, ◌∙◌, arith, count_by, Option, Some, None, drop, option_and_then, inl, inr, length-append}
+use Rattle.std.specs.Prelude.{◌==◌, Result, Ok, Err, nat_lt, nat_le, All, AllPairs, IsTrue}
 use Rattle.std.specs.List.{AllByRecursion, list_all}
 use Rattle.std.proofs.lemmas.Bool.{cases_Bool, cases_lt, eq-eqb, and_parts, leb-true}
-use Rattle.std.proofs.lemmas.List.{get_or-drop, get_or_past}
+use Rattle.std.proofs.lemmas.List.{get_or-drop}
+use Rattle.std.proofs.Math.Seq.{get_or-append_seam}
 use Rattle.std.proofs.lemmas.List.Elements.{All-from_recursion, All-append}
 use Rattle.std.proofs.lemmas.List.Kept.{AllPairs-cons}
 use Rattle.tlsf_class.specs.Classes.{unit, classes, low, class, need}
@@ -13,11 +14,12 @@ use Rattle.tlsf_heap.specs.declared.refusal.Refusal.{Refusal}
 use Rattle.tlsf_heap.specs.declared.refusal.Refusal.TheVariants.{ZeroSize, NoFit, TableFull, BadPool, PoolsFull}
 use Rattle.tlsf_heap.specs.Content.{Block, Pool, Content, blocks_of, is_free, is_at, size_at, used_records}
 use Rattle.tlsf_heap.specs.Lists.{list_of, first_of_lists, pick}
-use Rattle.tlsf_heap.specs.Malloc.{allocated, allocate, malloc_picked, malloc_rounded, malloc}
+use Rattle.tlsf_heap.specs.Malloc.{allocated, malloc_picked, malloc_rounded, malloc}
 use Rattle.tlsf_heap.specs.Pools.{most_pools, add_pool, with_pool, can_be_pool, is_apart}
 use Rattle.tlsf_heap.specs.Good.{Covers, NoFreeNeighbours, AreGoodPools, IsGood, times, is_listed}
-use Rattle.tlsf_heap.specs.Implied.{IsAligned, AreDisjoint, HasAlignedBlocks, HasDisjointBlocks, AreFreeBelow, NoneFits, live_blocks, HasFewRecords}
-use Rattle.tlsf_heap.proofs.Blocks.{Ascends, Ascends-higher, Ascends-pools, count_by-cons, count_by-append, one_if}
+use Rattle.tlsf_heap.specs.Implied.{IsAligned, AreDisjoint, HasAlignedBlocks, HasDisjointBlocks, ListsFreeBlocks, ListsNothingElse, AreFreeBelow, NoneFits, HasFewRecords}
+use Rattle.tlsf_heap.proofs.Blocks.{Ascends, Ascends-higher, Ascends-pools, found_listed, count_by-cons, count_by-append, one_if}
+use Rattle.tlsf_heap.proofs.GoodContent.{one_at_most as one_at_most_listed}
 
 -- lists of which none is the first that isn't empty are empty
 no_first : (lists : List (List ℕ)) → first_of_lists lists ≡ None → (k : ℕ) → list_of k lists ≡ []
@@ -43,6 +45,10 @@ none_after true false n is = absurd (cc)
 none_after false free n is = refl
 
 module _ {A : Type 0} where
+  -- a free block is listed at its place in its class
+  listed_itself : (block : Block A) → is_free block ≡ true → is_listed (class block.size) block.place block ≡ true
+  listed_itself block free = rw (free, eq-eqb block.place block.place refl, eq-eqb (class block.size) (class block.size) refl) refl
+
   -- blocks of which none is listed from a class on are below its lowest size where they are free
   below_class : (c : ℕ) (blocks : List (Block A)) → c < classes → ((k place : ℕ) → c ≤ k → k < classes → count_by (is_listed k place) blocks ≡ 0)
       → AllByRecursion (λ block. IsTrue (is_free block) → block.size < low c) blocks
@@ -54,7 +60,7 @@ module _ {A : Type 0} where
           let kind : Block A → Bool = is_listed (class block.size) block.place in
           let here : is_at block.place block ≡ true = eq-eqb block.place block.place refl in
           let listed : kind block ≡ true = rw (free, here, eq-eqb (class block.size) (class block.size) refl) refl in
-          absurd (omega (arith, none (class block.size) block.place most (class-lt block.size), count_by-cons kind block blocks, ap one_if listed))
+          absurd (omega (arith, none (class block.size) block.place most (class-lt block.size), count_by-cons kind block blocks, ap one_if (listed_itself block free)))
     ],
     below_class c blocks within (λ k place above below. omega (arith, none k place above below, count_by-cons (is_listed k place) block blocks)),
   )
@@ -124,6 +130,36 @@ module _ {A : Type 0} where
   pub has_aligned_blocks : (content : Content A) → IsGood content → HasAlignedBlocks content
   has_aligned_blocks content good = aligned_in 0 content.pools good.pools_good
 
+  -- an element that passes is counted
+  counted_at : (test : Block A → Bool) (blocks : List (Block A)) (k : ℕ) (d : Block A) → k < length blocks → test (get_or blocks k d) ≡ true → 1 ≤ count_by test blocks
+  counted_at test [] k d within passes = absurd (omega (arith, within))
+  counted_at test (block ∷ blocks) zero d within passes = omega (arith, count_by-cons test block blocks, ap one_if passes)
+  counted_at test (block ∷ blocks) (suc k) d within passes = omega (arith, count_by-cons test block blocks, counted_at test blocks k d (omega (arith, within)) passes)
+
+  -- a good content's free blocks are each listed once
+  pub lists_free_blocks : (content : Content A) → IsGood content → ListsFreeBlocks content
+  lists_free_blocks content good k d within free =
+      let blocks : List (Block A) = blocks_of content.pools in
+      let block : Block A = get_or blocks k d in
+      let number : ℕ = class block.size in
+      let some : 1 ≤ count_by (is_listed number block.place) blocks = counted_at (is_listed number block.place) blocks k d within (listed_itself block free) in
+      let found = found_listed number block.place 0 blocks (Ascends-pools 0 content.pools good.pools_good) some in
+      omega (arith, some, one_at_most_listed number block.place blocks found.0, good.listed number block.place (class-lt block.size))
+
+  -- and nothing else is
+  pub lists_nothing_else : (content : Content A) → IsGood content → ListsNothingElse content
+  lists_nothing_else content good number place below some =
+      let blocks : List (Block A) = blocks_of content.pools in
+      let found = found_listed number place 0 blocks (Ascends-pools 0 content.pools good.pools_good) (omega (arith, some, good.listed number place below)) in
+      let listed : is_listed number place found.0.block ≡ true = rw (found.1, eq-eqb _ _ found.0.here, eq-eqb _ _ found.2) refl in
+      let behind : ℕ = length found.0.front in (
+        behind,
+        found.0.block,
+        omega (arith, ap length found.0.whole, length-append found.0.front (found.0.block ∷ found.0.back)),
+        ap (λ bs. get_or bs behind found.0.block) found.0.whole ∙ get_or-append_seam found.0.front found.0.block found.0.back found.0.block,
+        listed,
+      )
+
   abbrev is_used : Block A → Bool
   is_used block = not (is_free block)
 
@@ -145,7 +181,7 @@ module _ {A : Type 0} where
   few_blocks (pool ∷ pools) from g =
       omega (arith, few_free false pool.blocks g.1.merged, few_blocks pools (pool.base + pool.bytes) g.2, length-append pool.blocks (blocks_of pools), count_by-append is_used pool.blocks (blocks_of pools))
 
-  -- where each record is in use, the records are few
+  -- where each record is in use, there are few
   full : (content : Content A) → IsGood content → content.records ≤ used_records content → HasFewRecords content
   full content good used = omega (arith, used, few_blocks content.pools 0 good.pools_good)
 
@@ -160,7 +196,7 @@ module _ {A : Type 0} where
       of true e = refl
       of false e = absurd (cc)
 
-  -- where malloc finds the table full, the records are few
+  -- where malloc finds the table full, there are few records
   pub malloc_full : (owner : A) (n : ℕ) (content : Content A) → IsGood content → malloc owner n content ≡ Err TableFull → HasFewRecords content
   malloc_full owner n content good refused = elim (cases_Bool (n == 0)) [
     | inl zero_bytes ↦

@@ -40,7 +40,7 @@ impl Heap {
     ghost use Rattle.tlsf_heap.specs.Free.{free as freed};
     ghost use Rattle.tlsf_heap.specs.Pools.{created, add_pool as added};
     ghost use Rattle.tlsf_heap.specs.Counted.{range_of};
-    ghost use Rattle.tlsf_heap.specs.Implied.{NoneFits, HasFewRecords, HasAlignedBlocks, HasDisjointBlocks};
+    ghost use Rattle.tlsf_heap.specs.Implied.{NoneFits, HasFewRecords, HasAlignedBlocks, HasDisjointBlocks, ListsFreeBlocks, ListsNothingElse};
     ghost use Rattle.tlsf_heap.specs.declared.refusal.Refusal.TheVariants.{NoFit, TableFull};
 
     /// A heap of this many records, from 1 to 65,535, with no pool. It takes memory once, for its
@@ -139,6 +139,8 @@ impl Heap {
         ensures slots { HasGoodSlots self.now.content }
         ensures aligned { HasAlignedBlocks self.now.content }
         ensures disjoint { HasDisjointBlocks self.now.content }
+        ensures listed_once { ListsFreeBlocks self.now.content }
+        ensures listed_alone { ListsNothingElse self.now.content }
     {
         let _store = &self.store;
     }
