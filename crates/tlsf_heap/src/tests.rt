@@ -1,5 +1,6 @@
 //! Rows of the heap.
 
+mod random;
 mod rows;
 
 use super::*;
