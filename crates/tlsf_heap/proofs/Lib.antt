@@ -34,6 +34,7 @@ pub mod Loose
 pub mod Releasing
 pub mod Released
 pub mod JoinSteps
+pub mod Reading
 pub mod SameBlocks
 pub mod SlotsReplaced
 pub mod TakenWhole

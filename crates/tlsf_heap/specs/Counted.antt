@@ -1,16 +1,19 @@
--- What contracts see of a heap: its content, and how often its store was touched.
-use Rattle.std.specs.Prelude.{ℕ}
+-- What contracts see of a heap: its content, how often its store was touched, and the rows from each slot on.
+use Rattle.std.specs.Prelude.{ℕ, List}
+use Rattle.tlsf_heap.specs.declared.row.Row.{Row}
 use Rattle.tlsf_store.specs.Cells.{Cells}
 use Rattle.tlsf_heap.specs.Content.{Pool, Content}
 use Rattle.tlsf_heap.specs.Layout.{content_of}
+use Rattle.tlsf_heap.specs.Readings.{rows_by}
 
 pub record Counted : Type 0 where
   pub content : Content ℕ
   pub touches : ℕ
+  pub rows : List (List Row)
 
 -- the same of the cells of a store
 abbrev pub counted : Cells → Counted
-counted cells = record { content = content_of cells; touches = cells.touches }
+counted cells = record { content = content_of cells; touches = cells.touches; rows = rows_by cells.records }
 
 -- where the pool begins, and its bytes
 abbrev pub range_of : {A : Type 0} → Pool A → ℕ × ℕ

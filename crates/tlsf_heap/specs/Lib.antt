@@ -9,6 +9,7 @@ pub mod Edits
 pub mod Chains
 pub mod Allocation
 pub mod Release
+pub mod Readings
 pub mod Bitmaps
 pub mod Layout
 pub mod Entries

@@ -3,8 +3,9 @@
 use crate::allocation::malloc;
 use crate::entries::{MOST_POOLS, entries, pool_ranges};
 use crate::pools::add_pool;
+use crate::readings::{first, row};
 use crate::release::free;
-use crate::{Ptr, Refusal};
+use crate::{Cursor, Ptr, Refusal, Row};
 use arrayvec::ArrayVec;
 use std::alloc::Global;
 use std::marker::Model;
@@ -31,13 +32,15 @@ impl Model for Heap {
 }
 
 impl Heap {
-    ghost use Rattle.std.specs.Prelude.{◌≡◌, ℕ, ◌+◌, ◌<◌, ◌≤◌, ◌^◌, ◌==◌, ◌⊎◌, ◌↔◌, map, Ok, Err, IfOk, IfErr, OnOk, OnErr};
+    ghost use Rattle.std.specs.Prelude.{◌≡◌, ℕ, ◌+◌, ◌<◌, ◌≤◌, ◌^◌, ◌==◌, ◌⊎◌, ◌↔◌, [], ◌∷◌, map, Ok, Err, IfOk, IfErr, IfSome, IfNone, OnOk, OnErr};
     ghost use Rattle.tlsf_store.specs.declared.errors.StoreError.TheVariants.{BadCount};
     ghost use Rattle.tlsf_heap.specs.Good.{IsGood};
     ghost use Rattle.tlsf_heap.specs.GoodSlots.{HasGoodSlots, slot_times};
     ghost use Rattle.tlsf_heap.specs.Content.{blocks_of};
     ghost use Rattle.tlsf_heap.specs.Malloc.{malloc as served};
     ghost use Rattle.tlsf_heap.specs.Free.{free as freed};
+    ghost use Rattle.tlsf_heap.specs.Rows.{rows_from};
+    ghost use Rattle.tlsf_heap.specs.Readings.{rest_of, stands_at};
     ghost use Rattle.tlsf_heap.specs.Pools.{created, add_pool as added};
     ghost use Rattle.tlsf_heap.specs.Counted.{range_of};
 
@@ -120,6 +123,38 @@ impl Heap {
     {
         let entries = entries(&mut self.store);
         pool_ranges(entries.as_slice())
+    }
+
+    /// The cursor at the first row of the pool that begins at the place `base`. Four touches.
+    ///
+    /// # Errors
+    ///
+    /// `NoPool` where no pool begins there.
+    pub fn first(&mut self, base: u64) -> Result<Cursor, Refusal>
+        ensures ok { IfOk result (λ cursor. rows_from base self.old.content.pools ≡ Ok (rest_of self.new.rows cursor.next)) }
+        ensures stands { IfOk result (λ cursor. stands_at self.new.rows cursor.next) }
+        ensures refused { IfErr result (λ refusal. rows_from base self.old.content.pools ≡ Err refusal) }
+        ensures unchanged { self.new.content ≡ self.old.content }
+        ensures floor { self.old.touches ≤ self.new.touches }
+        ensures bound { self.new.touches ≤ self.old.touches + 4 }
+    {
+        first(&mut self.store, base)
+    }
+
+    /// The row at the cursor, and the cursor behind it; none behind the last row of the pool. At most
+    /// four touches, and none where there is no row.
+    pub fn row(&mut self, cursor: Cursor) -> Option<(Row, Cursor)>
+        requires { stands_at self.old.rows cursor.next }
+        ensures some { IfSome result (λ given. rest_of self.old.rows cursor.next ≡ given.0 ∷ rest_of self.new.rows given.1.next) }
+        ensures next_stands { IfSome result (λ given. stands_at self.new.rows given.1.next) }
+        ensures none { IfNone result (rest_of self.old.rows cursor.next ≡ []) }
+        ensures others { self.new.rows ≡ self.old.rows }
+        ensures unchanged { self.new.content ≡ self.old.content }
+        ensures floor { self.old.touches ≤ self.new.touches }
+        ensures bound { IfSome result (λ given. self.new.touches ≤ self.old.touches + 4) }
+        ensures no_touch { IfNone result (self.new.touches ≡ self.old.touches) }
+    {
+        row(&mut self.store, cursor)
     }
 
     /// Says what every heap keeps; it does nothing.

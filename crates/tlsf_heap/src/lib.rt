@@ -4,6 +4,7 @@
 
 mod allocation;
 mod answer;
+mod calls;
 mod chains;
 mod cursor;
 mod entries;
@@ -15,6 +16,7 @@ mod plain_heap;
 mod pointer;
 mod pool_entry;
 mod pools;
+mod readings;
 mod refusal;
 mod release;
 mod request;

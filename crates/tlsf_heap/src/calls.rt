@@ -1,0 +1,46 @@
+//! The heap as any heap.
+
+use crate::{Cursor, Heap, Heaped, Ptr, Refusal, Row};
+use arrayvec::ArrayVec;
+use std::alloc::Global;
+use tlsf_store::StoreError;
+
+impl Heaped for Heap {
+    ghost use Rattle.tlsf_heap.specs.Readings.{rest_of, stands_at};
+
+    ghost content = { λ heap. heap.content };
+
+    ghost touches = { λ heap. heap.touches };
+
+    ghost stands = { λ heap cursor. stands_at heap.rows cursor.next };
+
+    ghost rest = { λ heap cursor. rest_of heap.rows cursor.next };
+
+    fn create(alloc: Global, records: u32) -> Result<Self, StoreError> {
+        Heap::create(alloc, records)
+    }
+
+    fn add_pool(&mut self, base: u64, bytes: u64) -> Result<(), Refusal> {
+        Heap::add_pool(self, base, bytes)
+    }
+
+    fn malloc(&mut self, n: u64) -> Result<Ptr, Refusal> {
+        Heap::malloc(self, n)
+    }
+
+    fn free(&mut self, ptr: Ptr) -> Result<(), Refusal> {
+        Heap::free(self, ptr)
+    }
+
+    fn pools(&mut self) -> ArrayVec<(u64, u64), 8> {
+        Heap::pools(self)
+    }
+
+    fn first(&mut self, base: u64) -> Result<Cursor, Refusal> {
+        Heap::first(self, base)
+    }
+
+    fn row(&mut self, cursor: Cursor) -> Option<(Row, Cursor)> {
+        Heap::row(self, cursor)
+    }
+}

@@ -1,0 +1,136 @@
+//! Readings: the first row of a pool, and the rows behind it.
+
+ghost use Rattle.std.specs.Prelude.{◌≡◌, ◌+◌, ◌-◌, ◌*◌, ◌<◌, ◌≤◌, [], ◌∷◌, length, Ok, Err, IfOk, IfErr, IfSome, IfNone};
+ghost use Rattle.tlsf_store.specs.Cells.{touched, pool_at, pool_entries};
+ghost use Rattle.tlsf_heap.specs.Layout.{Stands, content_of, entries_of};
+ghost use Rattle.tlsf_heap.specs.Rows.{rows_from};
+ghost use Rattle.tlsf_heap.specs.Readings.{is_state_live, rows_by, rest_of, stands_at, slot_for, begins_below, slot_if, AreInOrder, IsNarrowed};
+
+use crate::{Cursor, Refusal, Row};
+use tlsf_store::{Pool, Slot, State, Store};
+
+/// The cursor at the first row of the pool that begins at `base`. Four touches.
+///
+/// # Errors
+///
+/// `NoPool` where no pool begins there.
+pub(crate) fn first(store: &mut Store, base: u64) -> Result<Cursor, Refusal>
+    requires { Stands store.old }
+    ensures ok { IfOk result (λ cursor. rows_from base (content_of store.old).pools ≡ Ok (rest_of (rows_by store.old.records) cursor.next)) }
+    ensures stands { IfOk result (λ cursor. stands_at (rows_by store.old.records) cursor.next) }
+    ensures refused { IfErr result (λ refusal. rows_from base (content_of store.old).pools ≡ Err refusal) }
+    ensures touches { store.new ≡ touched 4 store.old }
+{
+    match find(store, base) {
+        Some(slot) => Ok(Cursor {
+            next: Some(u32::from(slot.0)),
+        }),
+        None => Err(Refusal::NoPool),
+    }
+}
+
+/// The first block of the pool that begins at `base`, found by halving. Four touches.
+fn find(store: &mut Store, base: u64) -> Option<Slot>
+    requires { Stands store.old }
+    ensures value { result ≡ slot_for base (entries_of store.old.pools) }
+    ensures touches { store.new ≡ touched 4 store.old }
+{
+    let place = skip(store, base, 0, 4);
+    let place = skip(store, base, place, 2);
+    let place = skip(store, base, place, 1);
+    first_if(store.pool(place), base)
+}
+
+/// Passes the next `width` pools where the last of them begins below `base`. One touch.
+fn skip(store: &mut Store, base: u64, place: u32, width: u32) -> u32
+    requires some { 0 < width }
+    requires within { place + width + width ≤ pool_entries }
+    requires in_order { AreInOrder base store.old.pools }
+    requires narrowed { IsNarrowed base store.old.pools place (place + width + width - 1) }
+    ensures narrowed { IsNarrowed base store.old.pools result (result + width - 1) }
+    ensures within { result + width ≤ place + width + width }
+    ensures touches { store.new ≡ touched 1 store.old }
+{
+    if is_below(store.pool(place + width - 1), base) {
+        place + width
+    } else {
+        place
+    }
+}
+
+/// Whether the pool, if there is one, begins below `base`.
+fn is_below(pool: Option<Pool>, base: u64) -> bool
+    ensures { result ≡ begins_below base pool }
+{
+    match pool {
+        Some(pool) => u64::from(pool.base) < base,
+        None => false,
+    }
+}
+
+/// The first block of the pool, if it begins at `base`.
+fn first_if(pool: Option<Pool>, base: u64) -> Option<Slot>
+    ensures { result ≡ slot_if base pool }
+{
+    match pool {
+        Some(pool) => {
+            if u64::from(pool.base) == base {
+                Some(pool.first)
+            } else {
+                None
+            }
+        }
+        None => None,
+    }
+}
+
+/// The row at the cursor, and the cursor behind it; none behind the last row. One touch where there is a
+/// row.
+pub(crate) fn row(store: &mut Store, cursor: Cursor) -> Option<(Row, Cursor)>
+    requires stands { Stands store.old }
+    requires there { stands_at (rows_by store.old.records) cursor.next }
+    ensures some { IfSome result (λ given. rest_of (rows_by store.old.records) cursor.next ≡ given.0 ∷ rest_of (rows_by store.old.records) given.1.next) }
+    ensures next_stands { IfSome result (λ given. stands_at (rows_by store.old.records) given.1.next) }
+    ensures none { IfNone result (rest_of (rows_by store.old.records) cursor.next ≡ []) }
+    ensures cells { store.new ≡ record store.old { touches = store.new.touches } }
+    ensures floor { store.old.touches ≤ store.new.touches }
+    ensures bound { IfSome result (λ given. store.new.touches ≤ store.old.touches + 4) }
+    ensures no_touch { IfNone result (store.new.touches ≡ store.old.touches) }
+{
+    let Some(next) = cursor.next else {
+        return None;
+    };
+    if next >= store.records() {
+        return None;
+    }
+    let block = store.read(Slot(next as u16));
+    let row = Row {
+        place: block.place,
+        size: block.size,
+        used: is_used(block.state),
+    };
+    let behind = Cursor {
+        next: number_of(block.next),
+    };
+    Some((row, behind))
+}
+
+/// Whether a record in this state is of a live block.
+fn is_used(state: State) -> bool
+    ensures { result ≡ is_state_live state }
+{
+    match state {
+        State::Live => true,
+        State::Vacant | State::Free => false,
+    }
+}
+
+/// The number of a slot, if there is one.
+fn number_of(slot: Option<Slot>) -> Option<u32>
+    ensures { result ≡ slot }
+{
+    match slot {
+        Some(slot) => Some(u32::from(slot.0)),
+        None => None,
+    }
+}
