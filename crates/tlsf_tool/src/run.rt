@@ -17,7 +17,7 @@ use crate::settings::Settings;
 use crate::status::{RunFault, Status};
 use mtrace_log::{Failed, Line, Lines, Sink, Source};
 use std::alloc::Global;
-use tlsf_heap::{Heaped, PlainHeap};
+use tlsf_heap::{Heap, Heaped};
 
 /// Puts the line of a diagnostic, where there is one.
 fn put_note<W: Sink>(writer: &mut W, note: &Option<Diagnostic>) -> Result<(), Failed>
@@ -158,7 +158,7 @@ pub fn run_leaks<R: Source, W: Sink>(
     if settings.are_bad() {
         return Err(RunFault::BadSettings);
     }
-    let Ok(mut replay) = Replay::<PlainHeap>::create(alloc, settings) else {
+    let Ok(mut replay) = Replay::<Heap>::create(alloc, settings) else {
         return Err(RunFault::OutOfMemory);
     };
     match replay_lines(alloc, reader, writer, &mut replay) {

@@ -242,30 +242,40 @@ fn double_free<H: Heaped>(alloc: Global) -> Result<bool, StoreError> {
 
 #[test]
 fn run_of_requests_over_both(rt: HostRuntime) {
+    assert_eq!(rt; run_of_requests::<Heap>(rt.alloc()), Ok(true));
     assert_eq!(rt; run_of_requests::<PlainHeap>(rt.alloc()), Ok(true));
 }
 
 #[test]
 fn split_and_reuse_over_both(rt: HostRuntime) {
+    assert_eq!(rt; first_split::<Heap>(rt.alloc()), Ok(true));
     assert_eq!(rt; first_split::<PlainHeap>(rt.alloc()), Ok(true));
+    assert_eq!(rt; reuse_without_split::<Heap>(rt.alloc()), Ok(true));
     assert_eq!(rt; reuse_without_split::<PlainHeap>(rt.alloc()), Ok(true));
 }
 
 #[test]
 fn merge_over_both(rt: HostRuntime) {
+    assert_eq!(rt; merge_both_sides::<Heap>(rt.alloc()), Ok(true));
     assert_eq!(rt; merge_both_sides::<PlainHeap>(rt.alloc()), Ok(true));
+    assert_eq!(rt; pools_never_merged::<Heap>(rt.alloc()), Ok(true));
     assert_eq!(rt; pools_never_merged::<PlainHeap>(rt.alloc()), Ok(true));
 }
 
 #[test]
 fn choice_over_both(rt: HostRuntime) {
+    assert_eq!(rt; lower_class_not_taken::<Heap>(rt.alloc()), Ok(true));
     assert_eq!(rt; lower_class_not_taken::<PlainHeap>(rt.alloc()), Ok(true));
+    assert_eq!(rt; newest_freed_first::<Heap>(rt.alloc()), Ok(true));
     assert_eq!(rt; newest_freed_first::<PlainHeap>(rt.alloc()), Ok(true));
+    assert_eq!(rt; greatest_class::<Heap>(rt.alloc()), Ok(true));
     assert_eq!(rt; greatest_class::<PlainHeap>(rt.alloc()), Ok(true));
 }
 
 #[test]
 fn refusals_over_both(rt: HostRuntime) {
+    assert_eq!(rt; full_table::<Heap>(rt.alloc()), Ok(true));
     assert_eq!(rt; full_table::<PlainHeap>(rt.alloc()), Ok(true));
+    assert_eq!(rt; double_free::<Heap>(rt.alloc()), Ok(true));
     assert_eq!(rt; double_free::<PlainHeap>(rt.alloc()), Ok(true));
 }
