@@ -1,15 +1,19 @@
 -- The worked rows of the heap, computed by the definitions.
-use Rattle.std.proofs.Common.{◌≡◌, ℕ, suc, List, [], ◌∷◌, ◌++◌, refl, Bool, true, false, map, not}
-use Rattle.std.specs.Prelude.{Result, Ok, Err, ◌==◌}
+use Rattle.std.proofs.Common.{◌≡◌, ℕ, suc, ◌+◌, ◌<◌, List, [], ◌∷◌, ◌++◌, refl, sym, subst, arith, Bool, true, false, map, not, Some, None, inl, inr}
+use Rattle.std.specs.Prelude.{Result, Ok, Err, ◌==◌, All, AllPairs, IsTrue}
+use Rattle.std.proofs.lemmas.List.Elements.{All-nil, All-from_recursion}
+use Rattle.std.proofs.lemmas.List.Kept.{AllPairs-cons}
 use Rattle.tlsf_heap.specs.declared.refusal.Refusal.{Refusal}
 use Rattle.tlsf_heap.specs.declared.refusal.Refusal.TheVariants.{ZeroSize, NoFit, TableFull, BadPool, BadPointer}
 use Rattle.tlsf_class.specs.Classes.{class, need, low}
 use Rattle.tlsf_class.specs.Rounding.{rounded}
 use Rattle.tlsf_heap.specs.Lists.{list_of}
-use Rattle.tlsf_heap.specs.Content.{Content, blocks_of, is_free}
+use Rattle.tlsf_heap.specs.Content.{Block, Content, blocks_of, is_free}
 use Rattle.tlsf_heap.specs.Malloc.{malloc}
 use Rattle.tlsf_heap.specs.Free.{free}
 use Rattle.tlsf_heap.specs.Pools.{created, add_pool}
+use Rattle.tlsf_heap.specs.Good.{times}
+use Rattle.tlsf_heap.specs.Implied.{IsAligned, AreDisjoint, HasAlignedBlocks, HasDisjointBlocks, AreFreeBelow, live_blocks, HasFewRecords}
 
 -- a request of the rows
 data Request : Type 0 where
@@ -155,3 +159,70 @@ never_merged_whole = refl
 free_twice : (from_create 4 (pool 0 1024 ∷ malloc_of 100 ∷ free_of 0 9 ∷ free_of 8 1 ∷ free_of 0 1 ∷ free_of 0 1 ∷ [])).answers ≡ done ∷ given 0 ∷ refused BadPointer ∷ refused BadPointer ∷ done ∷ refused BadPointer ∷ []
 unfolding class need low rounded
 free_twice = refl
+
+-- first-split: its two blocks are aligned and disjoint
+abbrev two_blocks : List (Block ℕ)
+two_blocks = record { place = 0; size = 104; owner = Some 1 } ∷ record { place = 104; size = 920; owner = None } ∷ []
+
+first_split-blocks : blocks_of (from_create 4 (pool 0 1024 ∷ malloc_of 100 ∷ [])).content.pools ≡ two_blocks
+unfolding class need low rounded
+first_split-blocks = refl
+
+first_split-aligned : HasAlignedBlocks (from_create 4 (pool 0 1024 ∷ malloc_of 100 ∷ [])).content
+first_split-aligned =
+    let P : List (Block ℕ) → Type 0 = λ blocks. All IsAligned blocks in
+    subst P (sym first_split-blocks) (All-from_recursion IsAligned two_blocks ((refl, refl), ((refl, refl), tt)))
+
+first_split-disjoint : HasDisjointBlocks (from_create 4 (pool 0 1024 ∷ malloc_of 100 ∷ [])).content
+first_split-disjoint =
+    let P : List (Block ℕ) → Type 0 = λ blocks. AllPairs AreDisjoint blocks in
+    let last : Block ℕ = record { place = 104; size = 920; owner = None } in
+    let none_behind : AllPairs {X = Block ℕ} AreDisjoint (last ∷ []) = AllPairs-cons AreDisjoint last [] (All-nil (AreDisjoint last)) (λ i j d less within. absurd (omega (arith, within))) in
+    subst P (sym first_split-blocks)
+    (AllPairs-cons AreDisjoint (record { place = 0; size = 104; owner = Some 1 }) (last ∷ []) (All-from_recursion (AreDisjoint (record { place = 0; size = 104; owner = Some 1 })) (last ∷ []) (inl (omega arith), tt)) none_behind)
+
+first_split-once : times 104 (list_of (class 920) (from_create 4 (pool 0 1024 ∷ malloc_of 100 ∷ [])).content.lists) ≡ 1
+unfolding class need low rounded
+first_split-once = refl
+
+first_split-live : live_blocks (from_create 4 (pool 0 1024 ∷ malloc_of 100 ∷ [])).content ≡ 1
+unfolding class need low rounded
+first_split-live = refl
+
+-- blocks that overlap are not disjoint
+overlapping : AreDisjoint {A = ℕ} (record { place = 0; size = 16; owner = None }) (record { place = 8; size = 16; owner = None }) → ⊥
+overlapping (inl e) = omega (arith, e)
+overlapping (inr e) = omega (arith, e)
+
+-- lower-class-not-taken: 520 bytes need the class of 528, and the free block of 520 is smaller
+lower_class-need : need 520 ≡ Some 65
+unfolding class need low rounded
+lower_class-need = refl
+
+lower_class-low : low 65 ≡ 528
+unfolding low
+lower_class-low = refl
+
+abbrev one_free : List (Block ℕ)
+one_free = record { place = 0; size = 520; owner = None } ∷ []
+
+lower_class-blocks : blocks_of (from_create 2 (pool 0 520 ∷ malloc_of 520 ∷ [])).content.pools ≡ one_free
+unfolding class need low rounded
+lower_class-blocks = refl
+
+lower_class-free : AreFreeBelow 528 (blocks_of (from_create 2 (pool 0 520 ∷ malloc_of 520 ∷ [])).content.pools)
+lower_class-free =
+    let P : List (Block ℕ) → Type 0 = λ blocks. AreFreeBelow 528 blocks in
+    subst P (sym lower_class-blocks) (All-from_recursion (λ (block : Block ℕ). IsTrue (is_free block) → block.size < 528) one_free (λ _. omega arith, tt))
+
+lower_class-not_below : AreFreeBelow 520 one_free → ⊥
+lower_class-not_below below = omega (arith, below 0 (record { place = 0; size = 0; owner = None }) (omega arith) refl)
+
+-- full-table: one record, one pool, no live block
+full_table-few : HasFewRecords (from_create 1 (pool 0 64 ∷ malloc_of 8 ∷ [])).content
+unfolding class need low rounded
+full_table-few = omega arith
+
+not_full : HasFewRecords (from_create 2 (pool 0 64 ∷ [])).content → ⊥
+unfolding class need low rounded
+not_full few = omega (arith, few)

@@ -47,6 +47,7 @@ pub mod RunSteps
 pub mod BareSteps
 pub mod BareFree
 pub mod Allocating
+pub mod Implied
 mod LayoutRows
 mod HeapRows
 mod RunRows

@@ -19,3 +19,4 @@ pub mod Rows
 pub mod Run
 pub mod Bare
 pub mod PlainHeap
+pub mod Implied

@@ -99,20 +99,20 @@ fn take(store: &mut Store, slot: Slot, asked: u32) -> Result<Ptr, Refusal>
     Ok(Ptr::new(block.place, slot.0))
 }
 
-/// A free block of `size` bytes leaves its class's list and is live. At most 13 touches.
-fn take_whole(store: &mut Store, slot: Slot, size: u32)
-    requires whole { size % unit ≡ 0 }
-    requires some { 0 < size }
-    requires most { size ≤ greatest_size }
+/// A free block of `bytes` bytes leaves its class's list and is live. At most 13 touches.
+fn take_whole(store: &mut Store, slot: Slot, bytes: u32)
+    requires whole { bytes % unit ≡ 0 }
+    requires some { 0 < bytes }
+    requires most { bytes ≤ greatest_size }
     requires used { IsUsed store.old.records (Some slot) }
     requires prev_used { IsUsed store.old.records (record_at store.old.records slot).prev_free }
     requires next_used { IsUsed store.old.records (record_at store.old.records slot).next_free }
-    requires still_used { IsUsed (unlinked (class size) slot store.old).records (Some slot) }
-    ensures cells { store.new ≡ record (taken_whole slot size store.old) { touches = store.new.touches } }
+    requires still_used { IsUsed (unlinked (class bytes) slot store.old).records (Some slot) }
+    ensures cells { store.new ≡ record (taken_whole slot bytes store.old) { touches = store.new.touches } }
     ensures floor { store.old.touches ≤ store.new.touches }
     ensures bound { store.new.touches ≤ store.old.touches + 18 }
 {
-    unlink(store, class_of(size), slot);
+    unlink(store, class_of(bytes), slot);
     set_state(store, slot, State::Live);
 }
 

@@ -43,6 +43,8 @@ impl Heap {
     ghost use Rattle.tlsf_heap.specs.Readings.{rest_of, stands_at};
     ghost use Rattle.tlsf_heap.specs.Pools.{created, add_pool as added};
     ghost use Rattle.tlsf_heap.specs.Counted.{range_of};
+    ghost use Rattle.tlsf_heap.specs.Implied.{NoneFits, HasFewRecords, HasAlignedBlocks, HasDisjointBlocks, ListsFreeBlocks, ListsNothingElse};
+    ghost use Rattle.tlsf_heap.specs.declared.refusal.Refusal.TheVariants.{NoFit, TableFull};
 
     /// A heap of this many records, from 1 to 65,535, with no pool. It takes memory once, for its
     /// table.
@@ -67,10 +69,12 @@ impl Heap {
     ///
     /// `BadPool` where base or bytes isn't a multiple of the unit, bytes isn't from the unit to the
     /// greatest size, the end is above 2^32, or the pool overlaps another; `PoolsFull` where there are
-    /// as many pools as there can be; `TableFull` where each record is in use.
+    /// as many pools as there can be; `TableFull` where each record is in use: there are at most two
+    /// records a live block and one a pool then.
     pub fn add_pool(&mut self, base: u64, bytes: u64) -> Result<(), Refusal>
         ensures ok { OnOk result (added base bytes self.old.content ≡ Ok self.new.content) }
         ensures refused { IfErr result (λ refusal. added base bytes self.old.content ≡ Err refusal) }
+        ensures table_full { result ≡ Err TableFull → HasFewRecords self.old.content }
         ensures unchanged { OnErr result (self.new.content ≡ self.old.content) }
         ensures floor { self.old.touches ≤ self.new.touches }
         ensures bound { self.new.touches ≤ self.old.touches + 64 }
@@ -84,13 +88,16 @@ impl Heap {
     ///
     /// # Errors
     ///
-    /// `ZeroSize` for 0; `NoFit` where no such block is there, or `n` is above the greatest size;
-    /// `TableFull` where a rest would be left and each record is in use.
+    /// `ZeroSize` for 0; `NoFit` where no such block is there, or `n` is above the greatest size: each
+    /// free block is smaller than that class then, if there is one; `TableFull` where a rest would be left
+    /// and each record is in use: there are at most two records a live block and one a pool then.
     pub fn malloc(&mut self, n: u64) -> Result<Ptr, Refusal>
         ensures ok { IfOk result (λ ptr. served ptr.1 n self.old.content ≡ Ok (ptr.0, self.new.content)) }
         ensures slot_below { IfOk result (λ ptr. ptr.1 < self.old.content.records) }
         ensures slot_new { IfOk result (λ ptr. slot_times ptr.1 (blocks_of self.old.content.pools) ≡ 0) }
         ensures refused { IfErr result (λ refusal. (slot : ℕ) → served slot n self.old.content ≡ Err refusal) }
+        ensures no_fit { result ≡ Err NoFit → NoneFits n self.old.content }
+        ensures table_full { result ≡ Err TableFull → HasFewRecords self.old.content }
         ensures unchanged { OnErr result (self.new.content ≡ self.old.content) }
         ensures floor { self.old.touches ≤ self.new.touches }
         ensures bound { self.new.touches ≤ self.old.touches + 96 }
@@ -157,10 +164,18 @@ impl Heap {
         row(&mut self.store, cursor)
     }
 
-    /// Says what every heap keeps; it does nothing.
+    /// Says what every heap keeps, and does nothing. Its pools are covered by their blocks end to end, and
+    /// no two free ones stand side by side. The list of a class has the places of the free blocks of that
+    /// class, each once, and no others. There are at most as many blocks as records. Live blocks have
+    /// slots of their own, each below the number of records. Places and sizes are multiples of the unit,
+    /// and no two blocks overlap.
     pub fn keeps_good(&self)
         ensures good { IsGood self.now.content }
         ensures slots { HasGoodSlots self.now.content }
+        ensures aligned { HasAlignedBlocks self.now.content }
+        ensures disjoint { HasDisjointBlocks self.now.content }
+        ensures listed_once { ListsFreeBlocks self.now.content }
+        ensures listed_alone { ListsNothingElse self.now.content }
     {
         let _store = &self.store;
     }

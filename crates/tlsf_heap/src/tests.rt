@@ -1,8 +1,10 @@
 //! Rows of the heap.
 
+mod random;
 mod rows;
 
 use super::*;
+use std::alloc::Global;
 use std::process::Abort;
 use tlsf_store::StoreError;
 
@@ -52,6 +54,46 @@ fn at_most_eight_pools(rt: HostRuntime) {
     }
     assert_eq!(rt; heap.add_pool(512, 64), Err(Refusal::PoolsFull));
     assert_eq!(rt; heap.add_pool(480, 64), Err(Refusal::BadPool));
+}
+
+#[test]
+fn first_of_each_pool(rt: HostRuntime) {
+    let mut heap = Heap::create(rt.alloc(), 8).expect(&rt, "a heap");
+    assert_eq!(rt; heap.first(0), Err(Refusal::NoPool));
+    for number in 0..8 {
+        assert_eq!(rt; heap.add_pool(number * 64, 64), Ok(()));
+    }
+    for number in 0..8 {
+        assert!(rt; heap.first(number * 64).is_ok());
+        assert_eq!(rt; heap.first(number * 64 + 8), Err(Refusal::NoPool));
+    }
+    assert_eq!(rt; heap.first(512), Err(Refusal::NoPool));
+}
+
+/// Whether a run that was refused memory left the heap as it was, and is served when it is made again.
+/// With no more than one refusal it is.
+fn run_again<H: Heaped>(alloc: Global) -> bool {
+    let Ok(mut heap) = H::create(alloc, 4) else {
+        return true;
+    };
+    let requests = [Request::AddPool {
+        base: 0,
+        bytes: 1024,
+    }];
+    match run(alloc, &mut heap, &requests) {
+        Ok(answers) => answers.first() == Some(&Answer::Done) || heap.pools().is_empty(),
+        Err(error) => {
+            error == StoreError::OutOfMemory
+                && heap.pools().is_empty()
+                && run(alloc, &mut heap, &requests).is_ok()
+        }
+    }
+}
+
+#[test]
+fn refused_runs(rt: HostRuntime) {
+    assert!(rt; run_again::<Heap>(rt.alloc()));
+    assert!(rt; run_again::<PlainHeap>(rt.alloc()));
 }
 
 #[test]

@@ -66,44 +66,6 @@ fn first_split(rt: HostRuntime) {
 }
 
 #[test]
-fn merge_both_sides(rt: HostRuntime) {
-    let mut heap = PlainHeap::create(rt.alloc(), 4).expect(&rt, "a heap");
-    assert_eq!(rt; heap.add_pool(0, 1024), Ok(()));
-    let first = heap.malloc(100).expect(&rt, "a block");
-    let second = heap.malloc(1).expect(&rt, "a block");
-    assert_eq!(rt; second.place(), 104);
-    assert_eq!(rt; heap.free(first), Ok(()));
-    assert_eq!(rt; heap.free(second), Ok(()));
-    assert!(rt; has_row(&mut heap, 0, 1024, false));
-    assert_eq!(rt; heap.free(second), Err(Refusal::BadPointer));
-}
-
-/// The next block of 8 bytes.
-fn eight(heap: &mut PlainHeap) -> Option<Ptr> {
-    heap.malloc(8).ok()
-}
-
-#[test]
-fn newest_freed_first(rt: HostRuntime) {
-    let mut heap = PlainHeap::create(rt.alloc(), 8).expect(&rt, "a heap");
-    assert_eq!(rt; heap.add_pool(0, 64), Ok(()));
-    let first = eight(&mut heap).expect(&rt, "a block");
-    let second = eight(&mut heap).expect(&rt, "a block");
-    let third = eight(&mut heap).expect(&rt, "a block");
-    assert_eq!(rt; first.place(), 0);
-    assert_eq!(rt; second.place(), 8);
-    assert_eq!(rt; third.place(), 16);
-    for number in 3..8 {
-        assert!(rt; eight(&mut heap).map(|ptr| ptr.place()) == Some(number * 8));
-    }
-    assert_eq!(rt; heap.free(first), Ok(()));
-    assert_eq!(rt; heap.free(third), Ok(()));
-    assert!(rt; eight(&mut heap).map(|ptr| ptr.place()) == Some(16));
-    assert!(rt; eight(&mut heap).map(|ptr| ptr.place()) == Some(0));
-    assert!(rt; heap.malloc(8).err() == Some(Refusal::NoFit));
-}
-
-#[test]
 fn least_slots(rt: HostRuntime) {
     let mut heap = PlainHeap::create(rt.alloc(), 4).expect(&rt, "a heap");
     assert_eq!(rt; heap.add_pool(0, 1024), Ok(()));

@@ -3,6 +3,19 @@
 use crate::*;
 use std::alloc::Global;
 
+/// What is asked of a heap.
+#[derive(Clone, Copy)]
+enum Ask {
+    /// A pool from a place on, of so many bytes.
+    Pool(u64, u64),
+    /// A block of so many bytes.
+    Malloc(u64),
+    /// The block that was given last at this place becomes free, live or not.
+    Free(u32),
+    /// A pointer that was never given becomes free.
+    FreeOf(Ptr),
+}
+
 /// What an answer shows but for the slot, which a heap chooses.
 #[derive(Clone, Copy, PartialEq, Eq)]
 enum Seen {
@@ -13,39 +26,47 @@ enum Seen {
 }
 
 impl Seen {
-    fn of(answer: &Answer) -> Seen {
+    fn of(answer: Option<&Answer>) -> Seen {
         match answer {
-            Answer::Done => Seen::Done,
-            Answer::Given(ptr) => Seen::At(ptr.place()),
-            Answer::Refused(refusal) => Seen::Refused(*refusal),
+            Some(Answer::Done) => Seen::Done,
+            Some(Answer::Given(ptr)) => Seen::At(ptr.place()),
+            Some(Answer::Refused(refusal)) => Seen::Refused(*refusal),
             _ => Seen::Other,
         }
     }
 }
 
-/// Whether these are the answers.
-fn are(answers: &Vec<Answer>, wanted: &[Seen]) -> bool {
-    answers.len() == wanted.len()
-        && answers
-            .iter()
-            .zip(wanted)
-            .all(|(answer, wanted)| Seen::of(answer) == *wanted)
+/// A heap of so many records, what is asked of it with what it answers, and the rows of the pool at 0
+/// in the end: place, size, and whether it is live.
+#[derive(Clone, Copy)]
+struct Case<'a> {
+    records: u32,
+    steps: &'a [(Ask, Seen)],
+    rows: &'a [(u32, u32, bool)],
 }
 
 /// The pointer that was given last at a place.
-fn given_at(answers: &Vec<Answer>, place: u32) -> Ptr {
+fn given_at(given: &Vec<Ptr>, place: u32) -> Ptr {
     let mut last = Ptr::new(place, u16::MAX);
-    for answer in answers {
-        if let Answer::Given(ptr) = answer
-            && ptr.place() == place
-        {
+    for ptr in given {
+        if ptr.place() == place {
             last = *ptr;
         }
     }
     last
 }
 
-/// Whether these are the rows of the pool at a base: place, size, and whether it is live.
+/// The request, where these pointers were given.
+fn request(ask: Ask, given: &Vec<Ptr>) -> Request {
+    match ask {
+        Ask::Pool(base, bytes) => Request::AddPool { base, bytes },
+        Ask::Malloc(n) => Request::Malloc(n),
+        Ask::Free(place) => Request::Free(given_at(given, place)),
+        Ask::FreeOf(ptr) => Request::Free(ptr),
+    }
+}
+
+/// Whether these are the rows of the pool at a base.
 fn has_rows<H: Heaped>(heap: &mut H, base: u64, wanted: &[(u32, u32, bool)]) -> bool {
     let Ok(mut cursor) = heap.first(base) else {
         return false;
@@ -68,18 +89,217 @@ fn has_rows<H: Heaped>(heap: &mut H, base: u64, wanted: &[(u32, u32, bool)]) -> 
     heap.row(cursor).is_none()
 }
 
-/// The request for a pool that begins at place 0.
-fn pool_of(bytes: u64) -> Request {
-    Request::AddPool { base: 0, bytes }
+/// Asks one thing of the heap, and keeps the pointer that it is given.
+fn answered<H: Heaped>(
+    alloc: Global,
+    heap: &mut H,
+    given: &mut Vec<Ptr>,
+    ask: Ask,
+) -> Result<Seen, StoreError> {
+    let answers = run(alloc, heap, &[request(ask, given)])?;
+    if let Some(Answer::Given(ptr)) = answers.first() {
+        if given.push(*ptr).is_err() {
+            return Err(StoreError::OutOfMemory);
+        }
+    }
+    Ok(Seen::of(answers.first()))
 }
 
-fn run_of_requests<H: Heaped>(alloc: Global) -> Result<bool, StoreError> {
+/// Whether a heap answers as the case says, and has its rows then.
+fn holds<H: Heaped>(alloc: Global, case: &Case) -> Result<bool, StoreError> {
+    let mut heap = H::create(alloc, case.records)?;
+    let mut given = Vec::new(alloc);
+    for (asked, wanted) in case.steps {
+        if answered(alloc, &mut heap, &mut given, *asked)? != *wanted {
+            return Ok(false);
+        }
+    }
+    Ok(has_rows(&mut heap, 0, case.rows))
+}
+
+/// Whether both heaps do.
+fn both_hold(alloc: Global, case: &Case) -> bool {
+    holds::<Heap>(alloc, case) == Ok(true) && holds::<PlainHeap>(alloc, case) == Ok(true)
+}
+
+#[test]
+fn first_split_and_reuse(rt: HostRuntime) {
+    let first_split = Case {
+        records: 4,
+        steps: &[
+            (Ask::Pool(0, 1024), Seen::Done),
+            (Ask::Malloc(100), Seen::At(0)),
+        ],
+        rows: &[(0, 104, true), (104, 920, false)],
+    };
+    let reuse_without_split = Case {
+        records: 4,
+        steps: &[
+            (Ask::Pool(0, 1024), Seen::Done),
+            (Ask::Malloc(100), Seen::At(0)),
+            (Ask::Malloc(1), Seen::At(104)),
+            (Ask::Free(0), Seen::Done),
+            (Ask::Malloc(100), Seen::At(0)),
+        ],
+        rows: &[(0, 104, true), (104, 8, true), (112, 912, false)],
+    };
+    let merge_both_sides = Case {
+        records: 4,
+        steps: &[
+            (Ask::Pool(0, 1024), Seen::Done),
+            (Ask::Malloc(100), Seen::At(0)),
+            (Ask::Malloc(1), Seen::At(104)),
+            (Ask::Free(0), Seen::Done),
+            (Ask::Free(104), Seen::Done),
+        ],
+        rows: &[(0, 1024, false)],
+    };
+    let double_free = Case {
+        records: 4,
+        steps: &[
+            (Ask::Pool(0, 1024), Seen::Done),
+            (Ask::Malloc(100), Seen::At(0)),
+            (Ask::Free(0), Seen::Done),
+            (Ask::Free(0), Seen::Refused(Refusal::BadPointer)),
+        ],
+        rows: &[(0, 1024, false)],
+    };
+    assert!(rt; both_hold(rt.alloc(), &first_split));
+    assert!(rt; both_hold(rt.alloc(), &reuse_without_split));
+    assert!(rt; both_hold(rt.alloc(), &merge_both_sides));
+    assert!(rt; both_hold(rt.alloc(), &double_free));
+}
+
+#[test]
+fn blocks_chosen(rt: HostRuntime) {
+    let lower_class_not_taken = Case {
+        records: 2,
+        steps: &[
+            (Ask::Pool(0, 520), Seen::Done),
+            (Ask::Malloc(520), Seen::Refused(Refusal::NoFit)),
+            (Ask::Malloc(512), Seen::At(0)),
+        ],
+        rows: &[(0, 512, true), (512, 8, false)],
+    };
+    let greatest_class = Case {
+        records: 2,
+        steps: &[
+            (Ask::Pool(0, 1_073_741_816), Seen::Done),
+            (Ask::Malloc(1_056_964_609), Seen::Refused(Refusal::NoFit)),
+            (Ask::Malloc(1_056_964_608), Seen::At(0)),
+        ],
+        rows: &[(0, 1_056_964_608, true), (1_056_964_608, 16_777_208, false)],
+    };
+    assert!(rt; both_hold(rt.alloc(), &lower_class_not_taken));
+    assert!(rt; both_hold(rt.alloc(), &greatest_class));
+}
+
+#[test]
+fn newest_freed_first(rt: HostRuntime) {
+    let newest_freed_first = Case {
+        records: 8,
+        steps: &[
+            (Ask::Pool(0, 64), Seen::Done),
+            (Ask::Malloc(8), Seen::At(0)),
+            (Ask::Malloc(8), Seen::At(8)),
+            (Ask::Malloc(8), Seen::At(16)),
+            (Ask::Malloc(8), Seen::At(24)),
+            (Ask::Malloc(8), Seen::At(32)),
+            (Ask::Malloc(8), Seen::At(40)),
+            (Ask::Malloc(8), Seen::At(48)),
+            (Ask::Malloc(8), Seen::At(56)),
+            (Ask::Free(0), Seen::Done),
+            (Ask::Free(16), Seen::Done),
+            (Ask::Malloc(8), Seen::At(16)),
+            (Ask::Malloc(8), Seen::At(0)),
+            (Ask::Malloc(8), Seen::Refused(Refusal::NoFit)),
+        ],
+        rows: &[
+            (0, 8, true),
+            (8, 8, true),
+            (16, 8, true),
+            (24, 8, true),
+            (32, 8, true),
+            (40, 8, true),
+            (48, 8, true),
+            (56, 8, true),
+        ],
+    };
+    assert!(rt; both_hold(rt.alloc(), &newest_freed_first));
+}
+
+#[test]
+fn full_table(rt: HostRuntime) {
+    let full = Case {
+        records: 1,
+        steps: &[
+            (Ask::Pool(0, 64), Seen::Done),
+            (Ask::Malloc(8), Seen::Refused(Refusal::TableFull)),
+        ],
+        rows: &[(0, 64, false)],
+    };
+    let whole = Case {
+        records: 1,
+        steps: &[
+            (Ask::Pool(0, 64), Seen::Done),
+            (Ask::Malloc(8), Seen::Refused(Refusal::TableFull)),
+            (Ask::Malloc(64), Seen::At(0)),
+        ],
+        rows: &[(0, 64, true)],
+    };
+    assert!(rt; both_hold(rt.alloc(), &full));
+    assert!(rt; both_hold(rt.alloc(), &whole));
+}
+
+#[test]
+fn pools_never_merged(rt: HostRuntime) {
+    let pools_never_merged = Case {
+        records: 4,
+        steps: &[
+            (Ask::Pool(0, 64), Seen::Done),
+            (Ask::Pool(64, 64), Seen::Done),
+            (Ask::Malloc(64), Seen::At(64)),
+            (Ask::Free(64), Seen::Done),
+            (Ask::Malloc(128), Seen::Refused(Refusal::NoFit)),
+            (Ask::Malloc(0), Seen::Refused(Refusal::ZeroSize)),
+        ],
+        rows: &[(0, 64, false)],
+    };
+    assert!(rt; both_hold(rt.alloc(), &pools_never_merged));
+}
+
+#[test]
+fn run_of_requests(rt: HostRuntime) {
+    let run_of_requests = Case {
+        records: 4,
+        steps: &[
+            (Ask::Pool(0, 1024), Seen::Done),
+            (Ask::Malloc(100), Seen::At(0)),
+            (Ask::Malloc(0), Seen::Refused(Refusal::ZeroSize)),
+            (Ask::Malloc(1), Seen::At(104)),
+            (
+                Ask::FreeOf(Ptr::new(0, 9)),
+                Seen::Refused(Refusal::BadPointer),
+            ),
+            (Ask::Malloc(2000), Seen::Refused(Refusal::NoFit)),
+            (Ask::Malloc(912), Seen::At(112)),
+        ],
+        rows: &[(0, 104, true), (104, 8, true), (112, 912, true)],
+    };
+    assert!(rt; both_hold(rt.alloc(), &run_of_requests));
+}
+
+/// Whether one run of these requests, in place of one run each, is answered as they say.
+fn runs_at_once<H: Heaped>(alloc: Global) -> Result<bool, StoreError> {
     let mut heap = H::create(alloc, 4)?;
     let answers = run(
         alloc,
         &mut heap,
         &[
-            pool_of(1024),
+            Request::AddPool {
+                base: 0,
+                bytes: 1024,
+            },
             Request::Malloc(100),
             Request::Malloc(0),
             Request::Malloc(1),
@@ -97,185 +317,16 @@ fn run_of_requests<H: Heaped>(alloc: Global) -> Result<bool, StoreError> {
         Seen::Refused(Refusal::NoFit),
         Seen::At(112),
     ];
+    let same = answers
+        .iter()
+        .zip(wanted.iter())
+        .all(|(answer, wanted)| Seen::of(Some(answer)) == *wanted);
     let rows = [(0, 104, true), (104, 8, true), (112, 912, true)];
-    Ok(are(&answers, &wanted) && has_rows(&mut heap, 0, &rows))
-}
-
-fn first_split<H: Heaped>(alloc: Global) -> Result<bool, StoreError> {
-    let mut heap = H::create(alloc, 4)?;
-    let answers = run(alloc, &mut heap, &[pool_of(1024), Request::Malloc(100)])?;
-    let rows = [(0, 104, true), (104, 920, false)];
-    Ok(are(&answers, &[Seen::Done, Seen::At(0)]) && has_rows(&mut heap, 0, &rows))
-}
-
-fn reuse_without_split<H: Heaped>(alloc: Global) -> Result<bool, StoreError> {
-    let mut heap = H::create(alloc, 4)?;
-    let asked = [pool_of(1024), Request::Malloc(100), Request::Malloc(1)];
-    let answers = run(alloc, &mut heap, &asked)?;
-    let first = given_at(&answers, 0);
-    let more = run(
-        alloc,
-        &mut heap,
-        &[Request::Free(first), Request::Malloc(100)],
-    )?;
-    let rows = [(0, 104, true), (104, 8, true), (112, 912, false)];
-    Ok(
-        are(&answers, &[Seen::Done, Seen::At(0), Seen::At(104)])
-            && are(&more, &[Seen::Done, Seen::At(0)])
-            && has_rows(&mut heap, 0, &rows),
-    )
-}
-
-fn merge_both_sides<H: Heaped>(alloc: Global) -> Result<bool, StoreError> {
-    let mut heap = H::create(alloc, 4)?;
-    let asked = [pool_of(1024), Request::Malloc(100), Request::Malloc(1)];
-    let answers = run(alloc, &mut heap, &asked)?;
-    let (first, second) = (given_at(&answers, 0), given_at(&answers, 104));
-    let more = run(
-        alloc,
-        &mut heap,
-        &[Request::Free(first), Request::Free(second)],
-    )?;
-    Ok(are(&more, &[Seen::Done, Seen::Done]) && has_rows(&mut heap, 0, &[(0, 1024, false)]))
-}
-
-fn lower_class_not_taken<H: Heaped>(alloc: Global) -> Result<bool, StoreError> {
-    let mut heap = H::create(alloc, 2)?;
-    let asked = [pool_of(520), Request::Malloc(520), Request::Malloc(512)];
-    let answers = run(alloc, &mut heap, &asked)?;
-    let wanted = [Seen::Done, Seen::Refused(Refusal::NoFit), Seen::At(0)];
-    let rows = [(0, 512, true), (512, 8, false)];
-    Ok(are(&answers, &wanted) && has_rows(&mut heap, 0, &rows))
-}
-
-fn full_table<H: Heaped>(alloc: Global) -> Result<bool, StoreError> {
-    let mut heap = H::create(alloc, 1)?;
-    let answers = run(alloc, &mut heap, &[pool_of(64), Request::Malloc(8)])?;
-    let kept = has_rows(&mut heap, 0, &[(0, 64, false)]);
-    let more = run(alloc, &mut heap, &[Request::Malloc(64)])?;
-    let wanted = [Seen::Done, Seen::Refused(Refusal::TableFull)];
-    Ok(kept && are(&answers, &wanted) && are(&more, &[Seen::At(0)]))
-}
-
-fn newest_freed_first<H: Heaped>(alloc: Global) -> Result<bool, StoreError> {
-    let mut heap = H::create(alloc, 8)?;
-    let made = run(alloc, &mut heap, &[pool_of(64)])?;
-    let answers = run(alloc, &mut heap, &[Request::Malloc(8); 8])?;
-    let places = [0, 8, 16, 24, 32, 40, 48, 56].map(Seen::At);
-    let (first, third) = (given_at(&answers, 0), given_at(&answers, 16));
-    let freed = run(
-        alloc,
-        &mut heap,
-        &[Request::Free(first), Request::Free(third)],
-    )?;
-    let more = run(alloc, &mut heap, &[Request::Malloc(8); 3])?;
-    let wanted = [Seen::At(16), Seen::At(0), Seen::Refused(Refusal::NoFit)];
-    Ok(
-        are(&made, &[Seen::Done])
-            && are(&answers, &places)
-            && are(&freed, &[Seen::Done, Seen::Done])
-            && are(&more, &wanted),
-    )
-}
-
-fn greatest_class<H: Heaped>(alloc: Global) -> Result<bool, StoreError> {
-    let mut heap = H::create(alloc, 2)?;
-    let answers = run(
-        alloc,
-        &mut heap,
-        &[
-            pool_of(1_073_741_816),
-            Request::Malloc(1_056_964_609),
-            Request::Malloc(1_056_964_608),
-        ],
-    )?;
-    let wanted = [Seen::Done, Seen::Refused(Refusal::NoFit), Seen::At(0)];
-    let rows = [(0, 1_056_964_608, true), (1_056_964_608, 16_777_208, false)];
-    Ok(are(&answers, &wanted) && has_rows(&mut heap, 0, &rows))
-}
-
-fn pools_never_merged<H: Heaped>(alloc: Global) -> Result<bool, StoreError> {
-    let mut heap = H::create(alloc, 4)?;
-    let second = Request::AddPool {
-        base: 64,
-        bytes: 64,
-    };
-    let answers = run(
-        alloc,
-        &mut heap,
-        &[pool_of(64), second, Request::Malloc(64)],
-    )?;
-    let given = given_at(&answers, 64);
-    let more = run(
-        alloc,
-        &mut heap,
-        &[
-            Request::Free(given),
-            Request::Malloc(128),
-            Request::Malloc(0),
-        ],
-    )?;
-    let wanted = [
-        Seen::Done,
-        Seen::Refused(Refusal::NoFit),
-        Seen::Refused(Refusal::ZeroSize),
-    ];
-    Ok(
-        are(&more, &wanted)
-            && has_rows(&mut heap, 0, &[(0, 64, false)])
-            && has_rows(&mut heap, 64, &[(64, 64, false)])
-            && heap.first(8) == Err(Refusal::NoPool),
-    )
-}
-
-fn double_free<H: Heaped>(alloc: Global) -> Result<bool, StoreError> {
-    let mut heap = H::create(alloc, 4)?;
-    let answers = run(alloc, &mut heap, &[pool_of(1024), Request::Malloc(100)])?;
-    let given = given_at(&answers, 0);
-    let more = run(
-        alloc,
-        &mut heap,
-        &[Request::Free(given), Request::Free(given)],
-    )?;
-    Ok(are(&more, &[Seen::Done, Seen::Refused(Refusal::BadPointer)]))
+    Ok(same && answers.len() == 7 && has_rows(&mut heap, 0, &rows))
 }
 
 #[test]
-fn run_of_requests_over_both(rt: HostRuntime) {
-    assert_eq!(rt; run_of_requests::<Heap>(rt.alloc()), Ok(true));
-    assert_eq!(rt; run_of_requests::<PlainHeap>(rt.alloc()), Ok(true));
-}
-
-#[test]
-fn split_and_reuse_over_both(rt: HostRuntime) {
-    assert_eq!(rt; first_split::<Heap>(rt.alloc()), Ok(true));
-    assert_eq!(rt; first_split::<PlainHeap>(rt.alloc()), Ok(true));
-    assert_eq!(rt; reuse_without_split::<Heap>(rt.alloc()), Ok(true));
-    assert_eq!(rt; reuse_without_split::<PlainHeap>(rt.alloc()), Ok(true));
-}
-
-#[test]
-fn merge_over_both(rt: HostRuntime) {
-    assert_eq!(rt; merge_both_sides::<Heap>(rt.alloc()), Ok(true));
-    assert_eq!(rt; merge_both_sides::<PlainHeap>(rt.alloc()), Ok(true));
-    assert_eq!(rt; pools_never_merged::<Heap>(rt.alloc()), Ok(true));
-    assert_eq!(rt; pools_never_merged::<PlainHeap>(rt.alloc()), Ok(true));
-}
-
-#[test]
-fn choice_over_both(rt: HostRuntime) {
-    assert_eq!(rt; lower_class_not_taken::<Heap>(rt.alloc()), Ok(true));
-    assert_eq!(rt; lower_class_not_taken::<PlainHeap>(rt.alloc()), Ok(true));
-    assert_eq!(rt; newest_freed_first::<Heap>(rt.alloc()), Ok(true));
-    assert_eq!(rt; newest_freed_first::<PlainHeap>(rt.alloc()), Ok(true));
-    assert_eq!(rt; greatest_class::<Heap>(rt.alloc()), Ok(true));
-    assert_eq!(rt; greatest_class::<PlainHeap>(rt.alloc()), Ok(true));
-}
-
-#[test]
-fn refusals_over_both(rt: HostRuntime) {
-    assert_eq!(rt; full_table::<Heap>(rt.alloc()), Ok(true));
-    assert_eq!(rt; full_table::<PlainHeap>(rt.alloc()), Ok(true));
-    assert_eq!(rt; double_free::<Heap>(rt.alloc()), Ok(true));
-    assert_eq!(rt; double_free::<PlainHeap>(rt.alloc()), Ok(true));
+fn run_of_requests_at_once(rt: HostRuntime) {
+    assert_eq!(rt; runs_at_once::<Heap>(rt.alloc()), Ok(true));
+    assert_eq!(rt; runs_at_once::<PlainHeap>(rt.alloc()), Ok(true));
 }

@@ -1,0 +1,47 @@
+-- What a good content implies: of its blocks, and where a call is refused.
+use Rattle.std.specs.Prelude.{◌≡◌, ℕ, ◌+◌, ◌*◌, ◌%◌, ◌<◌, ◌≤◌, ◌⊎◌, not, List, length, count_by, All, AllPairs, Any, Some, IsTrue}
+use Rattle.tlsf_class.specs.Classes.{unit, classes, low, class, need}
+use Rattle.tlsf_class.specs.Rounding.{round}
+use Rattle.tlsf_heap.specs.Content.{Block, Content, blocks_of, is_free}
+use Rattle.tlsf_heap.specs.Lists.{list_of}
+use Rattle.tlsf_heap.specs.Good.{times, is_listed}
+
+-- place and size are multiples of the unit
+abbrev pub IsAligned : {A : Type 0} → Block A → Type 0
+IsAligned block = (block.place % unit ≡ 0) × (block.size % unit ≡ 0)
+
+-- one block ends at or before the place of the other
+abbrev pub AreDisjoint : {A : Type 0} → Block A → Block A → Type 0
+AreDisjoint block other = (block.place + block.size ≤ other.place) ⊎ (other.place + other.size ≤ block.place)
+
+-- every block is aligned
+abbrev pub HasAlignedBlocks : {A : Type 0} → Content A → Type 0
+HasAlignedBlocks content = All IsAligned (blocks_of content.pools)
+
+-- each two blocks are disjoint
+abbrev pub HasDisjointBlocks : {A : Type 0} → Content A → Type 0
+HasDisjointBlocks content = AllPairs AreDisjoint (blocks_of content.pools)
+
+-- each free block stands in its class's list once
+abbrev pub ListsFreeBlocks : {A : Type 0} → Content A → Type 0
+ListsFreeBlocks content = All (λ block. IsTrue (is_free block) → times block.place (list_of (class block.size) content.lists) ≡ 1) (blocks_of content.pools)
+
+-- what stands in a class's list is the place of a free block of that class
+abbrev pub ListsNothingElse : {A : Type 0} → Content A → Type 0
+ListsNothingElse content = (number place : ℕ) → number < classes → 0 < times place (list_of number content.lists) → Any (λ block. IsTrue (is_listed number place block)) (blocks_of content.pools)
+
+-- each free block is smaller than so many bytes
+abbrev pub AreFreeBelow : {A : Type 0} → ℕ → List (Block A) → Type 0
+AreFreeBelow bytes blocks = All (λ block. IsTrue (is_free block) → block.size < bytes) blocks
+
+-- where there is a class from which each block holds n bytes, rounded up, each free block is smaller than its lowest size
+abbrev pub NoneFits : {A : Type 0} → ℕ → Content A → Type 0
+NoneFits n content = (m c : ℕ) → round n ≡ Some m → need m ≡ Some c → AreFreeBelow (low c) (blocks_of content.pools)
+
+-- how many blocks are live
+abbrev pub live_blocks : {A : Type 0} → Content A → ℕ
+live_blocks content = count_by (λ block. not (is_free block)) (blocks_of content.pools)
+
+-- there are at most two records for each live block, and one for each pool
+abbrev pub HasFewRecords : {A : Type 0} → Content A → Type 0
+HasFewRecords content = content.records ≤ 2 * live_blocks content + length content.pools
