@@ -21,7 +21,7 @@ use crate::{Ptr, Refusal};
 use tlsf_class::{class_for, class_of, round};
 use tlsf_store::{Slot, State, Store};
 
-/// A live block of `n` bytes, rounded up to the unit. At most 35 touches.
+/// A live block of `n` bytes, rounded up to the unit. At most 30 touches.
 ///
 /// # Errors
 ///
@@ -68,7 +68,7 @@ fn pick(store: &mut Store, asked: u32) -> Option<Slot>
     search(store, class)
 }
 
-/// The first `asked` bytes of the block picked are a live block. At most 31 touches.
+/// The first `asked` bytes of the block picked are a live block. At most 26 touches.
 ///
 /// # Errors
 ///
@@ -99,7 +99,7 @@ fn take(store: &mut Store, slot: Slot, asked: u32) -> Result<Ptr, Refusal>
     Ok(Ptr::new(block.place, slot.0))
 }
 
-/// A free block of `bytes` bytes leaves its class's list and is live. At most 13 touches.
+/// A free block of `bytes` bytes leaves its class's list and is live. At most eight touches.
 fn take_whole(store: &mut Store, slot: Slot, bytes: u32)
     requires whole { bytes % unit ≡ 0 }
     requires some { 0 < bytes }
@@ -117,7 +117,7 @@ fn take_whole(store: &mut Store, slot: Slot, bytes: u32)
 }
 
 /// The first bytes of a free block of `size` bytes, which leaves its class's list, are a live block. What
-/// is left is a free block of the slot `rest`, first in its class's list. At most 28 touches.
+/// is left is a free block of the slot `rest`, first in its class's list. At most 23 touches.
 fn take_part(store: &mut Store, slot: Slot, rest: Slot, bytes: u32, size: u32)
     requires whole { size % unit ≡ 0 }
     requires most { size ≤ greatest_size }

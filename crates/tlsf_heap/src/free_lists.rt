@@ -25,7 +25,7 @@ pub(crate) fn link(store: &mut Store, class: Class, slot: Slot)
     mark(store, class);
 }
 
-/// Takes a free block out of its class's list, wherever it stands in it. At most eleven touches.
+/// Takes a free block out of its class's list, wherever it stands in it. At most six touches.
 pub(crate) fn unlink(store: &mut Store, class: Class, slot: Slot)
     requires within { slot < length store.old.records }
     requires prev_used { IsUsed store.old.records (record_at store.old.records slot).prev_free }

@@ -74,7 +74,7 @@ pub(crate) fn add_pool(store: &mut Store, base: u64, bytes: u64) -> Result<(), R
 }
 
 /// Makes a pool one free block, the first of its class's list, and puts its entry among the others. At
-/// most 21 touches.
+/// most 19 touches.
 fn put_pool(store: &mut Store, mut entries: ArrayVec<PoolEntry, MOST_POOLS>, entry: PoolEntry)
     requires base_in_units { entry.base % unit ≡ 0 }
     requires bytes_in_units { entry.bytes % unit ≡ 0 }

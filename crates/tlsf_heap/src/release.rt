@@ -17,7 +17,7 @@ use crate::{Ptr, Refusal};
 use tlsf_class::class_of;
 use tlsf_store::{Slot, State, Store};
 
-/// The block becomes free, and one free block with its free neighbours in the pool. At most 53 touches.
+/// The block becomes free, and one free block with its free neighbours in the pool. At most 46 touches.
 ///
 /// # Errors
 ///
@@ -56,7 +56,7 @@ fn is_live(store: &mut Store, ptr: Ptr) -> bool
     }
 }
 
-/// A live block becomes free, and one free block with its free neighbours in the pool. At most 52 touches.
+/// A live block becomes free, and one free block with its free neighbours in the pool. At most 45 touches.
 fn release(store: &mut Store, slot: Slot)
     requires stands { Stands store.old }
     requires live { (record_at store.old.records slot).state ≡ Live }
@@ -82,7 +82,7 @@ fn is_free(state: State) -> bool
 }
 
 /// A free block in front takes in the block, which is free and in no list. The answer is where the block
-/// that is left begins. At most 21 touches.
+/// that is left begins. At most 16 touches.
 fn join_front(store: &mut Store, slot: Slot) -> Slot
     requires { IsLoose slot store.old }
     ensures loose { IsLoose result store.new }
@@ -105,7 +105,7 @@ fn join_front(store: &mut Store, slot: Slot) -> Slot
     prev
 }
 
-/// The block, which is free and in no list, takes in a free one behind it. At most 21 touches.
+/// The block, which is free and in no list, takes in a free one behind it. At most 16 touches.
 fn join_back(store: &mut Store, slot: Slot)
     requires { IsLoose slot store.old }
     ensures loose { IsLoose slot store.new }
@@ -126,7 +126,7 @@ fn join_back(store: &mut Store, slot: Slot)
     join(store, slot, next, next, back.size);
 }
 
-/// One of two neighbours, `listed`, leaves its class's list, and the first takes in the other. At most 19
+/// One of two neighbours, `listed`, leaves its class's list, and the first takes in the other. At most 14
 /// touches.
 fn join(store: &mut Store, front: Slot, behind: Slot, listed: Slot, size: u32)
     requires whole { size % unit ≡ 0 }

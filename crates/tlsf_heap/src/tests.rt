@@ -103,9 +103,25 @@ fn pointers(rt: HostRuntime) {
     assert_eq!(rt; ptr.slot(), 9);
 }
 
-/// `create` takes memory once, and no other call takes any. Each of the other tests makes a heap first,
-/// so it fails where the first allocation is refused and passes where the second is. This test sees the
-/// error of the first, and passes with both.
+/// Each call of a heap once. It takes memory for its table alone, so this test fails where the first
+/// allocation is refused and passes where any other is.
+#[test]
+fn memory_taken_once(rt: HostRuntime) {
+    let mut heap = Heap::create(rt.alloc(), 4).expect(&rt, "a heap");
+    assert_eq!(rt; heap.add_pool(0, 1024), Ok(()));
+    let first = heap.malloc(100).expect(&rt, "a block");
+    let second = heap.malloc(1).expect(&rt, "a block");
+    assert_eq!(rt; first.place(), 0);
+    assert_eq!(rt; second.place(), 104);
+    assert_eq!(rt; heap.free(first), Ok(()));
+    assert_eq!(rt; heap.free(first), Err(Refusal::BadPointer));
+    assert_eq!(rt; heap.free(second), Ok(()));
+    assert!(rt; has_pools(&mut heap, &[(0, 1024)]));
+    assert!(rt; heap.first(0).is_ok());
+    assert_eq!(rt; heap.malloc(1024).map(|ptr| ptr.place()), Ok(0));
+}
+
+/// `create` sees that its memory is refused.
 #[test]
 fn refused_memory(rt: HostRuntime) {
     if let Some(error) = Heap::create(rt.alloc(), 2).err() {
