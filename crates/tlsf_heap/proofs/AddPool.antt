@@ -17,11 +17,12 @@ use Rattle.tlsf_heap.specs.Lists.{list_of}
 use Rattle.tlsf_heap.specs.Pools.{add_pool, with_pool, can_be_pool, is_apart, most_pools}
 use Rattle.tlsf_heap.specs.Good.{times}
 use Rattle.tlsf_heap.specs.Edits.{IsUsed}
-use Rattle.tlsf_heap.specs.Layout.{Area, Stands, home_in, home_of, at_home, first_slot, pool_of, content_by, content_of, entries_of}
+use Rattle.tlsf_heap.specs.Layout.{Area, Stands, home_of, at_home, first_slot, slots_of, pool_of, content_by, content_of, entries_of}
 use Rattle.tlsf_heap.specs.Entries.{is_entry_apart, pool_entered}
 use Rattle.tlsf_heap.proofs.EntryLists.{entries_of-padded}
 use Rattle.tlsf_heap.proofs.Linking.{times-front}
 use Rattle.tlsf_heap.proofs.Followed.{content_is, in_use, used_is}
+use Rattle.tlsf_heap.proofs.Slots.{free_used, in_chains_used, listed_in_chains}
 use Rattle.tlsf_heap.proofs.NewPool.{Stands-touches, content_of-touches, pool_stands, pool_content}
 
 -- only touches were added
@@ -34,17 +35,6 @@ touched_content n cells new is = ap content_of is ∙ content_of-touches (cells.
 apart_areas : (base bytes : ℕ) (records : List Record) (areas : List Area) → list_all (is_apart base bytes) (map (pool_of records) areas) ≡ list_all (is_entry_apart base bytes) (map (λ (a : Area). a.entry) areas)
 apart_areas base bytes records [] = refl
 apart_areas base bytes records (area ∷ areas) = ap (λ b. is_entry_apart base bytes area.entry && b) (apart_areas base bytes records areas)
-
-free_if_home : (k : ℕ) (r : Record) (s : State) → 1 ≤ at_home k (home_in r s) → s ≡ Free
-free_if_home k r Vacant h = absurd (omega (arith, h))
-free_if_home k r Free h = refl
-free_if_home k r Live h = absurd (omega (arith, h))
-
-used_if_free : (s : State) → s ≡ Free → s ≢ Vacant
-used_if_free s e = λ v. absurd (free_apart (sym e ∙ v))
-  where
-    free_apart : Free ≢ Vacant
-    free_apart = λ e. cc
 
 module _ (cells : Cells) (stands : Stands cells) where
   was : content_of cells ≡ content_by cells.records stands.layout
@@ -77,14 +67,10 @@ module _ (cells : Cells) (stands : Stands cells) where
     where
       of_list : (slots : List ℕ) → ((q : ℕ) → times q slots ≡ at_home k (home_of cells.records q)) → IsUsed cells.records (first_slot slots)
       of_list [] homes = tt
-      of_list (h ∷ slots) homes =
-          let front = times-front h slots in
-          let free : (record_at cells.records h).state ≡ Free = free_if_home k (record_at cells.records h) (record_at cells.records h).state (omega (arith, front, homes h)) in
-          let below : h < length cells.records = elim (cases_lt h (length cells.records)) [
-            | inl below ↦ below
-            | inr past ↦ absurd (used_if_free (record_at cells.records h).state free (ap (λ (r : Record). r.state) (get_or_past cells.records h blank past)))
-          ] in
-          (below, used_if_free (record_at cells.records h).state free)
+      of_list (h ∷ slots) homes = in_chains_used cells stands h (used_there h slots (omega (arith, times-front h slots, homes h)))
+        where
+          used_there : (h : ℕ) (slots : List ℕ) → 1 ≤ at_home k (home_of cells.records h) → 1 ≤ times h (slots_of stands.layout.areas)
+          used_there h slots homed = listed_in_chains cells stands k h within (omega (arith, homed, stands.represented.homes k h within))
 
   module _ (base bytes : ℕ) where
     pub refused_bad : (can_be_pool base bytes && list_all (is_entry_apart base bytes) (entries_of cells.pools)) ≡ false → add_pool base bytes (content_of cells) ≡ Err BadPool
@@ -122,7 +108,7 @@ used_after_take records slot (Some q) within used = (
   omega (arith, used.0, length-set records slot (blank_in Free)),
   elim (cases_eq q slot) [
     | inl here ↦
-        used_if_free _ (let P : ℕ → Type 0 = λ n. (record_at (set records slot (blank_in Free)) n).state ≡ Free in subst P (sym here) (ap (λ (r : Record). r.state) (record_at-set_same records slot (blank_in Free) within)))
+        free_used _ (let P : ℕ → Type 0 = λ n. (record_at (set records slot (blank_in Free)) n).state ≡ Free in subst P (sym here) (ap (λ (r : Record). r.state) (record_at-set_same records slot (blank_in Free) within)))
     | inr apart ↦ λ v. used.1 (sym (ap (λ (r : Record). r.state) (record_at-set_other records slot q (blank_in Free) apart)) ∙ v)
   ],
 )
@@ -139,7 +125,7 @@ module _ (old : Cells) (stands : Stands old) (slot base bytes : ℕ) (within : s
   last t = record (pool_entered (record { base = base; bytes = bytes; first = slot }) (with_taken old (Some slot))) { touches = t }
 
   room : used_records (content_of old) < (content_of old).records
-  room = omega (arith, used_are old stands, records_are old stands, vacant_count-take old.records slot (blank_in Free) within vacant (used_if_free Free refl))
+  room = omega (arith, used_are old stands, records_are old stands, vacant_count-take old.records slot (blank_in Free) within vacant (free_used Free refl))
 
   few_pools : length (content_of old).pools < most_pools
   few_pools = omega (arith, few, pools_length old stands)

@@ -29,10 +29,6 @@ module _ {A : Type 0} where
   Covers-merged from to [] c = c
   Covers-merged from to (block ∷ blocks) c = Covers-join from to block (merged blocks) (c.0, c.1, c.2, Covers-merged (from + block.size) to blocks c.3)
 
-  after_live : (was : Bool) (blocks : List (Block A)) → NoFreeNeighbours was blocks → NoFreeNeighbours false blocks
-  after_live was [] n = tt
-  after_live was (block ∷ blocks) n = (refl, n.1)
-
   -- a block joined in front leaves no two free blocks side by side
   NoFreeNeighbours-join : (block : Block A) (blocks : List (Block A)) → NoFreeNeighbours false blocks → NoFreeNeighbours false (join block blocks)
   NoFreeNeighbours-join block [] n = (refl, tt)
@@ -81,13 +77,13 @@ module _ {A : Type 0} where
   )
 
   -- where no two free blocks are neighbours, merging changes nothing
-  join-apart : (block : Block A) (blocks : List (Block A)) → NoFreeNeighbours (is_free block) blocks → join block blocks ≡ block ∷ blocks
-  join-apart block [] n = refl
-  join-apart block (next ∷ blocks) n = elim (cases_Bool (is_free block && is_free next)) [
+  join_unmerged : (block : Block A) (blocks : List (Block A)) → NoFreeNeighbours (is_free block) blocks → join block blocks ≡ block ∷ blocks
+  join_unmerged block [] n = refl
+  join_unmerged block (next ∷ blocks) n = elim (cases_Bool (is_free block && is_free next)) [
     | inl both ↦ let never : IsTrue (not true) = (let P : Bool → Type 0 = λ b. IsTrue (not b) in subst P both n.0) in absurd (cc)
     | inr apart ↦ ap (λ b. cond b (record block { size = block.size + next.size } ∷ blocks) (block ∷ next ∷ blocks)) apart
   ]
 
   pub merged_id : (was : Bool) (blocks : List (Block A)) → NoFreeNeighbours was blocks → merged blocks ≡ blocks
   merged_id was [] n = refl
-  merged_id was (block ∷ blocks) n = ap (join block) (merged_id (is_free block) blocks n.1) ∙ join-apart block blocks n.1
+  merged_id was (block ∷ blocks) n = ap (join block) (merged_id (is_free block) blocks n.1) ∙ join_unmerged block blocks n.1
