@@ -1,14 +1,13 @@
 -- What the cells represent after a block took in the one behind it.
-use Rattle.std.proofs.Common.{◌≡◌, ◌≢◌, ℕ, ◌+◌, ◌<◌, ◌≤◌, true, false, cond, eqb, List, [], ◌∷◌, ◌++◌, length, map, set, refl, sym, ap, ◌∙◌, subst, arith, Option, Some, None, inl, inr}
-use Rattle.std.proofs.lemmas.Bool.{cases_eq, cases_lt, eq-eqb, ne_eqb}
+use Rattle.std.proofs.Common.{◌≡◌, ◌≢◌, ℕ, ◌+◌, ◌<◌, ◌≤◌, true, false, cond, List, [], ◌∷◌, length, map, set, refl, sym, ap, ◌∙◌, subst, arith, Option, Some, None, inl, inr}
+use Rattle.std.proofs.lemmas.Bool.{cases_eq, eq-eqb, ne_eqb}
 use Rattle.std.proofs.lemmas.List.{length-set}
-use Rattle.tlsf_class.specs.Classes.{classes}
 use Rattle.tlsf_store.specs.declared.records.Record.{Record}
 use Rattle.tlsf_store.specs.Records.{blank, record_at}
 use Rattle.tlsf_store.specs.Cells.{Cells}
 use Rattle.tlsf_store.proofs.RecordLaws.{record_at-set_same, record_at-set_other}
-use Rattle.tlsf_heap.specs.Content.{Block, Pool, is_at}
-use Rattle.tlsf_heap.specs.Lists.{list_of, without}
+use Rattle.tlsf_heap.specs.Content.{Block, is_at}
+use Rattle.tlsf_heap.specs.Lists.{without}
 use Rattle.tlsf_heap.specs.Good.{times}
 use Rattle.tlsf_heap.specs.Edits.{edited_in}
 use Rattle.tlsf_heap.specs.Chains.{absorbed}
@@ -17,7 +16,7 @@ use Rattle.tlsf_heap.specs.Layout.{Area, Layout, IsLayout, IsLinked, AreChains, 
 use Rattle.tlsf_heap.proofs.Blocks.{one_if}
 use Rattle.tlsf_heap.proofs.FreeLists.{times-cons, times-without_same, times-without_other}
 use Rattle.tlsf_heap.proofs.Linking.{field_at, same_field, length-edited_in, times-front, times-behind, Some-same, None≢Some}
-use Rattle.tlsf_heap.proofs.Unlinking.{without-here, without-apart, without-none, unlinked_is_linked, first_when_some, first_stands_in, next_stands}
+use Rattle.tlsf_heap.proofs.Unlinking.{without-here, without-apart, without-none, unlinked_is_linked, first_when_some}
 use Rattle.tlsf_heap.proofs.NewArea.{times-append, with_held}
 use Rattle.tlsf_heap.proofs.NewPool.{pool_by, map-same}
 use Rattle.tlsf_heap.proofs.Rechained.{edited_area, entries_kept, rechained_is_layout, AreChains-edited, next_in_areas}

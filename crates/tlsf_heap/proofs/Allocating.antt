@@ -1,11 +1,11 @@
 -- What malloc reads off the cells, and what each of its answers means for the content.
-use Rattle.std.proofs.Common.{◌≡◌, ◌≢◌, ℕ, suc, ◌+◌, ◌%◌, ◌<◌, ◌≤◌, true, false, cond, List, [], ◌∷◌, length, map, drop, get_or, refl, sym, ap, ◌∙◌, subst, arith, Option, Some, None, option_map, option_and_then, Ok, Err, ◌&&◌}
+use Rattle.std.proofs.Common.{◌≡◌, ◌≢◌, ℕ, suc, ◌+◌, ◌%◌, ◌<◌, ◌≤◌, true, false, cond, List, [], ◌∷◌, length, drop, get_or, refl, sym, ap, ◌∙◌, subst, arith, Option, Some, None, option_map, option_and_then, Ok, Err, ◌&&◌}
 use Rattle.std.specs.Prelude.{nat_lt, nat_le, ◌-◌, IfSome, IfNone}
 use Rattle.std.proofs.lemmas.Bool.{lt-ltb, le-ltb, le-leb, lt-leb, and_from, and_left, and_right, eq-eqb, ne_eqb}
 use Rattle.std.proofs.lemmas.List.{get_or-drop, length-drop}
 use Rattle.tlsf_class.specs.Classes.{unit, classes, greatest_size, class, need}
 use Rattle.tlsf_class.specs.Rounding.{round}
-use Rattle.tlsf_store.specs.declared.records.State.TheVariants.{Free, Vacant}
+use Rattle.tlsf_store.specs.declared.records.State.TheVariants.{Free}
 use Rattle.tlsf_store.specs.Records.{blank, blank_in, record_at, vacant_count}
 use Rattle.tlsf_store.specs.Cells.{Cells, head_at, with_taken}
 use Rattle.tlsf_store.proofs.RecordLaws.{vacant_count-take}
@@ -19,12 +19,11 @@ use Rattle.tlsf_heap.specs.GoodSlots.{slot_times}
 use Rattle.tlsf_heap.specs.Bitmaps.{first_head}
 use Rattle.tlsf_heap.specs.Edits.{IsUsed, unlinked}
 use Rattle.tlsf_heap.specs.Allocation.{cut, taken_whole, taken_part}
-use Rattle.tlsf_heap.specs.Layout.{Stands, first_slot, home_of, held_of, place_at, content_by, content_of, slots_of}
-use Rattle.tlsf_heap.proofs.GoodContent.{Picked, IsWhole, picked, allocated_is_good}
+use Rattle.tlsf_heap.specs.Layout.{Stands, home_of, held_of, place_at, content_by, content_of, slots_of}
+use Rattle.tlsf_heap.proofs.GoodContent.{Picked, picked, allocated_is_good}
 use Rattle.tlsf_heap.proofs.Unlinking.{first_stands_in}
 use Rattle.tlsf_heap.proofs.Followed.{content_is}
 use Rattle.tlsf_heap.proofs.ListMeaning.{first_is_picked}
-use Rattle.tlsf_heap.proofs.NewPool.{Stands-touches, content_of-touches}
 use Rattle.tlsf_heap.proofs.AddPool.{records_are, used_are}
 use Rattle.tlsf_heap.proofs.HeapStands.{content_is_good}
 use Rattle.tlsf_heap.proofs.Slots.{free_used, used_in_chains, in_chains_used, listed_tells, size_of_slot, whole_slot, slot_is_new, prev_free_used, next_free_used}

@@ -1,16 +1,15 @@
 -- Each call does the same to a content, whatever its live blocks are known by.
-use Rattle.std.proofs.Common.{◌≡◌, ℕ, ◌+◌, ◌-◌, Bool, true, false, cond, eqb, ◌&&◌, List, [], ◌∷◌, ◌++◌, length, map, refl, sym, ap, ◌∙◌, find, Option, Some, None, option_map, Result, Ok, Err, unwrap_or}
-use Rattle.std.specs.Prelude.{nat_lt, nat_le, ◌==◌, is_none, flat_map, not}
+use Rattle.std.proofs.Common.{◌≡◌, ℕ, ◌+◌, ◌-◌, Bool, true, false, cond, ◌&&◌, List, [], ◌∷◌, ◌++◌, length, map, refl, sym, ap, ◌∙◌, find, Option, Some, None, option_map, Result, Ok, Err, unwrap_or}
+use Rattle.std.specs.Prelude.{nat_lt, nat_le, ◌==◌, not}
 use Rattle.std.specs.List.{list_all}
 use Rattle.std.proofs.lemmas.List.{map-append, length-map}
-use Rattle.std.proofs.lemmas.Bool.{cases_Bool}
 use Rattle.tlsf_class.specs.Rounding.{round}
 use Rattle.tlsf_heap.specs.declared.refusal.Refusal.{Refusal}
 use Rattle.tlsf_heap.specs.declared.refusal.Refusal.TheVariants.{ZeroSize, TableFull, BadPool, PoolsFull}
-use Rattle.tlsf_heap.specs.Content.{Block, Pool, Content, blocks_of, is_free, is_at, size_at, used_records}
+use Rattle.tlsf_heap.specs.Content.{Block, Pool, Content, blocks_of, is_at, size_at, used_records}
 use Rattle.tlsf_heap.specs.Lists.{pick}
 use Rattle.tlsf_heap.specs.Malloc.{gap, cut, replaced, replaced_in, allocated, allocate, malloc_picked, malloc_rounded, malloc}
-use Rattle.tlsf_heap.specs.Pools.{created, is_apart, can_be_pool, in_order_of_base, with_pool, add_pool, most_pools}
+use Rattle.tlsf_heap.specs.Pools.{is_apart, can_be_pool, in_order_of_base, with_pool, add_pool, most_pools}
 use Rattle.tlsf_heap.specs.Bare.{renamed_block, renamed_pool, renamed, renamed_result, renamed_given}
 
 -- a function of a choice is the choice of what it gives

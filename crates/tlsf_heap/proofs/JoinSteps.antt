@@ -1,19 +1,17 @@
 -- What the steps of a free are given, and what they leave.
-use Rattle.std.proofs.Common.{◌≡◌, ◌≢◌, ℕ, ◌+◌, ◌^◌, ◌<◌, ◌≤◌, true, false, length, refl, sym, ap, ◌∙◌, subst, arith, Option, Some, None, ◌⊎◌, inl, inr}
+use Rattle.std.proofs.Common.{◌≡◌, ◌≢◌, ℕ, ◌+◌, ◌^◌, ◌<◌, ◌≤◌, true, false, length, refl, arith, Some, None, ◌⊎◌}
 use Rattle.tlsf_class.specs.Classes.{greatest_size, class}
-use Rattle.tlsf_class.proofs.ClassLaws.{class-lt}
 use Rattle.tlsf_store.specs.declared.records.State.{State}
 use Rattle.tlsf_store.specs.declared.records.State.TheVariants.{Vacant, Free, Live}
 use Rattle.tlsf_store.specs.Records.{record_at}
-use Rattle.tlsf_store.specs.Cells.{Cells, touched, head_at}
+use Rattle.tlsf_store.specs.Cells.{Cells}
 use Rattle.tlsf_heap.specs.Content.{Block}
 use Rattle.tlsf_heap.specs.Free.{if_free}
 use Rattle.tlsf_heap.specs.Edits.{IsUsed, unlinked}
 use Rattle.tlsf_heap.specs.Release.{IsLoose, is_state_free, block_if_free, joined}
-use Rattle.tlsf_heap.specs.Layout.{Layout, place_at, block_of, owner_in, content_of}
-use Rattle.tlsf_heap.proofs.NewPool.{content_of-touches}
-use Rattle.tlsf_heap.proofs.SameBlocks.{SameBlocks, unlinked_same}
-use Rattle.tlsf_heap.proofs.Loose.{loose_whole, slot_there, head_loose, listed_prev_used, listed_next_used, listed_whole, listed_within, front_out, behind_out, next_out, joined_place, joined_loose, joined_size}
+use Rattle.tlsf_heap.specs.Layout.{block_of, owner_in}
+use Rattle.tlsf_heap.proofs.SameBlocks.{unlinked_same}
+use Rattle.tlsf_heap.proofs.Loose.{loose_whole, slot_there, listed_prev_used, listed_next_used, listed_whole, listed_within, front_out, behind_out, next_out, joined_loose, joined_size}
 
 pub IsLoose-touches : (t slot : ℕ) (cells : Cells) → IsLoose slot cells → IsLoose slot (record cells { touches = t })
 IsLoose-touches t slot cells l = record {

@@ -1,18 +1,17 @@
 -- free merges in two steps: a free block in front takes in the block freed, and that takes in a free one behind it.
-use Rattle.std.proofs.Common.{◌≡◌, ℕ, ◌+◌, ◌<◌, ◌≤◌, Bool, true, false, cond, not, ◌&&◌, List, [], ◌∷◌, ◌++◌, map, refl, sym, ap, ◌∙◌, subst, arith, Option, Some, None, ◌⊎◌, inl, inr}
-use Rattle.std.specs.Prelude.{⊤, ◌||◌}
+use Rattle.std.proofs.Common.{◌≡◌, ℕ, ◌+◌, ◌<◌, ◌≤◌, Bool, true, false, cond, List, [], ◌∷◌, map, refl, sym, ap, ◌∙◌, subst, arith, Option, Some, None, ◌⊎◌, inl, inr}
 use Rattle.std.specs.List.{AllByRecursion}
 use Rattle.std.specs.Option.{option_or}
 use Rattle.std.proofs.lemmas.Bool.{cases_Bool, eq-eqb, ne_eqb, eqb-true, or_cases}
 use Rattle.std.proofs.lemmas.Simd.{map-map}
 use Rattle.tlsf_heap.specs.Content.{Block, Pool, Content, is_free, is_at, blocks_of}
-use Rattle.tlsf_heap.specs.Free.{is_live, freed, join, merged, merged_in, in_front_of, behind, if_free, first_in_pools, free_in_front, free_behind, start_of}
-use Rattle.tlsf_heap.specs.Good.{Covers, NoFreeNeighbours, IsGoodPool, AreGoodPools}
-use Rattle.tlsf_heap.specs.Release.{IsCovered, AreCovered, freed_in, taken_in, taken_in_pool, joined_to_front, joined_to_back}
-use Rattle.tlsf_heap.proofs.Blocks.{Ascends, Ascends-higher, Ascends-append, Ascends-pools, NoneAt, NoneAt-below, one_if}
+use Rattle.tlsf_heap.specs.Free.{is_live, freed, join, merged, merged_in, in_front_of, behind, if_free, first_in_pools, start_of}
+use Rattle.tlsf_heap.specs.Good.{Covers, NoFreeNeighbours, AreGoodPools}
+use Rattle.tlsf_heap.specs.Release.{AreCovered, freed_in, taken_in, taken_in_pool, joined_to_front, joined_to_back}
+use Rattle.tlsf_heap.proofs.Blocks.{Ascends, Ascends-higher, Ascends-append, Ascends-pools, NoneAt, NoneAt-below}
 use Rattle.tlsf_heap.proofs.GoodContent.{IsWhole, whole_in_pool, all-append}
 use Rattle.tlsf_heap.proofs.Merging.{Covers-freed, merged_id}
-use Rattle.tlsf_heap.proofs.Freeing.{first, join_live, join_apart, freed_none, in_front_none, behind_here, live_here, live_later}
+use Rattle.tlsf_heap.proofs.Freeing.{first, join_live, join_apart, freed_none, in_front_none, behind_here, live_later}
 use Rattle.tlsf_heap.proofs.FreeIsGood.{option_or-None, untouched, NoneAt-above, none_in_front, none_behind, live_above, live_below, live-append, ascends_in}
 
 module _ {A : Type 0} where

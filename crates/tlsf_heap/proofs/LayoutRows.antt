@@ -1,5 +1,5 @@
 -- Links, bitmaps and pools of small stores, computed by the definitions.
-use Rattle.std.proofs.Common.{◌≡◌, ℕ, List, [], ◌∷◌, refl, Option, Some, None, get_or}
+use Rattle.std.proofs.Common.{◌≡◌, [], ◌∷◌, refl, Some, None, get_or}
 use Rattle.tlsf_class.specs.Classes.{class, low}
 use Rattle.tlsf_store.specs.Cells.{Cells, empty_cells, head_at, with_taken}
 use Rattle.tlsf_heap.specs.Pools.{created, with_pool}

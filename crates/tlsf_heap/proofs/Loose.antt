@@ -1,25 +1,22 @@
 -- Cells while a block is freed: it is free and in no list, and takes in its free neighbours.
-use Rattle.std.proofs.Common.{◌≡◌, ◌≢◌, ℕ, ◌+◌, ◌%◌, ◌<◌, ◌≤◌, true, false, cond, eqb, List, [], ◌∷◌, length, map, refl, sym, ap, ◌∙◌, subst, arith, Option, Some, None, ◌⊎◌, inl, inr}
+use Rattle.std.proofs.Common.{◌≡◌, ◌≢◌, ℕ, ◌+◌, ◌<◌, ◌≤◌, cond, List, [], ◌∷◌, length, map, refl, sym, ap, ◌∙◌, subst, arith, Option, Some, None, ◌⊎◌, inl, inr}
 use Rattle.std.specs.List.{AllByRecursion}
 use Rattle.std.proofs.lemmas.Bool.{cases_eq, cases_lt, eq-eqb, ne_eqb}
 use Rattle.std.proofs.lemmas.List.{get_or_past}
 use Rattle.tlsf_class.specs.Classes.{classes, class}
 use Rattle.tlsf_class.proofs.ClassLaws.{class-lt}
 use Rattle.tlsf_store.specs.declared.records.Record.{Record}
-use Rattle.tlsf_store.specs.declared.records.State.{State}
-use Rattle.tlsf_store.specs.declared.records.State.TheVariants.{Vacant, Free, Live}
+use Rattle.tlsf_store.specs.declared.records.State.TheVariants.{Vacant, Free}
 use Rattle.tlsf_store.specs.Records.{blank, record_at}
 use Rattle.tlsf_store.specs.Cells.{Cells}
-use Rattle.tlsf_heap.specs.Content.{Block, Pool, Content, is_at, blocks_of}
+use Rattle.tlsf_heap.specs.Content.{Block, Pool}
 use Rattle.tlsf_heap.specs.Lists.{list_of, unlink}
 use Rattle.tlsf_heap.specs.Good.{times}
 use Rattle.tlsf_heap.specs.Edits.{IsUsed, unlinked}
-use Rattle.tlsf_heap.specs.Chains.{absorbed}
 use Rattle.tlsf_heap.specs.Free.{if_free}
 use Rattle.tlsf_heap.specs.Release.{AreCovered, IsLoose, home_but, joined, joined_at, taken_in_pool, block_if_free, free_back}
-use Rattle.tlsf_heap.specs.Layout.{Area, Layout, IsLayout, first_slot, held_in, held_of, home_in, home_of, at_home, owner_in, slots_of, place_at, block_of, pool_of, content_by, content_of}
-use Rattle.tlsf_heap.proofs.Blocks.{one_if, Ascends}
-use Rattle.tlsf_heap.proofs.FreeLists.{times-cons}
+use Rattle.tlsf_heap.specs.Layout.{Layout, IsLayout, first_slot, held_in, held_of, home_in, home_of, at_home, owner_in, slots_of, place_at, block_of, pool_of, content_by, content_of}
+use Rattle.tlsf_heap.proofs.Blocks.{Ascends}
 use Rattle.tlsf_heap.proofs.GoodContent.{IsWhole}
 use Rattle.tlsf_heap.proofs.Linking.{field_at, None≢Some, times-front}
 use Rattle.tlsf_heap.proofs.LinkedLayout.{home_is, at_home-here}
@@ -32,9 +29,9 @@ use Rattle.tlsf_heap.proofs.NewPool.{home_size}
 use Rattle.tlsf_heap.specs.Lists.{without}
 use Rattle.tlsf_heap.proofs.Rechained.{edited_area, next_in_areas, prev_in_areas}
 use Rattle.tlsf_heap.proofs.Slots.{free_used, used_if_held, held_if_used, home_of_free, home_tells, all_at}
-use Rattle.tlsf_heap.proofs.SameBlocks.{SameBlocks, unlinked_same, same_used, same_block, lists_same}
+use Rattle.tlsf_heap.proofs.SameBlocks.{SameBlocks, unlinked_same, same_used, lists_same}
 use Rattle.tlsf_heap.proofs.Neighbours.{next_has_prev, prev_has_next, not_both}
-use Rattle.tlsf_heap.proofs.AbsorbedLayout.{absorbed_is_layout, absorbed_count, absorbed_behind, absorbed_slot, absorbed_other, behind_apart, behind_stands, pools_taken_in}
+use Rattle.tlsf_heap.proofs.AbsorbedLayout.{absorbed_is_layout, absorbed_count, absorbed_behind, absorbed_slot, absorbed_other, pools_taken_in}
 use Rattle.tlsf_heap.proofs.Joining.{AreCovered-taken_in, Ascends-covered, whole_covered}
 
 pub but_here : (slot : ℕ) (home : ℕ → Option ℕ) → home_but slot home slot ≡ None

@@ -1,5 +1,5 @@
 -- Neighbours in a chain: what stands behind a slot has it in front, and the other way round; and a slot that leaves the chains.
-use Rattle.std.proofs.Common.{◌≡◌, ◌≢◌, ℕ, ◌+◌, ◌<◌, ◌≤◌, cond, eqb, List, [], ◌∷◌, ◌++◌, length, map, set, refl, sym, ap, ◌∙◌, subst, arith, Option, Some, None, ◌⊎◌, inl, inr}
+use Rattle.std.proofs.Common.{◌≡◌, ◌≢◌, ℕ, ◌+◌, ◌<◌, ◌≤◌, List, [], ◌∷◌, ◌++◌, length, map, set, refl, sym, ap, ◌∙◌, subst, arith, Option, Some, None, ◌⊎◌, inl, inr}
 use Rattle.std.proofs.lemmas.Bool.{cases_eq, cases_lt, eq-eqb, ne_eqb}
 use Rattle.tlsf_store.specs.declared.records.Record.{Record}
 use Rattle.tlsf_store.specs.Records.{record_at}
@@ -10,8 +10,8 @@ use Rattle.tlsf_heap.specs.Edits.{edited_in}
 use Rattle.tlsf_heap.specs.Layout.{Area, IsLinked, AreChains, first_slot, slots_of}
 use Rattle.tlsf_heap.proofs.Blocks.{one_if}
 use Rattle.tlsf_heap.proofs.FreeLists.{times-cons}
-use Rattle.tlsf_heap.proofs.Linking.{times-front, Some-same, None≢Some}
-use Rattle.tlsf_heap.proofs.Unlinking.{without-here, without-apart, first_stands_in, next_stands}
+use Rattle.tlsf_heap.proofs.Linking.{Some-same, None≢Some}
+use Rattle.tlsf_heap.proofs.Unlinking.{without-here, without-apart, first_stands_in}
 use Rattle.tlsf_heap.proofs.NewArea.{times-append}
 use Rattle.tlsf_heap.proofs.Rechained.{edited_area}
 

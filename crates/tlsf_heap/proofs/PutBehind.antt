@@ -1,13 +1,13 @@
 -- A slot put behind another in its pool's chain.
-use Rattle.std.proofs.Common.{◌≡◌, ◌≢◌, ℕ, ◌+◌, ◌≤◌, true, false, cond, eqb, List, [], ◌∷◌, ◌++◌, map, refl, sym, ap, ◌∙◌, subst, arith, Option, Some, None, inl, inr}
+use Rattle.std.proofs.Common.{◌≡◌, ◌≢◌, ℕ, ◌≤◌, true, false, cond, eqb, List, [], ◌∷◌, ◌++◌, map, refl, sym, ap, ◌∙◌, subst, arith, Option, Some, None, inl, inr}
 use Rattle.std.specs.Prelude.{flat_map}
 use Rattle.std.proofs.lemmas.Grind.{flat_map-append}
-use Rattle.std.proofs.lemmas.Bool.{cases_eq, cases_Bool, eq-eqb, ne_eqb, eqb-true}
+use Rattle.std.proofs.lemmas.Bool.{cases_eq, eq-eqb, ne_eqb}
 use Rattle.tlsf_heap.specs.Good.{times}
 use Rattle.tlsf_heap.specs.Layout.{Area, IsLinked, AreChains, first_slot, slots_of}
 use Rattle.tlsf_heap.proofs.Blocks.{one_if}
 use Rattle.tlsf_heap.proofs.FreeLists.{times-cons}
-use Rattle.tlsf_heap.proofs.Linking.{times-front, times-behind, IsLinked-same, Some-same, None≢Some}
+use Rattle.tlsf_heap.proofs.Linking.{IsLinked-same, Some-same, None≢Some}
 use Rattle.tlsf_heap.proofs.Unlinking.{first_stands_in, next_stands}
 use Rattle.tlsf_heap.proofs.Rechained.{edited_area, AreChains-edited}
 

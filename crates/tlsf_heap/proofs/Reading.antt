@@ -1,30 +1,28 @@
 -- What the readings come to: the pool that begins at a base, and the rows from a block on.
-use Rattle.std.proofs.Common.{◌≡◌, ◌≢◌, ℕ, zero, suc, ◌+◌, ◌-◌, ◌<◌, ◌≤◌, Bool, true, false, cond, eqb, not, List, [], ◌∷◌, ◌++◌, length, map, get_or, refl, sym, ap, ◌∙◌, subst, arith, Option, Some, None, ◌⊎◌, inl, inr, Ok, Err}
-use Rattle.std.specs.Prelude.{⊤, nat_lt, ◌==◌, Result}
-use Rattle.std.proofs.lemmas.Bool.{cases_Bool, cases_eq, cases_lt, eq-eqb, ne_eqb, eqb-true, eqb-false, ltb-true, ltb-false, lt-ltb, true≢false}
+use Rattle.std.proofs.Common.{◌≡◌, ◌≢◌, ℕ, zero, suc, ◌+◌, ◌-◌, ◌<◌, ◌≤◌, true, false, cond, not, List, [], ◌∷◌, length, map, get_or, refl, sym, ap, ◌∙◌, subst, arith, Option, Some, None, ◌⊎◌, inl, inr, Ok, Err}
+use Rattle.std.specs.Prelude.{⊤, ◌==◌}
+use Rattle.std.proofs.lemmas.Bool.{cases_Bool, cases_eq, cases_lt, eq-eqb, ne_eqb, ltb-true, ltb-false, lt-ltb, true≢false}
 use Rattle.std.proofs.lemmas.List.{length-append, length-map, get_or_past}
 use Rattle.tlsf_store.specs.declared.records.Record.{Record}
 use Rattle.tlsf_store.specs.declared.records.State.{State}
 use Rattle.tlsf_store.specs.declared.records.State.TheVariants.{Vacant, Free, Live}
-use Rattle.tlsf_store.specs.declared.pools.Pool.{Pool as StoredPool}
 use Rattle.tlsf_store.specs.Records.{blank, record_at, is_vacant}
 use Rattle.std.proofs.lemmas.List.FromFn.{get_or-map-range_with_len, length-range_with_len}
 use Rattle.std.specs.List.{range_with_len}
 use Rattle.tlsf_store.specs.Cells.{Cells, pool_at, pool_entries}
 use Rattle.tlsf_heap.specs.declared.pool_entry.PoolEntry.{PoolEntry}
-use Rattle.tlsf_heap.specs.declared.refusal.Refusal.{Refusal}
 use Rattle.tlsf_heap.specs.declared.refusal.Refusal.TheVariants.{NoPool}
 use Rattle.tlsf_heap.specs.declared.row.Row.{Row}
-use Rattle.tlsf_heap.specs.Content.{Block, Pool, is_free}
+use Rattle.tlsf_heap.specs.Content.{Pool, is_free}
 use Rattle.tlsf_heap.specs.Good.{times, AreGoodPools}
 use Rattle.tlsf_heap.specs.Edits.{IsUsed}
 use Rattle.tlsf_heap.specs.Rows.{row_of, rows_from}
 use Rattle.tlsf_heap.specs.Readings.{is_state_live, rows_at, rows_by, rest_of, stands_at, slot_for, begins_below, slot_if, AreInOrder, IsNarrowed}
-use Rattle.tlsf_heap.specs.Layout.{Area, Layout, IsLayout, IsLinked, AreChains, Stands, padded, padded_at, first_slot, slots_of, next_at, block_of, pool_of, owner_in, content_by, content_of, entries_of, follow, home_of}
+use Rattle.tlsf_heap.specs.Layout.{Area, IsLinked, AreChains, Stands, padded, padded_at, first_slot, slots_of, next_at, block_of, pool_of, owner_in, content_by, content_of, entries_of, follow, home_of}
 use Rattle.tlsf_heap.proofs.Blocks.{one_if}
 use Rattle.tlsf_heap.proofs.FreeLists.{times-cons}
 use Rattle.tlsf_heap.proofs.EntryLists.{padded_at_is, length-padded}
-use Rattle.tlsf_heap.proofs.Linking.{field_at, times-front, Some-same, None≢Some}
+use Rattle.tlsf_heap.proofs.Linking.{field_at, Some-same, None≢Some}
 use Rattle.tlsf_heap.proofs.Unlinking.{first_stands_in}
 use Rattle.tlsf_heap.proofs.NewArea.{times-append}
 use Rattle.tlsf_heap.proofs.Followed.{content_is, in_use, follow_is}

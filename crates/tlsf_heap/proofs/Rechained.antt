@@ -1,6 +1,6 @@
 -- Edits of the pools' chains, and of records, that leave the free lists alone.
-use Rattle.std.proofs.Common.{◌≡◌, ◌≢◌, ℕ, ◌+◌, ◌<◌, ◌≤◌, cond, eqb, List, [], ◌∷◌, ◌++◌, length, map, set, refl, sym, ap, ◌∙◌, subst, arith, Option, Some, None, inl, inr}
-use Rattle.std.proofs.lemmas.Bool.{cases_eq, cases_lt, eq-eqb, ne_eqb}
+use Rattle.std.proofs.Common.{◌≡◌, ◌≢◌, ℕ, ◌+◌, ◌<◌, ◌≤◌, List, [], ◌∷◌, map, refl, sym, ap, ◌∙◌, subst, arith, Option, Some, None, inl, inr}
+use Rattle.std.proofs.lemmas.Bool.{cases_lt}
 use Rattle.tlsf_class.specs.Classes.{classes}
 use Rattle.tlsf_store.specs.declared.records.Record.{Record}
 use Rattle.tlsf_store.specs.Records.{record_at}
@@ -8,11 +8,9 @@ use Rattle.tlsf_store.specs.Cells.{Cells}
 use Rattle.tlsf_heap.specs.Lists.{list_of}
 use Rattle.tlsf_heap.specs.Good.{times}
 use Rattle.tlsf_heap.specs.Layout.{Area, Layout, IsLayout, IsLinked, AreChains, first_slot, slots_of, padded}
-use Rattle.tlsf_heap.proofs.Blocks.{one_if}
-use Rattle.tlsf_heap.proofs.FreeLists.{times-cons}
-use Rattle.tlsf_heap.proofs.Linking.{field_at, times-front, times-behind, IsLinked-same, Some-same, None≢Some}
-use Rattle.tlsf_heap.proofs.Unlinking.{first_stands_in, next_stands, prev_stands}
-use Rattle.tlsf_heap.proofs.NewArea.{times-append, AreChains-same}
+use Rattle.tlsf_heap.proofs.Linking.{field_at, IsLinked-same, None≢Some}
+use Rattle.tlsf_heap.proofs.Unlinking.{next_stands, prev_stands}
+use Rattle.tlsf_heap.proofs.NewArea.{times-append}
 
 -- the slots of an area, edited
 abbrev pub edited_area : (List ℕ → List ℕ) → Area → Area

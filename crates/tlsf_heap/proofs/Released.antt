@@ -1,37 +1,36 @@
 -- A block freed: its neighbours as the definition names them, and the content once all steps were made.
-use Rattle.std.proofs.Common.{◌≡◌, ◌≢◌, ℕ, ◌+◌, ◌<◌, ◌≤◌, Bool, true, false, cond, eqb, ◌&&◌, List, [], ◌∷◌, ◌++◌, length, map, refl, sym, ap, ◌∙◌, subst, arith, Option, Some, None, option_map, inl, inr}
+use Rattle.std.proofs.Common.{◌≡◌, ◌≢◌, ℕ, ◌+◌, ◌<◌, ◌≤◌, Bool, true, false, cond, ◌&&◌, List, [], ◌∷◌, length, map, refl, sym, ap, ◌∙◌, subst, arith, Option, Some, None, option_map, inl, inr}
 use Rattle.std.specs.Prelude.{◌||◌, ◌==◌}
 use Rattle.std.specs.Option.{option_or}
-use Rattle.std.proofs.lemmas.Bool.{cases_Bool, cases_eq, cases_lt, eq-eqb, ne_eqb, eqb-true, and_from, and_parts, or_cases, true≢false}
-use Rattle.tlsf_class.specs.Classes.{classes, class}
+use Rattle.std.proofs.lemmas.Bool.{cases_Bool, cases_eq, cases_lt, eq-eqb, ne_eqb, eqb-true, and_from, and_parts, or_cases}
+use Rattle.tlsf_class.specs.Classes.{class}
 use Rattle.tlsf_class.proofs.ClassLaws.{class-lt}
 use Rattle.tlsf_store.specs.declared.records.Record.{Record}
 use Rattle.tlsf_store.specs.declared.records.State.{State}
 use Rattle.tlsf_store.specs.declared.records.State.TheVariants.{Vacant, Free, Live}
 use Rattle.tlsf_store.specs.Records.{record_at}
-use Rattle.tlsf_store.specs.Cells.{Cells, head_at}
+use Rattle.tlsf_store.specs.Cells.{Cells}
 use Rattle.tlsf_heap.specs.Content.{Block, Pool, Content, is_at, blocks_of, size_at}
-use Rattle.tlsf_heap.specs.Lists.{list_of, link}
-use Rattle.tlsf_heap.specs.Free.{is_live, is_owned_by, in_front_of, behind, if_free, first_in_pools, free_in_front, free_behind, after_free, size_of, start_of, merged_in, unlink_block}
+use Rattle.tlsf_heap.specs.Lists.{link}
+use Rattle.tlsf_heap.specs.Free.{is_live, is_owned_by, in_front_of, behind, if_free, first_in_pools, free_in_front, free_behind, after_free, size_of, start_of, unlink_block}
 use Rattle.tlsf_heap.specs.Good.{times, IsGood}
 use Rattle.tlsf_heap.specs.Edits.{linked}
 use Rattle.tlsf_heap.specs.Release.{IsLoose, home_but, freed_in, block_if_free, free_front, free_back, joined_to_front, joined_to_back, entered}
-use Rattle.tlsf_heap.specs.Layout.{Area, Layout, IsLayout, IsLinked, AreChains, Stands, first_slot, held_in, held_of, home_in, home_of, owner_in, slots_of, place_at, block_of, pool_of, content_by, content_of}
+use Rattle.tlsf_heap.specs.Layout.{Area, Layout, IsLayout, IsLinked, AreChains, Stands, held_in, held_of, home_in, home_of, owner_in, slots_of, place_at, block_of, pool_of, content_by, content_of}
 use Rattle.tlsf_heap.proofs.Blocks.{one_if, NoneAt}
 use Rattle.tlsf_heap.proofs.FreeLists.{times-cons}
-use Rattle.tlsf_heap.proofs.Linking.{field_at, times-front, times-behind, Some-same, None≢Some}
+use Rattle.tlsf_heap.proofs.Linking.{field_at, times-front, times-behind}
 use Rattle.tlsf_heap.proofs.LinkedLayout.{with_home, with_linked, linked_is_layout}
 use Rattle.tlsf_heap.proofs.Followed.{content_is, held_most, blocks_of_areas}
 use Rattle.tlsf_heap.proofs.ListMeaning.{places-linked}
 use Rattle.tlsf_heap.proofs.NewArea.{times-append}
 use Rattle.tlsf_heap.proofs.NewPool.{pool_by, pools_same, home_size}
-use Rattle.tlsf_heap.proofs.FreeIsGood.{after_free_is_good, none_in_front, none_behind, option_or-None}
+use Rattle.tlsf_heap.proofs.FreeIsGood.{none_in_front, none_behind, option_or-None}
 use Rattle.tlsf_heap.proofs.Freeing.{in_front_none}
-use Rattle.tlsf_heap.proofs.HeapStands.{content_is_good}
-use Rattle.tlsf_heap.proofs.Slots.{live_used, free_used, used_in_chains, in_chains_used, others_apart, slot_here, size_of_slot, home_of_free}
-use Rattle.tlsf_heap.proofs.SameBlocks.{SameBlocks, linked_same, same_block, lists_same}
+use Rattle.tlsf_heap.proofs.Slots.{live_used, free_used, used_in_chains, others_apart, slot_here, size_of_slot, home_of_free}
+use Rattle.tlsf_heap.proofs.SameBlocks.{SameBlocks, linked_same, same_block}
 use Rattle.tlsf_heap.proofs.Joining.{joined_pool, pools_joined, steps_are}
-use Rattle.tlsf_heap.proofs.Loose.{but_here, but_other, loose_content, slot_there, listed_below, used_held, held_used}
+use Rattle.tlsf_heap.proofs.Loose.{but_here, but_other, loose_content, listed_below, used_held, held_used}
 
 -- the neighbours of a slot's block in its chain
 module _ (back fore : ℕ → Option ℕ) (f : ℕ → Block ℕ) (slot place : ℕ) (here : is_at place (f slot) ≡ true) where

@@ -1,38 +1,29 @@
 -- The first and the last step of a free: the block becomes free, and enters its list once its neighbours joined it.
-use Rattle.std.proofs.Common.{◌≡◌, ◌≢◌, ℕ, ◌+◌, ◌<◌, ◌≤◌, true, false, cond, eqb, List, [], ◌∷◌, ◌++◌, length, map, set, refl, sym, ap, ◌∙◌, subst, arith, Option, Some, None, option_map, inl, inr}
-use Rattle.std.specs.Option.{option_or}
-use Rattle.std.proofs.lemmas.Bool.{cases_eq, cases_lt, eq-eqb, ne_eqb}
-use Rattle.tlsf_class.specs.Classes.{classes, class}
-use Rattle.tlsf_class.proofs.ClassLaws.{class-lt}
+use Rattle.std.proofs.Common.{◌≡◌, ◌≢◌, ℕ, ◌+◌, ◌<◌, ◌≤◌, cond, List, [], ◌∷◌, length, map, refl, sym, ap, ◌∙◌, subst, arith, Option, Some, None, inl, inr}
+use Rattle.std.proofs.lemmas.Bool.{cases_eq}
 use Rattle.tlsf_store.specs.declared.records.Record.{Record}
 use Rattle.tlsf_store.specs.declared.records.State.{State}
 use Rattle.tlsf_store.specs.declared.records.State.TheVariants.{Vacant, Free, Live}
 use Rattle.tlsf_store.specs.Records.{record_at}
-use Rattle.tlsf_store.specs.Cells.{Cells, head_at}
-use Rattle.tlsf_heap.specs.Content.{Block, Pool, Content, is_at, blocks_of, size_at}
-use Rattle.tlsf_heap.specs.Lists.{list_of, link}
-use Rattle.tlsf_heap.specs.Free.{freed, in_front_of, behind, if_free, first_in_pools, free_in_front, free_behind, after_free, size_of, start_of, merged_in, unlink_block}
-use Rattle.tlsf_heap.specs.Good.{times, IsGood}
-use Rattle.tlsf_heap.specs.Edits.{IsUsed, linked, edited_in}
+use Rattle.tlsf_store.specs.Cells.{Cells}
+use Rattle.tlsf_heap.specs.Content.{Pool, Content}
+use Rattle.tlsf_heap.specs.Free.{freed, if_free}
+use Rattle.tlsf_heap.specs.Good.{times}
 use Rattle.tlsf_heap.specs.Chains.{with_state}
-use Rattle.tlsf_heap.specs.Release.{AreCovered, IsLoose, home_but, freed_in, block_if_free, free_front, free_back, joined_to_front, joined_to_back, entered}
-use Rattle.tlsf_heap.specs.Layout.{Area, Layout, IsLayout, IsLinked, AreChains, Stands, first_slot, held_in, held_of, home_in, home_of, owner_in, slots_of, place_at, block_of, pool_of, content_by, content_of}
-use Rattle.tlsf_heap.proofs.Blocks.{one_if}
-use Rattle.tlsf_heap.proofs.FreeLists.{times-cons}
-use Rattle.tlsf_heap.proofs.Linking.{field_at, same_field, length-edited_in, times-front, times-behind, Some-same, None≢Some}
-use Rattle.tlsf_heap.proofs.LinkedLayout.{with_home, with_linked, linked_is_layout}
-use Rattle.tlsf_heap.proofs.Followed.{content_is, content_is_by, held_most}
-use Rattle.tlsf_heap.proofs.ListMeaning.{places-linked}
+use Rattle.tlsf_heap.specs.Release.{AreCovered, IsLoose, home_but, freed_in, block_if_free, free_front, free_back}
+use Rattle.tlsf_heap.specs.Layout.{Area, Layout, IsLayout, Stands, held_in, held_of, home_in, home_of, owner_in, slots_of, place_at, block_of, pool_of, content_by, content_of}
+use Rattle.tlsf_heap.proofs.Linking.{field_at, same_field, length-edited_in, times-front, times-behind}
+use Rattle.tlsf_heap.proofs.Followed.{content_is, held_most}
 use Rattle.tlsf_heap.proofs.NewArea.{times-append}
-use Rattle.tlsf_heap.proofs.NewPool.{map-same, home_size}
+use Rattle.tlsf_heap.proofs.NewPool.{home_size}
 use Rattle.tlsf_heap.proofs.SplitLayout.{state_is_layout}
 use Rattle.tlsf_heap.proofs.Slots.{live_used, used_in_chains, in_chains_used, others_apart, slot_here}
-use Rattle.tlsf_heap.proofs.SameBlocks.{SameBlocks, linked_same, lists_same}
+use Rattle.tlsf_heap.proofs.SameBlocks.{lists_same}
 use Rattle.tlsf_heap.proofs.TakenWhole.{state_at, state_other}
 use Rattle.tlsf_heap.proofs.Rechained.{prev_in_areas}
 use Rattle.tlsf_heap.proofs.Neighbours.{next_has_prev, prev_has_next}
 use Rattle.tlsf_heap.proofs.Joining.{AreCovered-good, AreCovered-freed}
-use Rattle.tlsf_heap.proofs.Loose.{but_here, but_other, loose_content, loose_whole, slot_there, listed_below, head_loose}
+use Rattle.tlsf_heap.proofs.Loose.{but_here, but_other, loose_content}
 
 home_of_live : (r : Record) (s : State) → s ≡ Live → home_in r s ≡ None
 home_of_live r Vacant is = refl

@@ -1,9 +1,7 @@
 -- Edits of the free lists leave the blocks alone: their places, sizes, states and neighbours in the pool.
-use Rattle.std.proofs.Common.{◌≡◌, ◌≢◌, ℕ, ◌+◌, ◌<◌, ◌≤◌, ◌/◌, ◌%◌, true, false, cond, eqb, List, [], ◌∷◌, length, map, refl, sym, ap, ◌∙◌, subst, arith, Option, Some, None}
+use Rattle.std.proofs.Common.{◌≡◌, ℕ, ◌<◌, ◌≤◌, ◌/◌, ◌%◌, List, [], length, map, refl, sym, ap, ◌∙◌, subst, arith, Option, Some, None}
 use Rattle.std.proofs.lemmas.List.{length-map, get_or-map, ext_get_or}
 use Rattle.tlsf_store.specs.declared.records.Record.{Record}
-use Rattle.tlsf_store.specs.declared.records.State.{State}
-use Rattle.tlsf_store.specs.declared.records.State.TheVariants.{Vacant}
 use Rattle.tlsf_store.specs.Records.{record_at}
 use Rattle.tlsf_store.specs.Cells.{Cells, head_at, with_head, with_step_word}
 use Rattle.tlsf_class.specs.Classes.{steps}
@@ -11,8 +9,8 @@ use Rattle.std.specs.Prelude.{slice_index}
 use Rattle.tlsf_heap.specs.Lists.{list_of}
 use Rattle.tlsf_heap.specs.Good.{times}
 use Rattle.tlsf_heap.specs.Edits.{IsUsed, linked, unlinked, with_behind, with_prev_free, without_bit}
-use Rattle.tlsf_heap.specs.Layout.{home_in, home_of, held_in, held_of, owner_in, block_of, place_at}
-use Rattle.tlsf_heap.proofs.Linking.{field_at, front_records, front_fields, length-front}
+use Rattle.tlsf_heap.specs.Layout.{owner_in, block_of}
+use Rattle.tlsf_heap.proofs.Linking.{front_records, front_fields, length-front}
 use Rattle.tlsf_heap.proofs.Unlinking.{joined_records, joined_fields, length-joined}
 use Rattle.tlsf_heap.proofs.UnlinkedLayout.{cleared_is}
 use Rattle.tlsf_heap.proofs.NewPool.{map-same}

@@ -1,5 +1,5 @@
 -- What cells that stand tell of a slot: its block, its neighbours, and its place among the others.
-use Rattle.std.proofs.Common.{◌≡◌, ◌≢◌, ℕ, ◌+◌, ◌%◌, ◌<◌, ◌≤◌, Bool, true, false, eqb, List, [], ◌∷◌, ◌++◌, length, map, refl, sym, ap, ◌∙◌, subst, arith, find, Option, Some, None, option_map, unwrap_or, inl, inr}
+use Rattle.std.proofs.Common.{◌≡◌, ◌≢◌, ℕ, ◌<◌, ◌≤◌, Bool, true, false, List, [], ◌∷◌, length, map, refl, sym, ap, ◌∙◌, subst, arith, find, Option, Some, None, option_map, unwrap_or, inl, inr}
 use Rattle.std.specs.List.{AllByRecursion}
 use Rattle.std.proofs.lemmas.Bool.{cases_eq, cases_lt, eq-eqb, ne_eqb}
 use Rattle.std.proofs.lemmas.List.{get_or_past}
@@ -14,7 +14,7 @@ use Rattle.tlsf_heap.specs.Content.{Block, is_at, size_at, blocks_of}
 use Rattle.tlsf_heap.specs.Lists.{list_of}
 use Rattle.tlsf_heap.specs.Good.{times}
 use Rattle.tlsf_heap.specs.Edits.{IsUsed}
-use Rattle.tlsf_heap.specs.Layout.{Area, Layout, Stands, IsLayout, held_in, home_in, home_of, at_home, owner_in, slots_of, place_at, block_of, pool_of}
+use Rattle.tlsf_heap.specs.Layout.{Layout, Stands, IsLayout, held_in, home_in, home_of, at_home, owner_in, slots_of, place_at, block_of, pool_of}
 use Rattle.tlsf_heap.specs.GoodSlots.{is_slot, slot_times}
 use Rattle.tlsf_heap.proofs.Blocks.{one_if, count_by-cons}
 use Rattle.tlsf_heap.proofs.FreeLists.{times-cons}
@@ -22,7 +22,7 @@ use Rattle.tlsf_heap.proofs.GoodContent.{IsWhole, whole_in_pools}
 use Rattle.tlsf_heap.proofs.Linking.{field_at, times-front, None≢Some}
 use Rattle.tlsf_heap.proofs.LinkedLayout.{home_is, at_home-here}
 use Rattle.tlsf_heap.proofs.Unlinking.{next_stands, prev_stands}
-use Rattle.tlsf_heap.proofs.Followed.{held_most, blocks_of_areas}
+use Rattle.tlsf_heap.proofs.Followed.{blocks_of_areas}
 use Rattle.tlsf_heap.proofs.ListMeaning.{places_apart}
 use Rattle.tlsf_heap.proofs.Rechained.{next_in_areas, prev_in_areas}
 

@@ -1,13 +1,11 @@
 -- A slot's block, with slots put behind it, gives way to their blocks.
 use Rattle.std.proofs.Common.{◌≡◌, ◌≢◌, ℕ, ◌+◌, ◌≤◌, true, false, List, [], ◌∷◌, ◌++◌, map, refl, sym, ap, ◌∙◌, subst, arith, inl, inr}
-use Rattle.std.proofs.lemmas.Bool.{cases_eq, ne_eqb}
+use Rattle.std.proofs.lemmas.Bool.{cases_eq}
 use Rattle.std.proofs.lemmas.List.{map-append}
 use Rattle.tlsf_heap.specs.Content.{Block, is_at}
 use Rattle.tlsf_heap.specs.Good.{times}
 use Rattle.tlsf_heap.specs.Malloc.{replaced, replaced_in}
 use Rattle.tlsf_heap.specs.Layout.{Area, slots_of}
-use Rattle.tlsf_heap.proofs.Blocks.{one_if}
-use Rattle.tlsf_heap.proofs.FreeLists.{times-cons}
 use Rattle.tlsf_heap.proofs.Linking.{times-front, times-behind}
 use Rattle.tlsf_heap.proofs.Replacing.{replaced-here, replaced-elsewhere}
 use Rattle.tlsf_heap.proofs.NewArea.{times-append}

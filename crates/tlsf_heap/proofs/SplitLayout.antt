@@ -1,6 +1,6 @@
 -- What the cells represent after a block was split, and after a record in no list or chain was written.
-use Rattle.std.proofs.Common.{◌≡◌, ◌≢◌, ℕ, ◌+◌, ◌-◌, ◌<◌, ◌≤◌, cond, eqb, List, [], ◌∷◌, length, map, set, refl, sym, ap, ◌∙◌, subst, arith, Option, Some, None, inl, inr}
-use Rattle.std.proofs.lemmas.Bool.{cases_eq, cases_lt, eq-eqb, ne_eqb}
+use Rattle.std.proofs.Common.{◌≡◌, ◌≢◌, ℕ, ◌<◌, ◌≤◌, cond, List, [], ◌∷◌, length, map, set, refl, sym, ap, ◌∙◌, subst, arith, Option, Some, None, inl, inr}
+use Rattle.std.proofs.lemmas.Bool.{cases_eq, eq-eqb, ne_eqb}
 use Rattle.std.proofs.lemmas.List.{length-set}
 use Rattle.tlsf_class.specs.Classes.{classes}
 use Rattle.tlsf_store.specs.declared.records.Record.{Record}
@@ -12,11 +12,11 @@ use Rattle.tlsf_heap.specs.Lists.{list_of}
 use Rattle.tlsf_heap.specs.Good.{times}
 use Rattle.tlsf_heap.specs.Edits.{edited_in}
 use Rattle.tlsf_heap.specs.Chains.{with_state, rest_of, split}
-use Rattle.tlsf_heap.specs.Layout.{Area, Layout, IsLayout, AreChains, slots_of, at_home}
+use Rattle.tlsf_heap.specs.Layout.{Layout, IsLayout, AreChains, slots_of, at_home}
 use Rattle.tlsf_heap.proofs.Linking.{field_at, same_field, same_fields, Some-same, None≢Some}
 use Rattle.tlsf_heap.proofs.NewArea.{AreChains-same, with_held}
 use Rattle.tlsf_heap.proofs.Rechained.{edited_area, entries_kept, rechained_is_layout, next_in_areas}
-use Rattle.tlsf_heap.proofs.PutBehind.{put_behind, put-nothing, slots_of-put, times-put_other, times-put_rest, AreChains-put}
+use Rattle.tlsf_heap.proofs.PutBehind.{put_behind, slots_of-put, times-put_other, times-put_rest, AreChains-put}
 
 abbrev state_as : State → Record → Record
 state_as state r = record r { state = state }

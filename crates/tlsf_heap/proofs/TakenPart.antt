@@ -1,6 +1,6 @@
 -- What cells stand for after the first bytes of a free block were taken.
-use Rattle.std.proofs.Common.{◌≡◌, ◌≢◌, ℕ, ◌+◌, ◌-◌, ◌<◌, ◌≤◌, true, false, cond, eqb, List, [], ◌∷◌, length, map, set, refl, sym, ap, ◌∙◌, subst, arith, Option, Some, None, inl, inr}
-use Rattle.std.proofs.lemmas.Bool.{cases_eq, eq-eqb, ne_eqb, eqb-false}
+use Rattle.std.proofs.Common.{◌≡◌, ◌≢◌, ℕ, ◌+◌, ◌-◌, ◌<◌, ◌≤◌, false, cond, eqb, List, [], ◌∷◌, length, map, set, refl, sym, ap, ◌∙◌, subst, arith, Option, Some, None, inl, inr}
+use Rattle.std.proofs.lemmas.Bool.{cases_eq, eq-eqb, ne_eqb}
 use Rattle.std.proofs.lemmas.List.{length-set}
 use Rattle.tlsf_class.specs.Classes.{classes, class}
 use Rattle.tlsf_class.proofs.ClassLaws.{class-lt}
@@ -10,14 +10,14 @@ use Rattle.tlsf_store.specs.declared.records.State.TheVariants.{Vacant, Free, Li
 use Rattle.tlsf_store.specs.Records.{blank, blank_in, record_at}
 use Rattle.tlsf_store.specs.Cells.{Cells, head_at, with_taken}
 use Rattle.tlsf_store.proofs.RecordLaws.{record_at-set_same, record_at-set_other}
-use Rattle.tlsf_heap.specs.Content.{Block, Pool, Content, is_at}
+use Rattle.tlsf_heap.specs.Content.{Content}
 use Rattle.tlsf_heap.specs.Lists.{list_of, link, unlink}
-use Rattle.tlsf_heap.specs.Malloc.{gap, link_gap, cut as cut_blocks, replaced_in, allocated}
+use Rattle.tlsf_heap.specs.Malloc.{link_gap, cut as cut_blocks, replaced_in, allocated}
 use Rattle.tlsf_heap.specs.Good.{times, IsGood}
-use Rattle.tlsf_heap.specs.Edits.{IsUsed, linked, unlinked, edited_in}
-use Rattle.tlsf_heap.specs.Chains.{rest_of, split}
+use Rattle.tlsf_heap.specs.Edits.{IsUsed, linked, unlinked}
+use Rattle.tlsf_heap.specs.Chains.{rest_of}
 use Rattle.tlsf_heap.specs.Allocation.{cut, taken_part}
-use Rattle.tlsf_heap.specs.Layout.{Area, Layout, IsLayout, Stands, first_slot, held_in, held_of, home_in, home_of, owner_in, slots_of, place_at, block_of, pool_of, content_by, content_of}
+use Rattle.tlsf_heap.specs.Layout.{Layout, IsLayout, Stands, first_slot, held_in, held_of, home_in, home_of, owner_in, slots_of, place_at, block_of, pool_of, content_by, content_of}
 use Rattle.tlsf_heap.proofs.Linking.{same_field, length-edited_in, times-front}
 use Rattle.tlsf_heap.proofs.LinkedLayout.{with_home, with_linked, linked_is_layout, home_is}
 use Rattle.tlsf_heap.proofs.UnlinkedLayout.{without_home, with_unlinked, unlinked_is_layout}
@@ -28,8 +28,8 @@ use Rattle.tlsf_heap.proofs.NewPool.{home_size}
 use Rattle.tlsf_heap.proofs.AddPool.{used_after_take}
 use Rattle.tlsf_heap.proofs.Rechained.{edited_area}
 use Rattle.tlsf_heap.proofs.PutBehind.{put_behind}
-use Rattle.tlsf_heap.proofs.SplitLayout.{state_is_layout, spare_is_layout, split_is_layout, split_slot, split_rest, split_other, split_records}
-use Rattle.tlsf_heap.proofs.Slots.{free_used, used_in_chains, in_chains_used, listed_in_chains, listed_tells, free_is_homed, others_apart, slot_here, next_used, prev_free_used, next_free_used}
+use Rattle.tlsf_heap.proofs.SplitLayout.{state_is_layout, spare_is_layout, split_is_layout, split_slot, split_rest, split_other}
+use Rattle.tlsf_heap.proofs.Slots.{free_used, used_in_chains, in_chains_used, listed_in_chains, free_is_homed, others_apart, slot_here, next_used, prev_free_used, next_free_used}
 use Rattle.tlsf_heap.proofs.SameBlocks.{SameBlocks, linked_same, unlinked_same, same_used, lists_same}
 use Rattle.tlsf_heap.proofs.SlotsReplaced.{pools_replaced}
 use Rattle.tlsf_heap.proofs.TakenWhole.{state_at, state_other, listed_below}

@@ -1,32 +1,31 @@
 -- What cells stand for after a free block was taken whole.
-use Rattle.std.proofs.Common.{◌≡◌, ◌≢◌, ℕ, ◌+◌, ◌-◌, ◌<◌, ◌≤◌, true, false, cond, eqb, List, [], ◌∷◌, length, map, set, refl, sym, ap, ◌∙◌, subst, arith, Option, Some, None, inl, inr}
+use Rattle.std.proofs.Common.{◌≡◌, ◌≢◌, ℕ, ◌+◌, ◌-◌, ◌<◌, ◌≤◌, cond, List, [], ◌∷◌, length, map, refl, sym, ap, ◌∙◌, subst, arith, Option, Some, None, inl, inr}
 use Rattle.std.proofs.lemmas.Bool.{cases_eq, eq-eqb, ne_eqb}
-use Rattle.std.proofs.lemmas.List.{length-set}
 use Rattle.tlsf_class.specs.Classes.{classes, class}
 use Rattle.tlsf_class.proofs.ClassLaws.{class-lt}
 use Rattle.tlsf_store.specs.declared.records.Record.{Record}
 use Rattle.tlsf_store.specs.declared.records.State.{State}
-use Rattle.tlsf_store.specs.declared.records.State.TheVariants.{Vacant, Free, Live}
+use Rattle.tlsf_store.specs.declared.records.State.TheVariants.{Free, Live}
 use Rattle.tlsf_store.specs.Records.{record_at}
 use Rattle.tlsf_store.specs.Cells.{Cells}
 use Rattle.tlsf_store.proofs.RecordLaws.{record_at-set_same, record_at-set_other}
-use Rattle.tlsf_heap.specs.Content.{Block, Pool, Content, is_at}
+use Rattle.tlsf_heap.specs.Content.{Content}
 use Rattle.tlsf_heap.specs.Lists.{list_of, unlink}
 use Rattle.tlsf_heap.specs.Malloc.{gap, link_gap, cut, replaced_in, allocated}
 use Rattle.tlsf_heap.specs.Good.{times, IsGood}
-use Rattle.tlsf_heap.specs.Edits.{IsUsed, unlinked, edited_in}
+use Rattle.tlsf_heap.specs.Edits.{unlinked, edited_in}
 use Rattle.tlsf_heap.specs.Allocation.{taken_whole}
 use Rattle.tlsf_heap.specs.Layout.{Area, Layout, IsLayout, Stands, held_in, held_of, home_in, home_of, owner_in, slots_of, place_at, block_of, pool_of, content_by, content_of}
 use Rattle.tlsf_heap.proofs.Linking.{same_field, length-edited_in}
 use Rattle.tlsf_heap.proofs.UnlinkedLayout.{without_home, with_unlinked, unlinked_is_layout}
 use Rattle.tlsf_heap.proofs.Followed.{content_is}
 use Rattle.tlsf_heap.proofs.ListMeaning.{places_apart, places-unlinked}
-use Rattle.tlsf_heap.proofs.NewPool.{pool_by, home_size}
+use Rattle.tlsf_heap.proofs.NewPool.{home_size}
 use Rattle.tlsf_heap.proofs.Rechained.{edited_area}
 use Rattle.tlsf_heap.proofs.PutBehind.{put_behind, put-nothing}
 use Rattle.tlsf_heap.proofs.SplitLayout.{state_is_layout}
-use Rattle.tlsf_heap.proofs.Slots.{free_used, used_in_chains, in_chains_used, listed_in_chains, listed_tells, free_is_homed, others_apart, slot_here}
-use Rattle.tlsf_heap.proofs.SameBlocks.{SameBlocks, unlinked_same, lists_same}
+use Rattle.tlsf_heap.proofs.Slots.{free_used, used_in_chains, in_chains_used, listed_in_chains, free_is_homed, others_apart, slot_here}
+use Rattle.tlsf_heap.proofs.SameBlocks.{SameBlocks, unlinked_same}
 use Rattle.tlsf_heap.proofs.SlotsReplaced.{pools_replaced}
 
 -- the records with one state written

@@ -1,5 +1,5 @@
 -- A content whose live blocks are known by something else, or by nothing.
-use Rattle.std.specs.Prelude.{ℕ, List, map, option_map, Result}
+use Rattle.std.specs.Prelude.{ℕ, map, option_map, Result}
 use Rattle.std.specs.Result.{result_map_both}
 use Rattle.tlsf_heap.specs.declared.refusal.Refusal.{Refusal}
 use Rattle.tlsf_heap.specs.Content.{Block, Pool, Content}

@@ -1,18 +1,14 @@
-use Rattle.std.proofs.Common.{◌≡◌, ◌≢◌, ℕ, ◌<◌, sym, ap, ◌∙◌, subst, arith, Option, Some, None, Ok, Err}
+use Rattle.std.proofs.Common.{◌≡◌, ℕ, ◌<◌, sym, ap, ◌∙◌, subst, arith, Some, Ok, Err}
 use Rattle.std.specs.Prelude.{Result, IfOk, IfErr, OnErr}
-use Rattle.tlsf_class.specs.Rounding.{round}
 use Rattle.tlsf_class.proofs.RoundingLaws.{round-Some}
-use Rattle.tlsf_store.specs.declared.records.State.TheVariants.{Free}
-use Rattle.tlsf_store.specs.Records.{record_at}
 use Rattle.tlsf_store.specs.Cells.{Cells}
-use Rattle.tlsf_heap.specs.declared.refusal.Refusal.{Refusal}
 use Rattle.tlsf_heap.specs.Content.{blocks_of}
 use Rattle.tlsf_heap.specs.Lists.{pick}
 use Rattle.tlsf_heap.specs.Malloc.{malloc, malloc_picked}
 use Rattle.tlsf_heap.specs.GoodSlots.{slot_times}
 use Rattle.tlsf_heap.specs.Layout.{Stands, content_of, place_at}
 use Rattle.tlsf_heap.proofs.NewPool.{Stands-touches, content_of-touches}
-use Rattle.tlsf_heap.proofs.Allocating.{refused_pick, picked_is_served, slot_below, slot_new}
+use Rattle.tlsf_heap.proofs.Allocating.{picked_is_served, slot_below, slot_new}
 use Rattle.tlsf_heap.proofs.allocation.malloc.Goals as goal
 
 if_ok : {A E : Type 0} (result : Result A E) (P Q : A → Type 0) → ((a : A) → P a → Q a) → IfOk result P → IfOk result Q

@@ -1,6 +1,4 @@
-use Rattle.std.proofs.Common.{◌≡◌, sym, ◌∙◌}
-use Rattle.tlsf_class.specs.Classes.{need}
-use Rattle.std.proofs.Common.{Some}
+use Rattle.std.proofs.Common.{sym, ◌∙◌}
 use Rattle.tlsf_heap.proofs.Allocating.{tells_free, tells_picked, tells_none}
 use Rattle.tlsf_heap.proofs.allocation.pick.Goals as goal
 

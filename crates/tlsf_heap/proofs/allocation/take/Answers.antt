@@ -1,7 +1,6 @@
-use Rattle.std.proofs.Common.{◌≡◌, ◌≢◌, ℕ, ◌+◌, ◌<◌, length, sym, ap, ◌∙◌, subst, arith, Some, None, Ok, Err}
+use Rattle.std.proofs.Common.{◌≡◌, ◌≢◌, ℕ, ◌<◌, length, sym, ap, ◌∙◌, subst, Some, Ok}
 use Rattle.tlsf_store.specs.Records.{blank, record_at, vacant_count}
 use Rattle.tlsf_store.specs.Cells.{Cells, touched, with_taken}
-use Rattle.tlsf_heap.specs.declared.refusal.Refusal.TheVariants.{TableFull}
 use Rattle.tlsf_heap.specs.Lists.{pick}
 use Rattle.tlsf_heap.specs.Malloc.{malloc_picked}
 use Rattle.tlsf_heap.specs.Allocation.{taken_whole, taken_part}

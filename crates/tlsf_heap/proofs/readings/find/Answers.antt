@@ -1,4 +1,4 @@
-use Rattle.std.proofs.Common.{◌≡◌, ℕ, ◌+◌, ◌-◌, ◌<◌, sym, ap, ◌∙◌, subst, arith}
+use Rattle.std.proofs.Common.{◌≡◌, ℕ, ◌+◌, ◌-◌, sym, ap, ◌∙◌, subst, arith}
 use Rattle.tlsf_store.specs.Cells.{Cells, touched, pool_at}
 use Rattle.tlsf_heap.specs.Readings.{AreInOrder, IsNarrowed, slot_if}
 use Rattle.tlsf_heap.proofs.Reading.{in_order, narrowed_found}

@@ -1,7 +1,5 @@
-use Rattle.std.proofs.Common.{◌≡◌, ◌≢◌, ℕ, [], sym, ap, ◌∙◌, subst, Ok, Err, Some}
-use Rattle.tlsf_heap.specs.Rows.{rows_from}
+use Rattle.std.proofs.Common.{◌≡◌, ℕ, sym, ap, ◌∙◌, subst, Ok, Some}
 use Rattle.tlsf_heap.specs.Readings.{rows_by, rest_of, stands_at}
-use Rattle.tlsf_heap.specs.Layout.{content_of}
 use Rattle.tlsf_heap.proofs.Reading.{first_rows, first_stands, no_rows}
 use Rattle.tlsf_heap.proofs.readings.first.Goals as goal
 

@@ -1,11 +1,11 @@
-use Rattle.std.proofs.Common.{◌≡◌, ℕ, true, false, cond, sym, ap, ◌∙◌, subst, Ok, Err}
+use Rattle.std.proofs.Common.{◌≡◌, ℕ, true, cond, sym, ap, ◌∙◌, subst, Ok, Err}
 use Rattle.std.specs.Prelude.{◌==◌}
 use Rattle.tlsf_store.specs.declared.records.State.TheVariants.{Live}
 use Rattle.tlsf_store.specs.Records.{record_at}
 use Rattle.tlsf_store.specs.Cells.{Cells}
 use Rattle.tlsf_heap.specs.declared.refusal.Refusal.TheVariants.{BadPointer}
 use Rattle.tlsf_heap.specs.Content.{Content, blocks_of}
-use Rattle.tlsf_heap.specs.Free.{free, is_live, after_free}
+use Rattle.tlsf_heap.specs.Free.{is_live, after_free}
 use Rattle.tlsf_heap.specs.Layout.{Stands, place_at, content_of}
 use Rattle.tlsf_heap.proofs.NewPool.{Stands-touches, content_of-touches}
 use Rattle.tlsf_heap.proofs.Released.{live_told}

@@ -1,16 +1,13 @@
-use Rattle.std.proofs.Common.{◌≡◌, ◌≢◌, ℕ, ◌+◌, ◌≤◌, true, false, refl, sym, ap, ◌∙◌, subst, arith, Option, Some, None, inl, inr}
-use Rattle.tlsf_class.specs.Classes.{class}
-use Rattle.tlsf_store.specs.declared.records.Record.{Record}
+use Rattle.std.proofs.Common.{◌≡◌, ℕ, ◌+◌, refl, sym, ap, ◌∙◌, subst, Option, Some, None, inl}
 use Rattle.tlsf_store.specs.declared.records.State.TheVariants.{Free}
 use Rattle.tlsf_store.specs.Records.{record_at}
 use Rattle.tlsf_store.specs.Cells.{Cells, touched}
-use Rattle.tlsf_heap.specs.Content.{Block}
-use Rattle.tlsf_heap.specs.Free.{size_of, start_of}
+use Rattle.tlsf_heap.specs.Free.{size_of}
 use Rattle.tlsf_heap.specs.Edits.{IsUsed}
-use Rattle.tlsf_heap.specs.Release.{IsLoose, is_state_free, block_if_free, free_front, free_back, joined, joined_to_front, joined_to_back}
+use Rattle.tlsf_heap.specs.Release.{IsLoose, is_state_free, block_if_free, free_back, joined, joined_to_back}
 use Rattle.tlsf_heap.specs.Layout.{place_at, block_of, content_of}
 use Rattle.tlsf_heap.proofs.NewPool.{content_of-touches}
-use Rattle.tlsf_heap.proofs.Loose.{prev_next, prev_loose, next_loose, slot_there, joined_loose, joined_becomes, joined_place, joined_size, back_kept}
+use Rattle.tlsf_heap.proofs.Loose.{next_loose, slot_there, joined_loose, joined_becomes, joined_place, joined_size}
 use Rattle.tlsf_heap.proofs.JoinSteps.{IsLoose-touches, IsReadyJoin, ready_join, state_free, not_free_none, free_some}
 use Rattle.tlsf_heap.proofs.release.join_back.Goals as goal
 

@@ -1,7 +1,7 @@
 use Rattle.std.specs.Prelude.{◌==◌}
-use Rattle.std.proofs.Common.{◌≡◌, ◌≢◌, ℕ, ◌+◌, ◌≤◌, true, map, sym, ap, ◌∙◌, subst, arith, Option, Some, None, refl}
+use Rattle.std.proofs.Common.{◌≡◌, ℕ, ◌+◌, ◌≤◌, true, map, sym, ap, ◌∙◌, subst, arith, Option, refl}
 use Rattle.tlsf_class.specs.Classes.{class}
-use Rattle.tlsf_store.specs.declared.records.State.TheVariants.{Free, Live}
+use Rattle.tlsf_store.specs.declared.records.State.TheVariants.{Free}
 use Rattle.tlsf_store.specs.Records.{record_at}
 use Rattle.tlsf_store.specs.Cells.{Cells, touched}
 use Rattle.tlsf_heap.specs.Content.{Block, Content, blocks_of, size_at}

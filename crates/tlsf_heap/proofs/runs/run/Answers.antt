@@ -1,6 +1,5 @@
-use Rattle.std.proofs.Common.{◌≡◌, ◌+◌, ◌∷◌, [], ◌++◌, ◌∙◌, sym, ap, subst, arith, take, get_or}
+use Rattle.std.proofs.Common.{◌∷◌, [], ◌++◌, ◌∙◌, sym, ap, arith, take}
 use Rattle.std.proofs.lemmas.List.{take_more}
-use Rattle.tlsf_heap.specs.Run.{Run}
 use Rattle.tlsf_heap.proofs.RunSteps.{run-more}
 use Rattle.tlsf_heap.proofs.runs.run.Goals as goal
 

@@ -1,4 +1,4 @@
-use Rattle.std.proofs.Common.{◌≡◌, ℕ, subst, Err}
+use Rattle.std.proofs.Common.{◌≡◌, subst, Err}
 use Rattle.std.specs.Prelude.{◌==◌, IfErr}
 use Rattle.tlsf_heap.specs.Counted.{Counted}
 use Rattle.tlsf_heap.specs.Free.{free}
