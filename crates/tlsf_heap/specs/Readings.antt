@@ -8,6 +8,7 @@ use Rattle.tlsf_store.specs.declared.pools.Pool.{Pool as StoredPool}
 use Rattle.tlsf_store.specs.Records.{record_at, is_vacant}
 use Rattle.tlsf_store.specs.Cells.{pool_at}
 use Rattle.tlsf_heap.specs.declared.pool_entry.PoolEntry.{PoolEntry}
+use Rattle.tlsf_heap.specs.declared.cursor.Cursor.{Cursor}
 use Rattle.tlsf_heap.specs.declared.row.Row.{Row}
 use Rattle.tlsf_heap.specs.Layout.{next_at, block_of, follow}
 use Rattle.tlsf_heap.specs.Rows.{row_of}
@@ -35,6 +36,13 @@ rest_of rows (Some slot) = slice_index_or rows slot []
 abbrev pub stands_at : List (List Row) → Option ℕ → Type 0
 stands_at rows None = ⊤
 stands_at rows (Some slot) = slice_index_or rows slot [] ≢ []
+
+-- the same of a cursor
+abbrev pub rows_behind : List (List Row) → Cursor → List Row
+rows_behind rows cursor = rest_of rows cursor.next
+
+abbrev pub is_at_row : List (List Row) → Cursor → Type 0
+is_at_row rows cursor = stands_at rows cursor.next
 
 -- the first block of the first pool that begins at the base
 abbrev pub slot_for : ℕ → List PoolEntry → Option ℕ

@@ -6,15 +6,15 @@ use std::alloc::Global;
 use tlsf_store::StoreError;
 
 impl Heaped for Heap {
-    ghost use Rattle.tlsf_heap.specs.Readings.{rest_of, stands_at};
+    ghost use Rattle.tlsf_heap.specs.Readings.{rows_behind, is_at_row};
 
     ghost content = { λ heap. heap.content };
 
     ghost touches = { λ heap. heap.touches };
 
-    ghost stands = { λ heap cursor. stands_at heap.rows cursor.next };
+    ghost stands = { λ heap cursor. is_at_row heap.rows cursor };
 
-    ghost rest = { λ heap cursor. rest_of heap.rows cursor.next };
+    ghost rest = { λ heap cursor. rows_behind heap.rows cursor };
 
     fn create(alloc: Global, records: u32) -> Result<Self, StoreError> {
         Heap::create(alloc, records)

@@ -40,7 +40,7 @@ impl Heap {
     ghost use Rattle.tlsf_heap.specs.Malloc.{malloc as served};
     ghost use Rattle.tlsf_heap.specs.Free.{free as freed};
     ghost use Rattle.tlsf_heap.specs.Rows.{rows_from};
-    ghost use Rattle.tlsf_heap.specs.Readings.{rest_of, stands_at};
+    ghost use Rattle.tlsf_heap.specs.Readings.{rows_behind, is_at_row};
     ghost use Rattle.tlsf_heap.specs.Pools.{created, add_pool as added};
     ghost use Rattle.tlsf_heap.specs.Counted.{range_of};
     ghost use Rattle.tlsf_heap.specs.Implied.{NoneFits, HasFewRecords, HasAlignedBlocks, HasDisjointBlocks, ListsFreeBlocks, ListsNothingElse};
@@ -138,8 +138,8 @@ impl Heap {
     ///
     /// `NoPool` where no pool begins there.
     pub fn first(&mut self, base: u64) -> Result<Cursor, Refusal>
-        ensures ok { IfOk result (λ cursor. rows_from base self.old.content.pools ≡ Ok (rest_of self.new.rows cursor.next)) }
-        ensures stands { IfOk result (λ cursor. stands_at self.new.rows cursor.next) }
+        ensures ok { IfOk result (λ cursor. rows_from base self.old.content.pools ≡ Ok (rows_behind self.new.rows cursor)) }
+        ensures stands { IfOk result (λ cursor. is_at_row self.new.rows cursor) }
         ensures refused { IfErr result (λ refusal. rows_from base self.old.content.pools ≡ Err refusal) }
         ensures unchanged { self.new.content ≡ self.old.content }
         ensures floor { self.old.touches ≤ self.new.touches }
@@ -151,10 +151,10 @@ impl Heap {
     /// The row at the cursor, and the cursor behind it; none behind the last row of the pool. At most
     /// four touches, and none where there is no row.
     pub fn row(&mut self, cursor: Cursor) -> Option<(Row, Cursor)>
-        requires { stands_at self.old.rows cursor.next }
-        ensures some { IfSome result (λ given. rest_of self.old.rows cursor.next ≡ given.0 ∷ rest_of self.new.rows given.1.next) }
-        ensures next_stands { IfSome result (λ given. stands_at self.new.rows given.1.next) }
-        ensures none { IfNone result (rest_of self.old.rows cursor.next ≡ []) }
+        requires { is_at_row self.old.rows cursor }
+        ensures some { IfSome result (λ given. rows_behind self.old.rows cursor ≡ given.0 ∷ rows_behind self.new.rows given.1) }
+        ensures next_stands { IfSome result (λ given. is_at_row self.new.rows given.1) }
+        ensures none { IfNone result (rows_behind self.old.rows cursor ≡ []) }
         ensures others { self.new.rows ≡ self.old.rows }
         ensures unchanged { self.new.content ≡ self.old.content }
         ensures floor { self.old.touches ≤ self.new.touches }
