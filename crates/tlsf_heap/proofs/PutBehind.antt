@@ -8,7 +8,7 @@ use Rattle.tlsf_heap.specs.Layout.{Area, IsLinked, AreChains, first_slot, slots_
 use Rattle.tlsf_heap.proofs.Blocks.{one_if}
 use Rattle.tlsf_heap.proofs.FreeLists.{times-cons}
 use Rattle.tlsf_heap.proofs.Linking.{IsLinked-same, Some-same, None≢Some}
-use Rattle.tlsf_heap.proofs.Unlinking.{first_stands_in, next_stands}
+use Rattle.tlsf_heap.proofs.Unlinking.{apart_of_none, first_stands_in, next_stands}
 use Rattle.tlsf_heap.proofs.Rechained.{edited_area, AreChains-edited}
 
 -- the slots with one of them followed by others
@@ -20,9 +20,6 @@ put-here slot others q slots here = rw (eq-eqb q slot here) refl
 
 pub put-apart : (slot : ℕ) (others : List ℕ) (q : ℕ) (slots : List ℕ) → q ≢ slot → put_behind slot others (q ∷ slots) ≡ q ∷ put_behind slot others slots
 put-apart slot others q slots apart = rw (ne_eqb q slot apart) refl
-
-apart_of_none : (slot s : ℕ) (slots : List ℕ) → times slot (s ∷ slots) ≡ 0 → s ≢ slot
-apart_of_none slot s slots none = λ e. omega (arith, none, times-cons slot s slots, ap one_if (eq-eqb s slot e))
 
 pub put-none : (slot : ℕ) (others slots : List ℕ) → times slot slots ≡ 0 → put_behind slot others slots ≡ slots
 put-none slot others [] none = refl

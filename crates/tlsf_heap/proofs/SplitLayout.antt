@@ -15,6 +15,7 @@ use Rattle.tlsf_heap.specs.Chains.{with_state, rest_of, split}
 use Rattle.tlsf_heap.specs.Layout.{Layout, IsLayout, AreChains, slots_of, at_home}
 use Rattle.tlsf_heap.proofs.Linking.{field_at, same_field, same_fields, Some-same, None≢Some}
 use Rattle.tlsf_heap.proofs.NewArea.{AreChains-same, with_held}
+use Rattle.tlsf_heap.proofs.Neighbours.{edited_here, edited_other}
 use Rattle.tlsf_heap.proofs.Rechained.{edited_area, entries_kept, rechained_is_layout, next_in_areas}
 use Rattle.tlsf_heap.proofs.PutBehind.{put_behind, slots_of-put, times-put_other, times-put_rest, AreChains-put}
 
@@ -119,15 +120,11 @@ module _ (home : ℕ → Option ℕ) (held : ℕ → ℕ) (cells : Cells) (layou
     pub split_rest : {B : Type 0} (field : Record → B) → ((r : Record) → field (prev_as rest r) ≡ field r) → field (record_at new rest) ≡ field (rest_of slot bytes old)
     split_rest field same = kept_in field same rest ∙ ap field at_rest
 
-    prev_edited : (next : Option ℕ) (q : ℕ) → (next ≡ Some q → q < length written) → next ≡ Some q → (record_at (edited_in (prev_as rest) next written) q).prev ≡ Some rest
-    prev_edited None q within is = absurd (None≢Some q is)
-    prev_edited (Some n) q within is =
-        let P : ℕ → Type 0 = λ m. (record_at (set written n (prev_as rest (record_at written n))) m).prev ≡ Some rest in
-        subst P (Some-same n q is) (ap (λ (r : Record). r.prev) (record_at-set_same written n _ (let W : ℕ → Type 0 = λ m. m < length written in subst W (sym (Some-same n q is)) (within is))))
+    prev_edited : (q : ℕ) → q < length written → old.next ≡ Some q → (record_at new q).prev ≡ Some rest
+    prev_edited q within is = ap (λ (r : Record). r.prev) (edited_here (prev_as rest) old.next written q is within)
 
-    prev_unedited : (next : Option ℕ) (q : ℕ) → next ≢ Some q → (record_at (edited_in (prev_as rest) next written) q).prev ≡ (record_at written q).prev
-    prev_unedited None q other = refl
-    prev_unedited (Some n) q other = ap (λ (r : Record). r.prev) (record_at-set_other written n q _ (λ e. other (ap Some (sym e))))
+    prev_unedited : (q : ℕ) → old.next ≢ Some q → (record_at new q).prev ≡ (record_at written q).prev
+    prev_unedited q other = ap (λ (r : Record). r.prev) (edited_other (prev_as rest) old.next written q other)
 
     length_written : length written ≡ length cells.records
     length_written = length-set (set cells.records rest (rest_of slot bytes old)) slot _ ∙ length-set cells.records rest (rest_of slot bytes old)
@@ -136,11 +133,11 @@ module _ (home : ℕ → Option ℕ) (held : ℕ → ℕ) (cells : Cells) (layou
     chained_after =
         AreChains-put (field_at (λ r. r.prev) cells.records) (field_at (λ r. r.next) cells.records) (field_at (λ r. r.prev) new) (field_at (λ r. r.next) new) slot rest rest_apart
         (split_slot (λ r. r.next) (λ r. refl))
-        (prev_unedited old.next rest (λ e. next_not_rest rest e refl) ∙ ap (λ (r : Record). r.prev) at_rest)
+        (prev_unedited rest (λ e. next_not_rest rest e refl) ∙ ap (λ (r : Record). r.prev) at_rest)
         (split_rest (λ r. r.next) (λ r. refl))
         (λ q not_slot not_rest. split_other (λ r. r.next) (λ r. refl) q not_slot not_rest)
-        (λ q is. prev_edited old.next q (λ _. omega (arith, length_written, below q (omega (arith, next_there q is, were.holds q)))) is)
-        (λ q not_next not_rest. prev_unedited old.next q not_next ∙ prev_written q not_rest)
+        (λ q is. prev_edited q (omega (arith, length_written, below q (omega (arith, next_there q is, were.holds q)))) is)
+        (λ q not_next not_rest. prev_unedited q not_next ∙ prev_written q not_rest)
         layout.areas stands fresh once were.chained
       where
         prev_written : (q : ℕ) → q ≢ rest → (record_at written q).prev ≡ (record_at cells.records q).prev

@@ -18,7 +18,7 @@ without-here slot s slots here = rw (eq-eqb s slot here) refl
 pub without-apart : (slot s : ℕ) (slots : List ℕ) → s ≢ slot → without slot (s ∷ slots) ≡ s ∷ without slot slots
 without-apart slot s slots apart = rw (ne_eqb s slot apart) refl
 
-apart_of_none : (slot s : ℕ) (slots : List ℕ) → times slot (s ∷ slots) ≡ 0 → s ≢ slot
+pub apart_of_none : (slot s : ℕ) (slots : List ℕ) → times slot (s ∷ slots) ≡ 0 → s ≢ slot
 apart_of_none slot s slots none = λ e. omega (arith, none, times-cons slot s slots, ap one_if (eq-eqb s slot e))
 
 pub without-none : (slot : ℕ) (slots : List ℕ) → times slot slots ≡ 0 → without slot slots ≡ slots
