@@ -20,7 +20,7 @@ use Rattle.tlsf_heap.specs.Layout.{Area, Stands, home_of, at_home, first_slot, s
 use Rattle.tlsf_heap.specs.Entries.{is_entry_apart, pool_entered}
 use Rattle.tlsf_heap.proofs.EntryLists.{entries_of-padded}
 use Rattle.tlsf_heap.proofs.Linking.{times-front}
-use Rattle.tlsf_heap.proofs.Followed.{content_is, in_use, used_is}
+use Rattle.tlsf_heap.proofs.Followed.{in_use, used_is, stood_for}
 use Rattle.tlsf_heap.proofs.Slots.{free_used, in_chains_used, listed_in_chains}
 use Rattle.tlsf_heap.proofs.NewPool.{Stands-touches, content_of-touches, pool_stands, pool_content}
 
@@ -36,26 +36,23 @@ apart_areas base bytes records [] = refl
 apart_areas base bytes records (area ∷ areas) = ap (λ b. is_entry_apart base bytes area.entry && b) (apart_areas base bytes records areas)
 
 module _ (cells : Cells) (stands : Stands cells) where
-  was : content_of cells ≡ content_by cells.records stands.layout
-  was = content_is cells stands.layout stands.represented
-
   pub entries_are : entries_of cells.pools ≡ map (λ (a : Area). a.entry) stands.layout.areas
   entries_are = ap entries_of stands.represented.entries ∙ entries_of-padded (map (λ (a : Area). a.entry) stands.layout.areas)
 
   pub apart_is : (base bytes : ℕ) → list_all (is_apart base bytes) (content_of cells).pools ≡ list_all (is_entry_apart base bytes) (entries_of cells.pools)
   apart_is base bytes =
-      ap (λ content. list_all (is_apart base bytes) content.pools) was ∙ apart_areas base bytes cells.records stands.layout.areas ∙ sym (ap (list_all (is_entry_apart base bytes)) entries_are)
+      ap (λ content. list_all (is_apart base bytes) content.pools) (stood_for cells stands) ∙ apart_areas base bytes cells.records stands.layout.areas ∙ sym (ap (list_all (is_entry_apart base bytes)) entries_are)
 
   pub pools_length : length (content_of cells).pools ≡ length (entries_of cells.pools)
   pools_length =
-      ap (λ content. length content.pools) was ∙ length-map stands.layout.areas (pool_of cells.records) ∙ sym (ap length entries_are ∙ length-map stands.layout.areas (λ (a : Area). a.entry))
+      ap (λ content. length content.pools) (stood_for cells stands) ∙ length-map stands.layout.areas (pool_of cells.records) ∙ sym (ap length entries_are ∙ length-map stands.layout.areas (λ (a : Area). a.entry))
 
   pub records_are : (content_of cells).records ≡ length cells.records
-  records_are = ap (λ content. content.records) was
+  records_are = ap (λ content. content.records) (stood_for cells stands)
 
   pub used_are : used_records (content_of cells) + vacant_count cells.records ≡ length cells.records
   used_are =
-      let used = ap used_records was ∙ used_is cells.records stands.layout in
+      let used = ap used_records (stood_for cells stands) ∙ used_is cells.records stands.layout in
       omega (arith, used, in_use (home_of cells.records) cells stands.layout stands.represented)
 
   -- the first block of a class is of a record in use

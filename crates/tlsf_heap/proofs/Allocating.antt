@@ -1,18 +1,17 @@
 -- What malloc reads off the cells, and what each of its answers means for the content.
 use Rattle.std.proofs.Common.{◌≡◌, ◌≢◌, ℕ, suc, ◌+◌, ◌%◌, ◌<◌, ◌≤◌, true, false, cond, List, [], ◌∷◌, length, drop, get_or, refl, sym, ap, ◌∙◌, subst, arith, Option, Some, None, option_map, option_and_then, Ok, Err, ◌&&◌}
 use Rattle.std.specs.Prelude.{nat_lt, nat_le, ◌-◌, IfSome, IfNone}
-use Rattle.std.proofs.lemmas.Bool.{lt-ltb, le-ltb, le-leb, lt-leb, and_from, and_left, and_right, eq-eqb, ne_eqb}
+use Rattle.std.proofs.lemmas.Bool.{lt-ltb, le-ltb, le-leb, lt-leb, and_from, and_left, and_right}
 use Rattle.std.proofs.lemmas.List.{get_or-drop, length-drop}
 use Rattle.tlsf_class.specs.Classes.{unit, classes, greatest_size, class, need}
-use Rattle.tlsf_class.specs.Rounding.{round}
 use Rattle.tlsf_store.specs.declared.records.State.TheVariants.{Free}
 use Rattle.tlsf_store.specs.Records.{blank, blank_in, record_at, vacant_count}
 use Rattle.tlsf_store.specs.Cells.{Cells, head_at, with_taken}
 use Rattle.tlsf_store.proofs.RecordLaws.{vacant_count-take}
-use Rattle.tlsf_heap.specs.declared.refusal.Refusal.TheVariants.{ZeroSize, NoFit, TableFull}
+use Rattle.tlsf_heap.specs.declared.refusal.Refusal.TheVariants.{TableFull}
 use Rattle.tlsf_heap.specs.Content.{Content, blocks_of, size_at, used_records}
 use Rattle.tlsf_heap.specs.Lists.{list_of, first_of_lists, pick}
-use Rattle.tlsf_heap.specs.Malloc.{allocated, malloc_picked, malloc_rounded, malloc}
+use Rattle.tlsf_heap.specs.Malloc.{allocated, malloc_picked, malloc}
 use Rattle.tlsf_heap.specs.Pools.{end_of_places}
 use Rattle.tlsf_heap.specs.Good.{times, IsGood}
 use Rattle.tlsf_heap.specs.GoodSlots.{slot_times}
@@ -22,7 +21,7 @@ use Rattle.tlsf_heap.specs.Allocation.{cut, taken_whole, taken_part}
 use Rattle.tlsf_heap.specs.Layout.{Stands, home_of, held_of, place_at, content_by, content_of, slots_of}
 use Rattle.tlsf_heap.proofs.GoodContent.{Picked, picked, allocated_is_good}
 use Rattle.tlsf_heap.proofs.Unlinking.{first_stands_in}
-use Rattle.tlsf_heap.proofs.Followed.{content_is}
+use Rattle.tlsf_heap.proofs.Followed.{stood_for}
 use Rattle.tlsf_heap.proofs.ListMeaning.{first_is_picked}
 use Rattle.tlsf_heap.proofs.AddPool.{records_are, used_are}
 use Rattle.tlsf_heap.proofs.HeapStands.{content_is_good}
@@ -61,9 +60,6 @@ module _ (cells : Cells) (stands : Stands cells) where
   abbrev content : Content ℕ
   content = content_of cells
 
-  was : content_of cells ≡ content_by cells.records stands.layout
-  was = content_is cells stands.layout stands.represented
-
   -- what the search finds is free
   pub found_free : (number slot : ℕ) → first_head (drop number cells.heads) ≡ Some slot → (record_at cells.records slot).state ≡ Free
   found_free number slot is =
@@ -77,7 +73,7 @@ module _ (cells : Cells) (stands : Stands cells) where
   pub found_picked : (m number : ℕ) → need m ≡ Some number → pick m (content_of cells).lists ≡ option_map (place_at cells.records) (first_head (drop number cells.heads))
   found_picked m number is =
       ap (option_and_then (λ k. first_of_lists (drop k (content_of cells).lists))) is
-      ∙ ap (λ c. first_of_lists (drop number c.lists)) was
+      ∙ ap (λ c. first_of_lists (drop number c.lists)) (stood_for cells stands)
       ∙ sym (first_is_picked (home_of cells.records) (held_of cells.records) cells stands.layout (place_at cells.records) number stands.represented)
 
   pub no_class_picks : (m : ℕ) → need m ≡ None → pick m (content_of cells).lists ≡ None
@@ -95,7 +91,7 @@ module _ (cells : Cells) (stands : Stands cells) where
     there = omega (arith, used_in_chains cells stands slot (free_used _ free))
 
     size_is : size_at place (blocks_of (content_of cells).pools) ≡ size
-    size_is = ap (λ c. size_at place (blocks_of c.pools)) was ∙ size_of_slot cells stands slot there
+    size_is = ap (λ c. size_at place (blocks_of c.pools)) (stood_for cells stands) ∙ size_of_slot cells stands slot there
 
     of : Picked m place (content_of cells)
     of = picked m place (content_of cells) (content_is_good cells stands) found
@@ -209,21 +205,4 @@ module _ (cells : Cells) (stands : Stands cells) where
   slot_below slot free = omega (arith, records_are cells stands, (in_chains_used cells stands slot (omega (arith, used_in_chains cells stands slot (free_used _ free)))).0)
 
   pub slot_new : (slot : ℕ) → (record_at cells.records slot).state ≡ Free → slot_times slot (blocks_of (content_of cells).pools) ≡ 0
-  slot_new slot free = ap (λ c. slot_times slot (blocks_of c.pools)) was ∙ slot_is_new cells stands slot free
-
--- malloc by its cases
-module _ (n : ℕ) (content : Content ℕ) where
-  pub refused_zero : (owner : ℕ) → n ≡ 0 → malloc owner n content ≡ Err ZeroSize
-  refused_zero owner h = rw (eq-eqb n 0 h) refl
-
-  some_asked : (owner : ℕ) → n ≢ 0 → malloc owner n content ≡ malloc_rounded owner (round n) content
-  some_asked owner h = rw (ne_eqb n 0 h) refl
-
-  pub refused_round : (owner : ℕ) → n ≢ 0 → round n ≡ None → malloc owner n content ≡ Err NoFit
-  refused_round owner some h = some_asked owner some ∙ ap (λ m. malloc_rounded owner m content) h
-
-  pub refused_pick : (owner : ℕ) → n ≢ 0 → (m : ℕ) → round n ≡ Some m → pick m content.lists ≡ None → malloc owner n content ≡ Err NoFit
-  refused_pick owner some m rounded none = some_asked owner some ∙ ap (λ o. malloc_rounded owner o content) rounded ∙ ap (λ o. malloc_picked owner m o content) none
-
-  pub picked_is_served : (owner : ℕ) → n ≢ 0 → (m first : ℕ) → round n ≡ Some m → pick m content.lists ≡ Some first → malloc owner n content ≡ malloc_picked owner m (Some first) content
-  picked_is_served owner some m first rounded is = some_asked owner some ∙ ap (λ o. malloc_rounded owner o content) rounded ∙ ap (λ o. malloc_picked owner m o content) is
+  slot_new slot free = ap (λ c. slot_times slot (blocks_of c.pools)) (stood_for cells stands) ∙ slot_is_new cells stands slot free

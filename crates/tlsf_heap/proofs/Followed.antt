@@ -13,7 +13,7 @@ use Rattle.tlsf_store.proofs.RecordLaws.{mark}
 use Rattle.tlsf_heap.specs.Content.{blocks_of, used_records}
 use Rattle.tlsf_heap.specs.Lists.{list_of, without}
 use Rattle.tlsf_heap.specs.Good.{times}
-use Rattle.tlsf_heap.specs.Layout.{Area, Layout, IsLayout, IsLinked, AreChains, first_slot, at_home, held_in, held_of, home_in, home_of, slots_of, entries_of, next_at, next_free_at, follow, area_from, layout_from, content_of, content_by, pool_of, block_of}
+use Rattle.tlsf_heap.specs.Layout.{Area, Layout, Stands, IsLayout, IsLinked, AreChains, first_slot, at_home, held_in, held_of, home_in, home_of, slots_of, entries_of, next_at, next_free_at, follow, area_from, layout_from, content_of, content_by, pool_of, block_of}
 use Rattle.tlsf_heap.proofs.Blocks.{one_if}
 use Rattle.tlsf_heap.proofs.FreeLists.{times-cons, times-without_same, times-without_other}
 use Rattle.tlsf_heap.proofs.EntryLists.{entries_of-padded}
@@ -150,3 +150,7 @@ home_past records q past = ap (λ (r : Record). home_in r r.state) (get_or_past 
 
 pub content_is : (cells : Cells) (layout : Layout) → IsLayout (home_of cells.records) (held_of cells.records) cells layout → content_of cells ≡ content_by cells.records layout
 content_is cells layout is = content_is_by (home_of cells.records) cells layout is (home_past cells.records)
+
+-- the content of cells that stand is that of their layout
+pub stood_for : (cells : Cells) (stands : Stands cells) → content_of cells ≡ content_by cells.records stands.layout
+stood_for cells stands = content_is cells stands.layout stands.represented

@@ -22,7 +22,7 @@ use Rattle.tlsf_heap.proofs.GoodContent.{created_is_good}
 use Rattle.tlsf_heap.specs.GoodSlots.{is_slot, slot_times, HasGoodSlots}
 use Rattle.tlsf_heap.proofs.Blocks.{one_if, count_by-cons}
 use Rattle.tlsf_heap.proofs.FreeLists.{times-cons}
-use Rattle.tlsf_heap.proofs.Followed.{content_is, held_most, blocks_of_areas}
+use Rattle.tlsf_heap.proofs.Followed.{content_is, held_most, blocks_of_areas, stood_for}
 use Rattle.tlsf_heap.proofs.AddPool.{entries_are}
 use Rattle.tlsf_heap.proofs.Linking.{field_at}
 
@@ -78,16 +78,13 @@ pub empty_is_created : (records : ℕ) → content_of (empty_cells records) ≡ 
 empty_is_created records = content_is (empty_cells records) empty (empty_is_layout records) ∙ empty_content records
 
 module _ (cells : Cells) (stands : Stands cells) where
-  was : content_of cells ≡ content_by cells.records stands.layout
-  was = content_is cells stands.layout stands.represented
-
   -- what cells stand for is good
   pub content_is_good : IsGood (content_of cells)
-  content_is_good = let P : Content ℕ → Type 0 = λ x. IsGood x in subst P (sym was) stands.good
+  content_is_good = let P : Content ℕ → Type 0 = λ x. IsGood x in subst P (sym (stood_for cells stands)) stands.good
 
   -- the entries tell where the pools are
   pub ranges_are : map entry_range (entries_of cells.pools) ≡ map range_of (content_of cells).pools
-  ranges_are = ap (map entry_range) (entries_are cells stands) ∙ of_areas stands.layout.areas ∙ sym (ap (λ content. map range_of content.pools) was)
+  ranges_are = ap (map entry_range) (entries_are cells stands) ∙ of_areas stands.layout.areas ∙ sym (ap (λ content. map range_of content.pools) (stood_for cells stands))
     where
       of_areas : (areas : List Area) → map entry_range (map (λ (a : Area). a.entry) areas) ≡ map range_of (map (pool_of cells.records) areas)
       of_areas [] = refl

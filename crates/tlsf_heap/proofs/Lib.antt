@@ -2,6 +2,7 @@
 pub mod Blocks
 pub mod Replacing
 pub mod FreeLists
+pub mod MallocCases
 pub mod GoodContent
 pub mod Merging
 pub mod Freeing

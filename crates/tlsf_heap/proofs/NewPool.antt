@@ -26,7 +26,7 @@ use Rattle.tlsf_heap.proofs.GoodContent.{with_pool_is_good}
 use Rattle.tlsf_heap.proofs.Linking.{times-front, times-behind, front_records, front_fields, length-front}
 use Rattle.tlsf_heap.proofs.LinkedLayout.{with_home, with_linked, linked_is_layout}
 use Rattle.tlsf_heap.proofs.NewArea.{map-inserted, area_base, times-append, with_area, with_held, area_is_layout}
-use Rattle.tlsf_heap.proofs.Followed.{content_is}
+use Rattle.tlsf_heap.proofs.Followed.{content_is, stood_for}
 
 pub map-same : {B : Type 0} (f g : ℕ → B) (slots : List ℕ) → ((q : ℕ) → 1 ≤ times q slots → f q ≡ g q) → map f slots ≡ map g slots
 map-same f g [] same = refl
@@ -214,14 +214,11 @@ module _ (cells : Cells) (stands : Stands cells) (slot base bytes : ℕ) (within
   put_is : pool_entered of (with_taken cells (Some slot)) ≡ put
   put_is = ap (λ s. linked (class bytes) slot (with_entries (with_entry of (entries_of cells.pools)) s)) (with_record-with_record cells slot (blank_in Free) (free_record base bytes))
 
-  was : content_of cells ≡ content_by cells.records stands.layout
-  was = content_is cells stands.layout stands.represented
-
   now : content_by put.records (with_linked (class bytes) slot (with_area (record { entry = of; slots = slot ∷ [] }) stands.layout)) ≡ with_pool base bytes (content_of cells)
-  now = content_after cells stands.layout stands.represented slot base bytes within vacant some_bytes ∙ ap (with_pool base bytes) (sym was)
+  now = content_after cells stands.layout stands.represented slot base bytes within vacant some_bytes ∙ ap (with_pool base bytes) (sym (stood_for cells stands))
 
   old_good : IsGood (content_of cells)
-  old_good = let P : Content ℕ → Type 0 = λ x. IsGood x in subst P (sym was) stands.good
+  old_good = let P : Content ℕ → Type 0 = λ x. IsGood x in subst P (sym (stood_for cells stands)) stands.good
 
   put_stands : Stands put
   put_stands = record {

@@ -3,18 +3,19 @@ use Rattle.std.proofs.Common.{◌≡◌, ◌≢◌, ℕ, ◌+◌, ◌%◌, ◌<�
 use Rattle.std.specs.List.{insert}
 use Rattle.std.specs.Prelude.{nat_lt, nat_le, Ok, Err}
 use Rattle.std.specs.List.{list_all}
-use Rattle.std.proofs.lemmas.Bool.{eq-eqb, ne_eqb, lt-ltb, le-ltb, le-leb, lt-leb, cases_Bool, cases_lt, and_from, and_left, and_right}
+use Rattle.std.proofs.lemmas.Bool.{lt-ltb, le-ltb, le-leb, lt-leb, cases_Bool, cases_lt, and_from, and_left, and_right}
 use Rattle.tlsf_class.specs.Classes.{unit, greatest_size}
 use Rattle.tlsf_class.specs.Rounding.{round}
 use Rattle.tlsf_class.proofs.RoundingLaws.{round-Some}
-use Rattle.tlsf_heap.specs.declared.refusal.Refusal.TheVariants.{ZeroSize, NoFit, TableFull, BadPool, PoolsFull}
+use Rattle.tlsf_heap.specs.declared.refusal.Refusal.TheVariants.{TableFull, BadPool, PoolsFull}
 use Rattle.tlsf_heap.specs.Content.{Pool, Content, blocks_of, size_at, used_records}
 use Rattle.tlsf_heap.specs.Lists.{pick}
-use Rattle.tlsf_heap.specs.Malloc.{allocated, allocate, malloc_picked, malloc_rounded, malloc}
+use Rattle.tlsf_heap.specs.Malloc.{allocated, allocate, malloc}
 use Rattle.tlsf_heap.specs.Pools.{end_of_places, can_be_pool, is_apart, in_order_of_base, add_pool, with_pool, most_pools}
 use Rattle.tlsf_heap.specs.Good.{IsGood}
 use Rattle.tlsf_heap.specs.PlainHeap.{IsPlain, IsChosen, pool_place}
 use Rattle.tlsf_heap.specs.GoodSlots.{slot_times}
+use Rattle.tlsf_heap.proofs.MallocCases.{picked_is_served}
 use Rattle.tlsf_heap.proofs.GoodContent.{picked, allocated_is_good}
 use Rattle.tlsf_heap.proofs.GoodSlotsKept.{allocated_slots}
 
@@ -22,25 +23,10 @@ abbrev Plain : Type 0
 Plain = Content ℕ
 
 module _ (slot n : ℕ) (content : Plain) where
-  pub refused_zero : n ≡ 0 → malloc slot n content ≡ Err ZeroSize
-  refused_zero h = rw (eq-eqb n 0 h) refl
-
-  some_asked : n ≢ 0 → malloc slot n content ≡ malloc_rounded slot (round n) content
-  some_asked h = rw (ne_eqb n 0 h) refl
-
-  pub refused_round : n ≢ 0 → round n ≡ None → malloc slot n content ≡ Err NoFit
-  refused_round some h = some_asked some ∙ ap (λ m. malloc_rounded slot m content) h
-
-  pub refused_pick : n ≢ 0 → (asked : ℕ) → round n ≡ Some asked → pick asked content.lists ≡ None → malloc slot n content ≡ Err NoFit
-  refused_pick some asked rounded none = some_asked some ∙ ap (λ m. malloc_rounded slot m content) rounded ∙ ap (λ place. malloc_picked slot asked place content) none
-
-  found : n ≢ 0 → (asked place : ℕ) → round n ≡ Some asked → pick asked content.lists ≡ Some place → malloc slot n content ≡ allocate slot place asked (size_at place (blocks_of content.pools)) content
-  found some asked place rounded is = some_asked some ∙ ap (λ m. malloc_rounded slot m content) rounded ∙ ap (λ place. malloc_picked slot asked place content) is
-
   pub refused_full : n ≢ 0 → (asked place : ℕ) → round n ≡ Some asked → pick asked content.lists ≡ Some place → asked < size_at place (blocks_of content.pools) → nat_le content.records (used_records content) ≡ true
       → malloc slot n content ≡ Err TableFull
   refused_full some asked place rounded is larger full =
-      found some asked place rounded is
+      picked_is_served slot n content some asked place rounded is
       ∙ ap (λ b. cond b (Err TableFull) (Ok (place, allocated slot place asked (size_at place (blocks_of content.pools)) content))) (and_from _ _ (lt-ltb asked _ larger) full)
 
   -- the block chosen is what malloc takes
@@ -51,7 +37,7 @@ module _ (slot n : ℕ) (content : Plain) where
         | inl larger ↦ and_right (nat_lt asked size) _ (lt-leb content.records (used_records content) (is.room larger))
         | inr whole ↦ and_left _ (nat_le content.records (used_records content)) (le-ltb asked size whole)
       ] in
-      found some asked place is.rounded is.is_picked
+      picked_is_served slot n content some asked place is.rounded is.is_picked
       ∙ ap (λ s. allocate slot place asked s content) (sym is.size_is)
       ∙ ap (λ b. cond b (Err TableFull) (Ok (place, allocated slot place asked size content))) room
 

@@ -25,7 +25,7 @@ use Rattle.tlsf_heap.proofs.EntryLists.{padded_at_is, length-padded}
 use Rattle.tlsf_heap.proofs.Linking.{field_at, Some-same, None≢Some}
 use Rattle.tlsf_heap.proofs.Unlinking.{first_stands_in}
 use Rattle.tlsf_heap.proofs.NewArea.{times-append}
-use Rattle.tlsf_heap.proofs.Followed.{content_is, in_use, follow_is}
+use Rattle.tlsf_heap.proofs.Followed.{in_use, follow_is, stood_for}
 use Rattle.tlsf_heap.proofs.AddPool.{entries_are}
 use Rattle.tlsf_heap.proofs.Slots.{in_chains_used, used_in_chains, next_there}
 
@@ -163,9 +163,6 @@ module _ (cells : Cells) (stands : Stands cells) where
         ∙ rows_none areas base (sym (ap (λ b. cond b (Some area.entry.first) (slot_for base (map (λ (a : Area). a.entry) areas))) later) ∙ is)
   ]
 
-  was : content_of cells ≡ content_by cells.records stands.layout
-  was = content_is cells stands.layout stands.represented
-
   used_not_vacant : (s : State) → s ≢ Vacant → is_vacant s ≡ false
   used_not_vacant Vacant used = absurd (used refl)
   used_not_vacant Free used = refl
@@ -186,10 +183,10 @@ module _ (cells : Cells) (stands : Stands cells) where
   pub first_rows : (base slot : ℕ) → slot_for base (entries_of cells.pools) ≡ Some slot → rows_from base (content_of cells).pools ≡ Ok (rest_of (rows_by cells.records) (Some slot))
   first_rows base slot is =
       let found = rows_found stands.layout.areas base slot stands.represented.chained slots_few (sym (ap (slot_for base) (entries_are cells stands)) ∙ is) in
-      ap (λ c. rows_from base c.pools) was ∙ found.0 ∙ ap Ok (sym (rows_get slot ∙ rows_of_used slot (in_chains_used cells stands slot found.1).1))
+      ap (λ c. rows_from base c.pools) (stood_for cells stands) ∙ found.0 ∙ ap Ok (sym (rows_get slot ∙ rows_of_used slot (in_chains_used cells stands slot found.1).1))
 
   pub no_rows : (base : ℕ) → slot_for base (entries_of cells.pools) ≡ None → rows_from base (content_of cells).pools ≡ Err NoPool
-  no_rows base is = ap (λ c. rows_from base c.pools) was ∙ rows_none stands.layout.areas base (sym (ap (slot_for base) (entries_are cells stands)) ∙ is)
+  no_rows base is = ap (λ c. rows_from base c.pools) (stood_for cells stands) ∙ rows_none stands.layout.areas base (sym (ap (slot_for base) (entries_are cells stands)) ∙ is)
 
   not_empty : (n slot : ℕ) → 0 < n → map row_at (follow n fore (Some slot)) ≢ []
   not_empty zero slot h = absurd (omega (arith, h))

@@ -21,7 +21,7 @@ use Rattle.tlsf_heap.proofs.Blocks.{one_if, NoneAt}
 use Rattle.tlsf_heap.proofs.FreeLists.{times-cons}
 use Rattle.tlsf_heap.proofs.Linking.{field_at, times-front, times-behind}
 use Rattle.tlsf_heap.proofs.LinkedLayout.{with_home, with_linked, linked_is_layout}
-use Rattle.tlsf_heap.proofs.Followed.{content_is, held_most, blocks_of_areas}
+use Rattle.tlsf_heap.proofs.Followed.{content_is, held_most, blocks_of_areas, stood_for}
 use Rattle.tlsf_heap.proofs.ListMeaning.{places-linked}
 use Rattle.tlsf_heap.proofs.NewArea.{times-append}
 use Rattle.tlsf_heap.proofs.NewPool.{pool_by, pools_same, home_size}
@@ -163,11 +163,8 @@ module _ (records : List Record) (slot place : ℕ) where
       or_right false b h = h
 
 module _ (cells : Cells) (stands : Stands cells) (slot : ℕ) where
-  was : content_of cells ≡ content_by cells.records stands.layout
-  was = content_is cells stands.layout stands.represented
-
   blocks_are : blocks_of (content_of cells).pools ≡ map (block_of cells.records) (slots_of stands.layout.areas)
-  blocks_are = ap (λ c. blocks_of c.pools) was ∙ blocks_of_areas cells.records stands.layout.areas
+  blocks_are = ap (λ c. blocks_of c.pools) (stood_for cells stands) ∙ blocks_of_areas cells.records stands.layout.areas
 
   -- a pointer is live where its slot's record is live and has its place
   pub not_live : (place : ℕ) → ((record_at cells.records slot).state ≡ Live → place_at cells.records slot ≢ place) → is_live (λ owner. owner == slot) place (blocks_of (content_of cells).pools) ≡ false
@@ -198,20 +195,20 @@ module _ (cells : Cells) (stands : Stands cells) (slot : ℕ) where
 
     pub free_front_is : free_in_front place (content_of cells) ≡ free_front cells.records slot
     free_front_is =
-        ap (λ c. free_in_front place c) was
+        ap (λ c. free_in_front place c) (stood_for cells stands)
         ∙ ap if_free (front_is (field_at (λ r. r.prev) cells.records) (field_at (λ r. r.next) cells.records) (block_of cells.records) slot place (slot_here cells stands slot) stands.layout.areas stands.represented.chained once there
         (λ q q_there apart. others_apart cells stands slot q there q_there apart))
         ∙ if_free_map (record_at cells.records slot).prev
 
     pub free_back_is : free_behind place (content_of cells) ≡ free_back cells.records slot
     free_back_is =
-        ap (λ c. free_behind place c) was
+        ap (λ c. free_behind place c) (stood_for cells stands)
         ∙ ap if_free (back_is (field_at (λ r. r.prev) cells.records) (field_at (λ r. r.next) cells.records) (block_of cells.records) slot place (slot_here cells stands slot) stands.layout.areas stands.represented.chained once there
         (λ q q_there apart. others_apart cells stands slot q there q_there apart))
         ∙ if_free_map (record_at cells.records slot).next
 
     pub size_is : size_at place (blocks_of (content_of cells).pools) ≡ (record_at cells.records slot).size
-    size_is = ap (λ c. size_at place (blocks_of c.pools)) was ∙ size_of_slot cells stands slot there
+    size_is = ap (λ c. size_at place (blocks_of c.pools)) (stood_for cells stands) ∙ size_of_slot cells stands slot there
 
 -- the loose block enters its list
 module _ (slot : ℕ) (cells : Cells) (loose : IsLoose slot cells) where

@@ -13,7 +13,7 @@ use Rattle.tlsf_heap.specs.Chains.{with_state}
 use Rattle.tlsf_heap.specs.Release.{AreCovered, IsLoose, home_but, freed_in, block_if_free, free_front, free_back}
 use Rattle.tlsf_heap.specs.Layout.{Area, Layout, IsLayout, Stands, held_in, held_of, home_in, home_of, owner_in, slots_of, place_at, block_of, pool_of, content_by, content_of}
 use Rattle.tlsf_heap.proofs.Linking.{field_at, same_field, length-edited_in, times-front, times-behind}
-use Rattle.tlsf_heap.proofs.Followed.{content_is, held_most}
+use Rattle.tlsf_heap.proofs.Followed.{held_most, stood_for}
 use Rattle.tlsf_heap.proofs.NewArea.{times-append}
 use Rattle.tlsf_heap.proofs.NewPool.{home_size}
 use Rattle.tlsf_heap.proofs.SplitLayout.{state_is_layout}
@@ -134,12 +134,9 @@ module _ (cells : Cells) (stands : Stands cells) (slot : ℕ) (live : (record_at
     covered = let P : List (Pool ℕ) → Type 0 = λ ps. AreCovered 0 ps in subst P (sym pools_are) (AreCovered-freed place 0 (map (pool_of cells.records) layout.areas) (AreCovered-good 0 (map (pool_of cells.records) layout.areas) stands.good.pools_good));
   }
 
-  was : content_of cells ≡ content_by cells.records layout
-  was = content_is cells layout stands.represented
-
   pub freed_content : content_of (with_state slot Free cells) ≡ record (content_of cells) { pools = map (freed_in place) (content_of cells).pools }
   unfolding freed_loose
-  freed_content = loose_content slot loosened freed_loose ∙ new_content ∙ ap (λ (c : Content ℕ). record c { pools = map (freed_in place) c.pools }) (sym was)
+  freed_content = loose_content slot loosened freed_loose ∙ new_content ∙ ap (λ (c : Content ℕ). record c { pools = map (freed_in place) c.pools }) (sym (stood_for cells stands))
 
   once : (q : ℕ) → times q (slots_of layout.areas) ≤ 1
   once q = omega (arith, stands.represented.holds q, held_most (record_at cells.records q).state)

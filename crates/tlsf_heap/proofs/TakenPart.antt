@@ -21,7 +21,7 @@ use Rattle.tlsf_heap.specs.Layout.{Layout, IsLayout, Stands, first_slot, held_in
 use Rattle.tlsf_heap.proofs.Linking.{same_field, length-edited_in, times-front}
 use Rattle.tlsf_heap.proofs.LinkedLayout.{with_home, with_linked, linked_is_layout, home_is}
 use Rattle.tlsf_heap.proofs.UnlinkedLayout.{without_home, with_unlinked, unlinked_is_layout}
-use Rattle.tlsf_heap.proofs.Followed.{held_most, content_is}
+use Rattle.tlsf_heap.proofs.Followed.{held_most, content_is, stood_for}
 use Rattle.tlsf_heap.proofs.ListMeaning.{places_apart, places-linked, places-unlinked}
 use Rattle.tlsf_heap.proofs.NewArea.{with_held}
 use Rattle.tlsf_heap.proofs.NewPool.{home_size}
@@ -372,15 +372,12 @@ module _ (cells : Cells) (stands : Stands cells) (slot rest bytes : ℕ) (free :
       ∙ ap (λ ps. record { records = length cells.records; pools = ps; lists = map (map (place_at last)) three.lists }) pools_are
       ∙ ap (λ ls. record { records = length cells.records; pools = map (replaced_in place (cut_blocks slot place bytes size)) (map (pool_of cells.records) layout.areas); lists = ls }) lists_are
 
-  was : content_of cells ≡ content_by cells.records layout
-  was = content_is cells layout stands.represented
-
   pub part_becomes : content_of (taken_part slot rest bytes size base) ≡ allocated slot place bytes size (content_of cells)
-  part_becomes = content_is (taken_part slot rest bytes size base) three part_is_layout ∙ part_content ∙ ap (allocated slot place bytes size) (sym was)
+  part_becomes = content_is (taken_part slot rest bytes size base) three part_is_layout ∙ part_content ∙ ap (allocated slot place bytes size) (sym (stood_for cells stands))
 
   pub part_stands : IsGood (allocated slot place bytes size (content_of cells)) → Stands (taken_part slot rest bytes size base)
   part_stands good = record {
     layout = three;
     represented = part_is_layout;
-    good = let P : Content ℕ → Type 0 = λ x. IsGood x in subst P (sym (part_content ∙ ap (allocated slot place bytes size) (sym was))) good;
+    good = let P : Content ℕ → Type 0 = λ x. IsGood x in subst P (sym (part_content ∙ ap (allocated slot place bytes size) (sym (stood_for cells stands)))) good;
   }

@@ -18,7 +18,7 @@ use Rattle.tlsf_heap.specs.Allocation.{taken_whole}
 use Rattle.tlsf_heap.specs.Layout.{Area, Layout, IsLayout, Stands, held_in, held_of, home_in, home_of, owner_in, slots_of, place_at, block_of, pool_of, content_by, content_of}
 use Rattle.tlsf_heap.proofs.Linking.{same_field, length-edited_in}
 use Rattle.tlsf_heap.proofs.UnlinkedLayout.{without_home, with_unlinked, unlinked_is_layout}
-use Rattle.tlsf_heap.proofs.Followed.{content_is}
+use Rattle.tlsf_heap.proofs.Followed.{content_is, stood_for}
 use Rattle.tlsf_heap.proofs.ListMeaning.{places_apart, places-unlinked}
 use Rattle.tlsf_heap.proofs.NewPool.{home_size}
 use Rattle.tlsf_heap.proofs.Rechained.{edited_area}
@@ -147,15 +147,12 @@ module _ (cells : Cells) (stands : Stands cells) (slot : ℕ) (free : (record_at
       ∙ ap (λ ps. record { records = length cells.records; pools = ps; lists = map (map (place_at last)) less.lists }) pools_are
       ∙ ap (λ ls. record { records = length cells.records; pools = map (replaced_in place (cut slot place size size)) (map (pool_of cells.records) layout.areas); lists = ls }) lists_are
 
-  was : content_of cells ≡ content_by cells.records layout
-  was = content_is cells layout stands.represented
-
   pub whole_becomes : content_of (taken_whole slot size cells) ≡ allocated slot place size size (content_of cells)
-  whole_becomes = content_is (taken_whole slot size cells) less whole_is_layout ∙ whole_content ∙ ap (allocated slot place size size) (sym was)
+  whole_becomes = content_is (taken_whole slot size cells) less whole_is_layout ∙ whole_content ∙ ap (allocated slot place size size) (sym (stood_for cells stands))
 
   pub whole_stands : IsGood (allocated slot place size size (content_of cells)) → Stands (taken_whole slot size cells)
   whole_stands good = record {
     layout = less;
     represented = whole_is_layout;
-    good = let P : Content ℕ → Type 0 = λ x. IsGood x in subst P (sym (whole_content ∙ ap (allocated slot place size size) (sym was))) good;
+    good = let P : Content ℕ → Type 0 = λ x. IsGood x in subst P (sym (whole_content ∙ ap (allocated slot place size size) (sym (stood_for cells stands)))) good;
   }

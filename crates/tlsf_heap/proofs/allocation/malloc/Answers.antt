@@ -8,7 +8,8 @@ use Rattle.tlsf_heap.specs.Malloc.{malloc, malloc_picked}
 use Rattle.tlsf_heap.specs.GoodSlots.{slot_times}
 use Rattle.tlsf_heap.specs.Layout.{Stands, content_of, place_at}
 use Rattle.tlsf_heap.proofs.NewPool.{Stands-touches, content_of-touches}
-use Rattle.tlsf_heap.proofs.Allocating.{picked_is_served, slot_below, slot_new}
+use Rattle.tlsf_heap.proofs.MallocCases.{picked_is_served}
+use Rattle.tlsf_heap.proofs.Allocating.{slot_below, slot_new}
 use Rattle.tlsf_heap.proofs.allocation.malloc.Goals as goal
 
 if_ok : {A E : Type 0} (result : Result A E) (P Q : A → Type 0) → ((a : A) → P a → Q a) → IfOk result P → IfOk result Q
@@ -58,7 +59,7 @@ served c owner =
     let old : Cells = c.args.store.now in
     let asked : ℕ = c.in-Some.asked in
     let slot : ℕ = c.in-Some-pick.slot in
-    picked_is_served c.args.n (content_of old) owner c.if-n-eq0.false asked (place_at old.records slot) (sym c.round.ensures ∙ c.in-Some.is) c.in-Some-pick.ensures.found
+    picked_is_served owner c.args.n (content_of old) c.if-n-eq0.false asked (place_at old.records slot) (sym c.round.ensures ∙ c.in-Some.is) c.in-Some-pick.ensures.found
     ∙ ap (malloc_picked owner asked (Some (place_at old.records slot))) (sym (ap content_of c.pick.ensures.cells ∙ content_of-touches _ old))
     ∙ ap (λ (s : Cells). malloc_picked owner asked (Some (place_at s.records slot)) (content_of c.pick.new.store)) (sym c.pick.ensures.cells)
 

@@ -5,7 +5,8 @@ use Rattle.tlsf_heap.specs.Content.{Content, blocks_of, is_free, size_at, used_r
 use Rattle.tlsf_heap.specs.Lists.{pick}
 use Rattle.tlsf_heap.specs.Malloc.{malloc}
 use Rattle.tlsf_heap.specs.PlainHeap.{lists_of}
-use Rattle.tlsf_heap.proofs.PlainMalloc.{refused_pick, refused_full, is_cut}
+use Rattle.tlsf_heap.proofs.MallocCases.{refused_pick}
+use Rattle.tlsf_heap.proofs.PlainMalloc.{refused_full, is_cut}
 use Rattle.tlsf_heap.proofs.GoodContent.{picked}
 use Rattle.tlsf_heap.proofs.SlotsLeft.{free_found}
 use Rattle.tlsf_heap.proofs.plain_heap.heap.PlainHeap.choose.Goals as goal
