@@ -52,3 +52,4 @@ pub mod Implied
 mod LayoutRows
 mod HeapRows
 mod RunRows
+pub mod Inner

@@ -20,3 +20,4 @@ pub mod Run
 pub mod Bare
 pub mod PlainHeap
 pub mod Implied
+pub mod Inner

@@ -1,0 +1,7 @@
+-- Lemmas on what the linked records of a heap stand for.
+pub mod Counts
+pub mod Plugs
+pub mod Links
+pub mod Reads
+pub mod Chains
+pub mod StateSet

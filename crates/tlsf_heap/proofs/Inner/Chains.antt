@@ -1,0 +1,151 @@
+-- What the chains of the pools and the lists of the classes tell of slots, and what keeps them.
+use Rattle.std.proofs.Common.{◌≡◌, ◌≢◌, ℕ, ◌+◌, ◌<◌, ◌≤◌, Bool, true, false, ◌&&◌, eqb, List, [], ◌∷◌, length, map, refl, sym, ap, ◌∙◌, subst, arith, count_by, Option, Some, None, inl, inr}
+use Rattle.std.specs.List.{AllByRecursion}
+use Rattle.std.proofs.lemmas.Bool.{cases_lt, eq-eqb}
+use Rattle.std.proofs.lemmas.List.{get_or_past}
+use Rattle.tlsf_store.specs.declared.records.Record.{Record}
+use Rattle.tlsf_store.specs.declared.records.State.{State}
+use Rattle.tlsf_store.specs.declared.records.State.TheVariants.{Vacant, Free, Live}
+use Rattle.tlsf_store.specs.Records.{blank, record_at}
+use Rattle.tlsf_class.specs.Classes.{class}
+use Rattle.tlsf_heap.specs.Good.{times}
+use Rattle.tlsf_heap.specs.Inner.Nodes.{Status, InUse, Listed, Loose, Node, Area, nodes_of, list_of, has_slot, is_listed, is_listed_in}
+use Rattle.tlsf_heap.specs.Inner.Spots.{plug, Spot, filled}
+use Rattle.tlsf_heap.specs.Inner.Represents.{InPool, InList, in_pool, in_list, pool_views, state_of, first_slot, AreLinked, IsChain, uses_in, AreChains, IsIndex, Agree}
+use Rattle.tlsf_heap.proofs.Inner.Counts.{one_if, count-cons, count_and}
+use Rattle.tlsf_heap.proofs.Inner.Plugs.{map-plug, all_parts, all_plugged, count-nodes, around, count-filled}
+use Rattle.tlsf_heap.proofs.Inner.Links.{first-plug, from_behind, linked_same, linked_parts, linked_plugged}
+
+pub times-cons : (q slot : ℕ) (slots : List ℕ) → times q (slot ∷ slots) ≡ one_if (eqb slot q) + times q slots
+times-cons q slot slots = count-cons (λ other. eqb other q) slot slots
+
+-- a slot that no node has
+pub not_there : (q : ℕ) (node : Node) (nodes : List Node) → count_by (has_slot q) (node ∷ nodes) ≡ 0 → (q ≢ node.slot) × (count_by (has_slot q) nodes ≡ 0)
+not_there q node nodes none = (
+  λ e. omega (arith, none, count-cons (has_slot q) node nodes, ap one_if (eq-eqb node.slot q (sym e))),
+  omega (arith, none, count-cons (has_slot q) node nodes),
+)
+
+pub not_taken : (q slot : ℕ) (slots : List ℕ) → times q (slot ∷ slots) ≡ 0 → (q ≢ slot) × (times q slots ≡ 0)
+not_taken q slot slots none = (
+  λ e. omega (arith, none, times-cons q slot slots, ap one_if (eq-eqb slot q (sym e))),
+  omega (arith, none, times-cons q slot slots),
+)
+
+pub uses_most : (s : State) → uses_in s ≤ 1
+uses_most Vacant = omega arith
+uses_most Free = omega arith
+uses_most Live = omega arith
+
+-- a slot in use is in range
+pub used_below : (records : List Record) (q : ℕ) → 1 ≤ uses_in (record_at records q).state → q < length records
+used_below records q used = elim (cases_lt q (length records)) [
+  | inl below ↦ below
+  | inr past ↦ absurd (omega (arith, used, ap (λ (r : Record). uses_in r.state) (get_or_past records q blank past)))
+]
+
+module _ (at new : ℕ → InPool) where
+  pub chains_same : (areas : List Area) → ((q : ℕ) → 1 ≤ count_by (has_slot q) (nodes_of areas) → new q ≡ at q) → AllByRecursion (IsChain at) areas → AllByRecursion (IsChain new) areas
+  chains_same [] same chains = tt
+  chains_same (area ∷ areas) same chains = (
+    record { begins = chains.0.begins; linked = linked_same in_pool at new None area.nodes (λ q h. same q (omega (arith, h, count-nodes (has_slot q) area areas))) chains.0.linked },
+    chains_same areas (λ q h. same q (omega (arith, h, count-nodes (has_slot q) area areas))) chains.1,
+  )
+
+  -- other nodes at the spot, linked to those in front of it; all others read as before
+  pub chains_refilled : (spot : Spot) (olds news : List Node) (taken kept : List ℕ) → AreChains at (filled spot olds) taken
+      → ((q : ℕ) → 1 ≤ around (has_slot q) spot → new q ≡ at q) → first_slot news ≡ first_slot olds → AreLinked in_pool new (first_slot spot.before) news
+      → ((q : ℕ) → count_by (has_slot q) news + times q kept + uses_in (at q).state ≡ count_by (has_slot q) olds + times q taken + uses_in (new q).state)
+      → AreChains new (filled spot news) kept
+  chains_refilled spot olds news taken kept were same first linked counts =
+      let parts = all_parts (IsChain at) spot.areas_before (record { entry = spot.entry; nodes = plug spot.before olds } ∷ spot.areas_behind) were.chains in
+      let P : Option ℕ → Type 0 = λ o. AreLinked (from_behind in_pool) at o spot.before in
+      let before : AreLinked (from_behind in_pool) at (first_slot news) spot.before = subst P (sym first) (linked_parts in_pool at spot.before olds parts.1.0.linked).0 in
+      record {
+        chains = all_plugged (IsChain new) spot.areas_before (record { entry = spot.entry; nodes = plug spot.before news } ∷ spot.areas_behind)
+            (chains_same spot.areas_before (λ q h. same q (omega (arith, h))) parts.0) (
+              record {
+                begins = first-plug spot.before news olds first ∙ parts.1.0.begins;
+                linked = linked_plugged in_pool new spot.before news (linked_same (from_behind in_pool) at new (first_slot news) spot.before (λ q h. same q (omega (arith, h))) before) linked;
+              },
+              chains_same spot.areas_behind (λ q h. same q (omega (arith, h))) parts.1.1,
+            );
+        once = λ q. omega (arith, counts q, were.once q, count-filled (has_slot q) spot olds, count-filled (has_slot q) spot news);
+      }
+
+-- the nodes at the spot are linked to those in front of it
+pub linked_at : (at : ℕ → InPool) (spot : Spot) (nodes : List Node) (taken : List ℕ) → AreChains at (filled spot nodes) taken → AreLinked in_pool at (first_slot spot.before) nodes
+linked_at at spot nodes taken were =
+    let parts = all_parts (IsChain at) spot.areas_before (record { entry = spot.entry; nodes = plug spot.before nodes } ∷ spot.areas_behind) were.chains in
+    (linked_parts in_pool at spot.before nodes parts.1.0.linked).1
+
+-- the entries don't see the nodes
+pub entries-filled : (spot : Spot) (olds news : List Node) → map (λ (area : Area). area.entry) (filled spot news) ≡ map (λ (area : Area). area.entry) (filled spot olds)
+entries-filled spot olds news =
+    map-plug (λ (area : Area). area.entry) spot.areas_before (record { entry = spot.entry; nodes = plug spot.before news } ∷ spot.areas_behind)
+    ∙ sym (map-plug (λ (area : Area). area.entry) spot.areas_before (record { entry = spot.entry; nodes = plug spot.before olds } ∷ spot.areas_behind))
+
+module _ (at : ℕ → InPool) (spot : Spot) (nodes : List Node) (taken : List ℕ) (were : AreChains at (filled spot nodes) taken) where
+  -- each slot stands once
+  pub slots_once : (q : ℕ) → around (has_slot q) spot + count_by (has_slot q) nodes + times q taken ≡ uses_in (at q).state
+  slots_once q = omega (arith, were.once q, count-filled (has_slot q) spot nodes)
+
+  pub slots_most : (q : ℕ) → around (has_slot q) spot + count_by (has_slot q) nodes + times q taken ≤ 1
+  slots_most q = omega (arith, slots_once q, uses_most (at q).state)
+
+  pub slots_outside : (q : ℕ) → 1 ≤ around (has_slot q) spot → (count_by (has_slot q) nodes ≡ 0) × (times q taken ≡ 0)
+  slots_outside q h = (omega (arith, h, slots_most q), omega (arith, h, slots_most q))
+
+-- the classes' lists where the nodes of the spot change
+pub agree_refilled : (spot : Spot) (olds news : List Node) (lists : List (List Node)) → Agree (filled spot olds) lists
+    → ((number : ℕ) (test : Node → Bool) → count_by (λ node. is_listed_in number node && test node) news ≡ count_by (λ node. is_listed_in number node && test node) olds)
+    → Agree (filled spot news) lists
+agree_refilled spot olds news lists agree same number test =
+    let listed : Node → Bool = λ node. is_listed_in number node && test node in
+    omega (arith, agree number test, same number test, count-filled listed spot olds, count-filled listed spot news)
+
+-- a node that is in no list counts in none
+pub unlisted : (number : ℕ) (test : Node → Bool) (node : Node) → is_listed node.status ≡ false → one_if (is_listed_in number node && test node) ≡ 0
+unlisted number test node not_listed = ap (λ b. one_if ((b && eqb (class node.size) number) && test node)) not_listed
+
+-- the index where no listed slot reads otherwise
+pub index_same : (at new : ℕ → InList) (heads : List (Option ℕ)) (step_words : List ℕ) (level_word : ℕ) (lists : List (List Node))
+    → ((number q : ℕ) → 1 ≤ count_by (has_slot q) (list_of number lists) → new q ≡ at q) → IsIndex at heads step_words level_word lists → IsIndex new heads step_words level_word lists
+index_same at new heads step_words level_word lists same index = record {
+  heads_are = index.heads_are;
+  lists_count = index.lists_count;
+  words_count = index.words_count;
+  linked = λ number. linked_same in_list at new None (list_of number lists) (λ q h. same number q h) (index.linked number);
+  marked = index.marked;
+}
+
+module _ (areas : List Area) (lists : List (List Node)) (agree : Agree areas lists) where
+  -- what stands in a list stands in the areas
+  pub listed_within : (number q : ℕ) → count_by (has_slot q) (list_of number lists) ≤ count_by (has_slot q) (nodes_of areas)
+  listed_within number q = omega (arith, agree number (has_slot q), count_and (is_listed_in number) (has_slot q) (nodes_of areas))
+
+-- the slot of a node that is in no list stands in none
+pub unlisted_nowhere : (at : ℕ → InPool) (spot : Spot) (node : Node) (nodes : List Node) (lists : List (List Node)) (taken : List ℕ)
+    → AreChains at (filled spot (node ∷ nodes)) taken → Agree (filled spot (node ∷ nodes)) lists → is_listed node.status ≡ false → (number : ℕ) → count_by (has_slot node.slot) (list_of number lists) ≡ 0
+unlisted_nowhere at spot node nodes lists taken chains agree not_listed number =
+    let listed : Node → Bool = λ other. is_listed_in number other && has_slot node.slot other in
+    omega (
+      arith,
+      agree number (has_slot node.slot),
+      count-filled listed spot (node ∷ nodes),
+      count-cons listed node nodes,
+      unlisted number (has_slot node.slot) node not_listed,
+      slots_most at spot (node ∷ nodes) taken chains node.slot,
+      count-cons (has_slot node.slot) node nodes,
+      ap one_if (eq-eqb node.slot node.slot refl),
+      count_and (is_listed_in number) (has_slot node.slot) (nodes_of spot.areas_before),
+      count_and (is_listed_in number) (has_slot node.slot) spot.before,
+      count_and (is_listed_in number) (has_slot node.slot) (nodes_of spot.areas_behind),
+      count_and (is_listed_in number) (has_slot node.slot) nodes,
+    )
+
+-- the record of a node is in use
+pub uses_node : (status : Status) → uses_in (state_of status) ≡ 1
+uses_node InUse = refl
+uses_node Listed = refl
+uses_node Loose = refl

@@ -1,0 +1,99 @@
+-- How many items of a list pass a test: in parts of the list, and for several tests at once.
+use Rattle.std.proofs.Common.{◌≡◌, ℕ, zero, suc, ◌+◌, ◌≤◌, Bool, true, false, cond, not, ◌&&◌, List, [], ◌∷◌, ◌++◌, refl, sym, ap, ◌∙◌, arith, count_by, filter, inl, inr}
+use Rattle.std.proofs.lemmas.List.Sums.{sum_by-cons, sum_by-append}
+use Rattle.std.proofs.lemmas.Bool.{cases_Bool}
+use Rattle.tlsf_heap.specs.Inner.Spots.{plug}
+
+-- 1 where it is true
+abbrev pub one_if : Bool → ℕ
+one_if b = cond b 1 0
+
+module _ {X : Type 0} where
+  pub count-cons : (p : X → Bool) (x : X) (xs : List X) → count_by p (x ∷ xs) ≡ one_if (p x) + count_by p xs
+  count-cons p x xs = sum_by-cons (λ y. cond (p y) 1 0) x xs
+
+  pub count-append : (p : X → Bool) (xs ys : List X) → count_by p (xs ++ ys) ≡ count_by p xs + count_by p ys
+  count-append p xs ys = sum_by-append (λ y. cond (p y) 1 0) xs ys
+
+  pub count-plug : (p : X → Bool) (front behind : List X) → count_by p (plug front behind) ≡ count_by p front + count_by p behind
+  count-plug p [] behind = omega arith
+  count-plug p (x ∷ front) behind = omega (arith, count-plug p front (x ∷ behind), count-cons p x behind, count-cons p x front)
+
+  pub count_same : (p q : X → Bool) → ((x : X) → p x ≡ q x) → (xs : List X) → count_by p xs ≡ count_by q xs
+  count_same p q same [] = refl
+  count_same p q same (x ∷ xs) = omega (arith, count-cons p x xs, count-cons q x xs, ap one_if (same x), count_same p q same xs)
+
+  -- two tests of which no item passes both, and which both pass the third
+  pub count_apart : (p q r : X → Bool) → ((x : X) → one_if (p x) + one_if (q x) ≤ one_if (r x)) → (xs : List X) → count_by p xs + count_by q xs ≤ count_by r xs
+  count_apart p q r apart [] = omega arith
+  count_apart p q r apart (x ∷ xs) = omega (arith, count-cons p x xs, count-cons q x xs, count-cons r x xs, apart x, count_apart p q r apart xs)
+
+  -- a test that passes where one of two others does
+  pub count_either : (p q r : X → Bool) → ((x : X) → one_if (p x) ≤ one_if (q x) + one_if (r x)) → (xs : List X) → count_by p xs ≤ count_by q xs + count_by r xs
+  count_either p q r either [] = omega arith
+  count_either p q r either (x ∷ xs) = omega (arith, count-cons p x xs, count-cons q x xs, count-cons r x xs, either x, count_either p q r either xs)
+
+  pub count_and : (p q : X → Bool) (xs : List X) → count_by (λ x. p x && q x) xs ≤ count_by q xs
+  count_and p q [] = omega arith
+  count_and p q (x ∷ xs) = omega (arith, count-cons (λ y. p y && q y) x xs, count-cons q x xs, one (p x) (q x), count_and p q xs)
+    where
+      one : (a b : Bool) → one_if (a && b) ≤ one_if b
+      one true b = omega arith
+      one false true = omega arith
+      one false false = omega arith
+
+  filter_kept : (q : X → Bool) (x : X) (xs : List X) → q x ≡ true → filter q (x ∷ xs) ≡ x ∷ filter q xs
+  filter_kept q x xs kept = rw kept refl
+
+  filter_left : (q : X → Bool) (x : X) (xs : List X) → q x ≡ false → filter q (x ∷ xs) ≡ filter q xs
+  filter_left q x xs left = rw left refl
+
+  pub count-filter : (p q : X → Bool) (xs : List X) → count_by p (filter q xs) ≡ count_by (λ x. q x && p x) xs
+  count-filter p q [] = refl
+  count-filter p q (x ∷ xs) = elim (cases_Bool (q x)) [
+    | inl kept ↦ ap (count_by p) (filter_kept q x xs kept) ∙ omega (arith, count-cons p x (filter q xs), count-filter p q xs, count-cons (λ y. q y && p y) x xs, ap (λ b. one_if (b && p x)) kept)
+    | inr left ↦ ap (count_by p) (filter_left q x xs left) ∙ omega (arith, count-filter p q xs, count-cons (λ y. q y && p y) x xs, ap (λ b. one_if (b && p x)) left)
+  ]
+
+  -- nothing leaves where none passes
+  pub filter_none : (p : X → Bool) (xs : List X) → count_by p xs ≡ 0 → filter (λ x. not (p x)) xs ≡ xs
+  filter_none p [] none = refl
+  filter_none p (x ∷ xs) none = elim (cases_Bool (p x)) [
+    | inl passes ↦ absurd (omega (arith, none, count-cons p x xs, ap one_if passes))
+    | inr fails ↦ rw fails (ap (λ ys. x ∷ ys) (filter_none p xs (omega (arith, none, count-cons p x xs))))
+  ]
+
+  pub filter-plug : (p : X → Bool) (front behind : List X) → filter p (plug front behind) ≡ plug (filter p front) (filter p behind)
+  filter-plug p [] behind = refl
+  filter-plug p (x ∷ front) behind = elim (cases_Bool (p x)) [
+    | inl kept ↦ filter-plug p front (x ∷ behind) ∙ rw kept refl
+    | inr left ↦ filter-plug p front (x ∷ behind) ∙ rw left refl
+  ]
+
+  -- the one item that passes leaves
+  pub filter_one : (p : X → Bool) (front : List X) (x : X) (behind : List X) → p x ≡ true → count_by p front ≡ 0 → count_by p behind ≡ 0 → filter (λ y. not (p y)) (plug front (x ∷ behind)) ≡ plug front behind
+  filter_one p front x behind passes none_before none_behind =
+      filter-plug (λ y. not (p y)) front (x ∷ behind)
+      ∙ ap (λ xs. plug xs (filter (λ y. not (p y)) (x ∷ behind))) (filter_none p front none_before)
+      ∙ ap (plug front) (here ∙ filter_none p behind none_behind)
+    where
+      here : filter (λ y. not (p y)) (x ∷ behind) ≡ filter (λ y. not (p y)) behind
+      here = rw passes refl
+
+  -- a list at the first item that passes
+  pub record Split (p : X → Bool) (xs : List X) : Type 0 where
+    pub front : List X
+    pub item : X
+    pub behind : List X
+    pub whole : xs ≡ plug front (item ∷ behind)
+    pub passes : p item ≡ true
+
+  split_behind : (p : X → Bool) (front xs : List X) → 1 ≤ count_by p xs → Split p (plug front xs)
+  split_behind p front [] some = absurd (omega (arith, some))
+  split_behind p front (x ∷ xs) some = elim (cases_Bool (p x)) [
+    | inl passes ↦ record { front = front; item = x; behind = xs; whole = refl; passes = passes }
+    | inr fails ↦ split_behind p (x ∷ front) xs (omega (arith, some, count-cons p x xs, ap one_if fails))
+  ]
+
+  pub split_at : (p : X → Bool) (xs : List X) → 1 ≤ count_by p xs → Split p xs
+  split_at p xs some = split_behind p [] xs some

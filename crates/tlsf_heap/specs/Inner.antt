@@ -1,0 +1,4 @@
+-- What the linked records of a heap stand for.
+pub mod Nodes
+pub mod Spots
+pub mod Represents

@@ -1,0 +1,88 @@
+-- Nodes: the blocks of a heap with the slots of their records, by pool and by class.
+use Rattle.std.specs.Prelude.{ℕ, Bool, true, false, not, ◌&&◌, ◌==◌, List, [], ◌∷◌, map, flat_map, filter, slice_index_or, slice_set, Option, Some, None}
+use Rattle.tlsf_class.specs.Classes.{class}
+use Rattle.tlsf_heap.specs.declared.pool_entry.PoolEntry.{PoolEntry}
+use Rattle.tlsf_heap.specs.Content.{Block, Pool, Content}
+
+-- live; free and in its class's list; or free and on its way, in no list
+pub data Status : Type 0 where
+  InUse Listed Loose : Status
+
+-- a block, and the slot of its record
+pub record Node : Type 0 where
+  pub slot : ℕ
+  pub place : ℕ
+  pub size : ℕ
+  pub status : Status
+
+-- a pool's entry, and its nodes in order of place
+pub record Area : Type 0 where
+  pub entry : PoolEntry
+  pub nodes : List Node
+
+pub record Layout : Type 0 where
+  -- how many records there are
+  pub count : ℕ
+  -- the pools
+  pub areas : List Area
+  -- by class, the nodes of its list, first one first
+  pub lists : List (List Node)
+  -- the slots taken for blocks to come
+  pub taken : List ℕ
+
+-- a live block is known by its slot
+abbrev pub owner_of : Status → ℕ → Option ℕ
+owner_of InUse slot = Some slot
+owner_of Listed slot = None
+owner_of Loose slot = None
+
+abbrev pub block_of : Node → Block ℕ
+block_of node = record { place = node.place; size = node.size; owner = owner_of node.status node.slot }
+
+abbrev pub pool_of : Area → Pool ℕ
+pool_of area = record { base = area.entry.base; bytes = area.entry.bytes; blocks = map block_of area.nodes }
+
+-- the content that a layout stands for
+abbrev pub content_by : Layout → Content ℕ
+content_by layout = record {
+  records = layout.count;
+  pools = map pool_of layout.areas;
+  lists = map (map (λ node. node.place)) layout.lists;
+}
+
+-- all nodes, area after area
+abbrev pub nodes_of : List Area → List Node
+nodes_of areas = flat_map (λ area. area.nodes) areas
+
+-- the list of a class
+abbrev pub list_of : ℕ → List (List Node) → List Node
+list_of number lists = slice_index_or lists number []
+
+-- whether the node has the slot
+abbrev pub has_slot : ℕ → Node → Bool
+has_slot slot node = node.slot == slot
+
+-- whether the node begins at the place
+abbrev pub has_place : ℕ → Node → Bool
+has_place place node = node.place == place
+
+abbrev pub is_listed : Status → Bool
+is_listed InUse = false
+is_listed Listed = true
+is_listed Loose = false
+
+-- whether the node is to stand in the list of the class
+abbrev pub is_listed_in : ℕ → Node → Bool
+is_listed_in number node = is_listed node.status && (class node.size == number)
+
+-- the nodes but that of the slot, in order
+abbrev pub without_slot : ℕ → List Node → List Node
+without_slot slot nodes = filter (λ node. not (has_slot slot node)) nodes
+
+-- the node leaves its class's list
+unfoldable pub left : Node → List (List Node) → List (List Node)
+left node lists = slice_set lists (class node.size) (without_slot node.slot (list_of (class node.size) lists))
+
+-- the node enters its class's list, in front of the others
+unfoldable pub entered : Node → List (List Node) → List (List Node)
+entered node lists = slice_set lists (class node.size) (node ∷ list_of (class node.size) lists)
