@@ -5,3 +5,4 @@ pub mod Links
 pub mod Reads
 pub mod Chains
 pub mod StateSet
+pub mod Split

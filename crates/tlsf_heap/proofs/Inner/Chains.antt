@@ -8,10 +8,12 @@ use Rattle.tlsf_store.specs.declared.records.State.{State}
 use Rattle.tlsf_store.specs.declared.records.State.TheVariants.{Vacant, Free, Live}
 use Rattle.tlsf_store.specs.Records.{blank, record_at}
 use Rattle.tlsf_class.specs.Classes.{class}
+use Rattle.tlsf_store.specs.Cells.{Cells}
+use Rattle.tlsf_heap.specs.Layout.{padded}
 use Rattle.tlsf_heap.specs.Good.{times}
 use Rattle.tlsf_heap.specs.Inner.Nodes.{Status, InUse, Listed, Loose, Node, Area, nodes_of, list_of, has_slot, is_listed, is_listed_in}
-use Rattle.tlsf_heap.specs.Inner.Spots.{plug, Spot, filled}
-use Rattle.tlsf_heap.specs.Inner.Represents.{InPool, InList, in_pool, in_list, pool_views, state_of, first_slot, AreLinked, IsChain, uses_in, AreChains, IsIndex, Agree}
+use Rattle.tlsf_heap.specs.Inner.Spots.{plug, Spot, filled, laid}
+use Rattle.tlsf_heap.specs.Inner.Represents.{InPool, InList, in_pool, in_list, pool_view, pool_views, list_views, state_of, first_slot, AreLinked, IsChain, uses_in, AreChains, IsIndex, Agree, Represented, Represents}
 use Rattle.tlsf_heap.proofs.Inner.Counts.{one_if, count-cons, count_and}
 use Rattle.tlsf_heap.proofs.Inner.Plugs.{map-plug, all_parts, all_plugged, count-nodes, around, count-filled}
 use Rattle.tlsf_heap.proofs.Inner.Links.{first-plug, from_behind, linked_same, linked_parts, linked_plugged}
@@ -149,3 +151,63 @@ pub uses_node : (status : Status) → uses_in (state_of status) ≡ 1
 uses_node InUse = refl
 uses_node Listed = refl
 uses_node Loose = refl
+
+-- what the chains tell of a node at a spot
+pub record AtNode (records : List Record) (spot : Spot) (node : Node) (nodes : List Node) (taken : List ℕ) : Type 0 where
+  -- its record, and those behind it
+  pub says : pool_views records node.slot ≡ in_pool (first_slot spot.before) node (first_slot nodes)
+  pub linked : AreLinked in_pool (pool_views records) (Some node.slot) nodes
+  pub used : uses_in (record_at records node.slot).state ≡ 1
+  pub below : node.slot < length records
+  -- each slot stands once
+  pub once : (q : ℕ) → around (has_slot q) spot + count_by (has_slot q) (node ∷ nodes) + times q taken ≡ uses_in (record_at records q).state
+  pub most : (q : ℕ) → around (has_slot q) spot + count_by (has_slot q) (node ∷ nodes) + times q taken ≤ 1
+  pub behind_once : (q : ℕ) → count_by (has_slot q) nodes ≤ 1
+  -- its own is none of the others
+  pub outside_apart : (q : ℕ) → 1 ≤ around (has_slot q) spot → q ≢ node.slot
+  pub behind_apart : (q : ℕ) → 1 ≤ count_by (has_slot q) nodes → q ≢ node.slot
+  pub taken_apart : (q : ℕ) → 1 ≤ times q taken → q ≢ node.slot
+  -- which are in range
+  pub behind_below : (q : ℕ) → 1 ≤ count_by (has_slot q) nodes → q < length records
+  pub taken_below : (q : ℕ) → 1 ≤ times q taken → q < length records
+
+pub at_node : (records : List Record) (spot : Spot) (node : Node) (nodes : List Node) (taken : List ℕ) → AreChains (pool_views records) (filled spot (node ∷ nodes)) taken → AtNode records spot node nodes taken
+at_node records spot node nodes taken were =
+    let links = linked_at (pool_views records) spot (node ∷ nodes) taken were in
+    let once = slots_once (pool_views records) spot (node ∷ nodes) taken were in
+    let most = slots_most (pool_views records) spot (node ∷ nodes) taken were in
+    let counts : (q : ℕ) → count_by (has_slot q) (node ∷ nodes) ≡ one_if (eqb node.slot q) + count_by (has_slot q) nodes = λ q. count-cons (has_slot q) node nodes in
+    let used : uses_in (record_at records node.slot).state ≡ 1 = ap (λ (v : InPool). uses_in v.state) links.0 ∙ uses_node node.status in
+    let own : (q : ℕ) → q ≡ node.slot → one_if (eqb node.slot q) ≡ 1 = λ q e. ap one_if (eq-eqb node.slot q (sym e)) in
+    record {
+      says = links.0;
+      linked = links.1;
+      used = used;
+      below = used_below records node.slot (omega (arith, used));
+      once = once;
+      most = most;
+      behind_once = λ q. omega (arith, most q, counts q);
+      outside_apart = λ q h e. omega (arith, h, most q, counts q, own q e);
+      behind_apart = λ q h e. omega (arith, h, most q, counts q, own q e);
+      taken_apart = λ q h e. omega (arith, h, most q, counts q, own q e);
+      behind_below = λ q h. used_below records q (omega (arith, h, once q, counts q));
+      taken_below = λ q h. used_below records q (omega (arith, h, once q));
+    }
+
+-- other nodes at the spot, by other records
+pub refilled : (cells : Cells) (count : ℕ) (spot : Spot) (olds news : List Node) (lists : List (List Node)) (taken left : List ℕ) (new : List Record) → Represents cells (laid count spot olds lists taken)
+    → length new ≡ length cells.records
+    → ((q : ℕ) → 1 ≤ around (has_slot q) spot → record_at new q ≡ record_at cells.records q)
+    → first_slot news ≡ first_slot olds
+    → AreLinked in_pool (pool_views new) (first_slot spot.before) news
+    → ((q : ℕ) → count_by (has_slot q) news + times q left + uses_in (record_at cells.records q).state ≡ count_by (has_slot q) olds + times q taken + uses_in (record_at new q).state)
+    → ((number q : ℕ) → 1 ≤ count_by (has_slot q) (list_of number lists) → list_views new q ≡ list_views cells.records q)
+    → ((number : ℕ) (test : Node → Bool) → count_by (λ node. is_listed_in number node && test node) news ≡ count_by (λ node. is_listed_in number node && test node) olds)
+    → Represented new cells.heads cells.level_word cells.step_words cells.pools (laid count spot news lists left)
+refilled cells count spot olds news lists taken left new was same_count same first linked counts listed_same listed = record {
+  count = same_count ∙ was.count;
+  entries = was.entries ∙ ap padded (sym (entries-filled spot olds news));
+  chains = chains_refilled (pool_views cells.records) (pool_views new) spot olds news taken left was.chains (λ q h. ap pool_view (same q h)) first linked counts;
+  index = index_same (list_views cells.records) (list_views new) cells.heads cells.step_words cells.level_word lists listed_same was.index;
+  agree = agree_refilled spot olds news lists was.agree listed;
+}

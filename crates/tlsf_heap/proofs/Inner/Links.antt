@@ -19,6 +19,11 @@ count-front node nodes = omega (arith, count-cons (has_slot node.slot) node node
 pub count-behind : (q : ℕ) (node : Node) (nodes : List Node) → 1 ≤ count_by (has_slot q) nodes → 1 ≤ count_by (has_slot q) (node ∷ nodes)
 count-behind q node nodes h = omega (arith, count-cons (has_slot q) node nodes, h)
 
+-- the first slot stands among them
+pub first_stands : (nodes : List Node) (q : ℕ) → first_slot nodes ≡ Some q → 1 ≤ count_by (has_slot q) nodes
+first_stands [] q is = absurd (Some≢None q (sym is))
+first_stands (node ∷ nodes) q is = omega (arith, count-cons (has_slot q) node nodes, ap one_if (eq-eqb node.slot q (Some-same node.slot q is)))
+
 pub first-plug : (front xs ys : List Node) → first_slot xs ≡ first_slot ys → first_slot (plug front xs) ≡ first_slot (plug front ys)
 first-plug [] xs ys same = same
 first-plug (f ∷ front) xs ys same = first-plug front (f ∷ xs) (f ∷ ys) refl
