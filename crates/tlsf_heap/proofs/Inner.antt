@@ -6,3 +6,4 @@ pub mod Reads
 pub mod Chains
 pub mod StateSet
 pub mod Split
+pub mod Join
