@@ -7,3 +7,6 @@ pub mod Chains
 pub mod StateSet
 pub mod Split
 pub mod Join
+pub mod Taken
+pub mod BoundMoved
+pub mod PoolMoves

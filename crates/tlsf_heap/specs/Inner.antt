@@ -2,3 +2,4 @@
 pub mod Nodes
 pub mod Spots
 pub mod Represents
+pub mod CellEdits
