@@ -7,6 +7,9 @@ pub mod Chains
 pub mod StateSet
 pub mod Split
 pub mod Join
+pub mod Lists
 pub mod Taken
+pub mod Linked
+pub mod Unlinked
 pub mod BoundMoved
 pub mod PoolMoves

@@ -42,6 +42,22 @@ module _ {X : Type 0} where
       one false true = omega arith
       one false false = omega arith
 
+  -- where no item passes a test, its failing adds nothing
+  pub count_but : (p q r : X → Bool) (xs : List X) → count_by r xs ≡ 0 → count_by (λ x. p x && (not (r x) && q x)) xs ≡ count_by (λ x. p x && q x) xs
+  count_but p q r [] none = refl
+  count_but p q r (x ∷ xs) none = elim (cases_Bool (r x)) [
+    | inl passes ↦ absurd (omega (arith, none, count-cons r x xs, ap one_if passes))
+    | inr fails ↦ omega (
+      arith,
+      none,
+      count-cons r x xs,
+      count_but p q r xs (omega (arith, none, count-cons r x xs)),
+      count-cons (λ y. p y && (not (r y) && q y)) x xs,
+      count-cons (λ y. p y && q y) x xs,
+      ap (λ b. one_if (p x && (not b && q x))) fails,
+    )
+  ]
+
   filter_kept : (q : X → Bool) (x : X) (xs : List X) → q x ≡ true → filter q (x ∷ xs) ≡ x ∷ filter q xs
   filter_kept q x xs kept = rw kept refl
 

@@ -6,7 +6,7 @@ use Rattle.tlsf_store.specs.Records.{record_at}
 use Rattle.tlsf_store.specs.Cells.{Cells}
 use Rattle.tlsf_heap.specs.Edits.{edited_in}
 use Rattle.tlsf_heap.specs.Chains.{with_state}
-use Rattle.tlsf_heap.specs.Inner.Nodes.{Status, Node, has_slot, is_listed, is_listed_in}
+use Rattle.tlsf_heap.specs.Inner.Nodes.{Status, Node, turned, has_slot, is_listed, is_listed_in}
 use Rattle.tlsf_heap.specs.Inner.Spots.{Spot, laid}
 use Rattle.tlsf_heap.specs.Inner.Represents.{InPool, pool_view, list_view, pool_views, state_of, in_pool, uses_in, Represents}
 use Rattle.tlsf_heap.proofs.Inner.Counts.{count-cons}
@@ -16,11 +16,11 @@ use Rattle.tlsf_heap.proofs.Inner.Chains.{uses_node, unlisted, AtNode, at_node, 
 
 module _ (cells : Cells) (count : ℕ) (spot : Spot) (node : Node) (nodes : List Node) (lists : List (List Node)) (taken : List ℕ) (was : Represents cells (laid count spot (node ∷ nodes) lists taken)) where
   pub state_set : (status : Status) → is_listed node.status ≡ false → is_listed status ≡ false
-      → Represents (with_state node.slot (state_of status) cells) (laid count spot (record node { status = status } ∷ nodes) lists taken)
+      → Represents (with_state node.slot (state_of status) cells) (laid count spot (turned status node ∷ nodes) lists taken)
   state_set status was_not is_not =
       let edit : Record → Record = λ r. record r { state = state_of status } in
       let new : List Record = edited_in edit (Some node.slot) cells.records in
-      let after : Node = record node { status = status } in
+      let after : Node = turned status node in
       let here : AtNode cells.records spot node nodes taken = at_node cells.records spot node nodes taken was.chains in
       let at_slot : record_at new node.slot ≡ edit (record_at cells.records node.slot) = edited_here edit (Some node.slot) cells.records node.slot here.below refl in
       let others : (q : ℕ) → q ≢ node.slot → record_at new q ≡ record_at cells.records q = λ q apart. edited_apart edit (Some node.slot) cells.records q (λ e. apart (sym (Some-same node.slot q e))) in

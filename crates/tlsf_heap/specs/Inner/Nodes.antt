@@ -50,6 +50,10 @@ content_by layout = record {
   lists = map (map (λ node. node.place)) layout.lists;
 }
 
+-- the node in another status
+abbrev pub turned : Status → Node → Node
+turned status node = record node { status = status }
+
 -- all nodes, area after area
 abbrev pub nodes_of : List Area → List Node
 nodes_of areas = flat_map (λ area. area.nodes) areas

@@ -1,0 +1,137 @@
+-- A free block that is in no list enters its class's list.
+use Rattle.std.proofs.Common.{◌≡◌, ◌≢◌, ℕ, ◌+◌, ◌/◌, ◌<◌, ◌≤◌, Bool, false, ◌&&◌, eqb, List, ◌∷◌, length, map, get_or, set, refl, sym, ap, ◌∙◌, subst, arith, count_by, Option, Some, None}
+use Rattle.std.proofs.lemmas.Bool.{eq-eqb}
+use Rattle.std.proofs.lemmas.List.{length-set, length-map}
+use Rattle.tlsf_class.specs.Classes.{classes, class}
+use Rattle.tlsf_class.proofs.ClassLaws.{class-lt}
+use Rattle.tlsf_store.specs.declared.records.Record.{Record}
+use Rattle.tlsf_store.specs.Records.{record_at}
+use Rattle.tlsf_store.specs.Cells.{Cells, with_head, head_at}
+use Rattle.tlsf_heap.specs.Layout.{padded}
+use Rattle.tlsf_heap.specs.Edits.{edited_in, with_prev_free, with_free_links, marked, linked}
+use Rattle.tlsf_heap.specs.Inner.Nodes.{Status, Node, Area, Listed, Loose, turned, nodes_of, has_slot, list_of, is_listed_in, entered}
+use Rattle.tlsf_heap.specs.Inner.Spots.{Spot, laid, filled}
+use Rattle.tlsf_heap.specs.Inner.Represents.{InPool, InList, pool_view, list_view, pool_views, list_views, state_of, in_pool, in_list, first_slot, AreLinked, uses_in, AreChains, Agree, Represented, Represents}
+use Rattle.tlsf_heap.proofs.Marking.{marks_set}
+use Rattle.tlsf_heap.proofs.Inner.Counts.{one_if, count-cons}
+use Rattle.tlsf_heap.proofs.Inner.Plugs.{count-filled}
+use Rattle.tlsf_heap.proofs.Inner.Links.{linked_same, linked_moved, first_stands}
+use Rattle.tlsf_heap.proofs.Inner.Reads.{length-edited, edited_here, edited_apart, edited_kept}
+use Rattle.tlsf_heap.proofs.Inner.Lists.{lists_apart, each_written, heads-written, head_of, count-entered}
+use Rattle.tlsf_heap.proofs.Inner.Chains.{chains_refilled, linked_at, uses_most, used_below, unlisted, unlisted_nowhere, listed_within, entries-filled, AtNode, at_node}
+use Rattle.tlsf_heap.proofs.Inner.Taken.{counted_apart}
+
+-- a node at a spot enters or leaves its list: its pool doesn't see it
+pub chains_turned : (at new : ℕ → InPool) (spot : Spot) (node : Node) (nodes : List Node) (old status : Status) (taken : List ℕ) → state_of status ≡ state_of old → new ≡ at
+    → AreChains at (filled spot (turned old node ∷ nodes)) taken → AreChains new (filled spot (turned status node ∷ nodes)) taken
+chains_turned at new spot node nodes old status taken alike same were =
+    let P : (ℕ → InPool) → Type 0 = λ views. AreChains views (filled spot (turned status node ∷ nodes)) taken in
+    let links = linked_at at spot (turned old node ∷ nodes) taken were in
+    let said : at node.slot ≡ in_pool (first_slot spot.before) (turned status node) (first_slot nodes) = links.0 ∙ ap (λ s. record { place = node.place; size = node.size; state = s; prev = first_slot spot.before; next = first_slot nodes }) (sym alike) in
+    subst P (sym same) (chains_refilled at at spot (turned old node ∷ nodes) (turned status node ∷ nodes) taken taken were (λ q h. refl) refl (said, links.1)
+    (λ q. omega (arith, count-cons (has_slot q) (turned old node) nodes, count-cons (has_slot q) (turned status node) nodes)))
+
+module _ (cells : Cells) (count : ℕ) (spot : Spot) (node : Node) (nodes : List Node) (lists : List (List Node)) (taken : List ℕ) (was : Represents cells (laid count spot (turned Loose node ∷ nodes) lists taken)) where
+  abbrev number : ℕ
+  number = class node.size
+
+  abbrev list : List Node
+  list = list_of (class node.size) lists
+
+  abbrev areas : List Area
+  areas = filled spot (turned Loose node ∷ nodes)
+
+  abbrev opened : Record → Record
+  opened r = record r { prev_free = None; next_free = first_slot list }
+
+  abbrev moved : Record → Record
+  moved r = record r { prev_free = Some node.slot }
+
+  abbrev one : List Record
+  one = edited_in opened (Some node.slot) cells.records
+
+  abbrev new : List Record
+  new = edited_in moved (first_slot list) one
+
+  here : AtNode cells.records spot (turned Loose node) nodes taken
+  here = at_node cells.records spot (turned Loose node) nodes taken was.chains
+
+  -- the slot stands in no list, and each slot in one list at most
+  nowhere : (other : ℕ) → count_by (has_slot node.slot) (list_of other lists) ≡ 0
+  nowhere other = unlisted_nowhere (pool_views cells.records) spot (turned Loose node) nodes lists taken was.chains was.agree refl other
+
+  listed_apart : (other q : ℕ) → 1 ≤ count_by (has_slot q) (list_of other lists) → Some node.slot ≢ Some q
+  listed_apart other q h e = counted_apart (λ n. count_by (has_slot n) (list_of other lists)) q node.slot h (nowhere other) (let same : node.slot ≡ q = cc in sym same)
+
+  slots_few : (q : ℕ) → count_by (has_slot q) (nodes_of areas) ≤ 1
+  slots_few q = omega (arith, was.chains.once q, uses_most (record_at cells.records q).state)
+
+  first_apart : (other q : ℕ) → other ≢ class node.size → 1 ≤ count_by (has_slot q) (list_of other lists) → first_slot list ≢ Some q
+  first_apart other q apart h e = omega (arith, first_stands list q e, h, slots_few q, lists_apart areas lists other (class node.size) q was.agree apart)
+
+  at_other : (other q : ℕ) → 1 ≤ count_by (has_slot q) (list_of other lists) → first_slot list ≢ Some q → record_at new q ≡ record_at cells.records q
+  at_other other q h isnt = edited_apart moved (first_slot list) one q isnt ∙ edited_apart opened (Some node.slot) cells.records q (listed_apart other q h)
+
+  at_slot : record_at new node.slot ≡ opened (record_at cells.records node.slot)
+  at_slot =
+      edited_apart moved (first_slot list) one node.slot (λ e. omega (arith, first_stands list node.slot e, nowhere (class node.size)))
+      ∙ edited_here opened (Some node.slot) cells.records node.slot here.below refl
+
+  at_first : (q : ℕ) → first_slot list ≡ Some q → record_at new q ≡ moved (record_at cells.records q)
+  at_first q is =
+      let h = first_stands list q is in
+      let below = used_below cells.records q (omega (arith, was.chains.once q, h, listed_within areas lists was.agree (class node.size) q)) in
+      edited_here moved (first_slot list) one q (omega (arith, length-edited opened (Some node.slot) cells.records, below)) is ∙ ap moved (edited_apart opened (Some node.slot) cells.records q (listed_apart (class node.size) q h))
+
+  pools_same : pool_views new ≡ pool_views cells.records
+  pools_same = λ i q. (edited_kept pool_view moved (λ r. refl) (first_slot list) one q ∙ edited_kept pool_view opened (λ r. refl) (Some node.slot) cells.records q) i
+
+  links : (other : ℕ) → AreLinked in_list (list_views new) None (list_of other (set lists (class node.size) (turned Listed node ∷ list)))
+  links =
+      each_written node lists was.index.lists_count (turned Listed node ∷ list) (λ ns. AreLinked in_list (list_views new) None ns) (
+        ap list_view at_slot,
+        linked_moved in_list (list_views cells.records) (list_views new) (λ v. record v { prev = Some node.slot }) None (Some node.slot) (λ other next. refl) list
+            (λ q. omega (arith, slots_few q, listed_within areas lists was.agree (class node.size) q))
+            (λ q is. ap list_view (at_first q is))
+            (λ q isnt h. ap list_view (at_other (class node.size) q h isnt))
+            (was.index.linked (class node.size)),
+      )
+      (λ other apart. linked_same in_list (list_views cells.records) (list_views new) None (list_of other lists) (λ q h. ap list_view (at_other other q h (first_apart other q apart h))) (was.index.linked other))
+
+  agrees : Agree (filled spot (turned Listed node ∷ nodes)) (entered (turned Listed node) lists)
+  agrees other test =
+      let listed : Node → Bool = λ n. is_listed_in other n && test n in
+      omega (
+        arith,
+        count-entered (turned Listed node) lists was.index.lists_count other test,
+        was.agree other test,
+        count-filled listed spot (turned Loose node ∷ nodes),
+        count-filled listed spot (turned Listed node ∷ nodes),
+        count-cons listed (turned Loose node) nodes,
+        count-cons listed (turned Listed node) nodes,
+      )
+
+  -- the cells, where this is the first of the list
+  abbrev after : Option ℕ → Cells
+  after first = marked (class node.size) (with_head (with_prev_free first (Some node.slot) (with_free_links node.slot None first cells)) (class node.size) (Some node.slot))
+
+  linked_before : Represents (after (first_slot list)) (laid count spot (turned Listed node ∷ nodes) (entered (turned Listed node) lists) taken)
+  unfolding entered
+  linked_before = record {
+    count = length-edited moved (first_slot list) one ∙ length-edited opened (Some node.slot) cells.records ∙ was.count;
+    entries = was.entries ∙ ap padded (sym (entries-filled spot (turned Loose node ∷ nodes) (turned Listed node ∷ nodes)));
+    chains = chains_turned (pool_views cells.records) (pool_views new) spot node nodes Loose Listed taken refl pools_same was.chains;
+    index = record {
+      heads_are = ap (λ heads. set heads (class node.size) (Some node.slot)) was.index.heads_are ∙ sym (heads-written node lists was.index.lists_count (turned Listed node ∷ list));
+      lists_count = length-set lists (class node.size) (turned Listed node ∷ list) ∙ was.index.lists_count;
+      words_count = length-set cells.step_words _ _ ∙ was.index.words_count;
+      linked = links;
+      marked = marks_set cells.heads cells.step_words cells.level_word (class node.size) (ap length was.index.heads_are ∙ length-map lists first_slot ∙ was.index.lists_count) was.index.words_count (class-lt node.size) was.index.marked node.slot;
+    };
+    agree = agrees;
+  }
+
+  pub linked_laid : Represents (linked (class node.size) node.slot cells) (laid count spot (turned Listed node ∷ nodes) (entered (turned Listed node) lists) taken)
+  linked_laid =
+      let P : Option ℕ → Type 0 = λ first. Represents (after first) (laid count spot (turned Listed node ∷ nodes) (entered (turned Listed node) lists) taken) in
+      subst P (sym (ap (λ heads. head_at heads (class node.size)) was.index.heads_are ∙ head_of node lists was.index.lists_count)) linked_before
