@@ -53,3 +53,4 @@ mod LayoutRows
 mod HeapRows
 mod RunRows
 pub mod Inner
+pub mod Meaning

@@ -1,0 +1,4 @@
+-- What the content of a layout says of a node at a spot, and how edits of the layout edit the content.
+pub mod Places
+pub mod Replaced
+pub mod Beside

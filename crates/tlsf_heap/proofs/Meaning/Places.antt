@@ -1,0 +1,134 @@
+-- Each place is that of one node; a class's list by places, after a node entered or left it.
+use Rattle.std.proofs.Common.{◌≡◌, ℕ, ◌+◌, ◌<◌, ◌≤◌, Bool, true, false, not, ◌&&◌, eqb, List, [], ◌∷◌, ◌++◌, length, map, set, refl, sym, ap, ◌∙◌, subst, arith, count_by, inl, inr}
+use Rattle.std.proofs.lemmas.Bool.{cases_Bool, eq-eqb, eqb-true}
+use Rattle.std.proofs.lemmas.List.{map-set, get_or-map, map-append}
+use Rattle.tlsf_class.specs.Classes.{classes, class}
+use Rattle.tlsf_class.proofs.ClassLaws.{class-lt}
+use Rattle.tlsf_heap.specs.Content.{Block, Pool, blocks_of, is_at}
+use Rattle.tlsf_heap.specs.Lists.{list_of as places_of, without, link, unlink}
+use Rattle.tlsf_heap.specs.Good.{IsGood}
+use Rattle.tlsf_heap.specs.Inner.Nodes.{Node, Area, Layout, block_of, pool_of, content_by, nodes_of, has_slot, has_place, list_of, is_listed_in, without_slot, left, entered}
+use Rattle.tlsf_heap.specs.Inner.Spots.{Spot, filled}
+use Rattle.tlsf_heap.specs.Inner.Represents.{Agree}
+use Rattle.tlsf_heap.proofs.Blocks.{Ascends, Ascends-pools, NoneAt, NoneAt-below}
+use Rattle.tlsf_heap.proofs.Inner.Counts.{one_if, count-cons, count_either, count_and}
+use Rattle.tlsf_heap.proofs.Inner.Plugs.{around, count-filled}
+
+-- no two nodes begin at one place, or have one slot
+abbrev pub PlacesOnce : List Area → Type 0
+PlacesOnce areas = (place : ℕ) → count_by (has_place place) (nodes_of areas) ≤ 1
+
+abbrev pub SlotsOnce : List Area → Type 0
+SlotsOnce areas = (slot : ℕ) → count_by (has_slot slot) (nodes_of areas) ≤ 1
+
+pub blocks_of_areas : (areas : List Area) → blocks_of (map pool_of areas) ≡ map block_of (nodes_of areas)
+blocks_of_areas [] = refl
+blocks_of_areas (area ∷ areas) = ap (λ blocks. map block_of area.nodes ++ blocks) (blocks_of_areas areas) ∙ sym (map-append block_of area.nodes (nodes_of areas))
+
+count_none : (place : ℕ) (nodes : List Node) → NoneAt place (map block_of nodes) → count_by (has_place place) nodes ≡ 0
+count_none place [] none = refl
+count_none place (node ∷ nodes) none = omega (arith, count-cons (has_place place) node nodes, ap one_if none.0, count_none place nodes none.1)
+
+once_if_ascending : (from : ℕ) (nodes : List Node) → Ascends from (map block_of nodes) → (place : ℕ) → count_by (has_place place) nodes ≤ 1
+once_if_ascending from [] a place = omega arith
+once_if_ascending from (node ∷ nodes) a place = elim (cases_Bool (has_place place node)) [
+  | inl here ↦
+      let at : node.place ≡ place = eqb-true node.place place here in
+      omega (arith, count-cons (has_place place) node nodes, ap one_if here, count_none place nodes (NoneAt-below place (node.place + node.size) (map block_of nodes) (omega (arith, a.1, at)) a.2))
+  | inr elsewhere ↦ omega (arith, count-cons (has_place place) node nodes, ap one_if elsewhere, once_if_ascending (node.place + node.size) nodes a.2 place)
+]
+
+-- of a good content each place is that of one node
+pub places_once : (layout : Layout) → IsGood (content_by layout) → PlacesOnce layout.areas
+places_once layout good =
+    let P : List (Block ℕ) → Type 0 = λ blocks. Ascends 0 blocks in
+    once_if_ascending 0 (nodes_of layout.areas) (subst P (blocks_of_areas layout.areas) (Ascends-pools 0 (map pool_of layout.areas) good.pools_good))
+
+-- the node at a spot begins where none of the others does
+pub record Alone (spot : Spot) (node : Node) (nodes : List Node) : Type 0 where
+  pub outside : around (has_place node.place) spot ≡ 0
+  pub behind : count_by (has_place node.place) nodes ≡ 0
+
+pub alone : (spot : Spot) (node : Node) (nodes : List Node) → PlacesOnce (filled spot (node ∷ nodes)) → Alone spot node nodes
+alone spot node nodes once =
+    let all = once node.place in
+    let parts = count-filled (has_place node.place) spot (node ∷ nodes) in
+    let here = count-cons (has_place node.place) node nodes in
+    let own = ap one_if (eq-eqb node.place node.place refl) in
+    record { outside = omega (arith, all, parts, here, own); behind = omega (arith, all, parts, here, own) }
+
+-- whether the two tests differ
+differ : Bool → Bool → Bool
+differ true b = not b
+differ false b = b
+
+differ_most : (a b : Bool) → one_if (differ a b) ≤ one_if a + one_if b
+unfolding differ
+differ_most true true = omega arith
+differ_most true false = omega arith
+differ_most false b = omega arith
+
+-- the places of a list without a node's, where slots and places tell the same
+places-without : (slot place : ℕ) (nodes : List Node) → count_by (λ node. differ (has_slot slot node) (has_place place node)) nodes ≡ 0 → map (λ node. node.place) (without_slot slot nodes) ≡ without place (map (λ node. node.place) nodes)
+unfolding differ
+places-without slot place [] same = refl
+places-without slot place (node ∷ nodes) same =
+    let test : Node → Bool = λ other. differ (has_slot slot other) (has_place place other) in
+    let rest = places-without slot place nodes (omega (arith, same, count-cons test node nodes)) in
+    elim (cases_Bool (has_slot slot node)) [
+      | inl slot_here ↦ elim (cases_Bool (has_place place node)) [
+        | inl place_here ↦ rw (slot_here, place_here) rest
+        | inr place_apart ↦ absurd (let one : one_if (test node) ≡ 1 = rw (slot_here, place_apart) refl in omega (arith, same, count-cons test node nodes, one))
+      ]
+      | inr slot_apart ↦ elim (cases_Bool (has_place place node)) [
+        | inl place_here ↦ absurd (let one : one_if (test node) ≡ 1 = rw (slot_apart, place_here) refl in omega (arith, same, count-cons test node nodes, one))
+        | inr place_apart ↦ rw (slot_apart, place_apart) (ap (λ places. node.place ∷ places) rest)
+      ]
+    ]
+
+-- the lists by places
+abbrev pub by_places : List (List Node) → List (List ℕ)
+by_places lists = map (map (λ node. node.place)) lists
+
+module _ (node : Node) (lists : List (List Node)) (full : length lists ≡ classes) where
+  place_list : places_of (class node.size) (by_places lists) ≡ map (λ other. other.place) (list_of (class node.size) lists)
+  place_list = get_or-map (map (λ other. other.place)) lists (class node.size) [] [] (omega (arith, full, class-lt node.size))
+
+  pub places-entered : by_places (entered node lists) ≡ link node.place node.size (by_places lists)
+  unfolding entered
+  places-entered =
+      map-set (map (λ other. other.place)) lists (class node.size) (node ∷ list_of (class node.size) lists)
+      ∙ ap (λ places. set (by_places lists) (class node.size) (node.place ∷ places)) (sym place_list)
+
+  pub places-left : (spot : Spot) (at : Node) (nodes : List Node) → at.slot ≡ node.slot → at.place ≡ node.place → Agree (filled spot (at ∷ nodes)) lists → SlotsOnce (filled spot (at ∷ nodes)) → PlacesOnce (filled spot (at ∷ nodes))
+      → by_places (left node lists) ≡ unlink node.place node.size (by_places lists)
+  unfolding left differ
+  places-left spot at nodes same_slot same_place agree slots places =
+      let list : List Node = list_of (class node.size) lists in
+      let test : Node → Bool = λ other. differ (has_slot node.slot other) (has_place node.place other) in
+      let either : (nodes : List Node) → count_by test nodes ≤ count_by (has_slot node.slot) nodes + count_by (has_place node.place) nodes =
+      count_either test (has_slot node.slot) (has_place node.place) (λ other. differ_most (has_slot node.slot other) (has_place node.place other)) in
+      let here : one_if (test at) ≡ 0 = rw (eq-eqb at.slot node.slot same_slot, eq-eqb at.place node.place same_place) refl in
+      let same : count_by test list ≡ 0 =
+      omega (
+        arith,
+        agree (class node.size) test,
+        count_and (is_listed_in (class node.size)) test (nodes_of (filled spot (at ∷ nodes))),
+        count-filled test spot (at ∷ nodes),
+        count-cons test at nodes,
+        here,
+        slots node.slot,
+        count-filled (has_slot node.slot) spot (at ∷ nodes),
+        count-cons (has_slot node.slot) at nodes,
+        ap one_if (eq-eqb at.slot node.slot same_slot),
+        places node.place,
+        count-filled (has_place node.place) spot (at ∷ nodes),
+        count-cons (has_place node.place) at nodes,
+        ap one_if (eq-eqb at.place node.place same_place),
+        either (nodes_of spot.areas_before),
+        either spot.before,
+        either (nodes_of spot.areas_behind),
+        either nodes,
+      ) in
+      map-set (map (λ other. other.place)) lists (class node.size) (without_slot node.slot list)
+      ∙ ap (set (by_places lists) (class node.size)) (places-without node.slot node.place list same ∙ sym (ap (without node.place) place_list))
