@@ -2,3 +2,5 @@
 pub mod Places
 pub mod Replaced
 pub mod Beside
+pub mod Allocated
+pub mod Freed

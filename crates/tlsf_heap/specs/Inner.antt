@@ -2,4 +2,5 @@
 pub mod Nodes
 pub mod Spots
 pub mod Represents
+pub mod Joined
 pub mod CellEdits

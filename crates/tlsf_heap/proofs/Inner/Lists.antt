@@ -80,3 +80,11 @@ module _ (node : Node) (lists : List (List Node)) (full : length lists ≡ class
   pub count-left_other : (other : ℕ) (test : Node → Bool) → other ≢ class node.size → count_by test (list_of other (left node lists)) ≡ count_by test (list_of other lists)
   unfolding left
   count-left_other other test apart = ap (count_by test) (written_other (without_slot node.slot (list_of (class node.size) lists)) other apart)
+
+  pub length-left : length (left node lists) ≡ classes
+  unfolding left
+  length-left = length-set lists (class node.size) _ ∙ full
+
+  pub length-entered : length (entered node lists) ≡ classes
+  unfolding entered
+  length-entered = length-set lists (class node.size) _ ∙ full

@@ -1,6 +1,6 @@
 -- Each place is that of one node; a class's list by places, after a node entered or left it.
 use Rattle.std.proofs.Common.{◌≡◌, ℕ, ◌+◌, ◌<◌, ◌≤◌, Bool, true, false, not, ◌&&◌, eqb, List, [], ◌∷◌, ◌++◌, length, map, set, refl, sym, ap, ◌∙◌, subst, arith, count_by, inl, inr}
-use Rattle.std.proofs.lemmas.Bool.{cases_Bool, eq-eqb, eqb-true}
+use Rattle.std.proofs.lemmas.Bool.{cases_Bool, cases_eq, eq-eqb, eqb-true}
 use Rattle.std.proofs.lemmas.List.{map-set, get_or-map, map-append}
 use Rattle.tlsf_class.specs.Classes.{classes, class}
 use Rattle.tlsf_class.proofs.ClassLaws.{class-lt}
@@ -13,6 +13,7 @@ use Rattle.tlsf_heap.specs.Inner.Represents.{Agree}
 use Rattle.tlsf_heap.proofs.Blocks.{Ascends, Ascends-pools, NoneAt, NoneAt-below}
 use Rattle.tlsf_heap.proofs.Inner.Counts.{one_if, count-cons, count_either, count_and}
 use Rattle.tlsf_heap.proofs.Inner.Plugs.{around, count-filled}
+use Rattle.tlsf_heap.proofs.Inner.Lists.{count-left_same, count-left_other}
 
 -- no two nodes begin at one place, or have one slot
 abbrev pub PlacesOnce : List Area → Type 0
@@ -44,6 +45,13 @@ places_once layout good =
     let P : List (Block ℕ) → Type 0 = λ blocks. Ascends 0 blocks in
     once_if_ascending 0 (nodes_of layout.areas) (subst P (blocks_of_areas layout.areas) (Ascends-pools 0 (map pool_of layout.areas) good.pools_good))
 
+-- the lists agree with areas of which each place and each slot is that of one node
+pub record Told (areas : List Area) (lists : List (List Node)) : Type 0 where
+  pub full : length lists ≡ classes
+  pub agree : Agree areas lists
+  pub slots : SlotsOnce areas
+  pub places : PlacesOnce areas
+
 -- the node at a spot begins where none of the others does
 pub record Alone (spot : Spot) (node : Node) (nodes : List Node) : Type 0 where
   pub outside : around (has_place node.place) spot ≡ 0
@@ -58,19 +66,17 @@ alone spot node nodes once =
     record { outside = omega (arith, all, parts, here, own); behind = omega (arith, all, parts, here, own) }
 
 -- whether the two tests differ
-differ : Bool → Bool → Bool
+abbrev pub differ : Bool → Bool → Bool
 differ true b = not b
 differ false b = b
 
 differ_most : (a b : Bool) → one_if (differ a b) ≤ one_if a + one_if b
-unfolding differ
 differ_most true true = omega arith
 differ_most true false = omega arith
 differ_most false b = omega arith
 
 -- the places of a list without a node's, where slots and places tell the same
 places-without : (slot place : ℕ) (nodes : List Node) → count_by (λ node. differ (has_slot slot node) (has_place place node)) nodes ≡ 0 → map (λ node. node.place) (without_slot slot nodes) ≡ without place (map (λ node. node.place) nodes)
-unfolding differ
 places-without slot place [] same = refl
 places-without slot place (node ∷ nodes) same =
     let test : Node → Bool = λ other. differ (has_slot slot other) (has_place place other) in
@@ -90,6 +96,52 @@ places-without slot place (node ∷ nodes) same =
 abbrev pub by_places : List (List Node) → List (List ℕ)
 by_places lists = map (map (λ node. node.place)) lists
 
+-- in the list of the node's class, its slot and its place tell the same
+pub record Alike (node : Node) (lists : List (List Node)) : Type 0 where
+  pub none : count_by (λ other. differ (has_slot node.slot other) (has_place node.place other)) (list_of (class node.size) lists) ≡ 0
+
+pub alike : (node : Node) (lists : List (List Node)) (spot : Spot) (at : Node) (nodes : List Node) → at.slot ≡ node.slot → at.place ≡ node.place → Told (filled spot (at ∷ nodes)) lists → Alike node lists
+alike node lists spot at nodes same_slot same_place told =
+    let test : Node → Bool = λ other. differ (has_slot node.slot other) (has_place node.place other) in
+    let either : (others : List Node) → count_by test others ≤ count_by (has_slot node.slot) others + count_by (has_place node.place) others =
+    count_either test (has_slot node.slot) (has_place node.place) (λ other. differ_most (has_slot node.slot other) (has_place node.place other)) in
+    let here : one_if (test at) ≡ 0 = rw (eq-eqb at.slot node.slot same_slot, eq-eqb at.place node.place same_place) refl in
+    record {
+      none = omega (
+        arith,
+        told.agree (class node.size) test,
+        count_and (is_listed_in (class node.size)) test (nodes_of (filled spot (at ∷ nodes))),
+        count-filled test spot (at ∷ nodes),
+        count-cons test at nodes,
+        here,
+        told.slots node.slot,
+        count-filled (has_slot node.slot) spot (at ∷ nodes),
+        count-cons (has_slot node.slot) at nodes,
+        ap one_if (eq-eqb at.slot node.slot same_slot),
+        told.places node.place,
+        count-filled (has_place node.place) spot (at ∷ nodes),
+        count-cons (has_place node.place) at nodes,
+        ap one_if (eq-eqb at.place node.place same_place),
+        either (nodes_of spot.areas_before),
+        either spot.before,
+        either (nodes_of spot.areas_behind),
+        either nodes,
+      );
+    }
+
+-- the same where another node left
+pub alike-left : (node other : Node) (lists : List (List Node)) → length lists ≡ classes → Alike node lists → Alike node (left other lists)
+alike-left node other lists full same =
+    let test : Node → Bool = λ x. differ (has_slot node.slot x) (has_place node.place x) in
+    record {
+      none = elim (cases_eq (class node.size) (class other.size)) [
+        | inl together ↦
+            let P : ℕ → Type 0 = λ n. count_by test (list_of n lists) ≡ 0 → count_by test (list_of n (left other lists)) ≡ 0 in
+            subst P (sym together) (λ none. omega (arith, none, count-left_same other lists full test, count_and (λ x. not (has_slot other.slot x)) test (list_of (class other.size) lists))) same.none
+        | inr apart ↦ count-left_other other lists full (class node.size) test apart ∙ same.none
+      ];
+    }
+
 module _ (node : Node) (lists : List (List Node)) (full : length lists ≡ classes) where
   place_list : places_of (class node.size) (by_places lists) ≡ map (λ other. other.place) (list_of (class node.size) lists)
   place_list = get_or-map (map (λ other. other.place)) lists (class node.size) [] [] (omega (arith, full, class-lt node.size))
@@ -100,35 +152,8 @@ module _ (node : Node) (lists : List (List Node)) (full : length lists ≡ class
       map-set (map (λ other. other.place)) lists (class node.size) (node ∷ list_of (class node.size) lists)
       ∙ ap (λ places. set (by_places lists) (class node.size) (node.place ∷ places)) (sym place_list)
 
-  pub places-left : (spot : Spot) (at : Node) (nodes : List Node) → at.slot ≡ node.slot → at.place ≡ node.place → Agree (filled spot (at ∷ nodes)) lists → SlotsOnce (filled spot (at ∷ nodes)) → PlacesOnce (filled spot (at ∷ nodes))
-      → by_places (left node lists) ≡ unlink node.place node.size (by_places lists)
-  unfolding left differ
-  places-left spot at nodes same_slot same_place agree slots places =
-      let list : List Node = list_of (class node.size) lists in
-      let test : Node → Bool = λ other. differ (has_slot node.slot other) (has_place node.place other) in
-      let either : (nodes : List Node) → count_by test nodes ≤ count_by (has_slot node.slot) nodes + count_by (has_place node.place) nodes =
-      count_either test (has_slot node.slot) (has_place node.place) (λ other. differ_most (has_slot node.slot other) (has_place node.place other)) in
-      let here : one_if (test at) ≡ 0 = rw (eq-eqb at.slot node.slot same_slot, eq-eqb at.place node.place same_place) refl in
-      let same : count_by test list ≡ 0 =
-      omega (
-        arith,
-        agree (class node.size) test,
-        count_and (is_listed_in (class node.size)) test (nodes_of (filled spot (at ∷ nodes))),
-        count-filled test spot (at ∷ nodes),
-        count-cons test at nodes,
-        here,
-        slots node.slot,
-        count-filled (has_slot node.slot) spot (at ∷ nodes),
-        count-cons (has_slot node.slot) at nodes,
-        ap one_if (eq-eqb at.slot node.slot same_slot),
-        places node.place,
-        count-filled (has_place node.place) spot (at ∷ nodes),
-        count-cons (has_place node.place) at nodes,
-        ap one_if (eq-eqb at.place node.place same_place),
-        either (nodes_of spot.areas_before),
-        either spot.before,
-        either (nodes_of spot.areas_behind),
-        either nodes,
-      ) in
-      map-set (map (λ other. other.place)) lists (class node.size) (without_slot node.slot list)
-      ∙ ap (set (by_places lists) (class node.size)) (places-without node.slot node.place list same ∙ sym (ap (without node.place) place_list))
+  pub places-left : Alike node lists → by_places (left node lists) ≡ unlink node.place node.size (by_places lists)
+  unfolding left
+  places-left same =
+      map-set (map (λ other. other.place)) lists (class node.size) (without_slot node.slot (list_of (class node.size) lists))
+      ∙ ap (set (by_places lists) (class node.size)) (places-without node.slot node.place (list_of (class node.size) lists) same.none ∙ sym (ap (without node.place) place_list))

@@ -1,0 +1,48 @@
+-- A node and the free ones beside it in its pool, made one.
+use Rattle.std.specs.Prelude.{ℕ, ◌+◌, Bool, true, false, List, [], ◌∷◌, Option, Some, None, if◌then◌else◌}
+use Rattle.tlsf_heap.specs.Inner.Nodes.{Status, InUse, Listed, Loose, Node, Layout, turned, is_listed, left, entered}
+use Rattle.tlsf_heap.specs.Inner.Spots.{Spot, laid}
+
+abbrev pub is_loose : Status → Bool
+is_loose InUse = false
+is_loose Listed = false
+is_loose Loose = true
+
+-- the first of the nodes, where it is listed
+abbrev pub listed_first : List Node → Option Node
+listed_first [] = None
+listed_first (node ∷ nodes) = if is_listed node.status then Some node else None
+
+-- the nodes without it
+abbrev pub past : List Node → List Node
+past [] = []
+past (node ∷ nodes) = if is_listed node.status then nodes else node ∷ nodes
+
+-- a node, where there is one, leaves its list
+abbrev pub left_by : Option Node → List (List Node) → List (List Node)
+left_by None lists = lists
+left_by (Some node) lists = left node lists
+
+-- a node in front, where there is one, takes in the node
+abbrev pub grown_in_front : Option Node → Node → Node
+grown_in_front None node = node
+grown_in_front (Some front) node = record front { size = front.size + node.size; status = Loose }
+
+-- the node takes in a node behind, where there is one
+abbrev pub grown_behind : Option Node → Node → Node
+grown_behind None node = node
+grown_behind (Some behind) node = record node { size = node.size + behind.size }
+
+-- the spot without a listed node in front
+abbrev pub spot_past : Spot → Spot
+spot_past spot = record spot { before = past spot.before }
+
+-- the loose node that is left of a node and those beside it
+abbrev pub merged_node : Spot → Node → List Node → Node
+merged_node spot node nodes = grown_behind (listed_first nodes) (grown_in_front (listed_first spot.before) (turned Loose node))
+
+-- the layout after the node at the spot was freed: one listed node is left of it and those beside it
+abbrev pub freed : ℕ → Spot → Node → List Node → List (List Node) → List ℕ → Layout
+freed count spot node nodes lists taken =
+    let merged = turned Listed (merged_node spot node nodes) in
+    laid count (spot_past spot) (merged ∷ past nodes) (entered merged (left_by (listed_first nodes) (left_by (listed_first spot.before) lists))) taken
