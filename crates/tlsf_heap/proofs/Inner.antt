@@ -13,3 +13,4 @@ pub mod Linked
 pub mod Unlinked
 pub mod BoundMoved
 pub mod PoolMoves
+mod Rows

@@ -1,0 +1,83 @@
+-- Layouts of worked rows: what the cells say of their nodes, what they stand for, and what edits leave.
+use Rattle.std.proofs.Common.{◌≡◌, ℕ, List, [], ◌∷◌, map, replicate, Option, Some, None, refl}
+use Rattle.tlsf_class.specs.Classes.{classes, class, low}
+use Rattle.tlsf_store.specs.declared.records.State.TheVariants.{Live, Free}
+use Rattle.tlsf_store.specs.Cells.{Cells, empty_cells, with_taken}
+use Rattle.tlsf_heap.specs.declared.pool_entry.PoolEntry.{PoolEntry}
+use Rattle.tlsf_heap.specs.Content.{Block, Pool, Content}
+use Rattle.tlsf_heap.specs.Edits.{linked, unlinked}
+use Rattle.tlsf_heap.specs.Chains.{with_state, split, absorbed}
+use Rattle.tlsf_heap.specs.Entries.{pool_entered}
+use Rattle.tlsf_heap.specs.LocalFree.{after_free}
+use Rattle.tlsf_heap.specs.Malloc.{malloc}
+use Rattle.tlsf_heap.specs.Pools.{created, with_pool}
+use Rattle.std.specs.Prelude.{Result, Ok}
+use Rattle.tlsf_heap.specs.Inner.Nodes.{Node, Layout, InUse, Listed, Loose, turned, content_by, list_of, left, entered}
+use Rattle.tlsf_heap.specs.Inner.Spots.{plug, Spot, filled, laid}
+use Rattle.tlsf_heap.specs.Inner.Represents.{pool_views, list_views, in_pool, in_list, AreLinked, first_slot, uses_in}
+use Rattle.tlsf_heap.specs.Inner.Joined.{freed}
+
+-- a pool of 1024 bytes in a store of 4 records
+abbrev entry : PoolEntry
+entry = record { base = 0; bytes = 1024; first = 0 }
+
+abbrev spot : List Node → Spot
+spot before = record { areas_before = []; entry = entry; before = before; areas_behind = [] }
+
+-- its first 104 bytes are taken
+abbrev first_split : Cells
+first_split = with_state 0 Live (linked 89 1 (split 0 1 104 (unlinked 96 0 (with_taken (pool_entered entry (with_taken (empty_cells 4) (Some 0))) (Some 1)))))
+
+abbrev taken : Node
+taken = record { slot = 0; place = 0; size = 104; status = InUse }
+
+abbrev rest : Node
+rest = record { slot = 1; place = 104; size = 920; status = Listed }
+
+abbrev split_layout : Layout
+split_layout = laid 4 (spot []) (taken ∷ rest ∷ []) (entered rest (replicate classes [])) []
+
+in_the_pool : AreLinked in_pool (pool_views first_split.records) None (taken ∷ rest ∷ [])
+unfolding class low
+in_the_pool = (refl, (refl, tt))
+
+in_the_list : AreLinked in_list (list_views first_split.records) None (list_of 89 split_layout.lists)
+unfolding class low entered
+in_the_list = (refl, tt)
+
+the_heads : first_split.heads ≡ map first_slot split_layout.lists
+unfolding class low entered
+the_heads = refl
+
+-- a step to the neighbour is no step
+seen_from_the_rest : filled (spot (taken ∷ [])) (rest ∷ []) ≡ filled (spot []) (taken ∷ rest ∷ [])
+seen_from_the_rest = refl
+
+-- the row: malloc of 100 bytes
+the_row : malloc 0 100 (with_pool 0 1024 (created 4)) ≡ Ok (0, content_by split_layout)
+unfolding class low Rattle.tlsf_class.specs.Classes.need Rattle.tlsf_class.specs.Rounding.rounded entered
+the_row = refl
+
+-- eight bytes more are taken, and the first block is freed; then the one between two free ones is freed
+abbrev front : Node
+front = record { slot = 0; place = 0; size = 104; status = Listed }
+
+abbrev middle : Node
+middle = record { slot = 1; place = 104; size = 8; status = InUse }
+
+abbrev back : Node
+back = record { slot = 2; place = 112; size = 912; status = Listed }
+
+abbrev before_free : Layout
+before_free = laid 4 (spot (front ∷ [])) (middle ∷ back ∷ []) (entered front (entered back (replicate classes []))) []
+
+abbrev one_block : Content ℕ
+one_block = with_pool 0 1024 (created 4)
+
+both_sides : content_by (freed 4 (spot (front ∷ [])) middle (back ∷ []) before_free.lists []) ≡ one_block
+unfolding class low left entered
+both_sides = refl
+
+free_both_sides : after_free 104 (content_by before_free) ≡ one_block
+unfolding class low entered
+free_both_sides = refl
