@@ -13,4 +13,7 @@ pub mod Linked
 pub mod Unlinked
 pub mod BoundMoved
 pub mod PoolMoves
+pub mod Sums
+pub mod Followed
+pub mod Located
 mod Rows

@@ -4,3 +4,4 @@ pub mod Spots
 pub mod Represents
 pub mod Joined
 pub mod CellEdits
+pub mod Following
