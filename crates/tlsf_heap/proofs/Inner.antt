@@ -16,4 +16,5 @@ pub mod PoolMoves
 pub mod Sums
 pub mod Followed
 pub mod Located
+pub mod Used
 mod Rows

@@ -4,3 +4,4 @@ pub mod Replaced
 pub mod Beside
 pub mod Allocated
 pub mod Freed
+pub mod Covered

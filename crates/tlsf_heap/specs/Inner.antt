@@ -5,3 +5,4 @@ pub mod Represents
 pub mod Joined
 pub mod CellEdits
 pub mod Following
+pub mod At

@@ -9,7 +9,7 @@ use Rattle.tlsf_store.specs.Records.{record_at}
 use Rattle.tlsf_store.specs.Cells.{Cells, with_head, with_level_word, with_step_word, head_at}
 use Rattle.tlsf_heap.specs.Bitmaps.{AreMarked, head_bit}
 use Rattle.tlsf_heap.specs.Layout.{padded}
-use Rattle.tlsf_heap.specs.Edits.{edited_in, without_bit, with_prev_free, with_behind, with_level_cleared, unmarked, unlinked}
+use Rattle.tlsf_heap.specs.Edits.{edited_in, without_bit, IsUsed, with_prev_free, with_behind, with_level_cleared, unmarked, unlinked}
 use Rattle.tlsf_heap.specs.Inner.Nodes.{Node, Area, Listed, Loose, turned, nodes_of, has_slot, list_of, is_listed_in, without_slot, left}
 use Rattle.tlsf_heap.specs.Inner.Spots.{plug, Spot, laid, filled}
 use Rattle.tlsf_heap.specs.Inner.Represents.{InPool, InList, pool_view, list_view, pool_views, list_views, in_pool, in_list, first_slot, AreLinked, uses_in, AreChains, Agree, Represented, Represents}
@@ -21,6 +21,7 @@ use Rattle.tlsf_heap.proofs.Inner.Reads.{length-edited, edited_here, edited_apar
 use Rattle.tlsf_heap.proofs.Inner.Lists.{lists_apart, each_written, heads-written, head_of, count-left_same, count-left_other}
 use Rattle.tlsf_heap.proofs.Inner.Chains.{chains_refilled, linked_at, uses_most, used_below, listed_within, entries-filled, slots_most, AtNode, at_node}
 use Rattle.tlsf_heap.proofs.Inner.Linked.{chains_turned}
+use Rattle.tlsf_heap.proofs.Inner.Used.{listed_used}
 
 cleared_is : (level word : ℕ) (cells : Cells) → with_level_cleared level word cells ≡ record cells { level_word = cond (eqb word 0) (without_bit cells.level_word level) cells.level_word }
 cleared_is level word cells = elim (eqb word 0) as (λ b. cond b (with_level_word cells (without_bit cells.level_word level)) cells ≡ record cells { level_word = cond b (without_bit cells.level_word level) cells.level_word }) [
@@ -206,3 +207,20 @@ module _ (cells : Cells) (count : ℕ) (spot : Spot) (node : Node) (nodes : List
       let P : Option ℕ → Type 0 = λ prev. Represents (with_behind (class node.size) prev (record_at cells.records node.slot).next_free (with_prev_free (record_at cells.records node.slot).next_free prev cells)) (laid count spot (turned Loose node ∷ nodes) (left node lists) taken) in
       let Q : Option ℕ → Type 0 = λ next. Represents (with_behind (class node.size) (first_slot at.front) next (with_prev_free next (first_slot at.front) cells)) (laid count spot (turned Loose node ∷ nodes) (left node lists) taken) in
       subst P (sym (ap (λ (v : InList). v.prev) said)) (subst Q (sym (ap (λ (v : InList). v.next) said)) (unlinked_between at.front at.item at.behind at.whole own))
+
+  -- those beside it in its list are in use
+  pub prev_free_used : IsUsed cells.records (record_at cells.records node.slot).prev_free
+  prev_free_used =
+      let at : Split (has_slot node.slot) list = split_at (has_slot node.slot) list stands in
+      let own : at.item.slot ≡ node.slot = eqb-true at.item.slot node.slot at.passes in
+      let P : Option ℕ → Type 0 = λ o. IsUsed cells.records o in
+      subst P (sym (ap (λ (v : InList). v.prev) (says at.front at.item at.behind at.whole own)))
+      (listed_used cells (laid count spot (turned Listed node ∷ nodes) lists taken) (class node.size) (first_slot at.front) was (λ q e. omega (arith, first_stands at.front q e, counts at.front at.item at.behind at.whole own q)))
+
+  pub next_free_used : IsUsed cells.records (record_at cells.records node.slot).next_free
+  next_free_used =
+      let at : Split (has_slot node.slot) list = split_at (has_slot node.slot) list stands in
+      let own : at.item.slot ≡ node.slot = eqb-true at.item.slot node.slot at.passes in
+      let P : Option ℕ → Type 0 = λ o. IsUsed cells.records o in
+      subst P (sym (ap (λ (v : InList). v.next) (says at.front at.item at.behind at.whole own)))
+      (listed_used cells (laid count spot (turned Listed node ∷ nodes) lists taken) (class node.size) (first_slot at.behind) was (λ q e. omega (arith, first_stands at.behind q e, counts at.front at.item at.behind at.whole own q)))

@@ -1,0 +1,50 @@
+-- Pools that their blocks cover: the block of a node at a spot, and other nodes of the same bytes there.
+use Rattle.std.proofs.Common.{◌≡◌, ℕ, ◌+◌, ◌≤◌, List, [], ◌∷◌, map, refl, sym, ap, ◌∙◌, subst, arith}
+use Rattle.std.specs.List.{AllByRecursion}
+use Rattle.tlsf_heap.specs.Content.{Block, Pool}
+use Rattle.tlsf_heap.specs.Good.{Covers}
+use Rattle.tlsf_heap.specs.Release.{IsCovered, AreCovered}
+use Rattle.tlsf_heap.specs.Inner.Nodes.{Status, Node, Area, block_of, pool_of}
+use Rattle.tlsf_heap.specs.Inner.Spots.{plug, Spot, filled}
+use Rattle.tlsf_heap.proofs.GoodContent.{IsWhole, whole_in_pool}
+use Rattle.tlsf_heap.proofs.Inner.Plugs.{map-plug, all_parts}
+
+-- the pools behind others are covered, from some place on
+covered_behind : (from : ℕ) (front areas : List Area) → AreCovered from (map pool_of (plug front areas)) → (place : ℕ) × AreCovered place (map pool_of areas)
+covered_behind from [] areas c = (from, c)
+covered_behind from (area ∷ front) areas c = let rest = covered_behind from front (area ∷ areas) c in (area.entry.base + area.entry.bytes, rest.1.2)
+
+-- the block of a node is whole
+pub node_whole : (spot : Spot) (node : Node) (nodes : List Node) → AreCovered 0 (map pool_of (filled spot (node ∷ nodes))) → IsWhole (block_of node)
+node_whole spot node nodes c =
+    let pool : Pool ℕ = pool_of (record { entry = spot.entry; nodes = plug spot.before (node ∷ nodes) }) in
+    let covered : IsCovered pool = (covered_behind 0 spot.areas_before (record { entry = spot.entry; nodes = plug spot.before (node ∷ nodes) } ∷ spot.areas_behind) c).1.1 in
+    let P : List (Block ℕ) → Type 0 = λ blocks. AllByRecursion IsWhole blocks in
+    let all : AllByRecursion IsWhole (plug (map block_of spot.before) (block_of node ∷ map block_of nodes)) =
+    subst P (map-plug block_of spot.before (node ∷ nodes)) (whole_in_pool pool.base pool.bytes pool.base pool.blocks covered.most_bytes covered.ends (omega arith) covered.covered) in
+    (all_parts IsWhole (map block_of spot.before) (block_of node ∷ map block_of nodes) all).1.0
+
+covers_plug : (to : ℕ) (front olds news : List Node) → ((from : ℕ) → Covers from to (map block_of olds) → Covers from to (map block_of news)) → (from : ℕ) → Covers from to (map block_of (plug front olds)) → Covers from to (map block_of (plug front news))
+covers_plug to [] olds news covers = covers
+covers_plug to (node ∷ front) olds news covers = covers_plug to front (node ∷ olds) (node ∷ news) (λ from c. (c.0, c.1, c.2, covers (from + node.size) c.3))
+
+areas_plug : (front olds news : List Area) → ((from : ℕ) → AreCovered from (map pool_of olds) → AreCovered from (map pool_of news)) → (from : ℕ) → AreCovered from (map pool_of (plug front olds)) → AreCovered from (map pool_of (plug front news))
+areas_plug [] olds news covered = covered
+areas_plug (area ∷ front) olds news covered = areas_plug front (area ∷ olds) (area ∷ news) (λ from c. (c.0, c.1, covered (area.entry.base + area.entry.bytes) c.2))
+
+-- other nodes at the spot that cover the same
+pub covered_refilled : (spot : Spot) (olds news : List Node) → ((from to : ℕ) → Covers from to (map block_of olds) → Covers from to (map block_of news)) → AreCovered 0 (map pool_of (filled spot olds)) → AreCovered 0 (map pool_of (filled spot news))
+covered_refilled spot olds news covers c =
+    areas_plug spot.areas_before (record { entry = spot.entry; nodes = plug spot.before olds } ∷ spot.areas_behind) (record { entry = spot.entry; nodes = plug spot.before news } ∷ spot.areas_behind)
+    (λ from were. (
+      were.0,
+      record { most_bytes = were.1.most_bytes; ends = were.1.ends; covered = covers_plug (spot.entry.base + spot.entry.bytes) spot.before olds news (λ place. covers place (spot.entry.base + spot.entry.bytes)) spot.entry.base were.1.covered },
+      were.2,
+    )) 0 c
+
+-- two blocks side by side, and one of both their sizes
+pub covers_both : (status : Status) (front node : Node) (nodes : List Node) → (from to : ℕ) → Covers from to (map block_of (front ∷ node ∷ nodes)) → Covers from to (map block_of (record front { size = front.size + node.size; status = status } ∷ nodes))
+covers_both status front node nodes from to c =
+    let P : ℕ → Type 0 = λ n. Covers n to (map block_of nodes) in
+    let same : (from + front.size) + node.size ≡ from + (front.size + node.size) = omega arith in
+    (c.0, omega (arith, c.1), omega (arith, c.2, c.3.2), subst P same c.3.3)

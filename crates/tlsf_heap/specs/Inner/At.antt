@@ -1,0 +1,49 @@
+-- A node at a spot of a layout, and the steps of free there.
+use Rattle.std.specs.Prelude.{◌≡◌, ℕ, List, ◌∷◌, map, count_by}
+use Rattle.tlsf_store.specs.Cells.{Cells}
+use Rattle.tlsf_heap.specs.Release.{AreCovered}
+use Rattle.tlsf_heap.specs.Inner.Nodes.{Status, Listed, Loose, Node, Area, Layout, turned, pool_of, nodes_of, entered}
+use Rattle.tlsf_heap.specs.Inner.Spots.{Spot, filled, laid}
+use Rattle.tlsf_heap.specs.Inner.Joined.{is_loose, listed_first, past, left_by, grown_in_front, grown_behind, spot_past}
+use Rattle.tlsf_heap.specs.Inner.Represents.{Represents}
+
+pub record At : Type 0 where
+  pub count : ℕ
+  pub spot : Spot
+  pub node : Node
+  pub nodes : List Node
+  pub lists : List (List Node)
+  pub taken : List ℕ
+
+abbrev pub areas_at : At → List Area
+areas_at at = filled at.spot (at.node ∷ at.nodes)
+
+abbrev pub layout_at : At → Layout
+layout_at at = laid at.count at.spot (at.node ∷ at.nodes) at.lists at.taken
+
+-- the node has this slot and this status, no other is loose, and the blocks cover their pools
+pub record IsAt (slot : ℕ) (status : Status) (at : At) : Type 0 where
+  pub slot_is : at.node.slot ≡ slot
+  pub status_is : at.node.status ≡ status
+  pub others_settled : count_by (λ node. is_loose node.status) (nodes_of (filled at.spot at.nodes)) ≡ 0
+  pub covered : AreCovered 0 (map pool_of (areas_at at))
+
+-- the node in another status
+abbrev pub at_turned : Status → At → At
+at_turned status at = record at { node = turned status at.node }
+
+-- a free node in front, if there is one, left its list and took in the node
+abbrev pub front_joined : At → At
+front_joined at = record at { spot = spot_past at.spot; node = grown_in_front (listed_first at.spot.before) at.node; lists = left_by (listed_first at.spot.before) at.lists }
+
+-- a free node behind, if there is one, left its list, and the node took it in
+abbrev pub back_joined : At → At
+back_joined at = record at { node = grown_behind (listed_first at.nodes) at.node; nodes = past at.nodes; lists = left_by (listed_first at.nodes) at.lists }
+
+-- the node entered its list
+abbrev pub at_listed : At → At
+at_listed at = record at { node = turned Listed at.node; lists = entered (turned Listed at.node) at.lists }
+
+-- a node in use became free, one with the free ones beside it, and listed
+abbrev pub at_freed : At → At
+at_freed at = at_listed (back_joined (front_joined (at_turned Loose at)))
