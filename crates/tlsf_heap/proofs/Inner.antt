@@ -17,4 +17,5 @@ pub mod Sums
 pub mod Followed
 pub mod Located
 pub mod Used
+pub mod Joinable
 mod Rows

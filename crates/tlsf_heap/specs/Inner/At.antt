@@ -1,6 +1,10 @@
 -- A node at a spot of a layout, and the steps of free there.
-use Rattle.std.specs.Prelude.{◌≡◌, ℕ, List, ◌∷◌, map, count_by}
+use Rattle.std.specs.Prelude.{◌≡◌, ℕ, ◌+◌, ◌%◌, ◌^◌, ◌<◌, ◌≤◌, List, ◌∷◌, length, map, count_by, Some}
+use Rattle.tlsf_class.specs.Classes.{unit, greatest_size}
+use Rattle.tlsf_store.specs.declared.records.Record.{Record}
+use Rattle.tlsf_store.specs.Records.{record_at}
 use Rattle.tlsf_store.specs.Cells.{Cells}
+use Rattle.tlsf_heap.specs.Edits.{IsUsed}
 use Rattle.tlsf_heap.specs.Release.{AreCovered}
 use Rattle.tlsf_heap.specs.Inner.Nodes.{Status, Listed, Loose, Node, Area, Layout, turned, pool_of, nodes_of, entered}
 use Rattle.tlsf_heap.specs.Inner.Spots.{Spot, filled, laid}
@@ -47,3 +51,21 @@ at_listed at = record at { node = turned Listed at.node; lists = entered (turned
 -- a node in use became free, one with the free ones beside it, and listed
 abbrev pub at_freed : At → At
 at_freed at = at_listed (back_joined (front_joined (at_turned Loose at)))
+
+-- the cells represent the layout, and the node has this slot and this status
+abbrev pub StandsAt : ℕ → Status → Cells → At → Type 0
+StandsAt slot status cells at = Represents cells (layout_at at) × IsAt slot status at
+
+-- one of two neighbours, which has this size, can leave its list, and the front one can then take in the other;
+-- out: the records once it left
+pub record IsJoinable (front behind listed size : ℕ) (records out : List Record) : Type 0 where
+  pub some : 0 < size
+  pub whole : size % unit ≡ 0
+  pub most : size ≤ greatest_size
+  pub within : listed < length records
+  pub prev_used : IsUsed records (record_at records listed).prev_free
+  pub next_used : IsUsed records (record_at records listed).next_free
+  pub front_used : IsUsed out (Some front)
+  pub behind_used : IsUsed out (Some behind)
+  pub last_used : IsUsed out (record_at out behind).next
+  pub fits : (record_at out front).size + (record_at out behind).size < 2 ^ 32

@@ -1,0 +1,276 @@
+-- A node takes in the free one behind it, or is taken in by the free one in front: what the steps need and leave.
+use Rattle.std.proofs.Common.{◌≡◌, ℕ, ◌+◌, ◌%◌, ◌^◌, ◌<◌, ◌≤◌, Bool, true, false, cond, List, [], ◌∷◌, length, map, refl, sym, ap, ◌∙◌, subst, arith, count_by, Option, Some, None, inl, inr}
+use Rattle.std.proofs.lemmas.Bool.{cases_Bool, false≢true}
+use Rattle.tlsf_class.specs.Classes.{unit, greatest_size, class}
+use Rattle.tlsf_store.specs.declared.records.Record.{Record}
+use Rattle.tlsf_store.specs.declared.records.State.{State}
+use Rattle.tlsf_store.specs.declared.records.State.TheVariants.{Vacant, Free, Live}
+use Rattle.tlsf_store.specs.Records.{record_at}
+use Rattle.tlsf_store.specs.Cells.{Cells}
+use Rattle.tlsf_heap.specs.Edits.{unlinked}
+use Rattle.tlsf_heap.specs.Chains.{absorbed}
+use Rattle.tlsf_heap.specs.Release.{AreCovered, is_state_free, joined}
+use Rattle.tlsf_heap.specs.Inner.Nodes.{Status, InUse, Listed, Loose, Node, Area, turned, block_of, pool_of, nodes_of, is_listed, left}
+use Rattle.tlsf_heap.specs.Inner.Spots.{Spot, laid, filled}
+use Rattle.tlsf_heap.specs.Inner.Joined.{is_loose, past, listed_first, left_by, grown_in_front, grown_behind}
+use Rattle.tlsf_heap.specs.Inner.Represents.{InPool, in_pool, pool_views, state_of, first_slot, AreChains, Represents}
+use Rattle.tlsf_heap.specs.Inner.At.{At, areas_at, layout_at, IsAt, StandsAt, front_joined, back_joined, IsJoinable}
+use Rattle.tlsf_heap.proofs.GoodContent.{IsWhole}
+use Rattle.tlsf_heap.proofs.Inner.Counts.{one_if, count-cons}
+use Rattle.tlsf_heap.proofs.Inner.Plugs.{count-filled}
+use Rattle.tlsf_heap.proofs.Inner.Links.{Some≢None, Some-same}
+use Rattle.tlsf_heap.proofs.Inner.Chains.{AtNode, at_node}
+use Rattle.tlsf_heap.proofs.Inner.Used.{node_is_used, next_used}
+use Rattle.tlsf_heap.proofs.Inner.Unlinked.{unlinked_laid, prev_free_used, next_free_used}
+use Rattle.tlsf_heap.proofs.Inner.Join.{join_laid}
+use Rattle.tlsf_heap.proofs.Meaning.Covered.{node_whole, covered_refilled, covers_both}
+
+loose_unlisted : (status : Status) → status ≡ Loose → is_listed status ≡ false
+loose_unlisted status is = ap is_listed is
+
+-- two nodes side by side, of which one is listed
+module _ (cells : Cells) (count : ℕ) (spot : Spot) (front node : Node) (nodes : List Node) (lists : List (List Node)) (taken : List ℕ) (node_loose : node.status ≡ Loose) where
+  abbrev beyond : Spot
+  beyond = record spot { before = turned Listed front ∷ spot.before }
+
+  abbrev out : Cells
+  out = unlinked (class front.size) front.slot cells
+
+  module _ (was : Represents cells (laid count spot (turned Listed front ∷ node ∷ nodes) lists taken)) (covered : AreCovered 0 (map pool_of (filled spot (turned Listed front ∷ node ∷ nodes)))) where
+    unlinked_was : Represents (unlinked (class front.size) front.slot cells) (laid count spot (turned Loose front ∷ node ∷ nodes) (left (turned Listed front) lists) taken)
+    unlinked_was = unlinked_laid cells count spot (turned Listed front) (node ∷ nodes) lists taken was
+
+    covered_after : AreCovered 0 (map pool_of (filled spot (record front { size = front.size + node.size; status = Loose } ∷ nodes)))
+    covered_after = covered_refilled spot (turned Listed front ∷ node ∷ nodes) (record front { size = front.size + node.size; status = Loose } ∷ nodes) (λ from to c. covers_both Loose (turned Listed front) node nodes from to c) covered
+
+    pub front_laid : Represents (joined front.slot node.slot front.slot front.size cells) (laid count spot (record front { size = front.size + node.size; status = Loose } ∷ nodes) (left (turned Listed front) lists) taken)
+    front_laid = join_laid (unlinked (class front.size) front.slot cells) count spot (turned Loose front) node nodes (left (turned Listed front) lists) taken unlinked_was refl (loose_unlisted node.status node_loose)
+
+    pub front_joinable : IsJoinable front.slot node.slot front.slot front.size cells.records (unlinked (class front.size) front.slot cells).records
+    front_joinable =
+        let whole : IsWhole (block_of (turned Listed front)) = node_whole spot (turned Listed front) (node ∷ nodes) covered in
+        let both : IsWhole (block_of (record front { size = front.size + node.size; status = Loose })) = node_whole spot (record front { size = front.size + node.size; status = Loose }) nodes covered_after in
+        let records : List Record = (unlinked (class front.size) front.slot cells).records in
+        let here : AtNode records spot (turned Loose front) (node ∷ nodes) taken = at_node records spot (turned Loose front) (node ∷ nodes) taken unlinked_was.chains in
+        let there : AtNode records (record spot { before = turned Loose front ∷ spot.before }) node nodes taken = at_node records (record spot { before = turned Loose front ∷ spot.before }) node nodes taken unlinked_was.chains in
+        record {
+          some = whole.positive;
+          whole = whole.in_units;
+          most = whole.at_most;
+          within = (at_node cells.records spot (turned Listed front) (node ∷ nodes) taken was.chains).below;
+          prev_used = prev_free_used cells count spot (turned Listed front) (node ∷ nodes) lists taken was;
+          next_used = next_free_used cells count spot (turned Listed front) (node ∷ nodes) lists taken was;
+          front_used = node_is_used records spot (turned Loose front) (node ∷ nodes) taken here;
+          behind_used = node_is_used records (record spot { before = turned Loose front ∷ spot.before }) node nodes taken there;
+          last_used = next_used records (record spot { before = turned Loose front ∷ spot.before }) node nodes taken there;
+          fits = omega (arith, both.at_most, ap (λ (v : InPool). v.size) here.says, ap (λ (v : InPool). v.size) there.says);
+        }
+
+-- the same where the node in front is loose and the one behind is listed
+module _ (cells : Cells) (count : ℕ) (spot : Spot) (node behind : Node) (nodes : List Node) (lists : List (List Node)) (taken : List ℕ) (node_loose : node.status ≡ Loose)
+    (was : Represents cells (laid count spot (node ∷ turned Listed behind ∷ nodes) lists taken)) (covered : AreCovered 0 (map pool_of (filled spot (node ∷ turned Listed behind ∷ nodes)))) where
+  abbrev next_spot : Spot
+  next_spot = record spot { before = node ∷ spot.before }
+
+  back_unlinked : Represents (unlinked (class behind.size) behind.slot cells) (laid count spot (node ∷ turned Loose behind ∷ nodes) (left (turned Listed behind) lists) taken)
+  back_unlinked = unlinked_laid cells count next_spot (turned Listed behind) nodes lists taken was
+
+  back_covered : AreCovered 0 (map pool_of (filled spot (record node { size = node.size + behind.size } ∷ nodes)))
+  back_covered = covered_refilled spot (node ∷ turned Listed behind ∷ nodes) (record node { size = node.size + behind.size } ∷ nodes) (λ from to c. covers_both node.status node (turned Listed behind) nodes from to c) covered
+
+  pub back_laid : Represents (joined node.slot behind.slot behind.slot behind.size cells) (laid count spot (record node { size = node.size + behind.size } ∷ nodes) (left (turned Listed behind) lists) taken)
+  back_laid = join_laid (unlinked (class behind.size) behind.slot cells) count spot node (turned Loose behind) nodes (left (turned Listed behind) lists) taken back_unlinked (loose_unlisted node.status node_loose) refl
+
+  pub back_joinable : IsJoinable node.slot behind.slot behind.slot behind.size cells.records (unlinked (class behind.size) behind.slot cells).records
+  back_joinable =
+      let whole : IsWhole (block_of (turned Listed behind)) = node_whole next_spot (turned Listed behind) nodes covered in
+      let both : IsWhole (block_of (record node { size = node.size + behind.size })) = node_whole spot (record node { size = node.size + behind.size }) nodes back_covered in
+      let records : List Record = (unlinked (class behind.size) behind.slot cells).records in
+      let here : AtNode records spot node (turned Loose behind ∷ nodes) taken = at_node records spot node (turned Loose behind ∷ nodes) taken back_unlinked.chains in
+      let there : AtNode records next_spot (turned Loose behind) nodes taken = at_node records next_spot (turned Loose behind) nodes taken back_unlinked.chains in
+      record {
+        some = whole.positive;
+        whole = whole.in_units;
+        most = whole.at_most;
+        within = (at_node cells.records next_spot (turned Listed behind) nodes taken was.chains).below;
+        prev_used = prev_free_used cells count next_spot (turned Listed behind) nodes lists taken was;
+        next_used = next_free_used cells count next_spot (turned Listed behind) nodes lists taken was;
+        front_used = node_is_used records spot node (turned Loose behind ∷ nodes) taken here;
+        behind_used = node_is_used records next_spot (turned Loose behind) nodes taken there;
+        last_used = next_used records next_spot (turned Loose behind) nodes taken there;
+        fits = omega (arith, both.at_most, ap (λ (v : InPool). v.size) here.says, ap (λ (v : InPool). v.size) there.says);
+      }
+
+-- what a step leads to
+pub record Joins (slot behind listed size result : ℕ) (cells : Cells) (after : At) : Type 0 where
+  pub ready : IsJoinable slot behind listed size cells.records (unlinked (class size) listed cells).records
+  pub leads : StandsAt result Loose (joined slot behind listed size cells) after
+
+-- the node in front is free
+module _ (cells : Cells) (at : At) (front : Node) (before : List Node) where
+  abbrev seen : List Node → At
+  seen nodes = record at { spot = record at.spot { before = nodes } }
+
+  joins_seen : (slot : ℕ) → StandsAt slot Loose cells (seen (turned Listed front ∷ before)) → Joins front.slot at.node.slot front.slot front.size front.slot cells (front_joined (seen (turned Listed front ∷ before)))
+  joins_seen slot stands =
+      let spot : Spot = record at.spot { before = before } in
+      let loose : Node → Bool = λ node. is_loose node.status in
+      record {
+        ready = front_joinable cells at.count spot front at.node at.nodes at.lists at.taken stands.1.status_is stands.0 stands.1.covered;
+        leads = (
+          front_laid cells at.count spot front at.node at.nodes at.lists at.taken stands.1.status_is stands.0 stands.1.covered,
+          record {
+            slot_is = refl;
+            status_is = refl;
+            others_settled = omega (
+              arith,
+              stands.1.others_settled,
+              count-filled loose (record spot { before = turned Listed front ∷ before }) at.nodes,
+              count-filled loose spot at.nodes,
+              count-cons loose (turned Listed front) before,
+            );
+            covered = covered_after cells at.count spot front at.node at.nodes at.lists at.taken stands.1.status_is stands.0 stands.1.covered;
+          },
+        );
+      }
+
+-- the node behind is free
+module _ (cells : Cells) (at : At) (behind : Node) (nodes : List Node) where
+  joins_behind : (slot : ℕ) → StandsAt slot Loose cells (record at { nodes = turned Listed behind ∷ nodes }) → Joins at.node.slot behind.slot behind.slot behind.size at.node.slot cells (back_joined (record at { nodes = turned Listed behind ∷ nodes }))
+  joins_behind slot stands =
+      let loose : Node → Bool = λ node. is_loose node.status in
+      record {
+        ready = back_joinable cells at.count at.spot at.node behind nodes at.lists at.taken stands.1.status_is stands.0 stands.1.covered;
+        leads = (
+          back_laid cells at.count at.spot at.node behind nodes at.lists at.taken stands.1.status_is stands.0 stands.1.covered,
+          record {
+            slot_is = refl;
+            status_is = stands.1.status_is;
+            others_settled = omega (arith, stands.1.others_settled, count-filled loose at.spot (turned Listed behind ∷ nodes), count-filled loose at.spot nodes, count-cons loose (turned Listed behind) nodes);
+            covered = back_covered cells at.count at.spot at.node behind nodes at.lists at.taken stands.1.status_is stands.0 stands.1.covered;
+          },
+        );
+      }
+
+-- the first of some nodes, which has this slot, and what its record says
+pub record Neighbour (records : List Record) (slot : ℕ) (nodes : List Node) : Type 0 where
+  pub node : Node
+  pub others : List Node
+  pub is : nodes ≡ node ∷ others
+  pub slot_is : node.slot ≡ slot
+  pub size_is : (record_at records slot).size ≡ node.size
+  pub state_is : (record_at records slot).state ≡ state_of node.status
+  pub settled : is_loose node.status ≡ false
+
+settled_first : (node : Node) (nodes : List Node) → count_by (λ n. is_loose n.status) (node ∷ nodes) ≡ 0 → is_loose node.status ≡ false
+settled_first node nodes none = elim (cases_Bool (is_loose node.status)) [
+  | inl loose ↦ absurd (omega (arith, none, count-cons (λ n. is_loose n.status) node nodes, ap one_if loose))
+  | inr settled ↦ settled
+]
+
+said : (records : List Record) (slot : ℕ) (node : Node) (others : List Node) (prev next : Option ℕ) → pool_views records node.slot ≡ in_pool prev node next → node.slot ≡ slot → is_loose node.status ≡ false → Neighbour records slot (node ∷ others)
+said records slot node others prev next says own settled = record {
+  node = node;
+  others = others;
+  is = refl;
+  slot_is = own;
+  size_is = ap (λ q. (record_at records q).size) (sym own) ∙ ap (λ (v : InPool). v.size) says;
+  state_is = ap (λ q. (record_at records q).state) (sym own) ∙ ap (λ (v : InPool). v.state) says;
+  settled = settled;
+}
+
+status_free : (s : Status) → is_loose s ≡ false → is_state_free (state_of s) ≡ true → s ≡ Listed
+status_free InUse settled free = absurd (false≢true free)
+status_free Listed settled free = refl
+status_free Loose settled free = absurd (false≢true (sym settled))
+
+status_live : (s : Status) → is_state_free (state_of s) ≡ false → is_listed s ≡ false
+status_live InUse live = refl
+status_live Listed live = absurd (false≢true (sym live))
+status_live Loose live = refl
+
+module _ (cells : Cells) (at : At) (slot : ℕ) (status : Status) (stands : StandsAt slot status cells at) where
+  abbrev loose : Node → Bool
+  loose node = is_loose node.status
+
+  here : AtNode cells.records at.spot at.node at.nodes at.taken
+  here = at_node cells.records at.spot at.node at.nodes at.taken stands.0.chains
+
+  pub prev_is : (record_at cells.records slot).prev ≡ first_slot at.spot.before
+  prev_is = ap (λ q. (record_at cells.records q).prev) (sym stands.1.slot_is) ∙ ap (λ (v : InPool). v.prev) here.says
+
+  pub next_is : (record_at cells.records slot).next ≡ first_slot at.nodes
+  next_is = ap (λ q. (record_at cells.records q).next) (sym stands.1.slot_is) ∙ ap (λ (v : InPool). v.next) here.says
+
+  pub in_front : (p : ℕ) → (record_at cells.records slot).prev ≡ Some p → Neighbour cells.records p at.spot.before
+  in_front p is = go at.spot.before (sym prev_is ∙ is) stands.0.chains (omega (arith, stands.1.others_settled, count-filled loose at.spot at.nodes))
+    where
+      go : (before : List Node) → first_slot before ≡ Some p → AreChains (pool_views cells.records) (filled (record at.spot { before = before }) (at.node ∷ at.nodes)) at.taken → count_by loose before ≡ 0 → Neighbour cells.records p before
+      go [] first chains none = absurd (Some≢None p (sym first))
+      go (f ∷ before) first chains none =
+          said cells.records p f before (first_slot before) (Some at.node.slot) (at_node cells.records (record at.spot { before = before }) f (at.node ∷ at.nodes) at.taken chains).says (Some-same f.slot p first) (settled_first f before none)
+
+  pub in_back : (n : ℕ) → (record_at cells.records slot).next ≡ Some n → Neighbour cells.records n at.nodes
+  in_back n is = go at.nodes (sym next_is ∙ is) stands.0.chains (omega (arith, stands.1.others_settled, count-filled loose at.spot at.nodes))
+    where
+      go : (nodes : List Node) → first_slot nodes ≡ Some n → AreChains (pool_views cells.records) (filled at.spot (at.node ∷ nodes)) at.taken → count_by loose nodes ≡ 0 → Neighbour cells.records n nodes
+      go [] first chains none = absurd (Some≢None n (sym first))
+      go (b ∷ nodes) first chains none =
+          said cells.records n b nodes (Some at.node.slot) (first_slot nodes) (at_node cells.records (record at.spot { before = at.node ∷ at.spot.before }) b nodes at.taken chains).says (Some-same b.slot n first) (settled_first b nodes none)
+
+-- a listed neighbour, as a node turned so
+turned_listed : (records : List Record) (slot : ℕ) (nodes : List Node) (by : Neighbour records slot nodes) → is_state_free (record_at records slot).state ≡ true → nodes ≡ turned Listed by.node ∷ by.others
+turned_listed records slot nodes by free =
+    by.is ∙ ap (λ s. turned s by.node ∷ by.others) (status_free by.node.status by.settled (ap is_state_free (sym by.state_is) ∙ free))
+
+-- what stays where the neighbour isn't free
+past_live : (records : List Record) (slot : ℕ) (nodes : List Node) (by : Neighbour records slot nodes) → is_state_free (record_at records slot).state ≡ false → (past nodes ≡ nodes) × (listed_first nodes ≡ None)
+past_live records slot nodes by live =
+    let P : List Node → Type 0 = λ ns. (past ns ≡ ns) × (listed_first ns ≡ None) in
+    let is_not : is_listed by.node.status ≡ false = status_live by.node.status (ap is_state_free (sym by.state_is) ∙ live) in
+    subst P (sym by.is) (ap (λ b. cond b by.others (by.node ∷ by.others)) is_not, ap (λ b. cond b (Some by.node) None) is_not)
+
+past_none : (nodes : List Node) → first_slot nodes ≡ None → (past nodes ≡ nodes) × (listed_first nodes ≡ None)
+past_none [] none = (refl, refl)
+past_none (node ∷ nodes) none = absurd (Some≢None node.slot none)
+
+unjoined_front : (at : At) → (past at.spot.before ≡ at.spot.before) × (listed_first at.spot.before ≡ None) → front_joined at ≡ at
+unjoined_front at same = λ i. record at { spot = record at.spot { before = same.0 i }; node = grown_in_front (same.1 i) at.node; lists = left_by (same.1 i) at.lists }
+
+unjoined_back : (at : At) → (past at.nodes ≡ at.nodes) × (listed_first at.nodes ≡ None) → back_joined at ≡ at
+unjoined_back at same = λ i. record at { nodes = same.0 i; node = grown_behind (same.1 i) at.node; lists = left_by (same.1 i) at.lists }
+
+module _ (cells : Cells) (at : At) (slot : ℕ) (stands : StandsAt slot Loose cells at) where
+  -- the free block in front takes it in
+  pub front_joins : (p size : ℕ) → (record_at cells.records slot).prev ≡ Some p → is_state_free (record_at cells.records p).state ≡ true → size ≡ (record_at cells.records p).size → Joins p slot p size p cells (front_joined at)
+  front_joins p size link free size_is =
+      let by : Neighbour cells.records p at.spot.before = in_front cells at slot Loose stands p link in
+      let P : List Node → Type 0 = λ ns. StandsAt slot Loose cells (seen cells at by.node by.others ns) → Joins by.node.slot at.node.slot by.node.slot by.node.size by.node.slot cells (front_joined (seen cells at by.node by.others ns)) in
+      let base : Joins by.node.slot at.node.slot by.node.slot by.node.size by.node.slot cells (front_joined at) = subst P (sym (turned_listed cells.records p at.spot.before by free)) (joins_seen cells at by.node by.others slot) stands in
+      let Q : ℕ → Type 0 = λ n. Joins n slot n size n cells (front_joined at) in
+      let R : ℕ → Type 0 = λ n. Joins by.node.slot n by.node.slot size by.node.slot cells (front_joined at) in
+      let S : ℕ → Type 0 = λ n. Joins by.node.slot at.node.slot by.node.slot n by.node.slot cells (front_joined at) in
+      subst Q by.slot_is (subst R stands.1.slot_is (subst S (sym (size_is ∙ by.size_is)) base))
+
+  pub front_stays : (record_at cells.records slot).prev ≡ None → front_joined at ≡ at
+  front_stays none = unjoined_front at (past_none at.spot.before (sym (prev_is cells at slot Loose stands) ∙ none))
+
+  pub front_is_live : (p : ℕ) → (record_at cells.records slot).prev ≡ Some p → is_state_free (record_at cells.records p).state ≡ false → front_joined at ≡ at
+  front_is_live p link live = unjoined_front at (past_live cells.records p at.spot.before (in_front cells at slot Loose stands p link) live)
+
+  -- it takes in the free block behind
+  pub back_joins : (n size : ℕ) → (record_at cells.records slot).next ≡ Some n → is_state_free (record_at cells.records n).state ≡ true → size ≡ (record_at cells.records n).size → Joins slot n n size slot cells (back_joined at)
+  back_joins n size link free size_is =
+      let by : Neighbour cells.records n at.nodes = in_back cells at slot Loose stands n link in
+      let P : List Node → Type 0 = λ ns. StandsAt slot Loose cells (record at { nodes = ns }) → Joins at.node.slot by.node.slot by.node.slot by.node.size at.node.slot cells (back_joined (record at { nodes = ns })) in
+      let base : Joins at.node.slot by.node.slot by.node.slot by.node.size at.node.slot cells (back_joined at) = subst P (sym (turned_listed cells.records n at.nodes by free)) (joins_behind cells at by.node by.others slot) stands in
+      let Q : ℕ → Type 0 = λ m. Joins slot m m size slot cells (back_joined at) in
+      let R : ℕ → Type 0 = λ m. Joins m by.node.slot by.node.slot size m cells (back_joined at) in
+      let S : ℕ → Type 0 = λ m. Joins at.node.slot by.node.slot by.node.slot m at.node.slot cells (back_joined at) in
+      subst Q by.slot_is (subst R stands.1.slot_is (subst S (sym (size_is ∙ by.size_is)) base))
+
+  pub back_stays : (record_at cells.records slot).next ≡ None → back_joined at ≡ at
+  back_stays none = unjoined_back at (past_none at.nodes (sym (next_is cells at slot Loose stands) ∙ none))
+
+  pub back_is_live : (n : ℕ) → (record_at cells.records slot).next ≡ Some n → is_state_free (record_at cells.records n).state ≡ false → back_joined at ≡ at
+  back_is_live n link live = unjoined_back at (past_live cells.records n at.nodes (in_back cells at slot Loose stands n link) live)
