@@ -18,4 +18,5 @@ pub mod Followed
 pub mod Located
 pub mod Used
 pub mod Joinable
+pub mod Steps
 mod Rows

@@ -8,6 +8,7 @@ mod calls;
 mod chains;
 mod cursor;
 mod entries;
+mod free;
 mod free_lists;
 mod heap;
 mod heaped;

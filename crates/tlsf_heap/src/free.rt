@@ -1,0 +1,97 @@
+//! free: the block becomes free, takes in its free neighbours, and enters its class's list.
+
+ghost use Rattle.std.specs.Prelude.{◌≡◌, ◌+◌, ◌≤◌};
+ghost use Rattle.tlsf_class.specs.Classes.{class};
+ghost use Rattle.tlsf_heap.specs.Edits.{linked, unlinked};
+ghost use Rattle.tlsf_heap.specs.Release.{is_state_free, joined};
+ghost use Rattle.tlsf_heap.specs.Inner.Nodes.{InUse, Listed, Loose};
+ghost use Rattle.tlsf_heap.specs.Inner.At.{At, StandsAt, IsJoinable, front_joined, back_joined, at_listed, at_freed};
+
+use crate::chains::{absorb, set_state};
+use crate::free_lists::{link, unlink};
+use tlsf_class::class_of;
+use tlsf_store::{Slot, State, Store};
+
+/// The block becomes free, and one free block with its free neighbours in the pool. At most 45 touches.
+pub(crate) fn release(store: &mut Store, slot: Slot)
+    requires { (at : At) × StandsAt slot InUse store.old at }
+    ensures leads { (at : At) → StandsAt slot InUse store.old at → StandsAt (at_freed at).node.slot Listed store.new (at_freed at) }
+    ensures floor { store.old.touches ≤ store.new.touches }
+    ensures bound { store.new.touches ≤ store.old.touches + 74 }
+{
+    set_state(store, slot, State::Free);
+    let start = join_front(store, slot);
+    join_back(store, start);
+    enter(store, start);
+}
+
+/// Whether a record in this state is of a free block.
+fn is_free(state: State) -> bool
+    ensures { result ≡ is_state_free state }
+{
+    match state {
+        State::Free => true,
+        State::Vacant | State::Live => false,
+    }
+}
+
+/// A free block in front takes in the block, which is free and in no list. The answer is where the block
+/// that is left begins. At most 16 touches.
+fn join_front(store: &mut Store, slot: Slot) -> Slot
+    requires { (at : At) × StandsAt slot Loose store.old at }
+    ensures leads { (at : At) → StandsAt slot Loose store.old at → StandsAt result Loose store.new (front_joined at) }
+    ensures floor { store.old.touches ≤ store.new.touches }
+    ensures bound { store.new.touches ≤ store.old.touches + 26 }
+{
+    let block = store.read(slot);
+    let Some(prev) = block.prev else {
+        return slot;
+    };
+    let front = store.read(prev);
+    if !is_free(front.state) {
+        return slot;
+    }
+    join(store, prev, slot, prev, front.size);
+    prev
+}
+
+/// The block, which is free and in no list, takes in a free one behind it. At most 16 touches.
+fn join_back(store: &mut Store, slot: Slot)
+    requires { (at : At) × StandsAt slot Loose store.old at }
+    ensures leads { (at : At) → StandsAt slot Loose store.old at → StandsAt slot Loose store.new (back_joined at) }
+    ensures floor { store.old.touches ≤ store.new.touches }
+    ensures bound { store.new.touches ≤ store.old.touches + 26 }
+{
+    let block = store.read(slot);
+    let Some(next) = block.next else {
+        return;
+    };
+    let back = store.read(next);
+    if !is_free(back.state) {
+        return;
+    }
+    join(store, slot, next, next, back.size);
+}
+
+/// One of two neighbours, `listed`, leaves its class's list, and the first takes in the other. At most 14
+/// touches.
+fn join(store: &mut Store, front: Slot, behind: Slot, listed: Slot, size: u32)
+    requires { IsJoinable front behind listed size store.old.records (unlinked (class size) listed store.old).records }
+    ensures cells { store.new ≡ record (joined front behind listed size store.old) { touches = store.new.touches } }
+    ensures floor { store.old.touches ≤ store.new.touches }
+    ensures bound { store.new.touches ≤ store.old.touches + 24 }
+{
+    unlink(store, class_of(size), listed);
+    absorb(store, front, behind);
+}
+
+/// The block, which is free and in no list, enters its class's list. At most 11 touches.
+fn enter(store: &mut Store, slot: Slot)
+    requires { (at : At) × StandsAt slot Loose store.old at }
+    ensures leads { (at : At) → StandsAt slot Loose store.old at → StandsAt slot Listed store.new (at_listed at) }
+    ensures floor { store.old.touches ≤ store.new.touches }
+    ensures bound { store.new.touches ≤ store.old.touches + 13 }
+{
+    let block = store.read(slot);
+    link(store, class_of(block.size), slot);
+}
