@@ -1,7 +1,7 @@
 -- What the content of a layout says of a node at a spot, and how edits of the layout edit the content.
+pub mod BlockSpots
 pub mod Places
-pub mod Replaced
-pub mod Beside
+pub mod NodeBlocks
 pub mod Allocated
 pub mod Freed
 pub mod Covered

@@ -9,7 +9,7 @@ use Rattle.tlsf_heap.specs.Inner.Spots.{Spot, filled, laid}
 use Rattle.tlsf_heap.proofs.Inner.Lists.{length-left}
 use Rattle.tlsf_heap.proofs.Inner.Split.{rest_node}
 use Rattle.tlsf_heap.proofs.Meaning.Places.{Told, Alike, alone, alike, by_places, places-entered, places-left}
-use Rattle.tlsf_heap.proofs.Meaning.Replaced.{pools_replaced}
+use Rattle.tlsf_heap.proofs.Meaning.NodeBlocks.{pools_replaced}
 
 module _ (count : ℕ) (spot : Spot) (node : Node) (nodes : List Node) (lists : List (List Node)) (told : Told (filled spot (turned Listed node ∷ nodes)) lists) where
   abbrev pools : List (Pool ℕ)
@@ -24,7 +24,7 @@ module _ (count : ℕ) (spot : Spot) (node : Node) (nodes : List Node) (lists : 
       let nothing : node.size - node.size ≡ 0 = omega arith in
       let live : Block ℕ = block_of (turned InUse node) in
       let by_pools : map pool_of (filled spot (turned InUse node ∷ nodes)) ≡ map (replaced_in node.place (cut node.slot node.place node.size node.size)) pools =
-      sym (ap (λ n. map (replaced_in node.place (live ∷ gap (node.place + node.size) n)) pools) nothing ∙ pools_replaced spot (turned Listed node) nodes (turned InUse node ∷ []) (alone spot (turned Listed node) nodes told.places)) in
+      sym (ap (λ n. map (replaced_in node.place (live ∷ gap (node.place + node.size) n)) pools) nothing ∙ pools_replaced spot (turned Listed node) nodes (alone spot (turned Listed node) nodes told.places) (turned InUse node ∷ [])) in
       let by_lists : by_places (left node lists) ≡ link_gap (node.place + node.size) (node.size - node.size) (unlink node.place node.size (by_places lists)) =
       places-left node lists told.full same ∙ sym (ap (λ n. link_gap (node.place + node.size) n (unlink node.place node.size (by_places lists))) nothing) in
       λ i. record { records = count; pools = by_pools i; lists = by_lists i }
@@ -39,7 +39,7 @@ module _ (count : ℕ) (spot : Spot) (node : Node) (nodes : List Node) (lists : 
       let second : Node = turned Listed (rest_node rest bytes node) in
       let cut_is : block_of first ∷ block_of second ∷ [] ≡ cut node.slot node.place bytes node.size = rw some refl in
       let by_pools : map pool_of (filled spot (first ∷ second ∷ nodes)) ≡ map (replaced_in node.place (cut node.slot node.place bytes node.size)) pools =
-      sym (pools_replaced spot (turned Listed node) nodes (first ∷ second ∷ []) (alone spot (turned Listed node) nodes told.places)) ∙ ap (λ blocks. map (replaced_in node.place blocks) pools) cut_is in
+      sym (pools_replaced spot (turned Listed node) nodes (alone spot (turned Listed node) nodes told.places) (first ∷ second ∷ [])) ∙ ap (λ blocks. map (replaced_in node.place blocks) pools) cut_is in
       let gap_is : link (node.place + bytes) (node.size - bytes) (unlink node.place node.size (by_places lists)) ≡ link_gap (node.place + bytes) (node.size - bytes) (unlink node.place node.size (by_places lists)) = rw some refl in
       let by_lists : by_places (entered second (left node lists)) ≡ link_gap (node.place + bytes) (node.size - bytes) (unlink node.place node.size (by_places lists)) =
       places-entered second (left node lists) (length-left node lists told.full)

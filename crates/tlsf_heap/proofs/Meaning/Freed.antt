@@ -15,8 +15,7 @@ use Rattle.tlsf_heap.proofs.Inner.Counts.{one_if, count-cons}
 use Rattle.tlsf_heap.proofs.Inner.Plugs.{count-filled}
 use Rattle.tlsf_heap.proofs.Inner.Lists.{length-left}
 use Rattle.tlsf_heap.proofs.Meaning.Places.{Told, PlacesOnce, Alike, alone, alike, alike-left, by_places, places-entered, places-left}
-use Rattle.tlsf_heap.proofs.Meaning.Replaced.{pools_replaced}
-use Rattle.tlsf_heap.proofs.Meaning.Beside.{first_block, front_is, back_is, size_is}
+use Rattle.tlsf_heap.proofs.Meaning.NodeBlocks.{first_block, pools_replaced, front_is, back_is, size_is}
 
 -- no node is loose
 abbrev pub NoneLoose : List Node → Type 0
@@ -59,7 +58,7 @@ module _ (spot : Spot) (node : Node) (nodes : List Node) (lists : List (List Nod
       go [] places = refl
       go (f ∷ before) places = elim (is_listed f.status) as (λ b.
           without_block (option_map block_of (cond b (Some f) None)) (map pool_of (filled (record spot { before = f ∷ before }) (node ∷ nodes))) ≡ map pool_of (filled (record spot { before = cond b before (f ∷ before) }) (node ∷ nodes))) [
-            | true ↦ pools_replaced (record spot { before = before }) f (node ∷ nodes) [] (alone (record spot { before = before }) f (node ∷ nodes) places)
+            | true ↦ pools_replaced (record spot { before = before }) f (node ∷ nodes) (alone (record spot { before = before }) f (node ∷ nodes) places) []
             | false ↦ refl
           ]
 
@@ -90,7 +89,7 @@ module _ (spot : Spot) (node : Node) (nodes : List Node) (lists : List (List Nod
       go [] places = refl
       go (b ∷ others) places = elim (is_listed b.status) as (λ t.
           without_block (option_map block_of (cond t (Some b) None)) (map pool_of (filled (spot_past spot) (node ∷ b ∷ others))) ≡ map pool_of (filled (spot_past spot) (node ∷ cond t others (b ∷ others)))) [
-            | true ↦ pools_replaced (record (spot_past spot) { before = node ∷ past spot.before }) b others [] (alone (record (spot_past spot) { before = node ∷ past spot.before }) b others places)
+            | true ↦ pools_replaced (record (spot_past spot) { before = node ∷ past spot.before }) b others (alone (record (spot_past spot) { before = node ∷ past spot.before }) b others places) []
             | false ↦ refl
           ]
 
@@ -152,7 +151,7 @@ module _ (spot : Spot) (node : Node) (nodes : List Node) (lists : List (List Nod
       let size_is_so : size_at node.place (blocks_of (map pool_of (filled spot (node ∷ nodes)))) ≡ node.size = size_is spot node nodes here in
       let block_is = block_merged front back in
       let by_pools : map pool_of (filled (spot_past spot) (merged ∷ past nodes)) ≡ (after count taken f b node.size).pools =
-      sym (pools_replaced (spot_past spot) node (past nodes) (merged ∷ []) (alone (spot_past spot) node (past nodes) places_both))
+      sym (pools_replaced (spot_past spot) node (past nodes) (alone (spot_past spot) node (past nodes) places_both) (merged ∷ []))
       ∙ ap (λ block. map (replaced_in node.place (block ∷ [])) (map pool_of (filled (spot_past spot) (node ∷ past nodes)))) block_is
       ∙ ap (map (replaced_in node.place (free_block (start_of f node.place) (size_of f + node.size + size_of b) ∷ []))) (sym (ap (without_block b) without_front ∙ without_back)) in
       let by_lists : by_places (entered merged (left_by back (left_by front lists))) ≡ (after count taken f b node.size).lists =
