@@ -5,3 +5,4 @@ pub mod NodeBlocks
 pub mod Allocated
 pub mod Freed
 pub mod Covered
+pub mod FreedIsGood

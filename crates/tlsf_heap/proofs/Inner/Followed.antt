@@ -13,7 +13,7 @@ use Rattle.tlsf_heap.proofs.EntryLists.{entries_of-padded}
 use Rattle.tlsf_heap.specs.Inner.Nodes.{Status, InUse, Listed, Loose, Node, Area, Layout, owner_of, block_of, pool_of, content_by, nodes_of, list_of, is_listed_in}
 use Rattle.tlsf_heap.specs.Inner.Represents.{InPool, InList, in_pool, in_list, pool_views, list_views, state_of, first_slot, AreLinked, IsChain, Represents}
 use Rattle.tlsf_heap.specs.Inner.Following.{follow, owner_in, block_at, pool_from, list_from, content_of, Stands}
-use Rattle.tlsf_heap.proofs.Inner.Counts.{one_if, count-cons, count_and}
+use Rattle.tlsf_heap.proofs.Inner.Counts.{one_if, count-cons, count_and, count_all}
 use Rattle.tlsf_heap.proofs.Inner.Plugs.{count-nodes}
 use Rattle.tlsf_heap.proofs.Inner.Sums.{all_records}
 
@@ -71,10 +71,6 @@ module _ (records : List Record) where
         ∙ ap (λ places. node.place ∷ places) (places_read nodes (omega (arith, none, count-cons strays node nodes)))
     | inr apart ↦ absurd (omega (arith, none, count-cons strays node nodes, ap (λ b. one_if (not b)) apart))
   ]
-
-count_all : (nodes : List Node) → count_by (λ node. true) nodes ≡ length nodes
-count_all [] = refl
-count_all (node ∷ nodes) = omega (arith, count-cons (λ n. true) node nodes, count_all nodes)
 
 module _ (cells : Cells) (layout : Layout) (was : Represents cells layout) where
   few : length (nodes_of layout.areas) ≤ length cells.records

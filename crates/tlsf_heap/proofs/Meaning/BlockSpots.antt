@@ -1,11 +1,12 @@
 -- A block at a spot among the blocks of all pools: it gives way to others, its size, and the blocks beside it.
 use Rattle.std.proofs.Common.{◌≡◌, ℕ, ◌+◌, ◌≤◌, Bool, true, false, List, [], ◌∷◌, ◌++◌, map, find, refl, sym, ap, ◌∙◌, arith, count_by, Option, Some, None, option_map, unwrap_or, inl, inr}
 use Rattle.std.specs.Option.{option_or}
-use Rattle.std.proofs.lemmas.Bool.{cases_Bool, cases_lt, eq-eqb}
+use Rattle.std.proofs.lemmas.Bool.{cases_Bool, cases_lt, eq-eqb, eqb-true}
 use Rattle.tlsf_heap.specs.Content.{Block, Pool, blocks_of, is_at, size_at}
 use Rattle.tlsf_heap.specs.Malloc.{replaced, replaced_in}
 use Rattle.tlsf_heap.specs.Free.{in_front_of, behind, first_in_pools}
 use Rattle.tlsf_heap.specs.Inner.Spots.{plug}
+use Rattle.tlsf_heap.proofs.Blocks.{Ascends, NoneAt, NoneAt-below}
 use Rattle.tlsf_heap.proofs.Inner.Counts.{one_if, count-cons, count-append, count-plug, Split, split_at}
 use Rattle.tlsf_heap.proofs.Inner.Plugs.{map-plug}
 
@@ -149,10 +150,32 @@ module _ {A : Type 0} where
         let counts = count-blocks (is_at place) pool front in
         find_pools front (pool ∷ pools) (omega (arith, none, counts)) ∙ find_behind pool.blocks (blocks_of pools) (omega (arith, none, counts))
 
+  -- of blocks in order of place, one at most begins at a place
+  none_at : (place : ℕ) (blocks : List (Block A)) → NoneAt place blocks → count_by (is_at place) blocks ≡ 0
+  none_at place [] none = refl
+  none_at place (block ∷ blocks) none = omega (arith, count-cons (is_at place) block blocks, ap one_if none.0, none_at place blocks none.1)
+
+  pub at_most_one : (from : ℕ) (blocks : List (Block A)) → Ascends from blocks → (place : ℕ) → count_by (is_at place) blocks ≤ 1
+  at_most_one from [] a place = omega arith
+  at_most_one from (block ∷ blocks) a place = elim (cases_Bool (is_at place block)) [
+    | inl here ↦
+        let at : block.place ≡ place = eqb-true block.place place here in
+        omega (arith, count-cons (is_at place) block blocks, ap one_if here, none_at place blocks (NoneAt-below place (block.place + block.size) blocks (omega (arith, a.1, at)) a.2))
+    | inr elsewhere ↦ omega (arith, count-cons (is_at place) block blocks, ap one_if elsewhere, at_most_one (block.place + block.size) blocks a.2 place)
+  ]
+
   -- the block at the spot begins where no other does
   pub record IsAlone (spot : BlockSpot A) (block : Block A) (blocks : List (Block A)) : Type 0 where
     pub outside : around_blocks (is_at block.place) spot ≡ 0
     pub behind : count_by (is_at block.place) blocks ≡ 0
+
+  pub block_alone : (spot : BlockSpot A) (block : Block A) (blocks : List (Block A)) → ((place : ℕ) → count_by (is_at place) (blocks_of (filled_pools spot (block ∷ blocks))) ≤ 1) → IsAlone spot block blocks
+  block_alone spot block blocks once =
+      let all = once block.place in
+      let parts = count-filled_pools (is_at block.place) spot (block ∷ blocks) in
+      let here = count-cons (is_at block.place) block blocks in
+      let own = ap one_if (eq-eqb block.place block.place refl) in
+      record { outside = omega (arith, all, parts, here, own); behind = omega (arith, all, parts, here, own) }
 
   module _ (spot : BlockSpot A) (block : Block A) (blocks : List (Block A)) (alone : IsAlone spot block blocks) where
     -- it gives way to others

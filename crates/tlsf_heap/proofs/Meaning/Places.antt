@@ -10,8 +10,9 @@ use Rattle.tlsf_heap.specs.Good.{IsGood}
 use Rattle.tlsf_heap.specs.Inner.Nodes.{Node, Area, Layout, block_of, pool_of, content_by, nodes_of, has_slot, has_place, list_of, is_listed_in, without_slot, left, entered}
 use Rattle.tlsf_heap.specs.Inner.Spots.{Spot, filled}
 use Rattle.tlsf_heap.specs.Inner.Represents.{Agree}
-use Rattle.tlsf_heap.proofs.Blocks.{Ascends, Ascends-pools, NoneAt, NoneAt-below}
-use Rattle.tlsf_heap.proofs.Inner.Counts.{one_if, count-cons, count_either, count_and}
+use Rattle.tlsf_heap.proofs.Blocks.{Ascends-pools}
+use Rattle.tlsf_heap.proofs.Meaning.BlockSpots.{at_most_one}
+use Rattle.tlsf_heap.proofs.Inner.Counts.{one_if, count-cons, count_either, count_and, count-map}
 use Rattle.tlsf_heap.proofs.Inner.Plugs.{around, count-filled}
 use Rattle.tlsf_heap.proofs.Inner.Lists.{count-left_same, count-left_other}
 
@@ -26,24 +27,11 @@ pub blocks_of_areas : (areas : List Area) → blocks_of (map pool_of areas) ≡ 
 blocks_of_areas [] = refl
 blocks_of_areas (area ∷ areas) = ap (λ blocks. map block_of area.nodes ++ blocks) (blocks_of_areas areas) ∙ sym (map-append block_of area.nodes (nodes_of areas))
 
-count_none : (place : ℕ) (nodes : List Node) → NoneAt place (map block_of nodes) → count_by (has_place place) nodes ≡ 0
-count_none place [] none = refl
-count_none place (node ∷ nodes) none = omega (arith, count-cons (has_place place) node nodes, ap one_if none.0, count_none place nodes none.1)
-
-once_if_ascending : (from : ℕ) (nodes : List Node) → Ascends from (map block_of nodes) → (place : ℕ) → count_by (has_place place) nodes ≤ 1
-once_if_ascending from [] a place = omega arith
-once_if_ascending from (node ∷ nodes) a place = elim (cases_Bool (has_place place node)) [
-  | inl here ↦
-      let at : node.place ≡ place = eqb-true node.place place here in
-      omega (arith, count-cons (has_place place) node nodes, ap one_if here, count_none place nodes (NoneAt-below place (node.place + node.size) (map block_of nodes) (omega (arith, a.1, at)) a.2))
-  | inr elsewhere ↦ omega (arith, count-cons (has_place place) node nodes, ap one_if elsewhere, once_if_ascending (node.place + node.size) nodes a.2 place)
-]
-
 -- of a good content each place is that of one node
 pub places_once : (layout : Layout) → IsGood (content_by layout) → PlacesOnce layout.areas
-places_once layout good =
-    let P : List (Block ℕ) → Type 0 = λ blocks. Ascends 0 blocks in
-    once_if_ascending 0 (nodes_of layout.areas) (subst P (blocks_of_areas layout.areas) (Ascends-pools 0 (map pool_of layout.areas) good.pools_good))
+places_once layout good place =
+    let blocks : List (Block ℕ) = blocks_of (map pool_of layout.areas) in
+    omega (arith, at_most_one 0 blocks (Ascends-pools 0 (map pool_of layout.areas) good.pools_good) place, ap (count_by (is_at place)) (blocks_of_areas layout.areas), count-map (is_at place) block_of (nodes_of layout.areas))
 
 -- the lists agree with areas of which each place and each slot is that of one node
 pub record Told (areas : List Area) (lists : List (List Node)) : Type 0 where

@@ -1,0 +1,402 @@
+-- free by the block's neighbours keeps a content good.
+use Rattle.std.proofs.Common.{◌≡◌, ◌≢◌, ℕ, ◌+◌, ◌<◌, ◌≤◌, Bool, true, false, cond, not, ◌&&◌, ◌||◌, eqb, List, [], ◌∷◌, ◌++◌, length, map, refl, sym, ap, ◌∙◌, subst, arith, count_by, IsTrue, Option, Some, None, inl, inr}
+use Rattle.tlsf_class.proofs.ClassLaws.{class-lt}
+use Rattle.std.specs.Prelude.{is_none, ⊤, ◌==◌, Ok, Err, if◌then◌else◌}
+use Rattle.std.specs.List.{list_any}
+use Rattle.std.proofs.lemmas.Bool.{cases_Bool, cases_eq, eq-eqb, ne_eqb, eqb-true, and_parts, false≢true}
+use Rattle.tlsf_class.specs.Classes.{classes, class, unit}
+use Rattle.tlsf_heap.specs.Content.{Block, Pool, Content, blocks_of, is_free, is_at, size_at}
+use Rattle.tlsf_heap.specs.Lists.{list_of, link}
+use Rattle.tlsf_heap.specs.Malloc.{replaced_in}
+use Rattle.tlsf_heap.specs.Good.{Covers, NoFreeNeighbours, IsGoodPool, AreGoodPools, times, is_listed, AreLists, IsGood}
+use Rattle.tlsf_heap.specs.Free.{is_owned_by, is_live, if_free, free_in_front, free_behind, unlink_block, size_of, start_of}
+use Rattle.tlsf_heap.specs.LocalFree.{free_block, without_block, after_free, free}
+use Rattle.tlsf_heap.specs.Inner.Spots.{plug}
+use Rattle.tlsf_heap.proofs.Blocks.{Ascends-pools}
+use Rattle.tlsf_heap.proofs.FreeLists.{stands, times-link, times-unlink, length-link, length-unlink}
+use Rattle.tlsf_heap.proofs.Inner.Counts.{one_if, count-cons, count-plug, count_and, count_all}
+use Rattle.tlsf_heap.proofs.Meaning.BlockSpots.{BlockSpot, first_of, pool_at, filled_pools, around_blocks, count-filled_pools, LocatedBlock, located_block, at_most_one, IsAlone, block_alone, replaced_at, front_at, back_at, size_here}
+
+pub length-plug : {X : Type 0} (front behind : List X) → length (plug front behind) ≡ length front + length behind
+length-plug [] behind = omega arith
+length-plug (x ∷ front) behind = omega (arith, length-plug front (x ∷ behind))
+
+swap : (a b : Bool) → IsTrue (not (a && b)) → IsTrue (not (b && a))
+swap true true h = h
+swap true false h = refl
+swap false true h = refl
+swap false false h = refl
+
+module _ {A : Type 0} where
+  -- the blocks without the first, where it is free
+  abbrev pub past_free : List (Block A) → List (Block A)
+  past_free [] = []
+  past_free (block ∷ blocks) = if is_free block then blocks else block ∷ blocks
+
+  abbrev pub free_first : List (Block A) → Option (Block A)
+  free_first blocks = if_free (first_of blocks)
+
+  -- whether the first is free
+  abbrev is_first_free : List (Block A) → Bool
+  is_first_free [] = false
+  is_first_free (block ∷ blocks) = is_free block
+
+  -- how often a block, if there is one, stands at p in the list of class q when it is free
+  abbrev stands_of : ℕ → ℕ → Option (Block A) → ℕ
+  stands_of q p None = 0
+  stands_of q p (Some block) = stands q p block.place block.size
+
+  -- blocks of which no two free ones are neighbours, in parts
+  not_both : (blocks : List (Block A)) (was : Bool) → NoFreeNeighbours was blocks → IsTrue (not (was && is_first_free blocks))
+  not_both [] true n = refl
+  not_both [] false n = refl
+  not_both (block ∷ blocks) was n = n.0
+
+  apart_parts : (front blocks : List (Block A)) → NoFreeNeighbours false (plug front blocks) → NoFreeNeighbours (is_first_free blocks) front × NoFreeNeighbours (is_first_free front) blocks
+  apart_parts [] blocks n = (tt, n)
+  apart_parts (f ∷ front) blocks n =
+      let parts = apart_parts front (f ∷ blocks) n in
+      ((swap (is_free f) (is_first_free blocks) (not_both blocks (is_free f) parts.1.1), parts.0), parts.1.1)
+
+  apart_plugged : (front blocks : List (Block A)) → NoFreeNeighbours (is_first_free blocks) front → NoFreeNeighbours (is_first_free front) blocks → NoFreeNeighbours false (plug front blocks)
+  apart_plugged [] blocks before n = n
+  apart_plugged (f ∷ front) blocks before n = apart_plugged front (f ∷ blocks) before.1 (swap (is_free f) (is_first_free front) (not_both front (is_free f) before.1), n)
+
+  -- no free one is left beside the block
+  past_apart : (blocks : List (Block A)) → NoFreeNeighbours false blocks → NoFreeNeighbours true (past_free blocks)
+  past_apart [] n = tt
+  past_apart (block ∷ blocks) n = elim (cases_Bool (is_free block)) [
+    | inl free ↦ let P : Bool → Type 0 = λ b. NoFreeNeighbours b blocks in rw free (subst P free n.1)
+    | inr live ↦ rw live (let P : Bool → Type 0 = λ b. IsTrue (not b) × NoFreeNeighbours b blocks in subst P (sym live) (let Q : Bool → Type 0 = λ b. NoFreeNeighbours b blocks in (refl, subst Q live n.1)))
+  ]
+
+  past_live : (blocks : List (Block A)) → NoFreeNeighbours true blocks → is_first_free blocks ≡ false
+  past_live [] n = refl
+  past_live (block ∷ blocks) n = elim (cases_Bool (is_free block)) [
+    | inl free ↦ absurd (let P : Bool → Type 0 = λ b. IsTrue (not b) in false≢true (subst P free n.0))
+    | inr live ↦ live
+  ]
+
+  count_past : (q p : ℕ) (blocks : List (Block A)) → count_by (is_listed q p) (past_free blocks) + stands_of q p (free_first blocks) ≡ count_by (is_listed q p) blocks
+  count_past q p [] = refl
+  count_past q p (block ∷ blocks) =
+      let P : Bool → Type 0 = λ f. count_by (is_listed q p) (cond f blocks (block ∷ blocks)) + stands_of q p (cond f (Some block) None) ≡ count_by (is_listed q p) (block ∷ blocks) in
+      elim (cases_Bool (is_free block)) [
+        | inl free ↦ subst P (sym free) (omega (arith, count-cons (is_listed q p) block blocks, ap (λ b. one_if (b && (is_at p block && (class block.size == q)))) free))
+        | inr live ↦ subst P (sym live) (omega arith)
+      ]
+
+  listed_few : (q p : ℕ) (blocks : List (Block A)) → count_by (is_listed q p) blocks ≤ count_by (is_at p) blocks
+  listed_few q p [] = omega arith
+  listed_few q p (block ∷ blocks) = omega (arith, count-cons (is_listed q p) block blocks, count-cons (is_at p) block blocks, listed_few q p blocks, one (is_free block) (is_at p block) (class block.size == q))
+    where
+      one : (a b c : Bool) → one_if (a && (b && c)) ≤ one_if b
+      one false b c = omega arith
+      one true false c = omega arith
+      one true true false = omega arith
+      one true true true = omega arith
+
+  few_past : (kind : Block A → Bool) (blocks : List (Block A)) → count_by kind (past_free blocks) ≤ count_by kind blocks
+  few_past kind [] = omega arith
+  few_past kind (block ∷ blocks) = elim (is_free block) as (λ b. count_by kind (cond b blocks (block ∷ blocks)) ≤ count_by kind (block ∷ blocks)) [
+    | true ↦ omega (arith, count-cons kind block blocks)
+    | false ↦ omega arith
+  ]
+
+  -- a free first block stands once at its place in its class's list
+  free_stands : (blocks : List (Block A)) (block : Block A) → free_first blocks ≡ Some block → (1 ≤ count_by (is_listed (class block.size) block.place) blocks) × (1 ≤ count_by (is_at block.place) blocks)
+  free_stands [] block is = absurd (cc)
+  free_stands (other ∷ blocks) block is = elim (cases_Bool (is_free other)) [
+    | inl free ↦
+        let same : other ≡ block = some_same other block (sym (ap (λ b. cond b (Some other) None) free) ∙ is) in
+        let P : Block A → Type 0 = λ x. (1 ≤ count_by (is_listed (class x.size) x.place) (other ∷ blocks)) × (1 ≤ count_by (is_at x.place) (other ∷ blocks)) in
+        let own : one_if (is_listed (class other.size) other.place other) ≡ 1 = rw (free, eq-eqb other.place other.place refl, eq-eqb (class other.size) (class other.size) refl) refl in
+        subst P same (omega (arith, own, count-cons (is_listed (class other.size) other.place) other blocks), omega (arith, ap one_if (eq-eqb other.place other.place refl), count-cons (is_at other.place) other blocks))
+    | inr live ↦ absurd (let none : None ≡ Some block = sym (ap (λ b. cond b (Some other) None) live) ∙ is in cc)
+  ]
+    where
+      some_same : (x y : Block A) → Some x ≡ Some y → x ≡ y
+      some_same x y e = cc
+
+  -- a neighbour that leaves its list
+  times-unlink_block : (lists : List (List ℕ)) (full : length lists ≡ classes) (o : Option (Block A)) → ((block : Block A) → o ≡ Some block → times block.place (list_of (class block.size) lists) ≡ 1)
+      → (q p : ℕ) → times p (list_of q (unlink_block o lists)) + stands_of q p o ≡ times p (list_of q lists)
+  times-unlink_block lists full None once q p = omega arith
+  times-unlink_block lists full (Some block) once q p = times-unlink lists full q p block.place block.size (once block refl)
+
+  length-unlink_block : (lists : List (List ℕ)) (full : length lists ≡ classes) (o : Option (Block A)) → length (unlink_block o lists) ≡ classes
+  length-unlink_block lists full None = full
+  length-unlink_block lists full (Some block) = length-unlink lists full block.place block.size
+
+  covers_plug : (to : ℕ) (front olds news : List (Block A)) → ((from : ℕ) → Covers from to olds → Covers from to news) → (from : ℕ) → Covers from to (plug front olds) → Covers from to (plug front news)
+  covers_plug to [] olds news covers = covers
+  covers_plug to (f ∷ front) olds news covers = covers_plug to front (f ∷ olds) (f ∷ news) (λ from c. (c.0, c.1, c.2, covers (from + f.size) c.3))
+
+  pools_plug : (front olds news : List (Pool A)) → ((from : ℕ) → AreGoodPools from olds → AreGoodPools from news) → (from : ℕ) → AreGoodPools from (plug front olds) → AreGoodPools from (plug front news)
+  pools_plug [] olds news good = good
+  pools_plug (pool ∷ front) olds news good = pools_plug front (pool ∷ olds) (pool ∷ news) (λ from g. (g.0, g.1, good (pool.base + pool.bytes) g.2))
+
+  good_behind : (from : ℕ) (front pools : List (Pool A)) → AreGoodPools from (plug front pools) → (place : ℕ) × AreGoodPools place pools
+  good_behind from [] pools g = (from, g)
+  good_behind from (pool ∷ front) pools g = let rest = good_behind from front (pool ∷ pools) g in (pool.base + pool.bytes, rest.1.2)
+
+  -- a block and those beside it, as one
+  abbrev merged_of : Option (Block A) → Block A → Option (Block A) → Block A
+  merged_of front block back = free_block (start_of front block.place) (size_of front + block.size + size_of back)
+
+  covers_behind : (block : Block A) (blocks : List (Block A)) (from to : ℕ) → Covers from to (block ∷ blocks) → Covers from to (free_block block.place (block.size + size_of (free_first blocks)) ∷ past_free blocks)
+  covers_behind block [] from to c = (c.0, omega (arith, c.1), omega (arith, c.2), let P : ℕ → Type 0 = λ n. n ≡ to in let same : from + block.size ≡ from + (block.size + 0) = omega arith in subst P same c.3)
+  covers_behind block (next ∷ blocks) from to c =
+      let P : Bool → Type 0 = λ f. Covers from to (free_block block.place (block.size + size_of (cond f (Some next) None)) ∷ cond f blocks (next ∷ blocks)) in
+      elim (is_free next) as P [
+        | true ↦ (
+          c.0,
+          omega (arith, c.1),
+          omega (arith, c.2, c.3.2),
+          let Q : ℕ → Type 0 = λ n. Covers n to blocks in
+              let same : (from + block.size) + next.size ≡ from + (block.size + next.size) = omega arith in
+              subst Q same c.3.3,
+        )
+        | false ↦ (
+          c.0,
+          omega (arith, c.1),
+          omega (arith, c.2),
+          let Q : ℕ → Type 0 = λ n. Covers n to (next ∷ blocks) in
+              let same : from + block.size ≡ from + (block.size + 0) = omega arith in
+              subst Q same c.3,
+        )
+      ]
+
+  covers_merged : (before : List (Block A)) (block : Block A) (blocks : List (Block A)) (from to : ℕ) → Covers from to (plug before (block ∷ blocks)) → Covers from to (plug (past_free before) (merged_of (free_first before) block (free_first blocks) ∷ past_free blocks))
+  covers_merged [] block blocks from to c =
+      let P : ℕ → Type 0 = λ n. Covers from to (free_block block.place n ∷ past_free blocks) in
+      let same : block.size + size_of (free_first blocks) ≡ 0 + block.size + size_of (free_first blocks) = omega arith in
+      subst P same (covers_behind block blocks from to c)
+  covers_merged (f ∷ before) block blocks from to c =
+      let one = covers_plug to (f ∷ before) (block ∷ blocks) (free_block block.place (block.size + size_of (free_first blocks)) ∷ past_free blocks) (λ place. covers_behind block blocks place to) from c in
+      let P : Bool → Type 0 = λ t.
+      Covers from to (plug (cond t before (f ∷ before)) (merged_of (cond t (Some f) None) block (free_first blocks) ∷ past_free blocks)) in
+      elim (is_free f) as P [
+        | true ↦
+            covers_plug to before (f ∷ free_block block.place (block.size + size_of (free_first blocks)) ∷ past_free blocks) (merged_of (Some f) block (free_first blocks) ∷ past_free blocks)
+            (λ place d.
+            let Q : ℕ → Type 0 = λ n. Covers n to (past_free blocks) in
+            let same : (place + f.size) + (block.size + size_of (free_first blocks)) ≡ place + (f.size + block.size + size_of (free_first blocks)) = omega arith in
+            (d.0, omega (arith, d.1), omega (arith, d.2, d.3.2), subst Q same d.3.3)) from one
+        | false ↦
+            let Q : ℕ → Type 0 = λ n. Covers from to (plug (f ∷ before) (free_block block.place n ∷ past_free blocks)) in
+            let same : block.size + size_of (free_first blocks) ≡ 0 + block.size + size_of (free_first blocks) = omega arith in
+            subst Q same one
+      ]
+
+  module _ (records : ℕ) (spot : BlockSpot A) (block : Block A) (blocks : List (Block A)) (lists : List (List ℕ)) (good : IsGood (record { records = records; pools = filled_pools spot (block ∷ blocks); lists = lists })) (live : is_free block ≡ false) where
+    abbrev old : Content A
+    old = record { records = records; pools = filled_pools spot (block ∷ blocks); lists = lists }
+
+    abbrev front : Option (Block A)
+    front = free_first spot.before
+
+    abbrev back : Option (Block A)
+    back = free_first blocks
+
+    abbrev merged : Block A
+    merged = merged_of front block back
+
+    abbrev past_spot : BlockSpot A
+    past_spot = record spot { before = past_free spot.before }
+
+    abbrev new_lists : List (List ℕ)
+    new_lists = link merged.place merged.size (unlink_block back (unlink_block front lists))
+
+    abbrev new : Content A
+    new = record { records = records; pools = filled_pools past_spot (merged ∷ past_free blocks); lists = new_lists }
+
+    once : (place : ℕ) → count_by (is_at place) (blocks_of (filled_pools spot (block ∷ blocks))) ≤ 1
+    once = at_most_one 0 (blocks_of (filled_pools spot (block ∷ blocks))) (Ascends-pools 0 (filled_pools spot (block ∷ blocks)) good.pools_good)
+
+    counts : (kind : Block A → Bool) → count_by kind (blocks_of (filled_pools spot (block ∷ blocks))) ≡ around_blocks kind spot + (one_if (kind block) + count_by kind blocks)
+    counts kind = count-filled_pools kind spot (block ∷ blocks) ∙ ap (λ n. around_blocks kind spot + n) (count-cons kind block blocks)
+
+    counts_after : (kind : Block A → Bool) → count_by kind (blocks_of (filled_pools past_spot (merged ∷ past_free blocks))) ≡ around_blocks kind past_spot + (one_if (kind merged) + count_by kind (past_free blocks))
+    counts_after kind = count-filled_pools kind past_spot (merged ∷ past_free blocks) ∙ ap (λ n. around_blocks kind past_spot + n) (count-cons kind merged (past_free blocks))
+
+    not_listed : (q p : ℕ) → one_if (is_listed q p block) ≡ 0
+    not_listed q p = ap (λ b. one_if (b && (is_at p block && (class block.size == q)))) live
+
+    listed_most : (q p : ℕ) → q < classes → times p (list_of q lists) ≤ 1
+    listed_most q p within = omega (arith, good.listed q p within, once p, listed_few q p (blocks_of (filled_pools spot (block ∷ blocks))))
+
+    -- each neighbour stands once in its list, also where the other left
+    front_once : (other : Block A) → front ≡ Some other → times other.place (list_of (class other.size) lists) ≡ 1
+    front_once other is =
+        let number : ℕ = class other.size in
+        omega (arith, listed_most number other.place (class-lt other.size), good.listed number other.place (class-lt other.size), counts (is_listed number other.place), (free_stands spot.before other is).0)
+
+    back_once : (other : Block A) → back ≡ Some other → times other.place (list_of (class other.size) (unlink_block front lists)) ≡ 1
+    back_once other is =
+        let number : ℕ = class other.size in
+        let there = free_stands blocks other is in
+        omega (
+          arith,
+          times-unlink_block lists good.lists_count front front_once number other.place,
+          front_elsewhere number other.place there.1,
+          listed_most number other.place (class-lt other.size),
+          good.listed number other.place (class-lt other.size),
+          counts (is_listed number other.place),
+          there.0,
+        )
+      where
+        front_elsewhere : (q p : ℕ) → 1 ≤ count_by (is_at p) blocks → stands_of q p front ≡ 0
+        front_elsewhere q p behind = go front refl
+          where
+            go : (o : Option (Block A)) → front ≡ o → stands_of q p o ≡ 0
+            go None is_none = refl
+            go (Some f) is_some = elim (cases_eq f.place p) [
+              | inl same ↦ absurd (let P : ℕ → Type 0 = λ n. 1 ≤ count_by (is_at n) spot.before in omega (arith, subst P same (free_stands spot.before f is_some).1, behind, once p, counts (is_at p)))
+              | inr apart ↦ ap (λ b. one_if (b && (class f.size == q))) (ne_eqb f.place p apart)
+            ]
+
+    full_front : length (unlink_block front lists) ≡ classes
+    full_front = length-unlink_block lists good.lists_count front
+
+    full_back : length (unlink_block back (unlink_block front lists)) ≡ classes
+    full_back = length-unlink_block (unlink_block front lists) full_front back
+
+    listed_after : AreLists (blocks_of (filled_pools past_spot (merged ∷ past_free blocks))) new_lists
+    listed_after q p within =
+        omega (
+          arith,
+          times-link (unlink_block back (unlink_block front lists)) full_back q p merged.place merged.size,
+          times-unlink_block (unlink_block front lists) full_front back back_once q p,
+          times-unlink_block lists good.lists_count front front_once q p,
+          good.listed q p within,
+          counts (is_listed q p),
+          counts_after (is_listed q p),
+          not_listed q p,
+          count_past q p spot.before,
+          count_past q p blocks,
+        )
+
+    pool_good : IsGoodPool (pool_at spot (block ∷ blocks)) → IsGoodPool (pool_at past_spot (merged ∷ past_free blocks))
+    pool_good g =
+        let parts = apart_parts spot.before (block ∷ blocks) g.merged in
+        let P : Bool → Type 0 = λ b. NoFreeNeighbours b spot.before in
+        let Q : Bool → Type 0 = λ b. NoFreeNeighbours b blocks in
+        let before : NoFreeNeighbours true (past_free spot.before) = past_apart spot.before (subst P live parts.0) in
+        let R : Bool → Type 0 = λ b. IsTrue (not (b && true)) × NoFreeNeighbours true (past_free blocks) in
+        record {
+          base_in_units = g.base_in_units;
+          bytes_in_units = g.bytes_in_units;
+          least_bytes = g.least_bytes;
+          most_bytes = g.most_bytes;
+          ends = g.ends;
+          covered = covers_merged spot.before block blocks spot.base (spot.base + spot.bytes) g.covered;
+          merged = apart_plugged (past_free spot.before) (merged ∷ past_free blocks) before (subst R (sym (past_live (past_free spot.before) before)) (refl, past_apart blocks (subst Q live parts.1.1)));
+        }
+
+    pools_good : AreGoodPools 0 (filled_pools past_spot (merged ∷ past_free blocks))
+    pools_good =
+        pools_plug spot.pools_before (pool_at spot (block ∷ blocks) ∷ spot.pools_behind) (pool_at past_spot (merged ∷ past_free blocks) ∷ spot.pools_behind) (λ from g. (g.0, pool_good g.1, g.2)) 0 good.pools_good
+
+    new_is_good : IsGood new
+    new_is_good = record {
+      pools_few = omega (arith, good.pools_few, length-plug spot.pools_before (pool_at spot (block ∷ blocks) ∷ spot.pools_behind), length-plug spot.pools_before (pool_at past_spot (merged ∷ past_free blocks) ∷ spot.pools_behind));
+      pools_good = pools_good;
+      lists_count = length-link (unlink_block back (unlink_block front lists)) full_back merged.place merged.size;
+      listed = listed_after;
+      blocks_few = (let all : Block A → Bool = λ b. true in
+          omega (
+            arith,
+            good.blocks_few,
+            count_all (blocks_of (filled_pools spot (block ∷ blocks))),
+            count_all (blocks_of (filled_pools past_spot (merged ∷ past_free blocks))),
+            counts all,
+            counts_after all,
+            few_past all spot.before,
+            few_past all blocks,
+          ));
+    }
+
+    -- what free leaves
+    once_past : (place : ℕ) → count_by (is_at place) (blocks_of (filled_pools past_spot (block ∷ blocks))) ≤ 1
+    once_past place = omega (arith, once place, counts (is_at place), count-filled_pools (is_at place) past_spot (block ∷ blocks), count-cons (is_at place) block blocks, few_past (is_at place) spot.before)
+
+    once_both : (place : ℕ) → count_by (is_at place) (blocks_of (filled_pools past_spot (block ∷ past_free blocks))) ≤ 1
+    once_both place =
+        omega (
+          arith,
+          once_past place,
+          count-filled_pools (is_at place) past_spot (block ∷ blocks),
+          count-filled_pools (is_at place) past_spot (block ∷ past_free blocks),
+          count-cons (is_at place) block blocks,
+          count-cons (is_at place) block (past_free blocks),
+          few_past (is_at place) blocks,
+        )
+
+    without_front : without_block front (filled_pools spot (block ∷ blocks)) ≡ filled_pools past_spot (block ∷ blocks)
+    without_front = go spot.before once
+      where
+        go : (before : List (Block A)) → ((place : ℕ) → count_by (is_at place) (blocks_of (filled_pools (record spot { before = before }) (block ∷ blocks))) ≤ 1)
+            → without_block (free_first before) (filled_pools (record spot { before = before }) (block ∷ blocks)) ≡ filled_pools (record spot { before = past_free before }) (block ∷ blocks)
+        go [] few = refl
+        go (f ∷ before) few = elim (is_free f) as (λ b.
+            without_block (cond b (Some f) None) (filled_pools (record spot { before = f ∷ before }) (block ∷ blocks)) ≡ filled_pools (record spot { before = cond b before (f ∷ before) }) (block ∷ blocks)) [
+              | true ↦ replaced_at (record spot { before = before }) f (block ∷ blocks) (block_alone (record spot { before = before }) f (block ∷ blocks) few) []
+              | false ↦ refl
+            ]
+
+    without_back : without_block back (filled_pools past_spot (block ∷ blocks)) ≡ filled_pools past_spot (block ∷ past_free blocks)
+    without_back = go blocks once_past
+      where
+        go : (others : List (Block A)) → ((place : ℕ) → count_by (is_at place) (blocks_of (filled_pools past_spot (block ∷ others))) ≤ 1)
+            → without_block (free_first others) (filled_pools past_spot (block ∷ others)) ≡ filled_pools past_spot (block ∷ past_free others)
+        go [] few = refl
+        go (b ∷ others) few = elim (is_free b) as (λ t.
+            without_block (cond t (Some b) None) (filled_pools past_spot (block ∷ b ∷ others)) ≡ filled_pools past_spot (block ∷ cond t others (b ∷ others))) [
+              | true ↦ replaced_at (record past_spot { before = block ∷ past_spot.before }) b others (block_alone (record past_spot { before = block ∷ past_spot.before }) b others few) []
+              | false ↦ refl
+            ]
+
+    -- the content, where these are the neighbours and this is the size
+    abbrev after : Option (Block A) → Option (Block A) → ℕ → Content A
+    after f b size = record old {
+      pools = map (replaced_in block.place (free_block (start_of f block.place) (size_of f + size + size_of b) ∷ [])) (without_block b (without_block f (filled_pools spot (block ∷ blocks))));
+      lists = link (start_of f block.place) (size_of f + size + size_of b) (unlink_block b (unlink_block f lists));
+    }
+
+    pub after_is : after_free block.place old ≡ new
+    after_is =
+        let alone : IsAlone spot block blocks = block_alone spot block blocks once in
+        let f_is : free_in_front block.place old ≡ front = ap if_free (front_at spot block blocks alone) in
+        let b_is : free_behind block.place old ≡ back = ap if_free (back_at spot block blocks alone) in
+        let by_pools : (after front back block.size).pools ≡ new.pools =
+        ap (map (replaced_in block.place (merged ∷ []))) (ap (without_block back) without_front ∙ without_back)
+        ∙ replaced_at past_spot block (past_free blocks) (block_alone past_spot block (past_free blocks) once_both) (merged ∷ []) in
+        ap (λ x. after x (free_behind block.place old) (size_at block.place (blocks_of old.pools))) f_is
+        ∙ ap (λ y. after front y (size_at block.place (blocks_of old.pools))) b_is
+        ∙ ap (after front back) (size_here spot block blocks alone)
+        ∙ ap (λ pools. record new { pools = pools }) by_pools
+
+    pub after_is_good : IsGood (after_free block.place old)
+    after_is_good = let P : Content A → Type 0 = λ x. IsGood x in subst P (sym after_is) new_is_good
+
+  any_counts : (test : Block A → Bool) (blocks : List (Block A)) → list_any test blocks ≡ true → 1 ≤ count_by test blocks
+  any_counts test [] any = absurd (false≢true any)
+  any_counts test (block ∷ blocks) any = elim (cases_Bool (test block)) [
+    | inl passes ↦ omega (arith, count-cons test block blocks, ap one_if passes)
+    | inr fails ↦ omega (arith, count-cons test block blocks, any_counts test blocks (sym (ap (λ b. b || list_any test blocks) fails) ∙ any))
+  ]
+
+  owned_is_live : (is_meant : A → Bool) (owner : Option A) → is_owned_by is_meant owner ≡ true → is_none owner ≡ false
+  owned_is_live is_meant None owned = absurd (false≢true owned)
+  owned_is_live is_meant (Some a) owned = refl
+
+  -- the content after the free of a live block is good
+  pub freed_is_good : (is_meant : A → Bool) (place : ℕ) (content : Content A) → IsGood content → is_live is_meant place (blocks_of content.pools) ≡ true → IsGood (after_free place content)
+  freed_is_good is_meant place content good live =
+      let test : Block A → Bool = λ block. is_at place block && is_owned_by is_meant block.owner in
+      let at : LocatedBlock test content.pools = located_block test content.pools (any_counts test (blocks_of content.pools) live) in
+      let parts = and_parts _ _ at.passes in
+      let P : List (Pool A) → Type 0 = λ pools. IsGood (record content { pools = pools }) → IsGood (after_free place (record content { pools = pools })) in
+      let Q : ℕ → Type 0 = λ p. IsGood (after_free p (record content { pools = filled_pools at.spot (at.block ∷ at.blocks) })) in
+      subst P (sym at.whole) (λ g. subst Q (eqb-true at.block.place place parts.0) (after_is_good content.records at.spot at.block at.blocks content.lists g (owned_is_live is_meant at.block.owner parts.1))) good
