@@ -19,4 +19,5 @@ pub mod Located
 pub mod Used
 pub mod Joinable
 pub mod Steps
+pub mod Live
 mod Rows

@@ -1,7 +1,8 @@
 -- How many items of a list pass a test: in parts of the list, and for several tests at once.
-use Rattle.std.proofs.Common.{◌≡◌, ℕ, zero, suc, ◌+◌, ◌≤◌, Bool, true, false, cond, not, ◌&&◌, List, [], ◌∷◌, ◌++◌, refl, sym, ap, ◌∙◌, arith, count_by, filter, length, map, inl, inr}
+use Rattle.std.proofs.Common.{◌≡◌, ℕ, zero, suc, ◌+◌, ◌≤◌, Bool, true, false, cond, not, ◌&&◌, ◌||◌, List, [], ◌∷◌, ◌++◌, refl, sym, ap, ◌∙◌, arith, count_by, filter, length, map, inl, inr}
 use Rattle.std.proofs.lemmas.List.Sums.{sum_by-cons, sum_by-append}
-use Rattle.std.proofs.lemmas.Bool.{cases_Bool}
+use Rattle.std.proofs.lemmas.Bool.{cases_Bool, false≢true}
+use Rattle.std.specs.List.{list_any}
 use Rattle.tlsf_heap.specs.Inner.Spots.{plug}
 
 -- 1 where it is true
@@ -122,3 +123,22 @@ count-map p f (x ∷ xs) = omega (arith, count-cons p (f x) (map f xs), count-co
 pub count_all : {X : Type 0} (xs : List X) → count_by (λ x. true) xs ≡ length xs
 count_all [] = refl
 count_all (x ∷ xs) = omega (arith, count-cons (λ y. true) x xs, count_all xs)
+
+-- whether any passes, and how many do
+pub any_counts : {X : Type 0} (test : X → Bool) (xs : List X) → list_any test xs ≡ true → 1 ≤ count_by test xs
+any_counts test [] any = absurd (false≢true any)
+any_counts test (x ∷ xs) any = elim (cases_Bool (test x)) [
+  | inl passes ↦ omega (arith, count-cons test x xs, ap one_if passes)
+  | inr fails ↦ omega (arith, count-cons test x xs, any_counts test xs (sym (ap (λ b. b || list_any test xs) fails) ∙ any))
+]
+
+pub counts_any : {X : Type 0} (test : X → Bool) (xs : List X) → 1 ≤ count_by test xs → list_any test xs ≡ true
+counts_any test [] some = absurd (omega (arith, some))
+counts_any test (x ∷ xs) some = elim (cases_Bool (test x)) [
+  | inl passes ↦ ap (λ b. b || list_any test xs) passes
+  | inr fails ↦ ap (λ b. b || list_any test xs) fails ∙ counts_any test xs (omega (arith, some, count-cons test x xs, ap one_if fails))
+]
+
+pub any-map : {X Y : Type 0} (test : Y → Bool) (f : X → Y) (xs : List X) → list_any test (map f xs) ≡ list_any (λ x. test (f x)) xs
+any-map test f [] = refl
+any-map test f (x ∷ xs) = ap (λ b. test (f x) || b) (any-map test f xs)

@@ -2,12 +2,17 @@
 use Rattle.std.proofs.Common.{◌≡◌, ℕ, ◌+◌, ◌≤◌, List, [], ◌∷◌, map, refl, sym, ap, ◌∙◌, subst, arith}
 use Rattle.std.specs.List.{AllByRecursion}
 use Rattle.tlsf_heap.specs.Content.{Block, Pool}
-use Rattle.tlsf_heap.specs.Good.{Covers}
+use Rattle.tlsf_heap.specs.Good.{Covers, AreGoodPools}
 use Rattle.tlsf_heap.specs.Release.{IsCovered, AreCovered}
 use Rattle.tlsf_heap.specs.Inner.Nodes.{Status, Node, Area, block_of, pool_of}
 use Rattle.tlsf_heap.specs.Inner.Spots.{plug, Spot, filled}
 use Rattle.tlsf_heap.proofs.GoodContent.{IsWhole, whole_in_pool}
 use Rattle.tlsf_heap.proofs.Inner.Plugs.{map-plug, all_parts}
+
+-- good pools are covered
+pub covered_good : {A : Type 0} (from : ℕ) (pools : List (Pool A)) → AreGoodPools from pools → AreCovered from pools
+covered_good from [] g = tt
+covered_good from (pool ∷ pools) g = (g.0, record { most_bytes = g.1.most_bytes; ends = g.1.ends; covered = g.1.covered }, covered_good (pool.base + pool.bytes) pools g.2)
 
 -- the pools behind others are covered, from some place on
 covered_behind : (from : ℕ) (front areas : List Area) → AreCovered from (map pool_of (plug front areas)) → (place : ℕ) × AreCovered place (map pool_of areas)

@@ -14,7 +14,7 @@ use Rattle.tlsf_heap.specs.LocalFree.{free_block, without_block, after_free, fre
 use Rattle.tlsf_heap.specs.Inner.Spots.{plug}
 use Rattle.tlsf_heap.proofs.Blocks.{Ascends-pools}
 use Rattle.tlsf_heap.proofs.FreeLists.{stands, times-link, times-unlink, length-link, length-unlink}
-use Rattle.tlsf_heap.proofs.Inner.Counts.{one_if, count-cons, count-plug, count_and, count_all}
+use Rattle.tlsf_heap.proofs.Inner.Counts.{one_if, count-cons, count_all, any_counts}
 use Rattle.tlsf_heap.proofs.Meaning.BlockSpots.{BlockSpot, first_of, pool_at, filled_pools, around_blocks, count-filled_pools, LocatedBlock, located_block, at_most_one, IsAlone, block_alone, replaced_at, front_at, back_at, size_here}
 
 pub length-plug : {X : Type 0} (front behind : List X) → length (plug front behind) ≡ length front + length behind
@@ -379,13 +379,6 @@ module _ {A : Type 0} where
 
     pub after_is_good : IsGood (after_free block.place old)
     after_is_good = let P : Content A → Type 0 = λ x. IsGood x in subst P (sym after_is) new_is_good
-
-  any_counts : (test : Block A → Bool) (blocks : List (Block A)) → list_any test blocks ≡ true → 1 ≤ count_by test blocks
-  any_counts test [] any = absurd (false≢true any)
-  any_counts test (block ∷ blocks) any = elim (cases_Bool (test block)) [
-    | inl passes ↦ omega (arith, count-cons test block blocks, ap one_if passes)
-    | inr fails ↦ omega (arith, count-cons test block blocks, any_counts test blocks (sym (ap (λ b. b || list_any test blocks) fails) ∙ any))
-  ]
 
   owned_is_live : (is_meant : A → Bool) (owner : Option A) → is_owned_by is_meant owner ≡ true → is_none owner ≡ false
   owned_is_live is_meant None owned = absurd (false≢true owned)

@@ -1,0 +1,158 @@
+-- The live block that a pointer is of, as a node at its spot, and what is left once it was freed.
+use Rattle.std.proofs.Common.{◌≡◌, ◌≢◌, ℕ, ◌+◌, ◌≤◌, Bool, true, false, ◌&&◌, List, [], ◌∷◌, map, refl, sym, ap, ◌∙◌, subst, arith, count_by, Option, Some, None, inl, inr}
+use Rattle.std.specs.Prelude.{◌==◌}
+use Rattle.std.specs.List.{list_any}
+use Rattle.std.proofs.lemmas.Bool.{cases_Bool, eq-eqb, eqb-true, and_parts, false≢true}
+use Rattle.tlsf_store.specs.declared.records.Record.{Record}
+use Rattle.tlsf_store.specs.declared.records.State.{State}
+use Rattle.tlsf_store.specs.declared.records.State.TheVariants.{Vacant, Free, Live}
+use Rattle.tlsf_store.specs.Records.{record_at}
+use Rattle.tlsf_store.specs.Cells.{Cells}
+use Rattle.tlsf_heap.specs.Content.{Block, Pool, Content, blocks_of, is_at}
+use Rattle.tlsf_heap.specs.Good.{times, IsGood}
+use Rattle.tlsf_heap.specs.Free.{is_owned_by, is_live}
+use Rattle.tlsf_heap.specs.LocalFree.{after_free}
+use Rattle.tlsf_heap.specs.Inner.Nodes.{Status, InUse, Listed, Loose, Node, Layout, turned, owner_of, block_of, pool_of, content_by, nodes_of, has_slot, has_place}
+use Rattle.tlsf_heap.specs.Inner.Spots.{filled}
+use Rattle.tlsf_heap.specs.Inner.Represents.{InPool, state_of, uses_in, Represents}
+use Rattle.tlsf_heap.specs.Inner.Joined.{is_loose, freed}
+use Rattle.tlsf_heap.specs.Inner.Following.{content_of, Stands}
+use Rattle.tlsf_heap.specs.Inner.At.{At, areas_at, layout_at, IsAt, StandsAt, at_freed}
+use Rattle.tlsf_heap.proofs.Inner.Counts.{one_if, count-cons, any_counts, counts_any, any-map}
+use Rattle.tlsf_heap.proofs.Inner.Plugs.{count-filled}
+use Rattle.tlsf_heap.proofs.Inner.Chains.{AtNode, at_node, uses_most}
+use Rattle.tlsf_heap.proofs.Inner.Followed.{content_is, stood_for}
+use Rattle.tlsf_heap.proofs.Inner.Located.{Located, located}
+use Rattle.tlsf_heap.proofs.Inner.Steps.{place_read}
+use Rattle.tlsf_heap.proofs.Meaning.Places.{Told, places_once, blocks_of_areas}
+use Rattle.tlsf_heap.proofs.Meaning.Covered.{covered_good}
+use Rattle.tlsf_heap.proofs.Meaning.Freed.{freed_is}
+use Rattle.tlsf_heap.proofs.Meaning.FreedIsGood.{freed_is_good}
+
+-- whether the node is live, with this place and this slot
+abbrev is_live_node : ℕ → ℕ → Node → Bool
+is_live_node place slot node = has_place place node && is_owned_by (λ owner. owner == slot) (owner_of node.status node.slot)
+
+owned_in_use : (slot q : ℕ) (status : Status) → is_owned_by (λ owner. owner == slot) (owner_of status q) ≡ true → (status ≡ InUse) × (q ≡ slot)
+owned_in_use slot q InUse owned = (refl, eqb-true q slot owned)
+owned_in_use slot q Listed owned = absurd (false≢true owned)
+owned_in_use slot q Loose owned = absurd (false≢true owned)
+
+live_in_use : (status : Status) → state_of status ≡ Live → status ≡ InUse
+live_in_use InUse live = refl
+live_in_use Listed live = absurd (cc)
+live_in_use Loose live = absurd (cc)
+
+-- the node of a layout at its spot
+pub record NodeAt (place slot : ℕ) (status : Status) (cells : Cells) (layout : Layout) : Type 0 where
+  pub at : At
+  pub stands : StandsAt slot status cells at
+  pub place_is : at.node.place ≡ place
+  pub layout_is : layout ≡ layout_at at
+
+module _ (cells : Cells) (stands : Stands cells) where
+  -- a node that is found, where no node is loose
+  node_at : (test : Node → Bool) (place slot : ℕ) (status : Status) (found : Located test stands.layout.areas) → found.node.slot ≡ slot → found.node.status ≡ status → found.node.place ≡ place → NodeAt place slot status cells stands.layout
+  node_at test place slot status found slot_is status_is place_is =
+      let layout : Layout = stands.layout in
+      let at : At = record { count = layout.count; spot = found.spot; node = found.node; nodes = found.nodes; lists = layout.lists; taken = layout.taken } in
+      let same : layout ≡ layout_at at = ap (λ areas. record layout { areas = areas }) found.whole in
+      let loose : Node → Bool = λ node. is_loose node.status in
+      let P : Layout → Type 0 = λ l. Represents cells l in
+      let settled = ap (λ areas. count_by loose (nodes_of areas)) (sym found.whole) ∙ stands.settled in
+      record {
+        at = at;
+        stands = (
+          subst P same stands.represented,
+          record {
+            slot_is = slot_is;
+            status_is = status_is;
+            others_settled = omega (arith, settled, count-filled loose found.spot (found.node ∷ found.nodes), count-filled loose found.spot found.nodes, count-cons loose found.node found.nodes);
+            covered = covered_good 0 (map pool_of (areas_at at)) (let Q : Layout → Type 0 = λ l. IsGood (content_by l) in (subst Q same stands.good).pools_good);
+          },
+        );
+        place_is = place_is;
+        layout_is = same;
+      }
+
+  told : (place slot : ℕ) → is_live (λ owner. owner == slot) place (blocks_of (content_of cells).pools) ≡ list_any (is_live_node place slot) (nodes_of stands.layout.areas)
+  told place slot =
+      ap (λ (x : Content ℕ). is_live (λ owner. owner == slot) place (blocks_of x.pools)) (stood_for cells stands)
+      ∙ ap (is_live (λ owner. owner == slot) place) (blocks_of_areas stands.layout.areas)
+      ∙ any-map (λ (block : Block ℕ). is_at place block && is_owned_by (λ owner. owner == slot) block.owner) block_of (nodes_of stands.layout.areas)
+
+  -- a live block is a node in use
+  pub live_at : (place slot : ℕ) → is_live (λ owner. owner == slot) place (blocks_of (content_of cells).pools) ≡ true → NodeAt place slot InUse cells stands.layout
+  live_at place slot live =
+      let found : Located (is_live_node place slot) stands.layout.areas = located (is_live_node place slot) stands.layout.areas (any_counts (is_live_node place slot) (nodes_of stands.layout.areas) (sym (told place slot) ∙ live)) in
+      let parts = and_parts _ _ found.passes in
+      let owned = owned_in_use slot found.node.slot found.node.status parts.1 in
+      node_at (is_live_node place slot) place slot InUse found owned.1 owned.0 (eqb-true found.node.place place parts.0)
+
+  -- where the slot's record is live
+  pub has_live : (place slot : ℕ) → (record_at cells.records slot).state ≡ Live → (record_at cells.records slot).place ≡ place → is_live (λ owner. owner == slot) place (blocks_of (content_of cells).pools) ≡ true
+  has_live place slot live place_is =
+      let none : times slot stands.layout.taken ≡ 0 = ap (times slot) stands.none_taken in
+      let found : Located (has_slot slot) stands.layout.areas = located (has_slot slot) stands.layout.areas (omega (arith, stands.represented.chains.once slot, none, ap uses_in live)) in
+      let own : found.node.slot ≡ slot = eqb-true found.node.slot slot found.passes in
+      let P : Layout → Type 0 = λ l. Represents cells l in
+      let was : Represents cells (record stands.layout { areas = filled found.spot (found.node ∷ found.nodes) }) = subst P (ap (λ areas. record stands.layout { areas = areas }) found.whole) stands.represented in
+      let here : AtNode cells.records found.spot found.node found.nodes stands.layout.taken = at_node cells.records found.spot found.node found.nodes stands.layout.taken was.chains in
+      let in_use : found.node.status ≡ InUse = live_in_use found.node.status (sym (ap (λ (v : InPool). v.state) here.says) ∙ ap (λ q. (record_at cells.records q).state) own ∙ live) in
+      let place_too : found.node.place ≡ place = sym (ap (λ (v : InPool). v.place) here.says) ∙ ap (λ q. (record_at cells.records q).place) own ∙ place_is in
+      let test : Node → Bool = is_live_node place slot in
+      let Q : Status → Type 0 = λ s. is_owned_by (λ owner. owner == slot) (owner_of s found.node.slot) ≡ true in
+      let owned : is_owned_by (λ owner. owner == slot) (owner_of found.node.status found.node.slot) ≡ true = subst Q (sym in_use) (eq-eqb found.node.slot slot own) in
+      let passes : test found.node ≡ true = rw (eq-eqb found.node.place place place_too, owned) refl in
+      told place slot
+      ∙ counts_any test (nodes_of stands.layout.areas)
+      (omega (arith, ap (λ areas. count_by test (nodes_of areas)) found.whole, count-filled test found.spot (found.node ∷ found.nodes), count-cons test found.node found.nodes, ap one_if passes))
+
+  pub not_live : (place slot : ℕ) → ((record_at cells.records slot).state ≡ Live → (record_at cells.records slot).place ≢ place) → is_live (λ owner. owner == slot) place (blocks_of (content_of cells).pools) ≡ false
+  not_live place slot isnt = elim (cases_Bool (is_live (λ owner. owner == slot) place (blocks_of (content_of cells).pools))) [
+    | inl live ↦
+        let node : NodeAt place slot InUse cells stands.layout = live_at place slot live in
+        let at : At = node.at in
+        let here : AtNode cells.records at.spot at.node at.nodes at.taken = at_node cells.records at.spot at.node at.nodes at.taken node.stands.0.chains in
+        let state = ap (λ q. (record_at cells.records q).state) (sym node.stands.1.slot_is) ∙ ap (λ (v : InPool). v.state) here.says ∙ ap state_of node.stands.1.status_is in
+        absurd (isnt state (place_read cells slot InUse at node.stands ∙ node.place_is))
+    | inr none ↦ none
+  ]
+
+  -- what stands after the block was freed, and for what
+  pub freed_stands : (place slot : ℕ) (new : Cells) (node : NodeAt place slot InUse cells stands.layout) → is_live (λ owner. owner == slot) place (blocks_of (content_of cells).pools) ≡ true
+      → StandsAt (at_freed node.at).node.slot Listed new (at_freed node.at) → Stands new × (content_of new ≡ after_free place (content_of cells))
+  freed_stands place slot new node live after =
+      let at : At = node.at in
+      let P : Layout → Type 0 = λ l. IsGood (content_by l) in
+      let good : IsGood (content_by (layout_at at)) = subst P node.layout_is stands.good in
+      let was = node.stands.0 in
+      let loose : Node → Bool = λ n. is_loose n.status in
+      let all_told : Told (areas_at at) at.lists = record {
+        full = was.index.lists_count;
+        agree = was.agree;
+        slots = λ q. omega (arith, was.chains.once q, uses_most (record_at cells.records q).state);
+        places = places_once (layout_at at) good;
+      } in
+      let others = node.stands.1.others_settled in
+      let is : content_by (layout_at (at_freed at)) ≡ after_free at.node.place (content_by (layout_at at)) =
+      freed_is at.spot at.node at.nodes at.lists all_told at.count at.taken at.taken (omega (arith, others, count-filled loose at.spot at.nodes)) (omega (arith, others, count-filled loose at.spot at.nodes)) in
+      let stood : content_of cells ≡ content_by (layout_at at) = stood_for cells stands ∙ ap content_by node.layout_is in
+      let all : content_by (layout_at (at_freed at)) ≡ after_free place (content_of cells) = is ∙ ap (λ p. after_free p (content_by (layout_at at))) node.place_is ∙ ap (after_free place) (sym stood) in
+      let Q : Content ℕ → Type 0 = λ x. IsGood x in
+      let R : Content ℕ → Type 0 = λ x. IsGood (after_free place x) in (
+        record {
+          layout = layout_at (at_freed at);
+          represented = after.0;
+          settled = omega (
+            arith,
+            after.1.others_settled,
+            count-filled loose (at_freed at).spot ((at_freed at).node ∷ (at_freed at).nodes),
+            count-filled loose (at_freed at).spot (at_freed at).nodes,
+            count-cons loose (at_freed at).node (at_freed at).nodes,
+          );
+          none_taken = ap (λ (l : Layout). l.taken) (sym node.layout_is) ∙ stands.none_taken;
+          good = subst Q (sym all) (freed_is_good (λ owner. owner == slot) place (content_of cells) (subst Q (sym (stood_for cells stands)) stands.good) live);
+        },
+        content_is new (layout_at (at_freed at)) after.0 ∙ all,
+      )
