@@ -1,19 +1,63 @@
 //! free: the block becomes free, takes in its free neighbours, and enters its class's list.
 
-ghost use Rattle.std.specs.Prelude.{◌≡◌, ◌+◌, ◌≤◌};
+ghost use Rattle.std.specs.Prelude.{◌≡◌, ◌+◌, ◌≤◌, ◌==◌, Ok, Err, OnOk, IfErr, OnErr};
 ghost use Rattle.tlsf_class.specs.Classes.{class};
-ghost use Rattle.tlsf_heap.specs.Edits.{linked, unlinked};
+ghost use Rattle.tlsf_heap.specs.Content.{blocks_of};
+ghost use Rattle.tlsf_heap.specs.Free.{is_live as is_live_in};
+ghost use Rattle.tlsf_heap.specs.LocalFree.{free as freed};
+ghost use Rattle.tlsf_heap.specs.Edits.{unlinked};
 ghost use Rattle.tlsf_heap.specs.Release.{is_state_free, joined};
 ghost use Rattle.tlsf_heap.specs.Inner.Nodes.{InUse, Listed, Loose};
+ghost use Rattle.tlsf_heap.specs.Inner.Following.{Stands, content_of};
 ghost use Rattle.tlsf_heap.specs.Inner.At.{At, StandsAt, IsJoinable, front_joined, back_joined, at_listed, at_freed};
 
 use crate::chains::{absorb, set_state};
 use crate::free_lists::{link, unlink};
+use crate::{Ptr, Refusal};
 use tlsf_class::class_of;
 use tlsf_store::{Slot, State, Store};
 
+/// The block becomes free, and one free block with its free neighbours in the pool. At most 46 touches.
+///
+/// # Errors
+///
+/// As `Heap::free`.
+pub(crate) fn free(store: &mut Store, ptr: Ptr) -> Result<(), Refusal>
+    requires { Stands store.old }
+    ensures stands { Stands store.new }
+    ensures ok { OnOk result (freed (λ slot. slot == ptr.1) ptr.0 (content_of store.old) ≡ Ok (content_of store.new)) }
+    ensures refused { IfErr result (λ refusal. freed (λ slot. slot == ptr.1) ptr.0 (content_of store.old) ≡ Err refusal) }
+    ensures unchanged { OnErr result (content_of store.new ≡ content_of store.old) }
+    ensures floor { store.old.touches ≤ store.new.touches }
+    ensures bound { store.new.touches ≤ store.old.touches + 75 }
+{
+    if !is_live(store, ptr) {
+        return Err(Refusal::BadPointer);
+    }
+    release(store, Slot(ptr.slot()));
+    Ok(())
+}
+
+/// Whether a live block has the pointer's place and slot. At most one touch.
+fn is_live(store: &mut Store, ptr: Ptr) -> bool
+    requires { Stands store.old }
+    ensures value { result ≡ is_live_in (λ slot. slot == ptr.1) ptr.0 (blocks_of (content_of store.old).pools) }
+    ensures cells { store.new ≡ record store.old { touches = store.new.touches } }
+    ensures floor { store.old.touches ≤ store.new.touches }
+    ensures bound { store.new.touches ≤ store.old.touches + 1 }
+{
+    if u32::from(ptr.slot()) >= store.records() {
+        return false;
+    }
+    let block = store.read(Slot(ptr.slot()));
+    match block.state {
+        State::Live => block.place == ptr.place(),
+        State::Vacant | State::Free => false,
+    }
+}
+
 /// The block becomes free, and one free block with its free neighbours in the pool. At most 45 touches.
-pub(crate) fn release(store: &mut Store, slot: Slot)
+fn release(store: &mut Store, slot: Slot)
     requires { (at : At) × StandsAt slot InUse store.old at }
     ensures leads { (at : At) → StandsAt slot InUse store.old at → StandsAt (at_freed at).node.slot Listed store.new (at_freed at) }
     ensures floor { store.old.touches ≤ store.new.touches }

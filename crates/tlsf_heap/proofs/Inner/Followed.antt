@@ -108,3 +108,11 @@ module _ (cells : Cells) (layout : Layout) (was : Represents cells layout) where
 
 pub stood_for : (cells : Cells) (stands : Stands cells) → content_of cells ≡ content_by stands.layout
 stood_for cells stands = content_is cells stands.layout stands.represented
+
+-- how often the cells were touched is not seen
+pub stands_touched : (cells : Cells) (n : ℕ) → Stands cells → Stands (record cells { touches = n })
+stands_touched cells n stands = record { layout = stands.layout; represented = stands.represented; settled = stands.settled; none_taken = stands.none_taken; good = stands.good }
+
+pub content_touched : (cells : Cells) (n : ℕ) → content_of (record cells { touches = n }) ≡ content_of cells
+unfolding content_of
+content_touched cells n = refl
