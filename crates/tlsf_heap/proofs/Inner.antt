@@ -20,4 +20,5 @@ pub mod Used
 pub mod Joinable
 pub mod Steps
 pub mod Live
+pub mod Allotted
 mod Rows

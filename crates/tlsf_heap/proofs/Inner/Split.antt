@@ -10,7 +10,7 @@ use Rattle.tlsf_store.proofs.RecordLaws.{record_at-set_same, record_at-set_other
 use Rattle.tlsf_heap.specs.Edits.{edited_in}
 use Rattle.tlsf_heap.specs.Chains.{rest_of, split}
 use Rattle.tlsf_heap.specs.Good.{times}
-use Rattle.tlsf_heap.specs.Inner.Nodes.{Node, Loose, has_slot, list_of, is_listed, is_listed_in}
+use Rattle.tlsf_heap.specs.Inner.Nodes.{Node, rest_node, has_slot, list_of, is_listed, is_listed_in}
 use Rattle.tlsf_heap.specs.Inner.Spots.{Spot, laid, filled}
 use Rattle.tlsf_heap.specs.Inner.Represents.{InPool, pool_view, list_view, pool_views, list_views, in_pool, first_slot, uses_in, Represented, Represents}
 use Rattle.tlsf_heap.proofs.Inner.Counts.{one_if, count-cons}
@@ -18,10 +18,6 @@ use Rattle.tlsf_heap.proofs.Inner.Plugs.{around}
 use Rattle.tlsf_heap.proofs.Inner.Links.{linked_moved, first_stands}
 use Rattle.tlsf_heap.proofs.Inner.Reads.{length-edited, edited_here, edited_apart, edited_kept, set_kept}
 use Rattle.tlsf_heap.proofs.Inner.Chains.{times-cons, not_taken, unlisted, listed_within, AtNode, at_node, refilled}
-
--- the node of what is left of a node behind its first bytes
-abbrev pub rest_node : ℕ → ℕ → Node → Node
-rest_node rest bytes node = record { slot = rest; place = node.place + bytes; size = node.size - bytes; status = Loose }
 
 module _ (cells : Cells) (count : ℕ) (spot : Spot) (node : Node) (nodes : List Node) (lists : List (List Node)) (rest : ℕ) (taken : List ℕ) (bytes : ℕ)
     (was : Represents cells (laid count spot (node ∷ nodes) lists (rest ∷ taken))) (was_not : is_listed node.status ≡ false) where

@@ -40,7 +40,7 @@ module _ (cells : Cells) (slot : ℕ) (status : Status) (at : At) (stands : Stan
   first_used = head_used cells (layout_at at) at.node stands.0
 
   -- the node in another status covers the same
-  covered_turned : (new : Status) → AreCovered 0 (map pool_of (areas_at (at_turned new at)))
+  pub covered_turned : (new : Status) → AreCovered 0 (map pool_of (areas_at (at_turned new at)))
   covered_turned new = covered_refilled at.spot (at.node ∷ at.nodes) (turned new at.node ∷ at.nodes) (λ from to c. c) stands.1.covered
 
   pub turned_stands : (new : Status) → is_listed status ≡ false → is_listed new ≡ false → StandsAt slot new (with_state slot (state_of new) cells) (at_turned new at)

@@ -4,10 +4,9 @@ use Rattle.std.proofs.lemmas.Bool.{ne_eqb}
 use Rattle.tlsf_heap.specs.Content.{Block, Pool, Content}
 use Rattle.tlsf_heap.specs.Lists.{link, unlink}
 use Rattle.tlsf_heap.specs.Malloc.{gap, link_gap, cut, replaced_in, allocated}
-use Rattle.tlsf_heap.specs.Inner.Nodes.{Node, InUse, Listed, turned, block_of, pool_of, content_by, left, entered}
+use Rattle.tlsf_heap.specs.Inner.Nodes.{Node, InUse, Listed, turned, rest_node, block_of, pool_of, content_by, left, entered}
 use Rattle.tlsf_heap.specs.Inner.Spots.{Spot, filled, laid}
 use Rattle.tlsf_heap.proofs.Inner.Lists.{length-left}
-use Rattle.tlsf_heap.proofs.Inner.Split.{rest_node}
 use Rattle.tlsf_heap.proofs.Meaning.Places.{Told, Alike, alone, alike, by_places, places-entered, places-left}
 use Rattle.tlsf_heap.proofs.Meaning.NodeBlocks.{pools_replaced}
 

@@ -6,7 +6,7 @@ use Rattle.tlsf_store.specs.Records.{record_at}
 use Rattle.tlsf_store.specs.Cells.{Cells}
 use Rattle.tlsf_heap.specs.Edits.{IsUsed}
 use Rattle.tlsf_heap.specs.Release.{AreCovered}
-use Rattle.tlsf_heap.specs.Inner.Nodes.{Status, Listed, Loose, Node, Area, Layout, turned, pool_of, nodes_of, entered}
+use Rattle.tlsf_heap.specs.Inner.Nodes.{Status, InUse, Listed, Loose, Node, Area, Layout, turned, rest_node, pool_of, nodes_of, left, entered}
 use Rattle.tlsf_heap.specs.Inner.Spots.{Spot, filled, laid}
 use Rattle.tlsf_heap.specs.Inner.Joined.{is_loose, listed_first, past, left_by, grown_in_front, grown_behind, spot_past}
 use Rattle.tlsf_heap.specs.Inner.Represents.{Represents}
@@ -47,6 +47,26 @@ back_joined at = record at { node = grown_behind (listed_first at.nodes) at.node
 -- the node entered its list
 abbrev pub at_listed : At → At
 at_listed at = record at { node = turned Listed at.node; lists = entered (turned Listed at.node) at.lists }
+
+-- the node left its list
+abbrev pub at_unlisted : At → At
+at_unlisted at = record at { node = turned Loose at.node; lists = left (turned Listed at.node) at.lists }
+
+-- and is in use
+abbrev pub at_taken : At → At
+at_taken at = record at { node = turned InUse at.node; lists = left (turned Listed at.node) at.lists }
+
+-- a slot was taken for a block to come
+abbrev pub with_slot : ℕ → At → At
+with_slot slot at = record at { taken = slot ∷ at.taken }
+
+-- the node of what is left behind the first bytes of the node, which keeps those
+abbrev pub at_split : ℕ → ℕ → At → At
+at_split rest bytes at = record at { spot = record at.spot { before = record at.node { size = bytes } ∷ at.spot.before }; node = rest_node rest bytes at.node }
+
+-- and it entered its list
+abbrev pub at_cut : ℕ → ℕ → At → At
+at_cut rest bytes at = at_listed (at_split rest bytes at)
 
 -- a node in use became free, one with the free ones beside it, and listed
 abbrev pub at_freed : At → At

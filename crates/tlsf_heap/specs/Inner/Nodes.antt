@@ -1,5 +1,5 @@
 -- Nodes: the blocks of a heap with the slots of their records, by pool and by class.
-use Rattle.std.specs.Prelude.{ℕ, Bool, true, false, not, ◌&&◌, ◌==◌, List, [], ◌∷◌, map, flat_map, filter, slice_index_or, slice_set, Option, Some, None}
+use Rattle.std.specs.Prelude.{ℕ, ◌+◌, ◌-◌, Bool, true, false, not, ◌&&◌, ◌==◌, List, [], ◌∷◌, map, flat_map, filter, slice_index_or, slice_set, Option, Some, None}
 use Rattle.tlsf_class.specs.Classes.{class}
 use Rattle.tlsf_heap.specs.declared.pool_entry.PoolEntry.{PoolEntry}
 use Rattle.tlsf_heap.specs.Content.{Block, Pool, Content}
@@ -53,6 +53,10 @@ content_by layout = record {
 -- the node in another status
 abbrev pub turned : Status → Node → Node
 turned status node = record node { status = status }
+
+-- the loose node of what is left of a node behind its first bytes
+abbrev pub rest_node : ℕ → ℕ → Node → Node
+rest_node rest bytes node = record { slot = rest; place = node.place + bytes; size = node.size - bytes; status = Loose }
 
 -- all nodes, area after area
 abbrev pub nodes_of : List Area → List Node

@@ -1,0 +1,99 @@
+-- A listed node leaves its list and is in use, and what is left behind its first bytes is listed: what the steps need and leave.
+use Rattle.std.proofs.Common.{◌≡◌, ◌≢◌, ℕ, ◌+◌, ◌-◌, ◌%◌, ◌<◌, ◌≤◌, Bool, false, List, [], ◌∷◌, length, map, refl, sym, ap, ◌∙◌, subst, arith, count_by, Option, Some}
+use Rattle.std.proofs.lemmas.Bool.{eq-eqb}
+use Rattle.tlsf_class.specs.Classes.{unit, greatest_size, class}
+use Rattle.tlsf_store.specs.declared.records.Record.{Record}
+use Rattle.tlsf_store.specs.declared.records.State.TheVariants.{Live}
+use Rattle.tlsf_store.specs.Records.{blank, record_at}
+use Rattle.tlsf_store.specs.Cells.{Cells, head_at, with_taken}
+use Rattle.tlsf_heap.specs.Good.{Covers, times}
+use Rattle.tlsf_heap.specs.Edits.{IsUsed, linked, unlinked}
+use Rattle.tlsf_heap.specs.Chains.{with_state, split}
+use Rattle.tlsf_heap.specs.Release.{AreCovered}
+use Rattle.tlsf_heap.specs.Inner.Nodes.{Status, InUse, Listed, Loose, Node, turned, rest_node, block_of, pool_of, is_listed}
+use Rattle.tlsf_heap.specs.Inner.Spots.{Spot}
+use Rattle.tlsf_heap.specs.Inner.Joined.{is_loose}
+use Rattle.tlsf_heap.specs.Inner.Represents.{Represents}
+use Rattle.tlsf_heap.specs.Inner.At.{At, areas_at, layout_at, IsAt, StandsAt, at_unlisted, at_taken, with_slot, at_split, at_cut}
+use Rattle.tlsf_heap.proofs.GoodContent.{IsWhole}
+use Rattle.tlsf_heap.proofs.Inner.Counts.{one_if, count-cons}
+use Rattle.tlsf_heap.proofs.Inner.Plugs.{count-filled}
+use Rattle.tlsf_heap.proofs.Inner.Chains.{times-cons, AtNode, at_node}
+use Rattle.tlsf_heap.proofs.Inner.Used.{stands_used, next_used}
+use Rattle.tlsf_heap.proofs.Inner.Unlinked.{unlinked_laid, prev_free_used, next_free_used}
+use Rattle.tlsf_heap.proofs.Inner.Split.{split_laid}
+use Rattle.tlsf_heap.proofs.Inner.Taken.{slot_taken}
+use Rattle.tlsf_heap.proofs.Inner.Steps.{slot_used, size_read, whole_at, first_used, covered_turned, turned_stands, listed_stands}
+use Rattle.tlsf_heap.proofs.Meaning.Covered.{covered_refilled}
+
+module _ (cells : Cells) (slot : ℕ) (at : At) (stands : StandsAt slot Listed cells at) where
+  listed_was : Represents cells (layout_at (record at { node = turned Listed at.node }))
+  listed_was =
+      let P : Node → Type 0 = λ n. Represents cells (layout_at (record at { node = n })) in
+      let same : at.node ≡ turned Listed at.node = ap (λ s. turned s at.node) stands.1.status_is in
+      subst P same stands.0
+
+  pub prev_used : IsUsed cells.records (record_at cells.records slot).prev_free
+  prev_used =
+      let P : ℕ → Type 0 = λ q. IsUsed cells.records (record_at cells.records q).prev_free in
+      subst P stands.1.slot_is (prev_free_used cells at.count at.spot (turned Listed at.node) at.nodes at.lists at.taken listed_was)
+
+  pub behind_used : IsUsed cells.records (record_at cells.records slot).next_free
+  behind_used =
+      let P : ℕ → Type 0 = λ q. IsUsed cells.records (record_at cells.records q).next_free in
+      subst P stands.1.slot_is (next_free_used cells at.count at.spot (turned Listed at.node) at.nodes at.lists at.taken listed_was)
+
+  pub unlinked_stands : StandsAt slot Loose (unlinked (class at.node.size) slot cells) (at_unlisted at)
+  unlinked_stands =
+      let P : ℕ → Type 0 = λ q. Represents (unlinked (class at.node.size) q cells) (layout_at (at_unlisted at)) in (
+        subst P stands.1.slot_is (unlinked_laid cells at.count at.spot (turned Listed at.node) at.nodes at.lists at.taken listed_was),
+        record { slot_is = stands.1.slot_is; status_is = refl; others_settled = stands.1.others_settled; covered = covered_turned cells slot Listed at stands Loose },
+      )
+
+  pub taken_stands : StandsAt slot InUse (with_state slot Live (unlinked (class at.node.size) slot cells)) (at_taken at)
+  taken_stands = turned_stands (unlinked (class at.node.size) slot cells) slot Loose (at_unlisted at) unlinked_stands InUse refl refl
+
+-- a vacant record was taken meanwhile
+pub slot_stands : (cells : Cells) (slot : ℕ) (status : Status) (at : At) (rest : ℕ) → StandsAt slot status cells at → rest < length cells.records → record_at cells.records rest ≡ blank → StandsAt slot status (with_taken cells (Some rest)) (with_slot rest at)
+slot_stands cells slot status at rest stands within vacant =
+    (slot_taken cells (layout_at at) rest stands.0 within vacant, record { slot_is = stands.1.slot_is; status_is = stands.1.status_is; others_settled = stands.1.others_settled; covered = stands.1.covered })
+
+covers_cut : (rest bytes : ℕ) (node : Node) (nodes : List Node) → 0 < bytes → bytes < node.size → bytes % unit ≡ 0 → (from to : ℕ) → Covers from to (map block_of (node ∷ nodes)) → Covers from to (map block_of (record node { size = bytes } ∷ rest_node rest bytes node ∷ nodes))
+covers_cut rest bytes node nodes some less whole from to c =
+    let P : ℕ → Type 0 = λ n. Covers n to (map block_of nodes) in
+    let same : from + node.size ≡ (from + bytes) + (node.size - bytes) = omega (arith, less) in
+    (c.0, some, whole, (omega (arith, c.0), omega (arith, less), omega (arith, c.2, whole, less), subst P same c.3))
+
+module _ (cells : Cells) (slot rest : ℕ) (at : At) (stands : StandsAt slot InUse cells (with_slot rest at)) where
+  pub rest_used : IsUsed cells.records (Some rest)
+  rest_used = stands_used cells (layout_at (with_slot rest at)) rest stands.0 (omega (arith, times-cons rest rest at.taken, ap one_if (eq-eqb rest rest refl)))
+
+  pub last_used : IsUsed cells.records (record_at cells.records slot).next
+  last_used =
+      let P : ℕ → Type 0 = λ q. IsUsed cells.records (record_at cells.records q).next in
+      subst P stands.1.slot_is (next_used cells.records at.spot at.node at.nodes (rest ∷ at.taken) (at_node cells.records at.spot at.node at.nodes (rest ∷ at.taken) stands.0.chains))
+
+  module _ (bytes : ℕ) (some : 0 < bytes) (less : bytes < at.node.size) (whole : bytes % unit ≡ 0) where
+    pub split_stands : StandsAt rest Loose (split slot rest bytes cells) (at_split rest bytes at)
+    split_stands =
+        let P : ℕ → Type 0 = λ q. Represents (split q rest bytes cells) (layout_at (at_split rest bytes at)) in
+        let loose : Node → Bool = λ n. is_loose n.status in
+        let first : Node = record at.node { size = bytes } in (
+          subst P stands.1.slot_is (split_laid cells at.count at.spot at.node at.nodes at.lists rest at.taken bytes stands.0 (ap is_listed stands.1.status_is)),
+          record {
+            slot_is = refl;
+            status_is = refl;
+            others_settled = omega (
+              arith,
+              stands.1.others_settled,
+              count-filled loose at.spot at.nodes,
+              count-filled loose (record at.spot { before = first ∷ at.spot.before }) at.nodes,
+              count-cons loose first at.spot.before,
+              ap (λ s. one_if (is_loose s)) stands.1.status_is,
+            );
+            covered = covered_refilled at.spot (at.node ∷ at.nodes) (first ∷ rest_node rest bytes at.node ∷ at.nodes) (covers_cut rest bytes at.node at.nodes some less whole) stands.1.covered;
+          },
+        )
+
+    pub cut_stands : StandsAt rest Listed (linked (class (at.node.size - bytes)) rest (split slot rest bytes cells)) (at_cut rest bytes at)
+    cut_stands = listed_stands (split slot rest bytes cells) rest (at_split rest bytes at) split_stands
