@@ -4,6 +4,7 @@ pub mod HexLemmas
 pub mod FieldLemmas
 pub mod EventLemmas
 pub mod SpellingLemmas
+pub mod TraceLemmas
 pub mod LineLemmas
 pub mod ReadLemmas
 mod Vectors

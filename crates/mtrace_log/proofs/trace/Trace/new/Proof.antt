@@ -1,4 +1,4 @@
--- No failure yet: no code, and a count that contracts alone see.
+-- No call yet: no code, and a list that contracts alone see.
 use mathlib.Core.Path.{refl}
 use mathlib.Core.List.{[], ◌∷◌}
 use seplogic.Ra.Ura.{Ura}
@@ -21,11 +21,11 @@ use denote.Triple.Entry.{on_entry, alive}
 use denote.Triple.Spec.{Meets, triple_of}
 use denote.Triple.Table.{entered}
 use denote.Triple.Walked.{says, Stays, walk_of, Walks, ends_at, walked, walk_Meets}
-use Rattle.mtrace_log.specs.contracts.failures.Failures.new.Key.{name as key}
-use Rattle.mtrace_log.specs.contracts.failures.Failures.new as f
-use Rattle.mtrace_log.proofs.failures.Failures.new.Statement as stated
-use Rattle.mtrace_log.proofs.failures.Failures.new.Code as code
-use Rattle.mtrace_log.specs.contracts.failures.Failures as made
+use Rattle.mtrace_log.specs.contracts.trace.Trace.new.Key.{name as key}
+use Rattle.mtrace_log.specs.contracts.trace.Trace.new as f
+use Rattle.mtrace_log.proofs.trace.Trace.new.Statement as stated
+use Rattle.mtrace_log.proofs.trace.Trace.new.Code as code
+use Rattle.mtrace_log.specs.contracts.trace.Trace as made
 
 abbrev stayed : Stays (f.ended).signature.params (f.ended).kept
 stayed = tt
@@ -41,8 +41,8 @@ module _ {M : Type 1} {𝓤 : Ura M} (𝓛 : Logic 𝓤) (mem : Memory → SProp
       qed 𝓛 (raw (alive 𝓛 f.signature tt tt) ∷ ‵ (owns [] tt tt) ∷ []) ∵ enter ! C Λ code.function [] _ $
       alloc_all ! (λ l. pass_all ! refl tt $ sets ! (agg ! (no_more !)) refl (tt, tt) $
       returns ! (look_at ! 0 refl) $ free_all ! refl $
-      suffices ! _ (ends_at 𝓛 f.ended stayed (f.clauses 𝓛 mem run) bound (vstruct vnil) (record { count = 0 }) tt tt) $
-      says ! refl $ pure_i ! (made.the_row.own_val (record { count = 0 }) (vstruct vnil ∷ [])) ((λ vss. (tt, tt)), tt) ((tt, (refl, tt)), tt) $
+      suffices ! _ (ends_at 𝓛 f.ended stayed (f.clauses 𝓛 mem run) bound (vstruct vnil) (record { calls = [] }) tt tt) $
+      says ! refl $ pure_i ! (made.the_row.own_val (record { calls = [] }) (vstruct vnil ∷ [])) ((λ vss. (tt, tt)), tt) ((tt, (refl, tt)), tt) $
       move ! (1 ∷ 2 ∷ 0 ∷ []) $ done !)
 
   walks : Walks 𝓛 f.ended stayed (WpFn 𝓤 H C Λ code.function) (f.clauses 𝓛 mem run)

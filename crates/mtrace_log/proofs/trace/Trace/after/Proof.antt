@@ -1,7 +1,6 @@
--- One more failure: no code, and a count that contracts alone see.
+-- One call more: no code, and a list that contracts alone see.
 use mathlib.Core.Path.{refl}
 use mathlib.Core.List.{[], ◌∷◌}
-use Rattle.std.specs.Prelude.{◌+◌}
 use seplogic.Ra.Ura.{Ura}
 use mir.Syntax.{named}
 use mir.Val.{Val, vptr, vstruct, vnil}
@@ -28,48 +27,52 @@ use denote.Triple.Entry.{on_entry, alive, Args}
 use denote.Triple.Spec.{Meets, triple_of}
 use denote.Triple.Table.{entered}
 use denote.Triple.Walked.{says, stay_none_ref, Stays, walk_of, Walks, ends_at, walked, Goes-none_ref, walk_Meets}
-use Rattle.mtrace_log.specs.contracts.failures.Failures.after.Key.{name as key}
-use Rattle.mtrace_log.specs.contracts.failures.Failures.after as f
-use Rattle.mtrace_log.proofs.failures.Failures.after.Statement as stated
-use Rattle.mtrace_log.proofs.failures.Failures.after.Code as code
-use Rattle.mtrace_log.specs.contracts.failures.Failures as failures
+use Rattle.mtrace_log.specs.contracts.trace.Trace.after.Key.{name as key}
+use Rattle.mtrace_log.specs.contracts.trace.Trace.after as f
+use Rattle.mtrace_log.proofs.trace.Trace.after.Statement as stated
+use Rattle.mtrace_log.proofs.trace.Trace.after.Code as code
+use Rattle.mtrace_log.specs.contracts.trace.Trace as trace
+use Rattle.mtrace_log.specs.contracts.call.Call as call
 
 abbrev stayed : Stays (f.ended).signature.params (f.ended).kept
-stayed = (stay_none_ref (0 ∷ []) tt (plain (λ _. failures.the_row)) yes, tt)
+stayed = (stay_none_ref (0 ∷ []) tt (plain (λ _. trace.the_row)) yes, (stay_none_ref (1 ∷ []) tt (plain (λ _. call.the_row)) yes, tt))
 
 module _ {M : Type 1} {𝓤 : Ura M} (𝓛 : Logic 𝓤) (mem : Memory → SProp 𝓤) (run : Routine → Fun 𝓤) (C : Calls 𝓤 𝓛.H) (Λ : Loops 𝓤 𝓛.H) where
   open 𝓛 use {H}
 
-  module _ (κs : Lfts 1) (qs : Shares 1) (a : Args f.signature κs) where
+  module _ (κs : Lfts 2) (qs : Shares 2) (a : Args f.signature κs) where
     abbrev before : Val
     before = vptr a.0.ref_ptr.0 a.0.ref_ptr.1
 
+    abbrev added : Val
+    added = vptr a.1.0.ref_ptr.0 a.1.0.ref_ptr.1
+
     abbrev bound : (walk_of 𝓛 f.ended stayed (f.clauses 𝓛 mem run)).Ghost
-    bound = ((κs, qs, tt, a, (before ∷ [], tt)), tt)
+    bound = ((κs, qs, tt, a, (before ∷ [], (added ∷ [], tt))), tt)
 
     abbrev passed : Fml
-    passed = owns (types_at f.signature.params κs) a (before ∷ [], tt)
+    passed = owns (types_at f.signature.params κs) a (before ∷ [], (added ∷ [], tt))
 
-    walk : ent 𝓤 (on_entry 𝓛 f.signature κs qs a (before ∷ [], tt))
-        (WpFn 𝓤 H C Λ code.function (before ∷ []) ((walk_of 𝓛 f.ended stayed (f.clauses 𝓛 mem run)).post bound))
+    walk : ent 𝓤 (on_entry 𝓛 f.signature κs qs a (before ∷ [], (added ∷ [], tt)))
+        (WpFn 𝓤 H C Λ code.function (before ∷ added ∷ []) ((walk_of 𝓛 f.ended stayed (f.clauses 𝓛 mem run)).post bound))
     walk =
-        qed 𝓛 (raw (alive 𝓛 f.signature κs qs) ∷ ‵ passed ∷ []) ∵ enter ! C Λ code.function (before ∷ []) _ $
-        alloc_all ! (λ l. pass_all ! refl ((tt, tt), tt) $ sets ! (agg ! (no_more !)) refl (tt, tt) $
+        qed 𝓛 (raw (alive 𝓛 f.signature κs qs) ∷ ‵ passed ∷ []) ∵ enter ! C Λ code.function (before ∷ added ∷ []) _ $
+        alloc_all ! (λ l. pass_all ! refl ((tt, tt), ((tt, tt), tt)) $ sets ! (agg ! (no_more !)) refl (tt, tt) $
         returns ! (look_at ! 0 refl) $ free_all ! refl $
-        suffices ! _ (ends_at 𝓛 f.ended stayed (f.clauses 𝓛 mem run) bound (vstruct vnil) (record { count = a.0.now.count + 1 }) (tt, tt) (tt, tt)) $
-        says ! refl $ pure_i ! (failures.the_row.own_val (record { count = a.0.now.count + 1 }) (vstruct vnil ∷ [])) ((λ vss. (tt, tt)), tt) ((tt, (refl, tt)), tt) $
+        suffices ! _ (ends_at 𝓛 f.ended stayed (f.clauses 𝓛 mem run) bound (vstruct vnil) (record { calls = a.1.0.now ∷ a.0.now.calls }) (tt, (tt, tt)) (tt, (tt, tt))) $
+        says ! refl $ pure_i ! (trace.the_row.own_val (record { calls = a.1.0.now ∷ a.0.now.calls }) (vstruct vnil ∷ [])) ((λ vss. (tt, tt)), tt) ((tt, (refl, tt)), tt) $
         move ! (1 ∷ 2 ∷ 0 ∷ []) $ done !)
 
   walks : Walks 𝓛 f.ended stayed (WpFn 𝓤 H C Λ code.function) (f.clauses 𝓛 mem run)
   walks =
-      walked 𝓛 f.ended stayed (f.clauses 𝓛 mem run) (WpFn 𝓤 H C Λ code.function) (λ κs. (shr_vals, tt))
-      (λ κs. (shr_Tells (named 0) κs.0 failures.the_row, tt))
+      walked 𝓛 f.ended stayed (f.clauses 𝓛 mem run) (WpFn 𝓤 H C Λ code.function) (λ κs. (shr_vals, (shr_vals, tt)))
+      (λ κs. (shr_Tells (named 0) κs.0 trace.the_row, (shr_Tells (named 1) κs.1.0 call.the_row, tt)))
       (λ κs qs bounds a g are. via 𝓤 _ (fst∗ 𝓤 _ (emp 𝓤)) (walk κs qs a))
 
 meets : {M : Type 1} {𝓤 : Ura M} (𝓛 : Logic 𝓤) (mem : Memory → SProp 𝓤) (run : Routine → Fun 𝓤) (𝓣 : Tables 𝓤 𝓛.H)
     → Meets 𝓛 f.signature (WpFn 𝓤 𝓛.H 𝓣.C 𝓣.Λ code.function) (f.spec 𝓛 mem run)
 meets {𝓤 = 𝓤} 𝓛 mem run 𝓣 =
-    walk_Meets 𝓛 f.ended stayed (Goes-none_ref 𝓛 1 (0 ∷ []) tt (plain (λ _. failures.the_row)) yes, tt) (f.clauses 𝓛 mem run) (WpFn 𝓤 𝓛.H 𝓣.C 𝓣.Λ code.function)
+    walk_Meets 𝓛 f.ended stayed (Goes-none_ref 𝓛 2 (0 ∷ []) tt (plain (λ _. trace.the_row)) yes, (Goes-none_ref 𝓛 2 (1 ∷ []) tt (plain (λ _. call.the_row)) yes, tt)) (f.clauses 𝓛 mem run) (WpFn 𝓤 𝓛.H 𝓣.C 𝓣.Λ code.function)
     (WpFn-mono 𝓤 𝓛.H 𝓛.laws 𝓣 code.function) (walks 𝓛 mem run 𝓣.C 𝓣.Λ)
 
 pub after_spec : {M : Type 1} → stated.statement M
