@@ -7,4 +7,5 @@ pub mod SpellingLemmas
 pub mod TraceLemmas
 pub mod LineLemmas
 pub mod ReadLemmas
+pub mod CallLemmas
 mod Vectors

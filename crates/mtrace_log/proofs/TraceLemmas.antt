@@ -1,7 +1,8 @@
 -- Traces one behind the other.
-use Rattle.std.proofs.Common.{◌≡◌, ℕ, zero, suc, ◌<◌, List, [], ◌∷◌, ◌++◌, map, Ok, refl, sym, ap, ◌∙◌, append_assoc, arith}
+use Rattle.std.proofs.Common.{◌≡◌, ℕ, zero, suc, ◌<◌, List, [], ◌∷◌, ◌++◌, map, Result, Ok, Err, refl, sym, ap, ◌∙◌, append_assoc, arith, inl, inr}
 use Rattle.std.proofs.lemmas.List.{map-append}
-use Rattle.mtrace_log.specs.Trace.{pulled, offered, Moved, MovedThen}
+use Rattle.mtrace_log.specs.Trace.{pulled, offered, flushed, Moved, MovedThen, HasTaken, HasFailedToWrite, FlushWasAsked}
+use Rattle.mtrace_log.specs.declared.failed.Failed.{Failed as Failure}
 use Rattle.mtrace_log.specs.declared.call.Call.{Call}
 use Rattle.mtrace_log.specs.declared.call.Call.TheVariants.{Gave, Ended, Took, Flushed, FlushFailed, Failed}
 
@@ -51,3 +52,15 @@ offered_some (suc bytes) (suc count) some = refl
 pub offered_none : (bytes : ℕ) → 0 < bytes → offered bytes (Ok 0) ≡ Failed
 offered_none zero some = absurd (omega arith)
 offered_none (suc bytes) some = refl
+
+-- a writer that took pieces, and was then asked to flush
+pub flush_after : (old middle new : List Call) (answer : Result (Unit {0}) Failure) → HasTaken old middle → new ≡ flushed answer ∷ middle → FlushWasAsked old new
+flush_after old middle new (Ok done) taken told = inl (moved_then_last Took Flushed old middle new taken told)
+flush_after old middle new (Err failure) taken told = inr (moved_then_last Took FlushFailed old middle new taken told)
+
+-- a writer that took pieces, and then failed in the end
+pub failed_after : (old middle new : List Call) → HasTaken old middle → HasFailedToWrite middle new → HasFailedToWrite old new
+failed_after old middle new taken failed = elim failed [
+  | inl put ↦ inl (moved_then_append Took Failed old middle new taken put)
+  | inr flush ↦ inr (moved_then_append Took FlushFailed old middle new taken flush)
+]

@@ -3,9 +3,8 @@ use Rattle.std.specs.Prelude.{◌≡◌, ℕ, ◌<◌, List, [], ◌∷◌, ◌+
 use Rattle.std.specs.Io.KnownBytes.{prepend_known, IsAtEnd}
 use Rattle.mtrace_log.specs.Bytes.{Lacks, newline}
 use Rattle.mtrace_log.specs.Spelling.{longest_line}
-use Rattle.mtrace_log.specs.Trace.{HasGiven, HasGivenThen}
+use Rattle.mtrace_log.specs.Trace.{HasGiven, HasGivenAll, HasGivenAndFailed}
 use Rattle.mtrace_log.specs.declared.call.Call.{Call}
-use Rattle.mtrace_log.specs.declared.call.Call.TheVariants as call
 use Rattle.mtrace_log.specs.declared.line_buffer.LineBuffer.{LineBuffer}
 use Rattle.mtrace_log.specs.declared.pieces.Stop.{Stop}
 use Rattle.mtrace_log.specs.declared.pieces.Stop.TheVariants.{Newline, End, Failed}
@@ -23,8 +22,8 @@ TakesUpTo Failed piece before after = before ≡ prepend_known piece after
 -- what the calls of the reader came to for it
 abbrev pub CallsUpTo : Stop → List Call → List Call → Type 0
 CallsUpTo Newline old new = HasGiven old new
-CallsUpTo End old new = HasGivenThen call.Ended old new
-CallsUpTo Failed old new = HasGivenThen call.Failed old new
+CallsUpTo End old new = HasGivenAll old new
+CallsUpTo Failed old new = HasGivenAndFailed old new
 
 -- one piece without newline was taken and is in the buffer
 pub record TakesPiece (buffer : LineBuffer) (stop : Stop) (before after : Option (List ℕ)) : Type 0 where

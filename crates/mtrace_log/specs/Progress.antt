@@ -5,9 +5,8 @@ use Rattle.mtrace_log.specs.Bytes.{Lacks, newline}
 use Rattle.mtrace_log.specs.Reading.{Reads}
 use Rattle.mtrace_log.specs.declared.event.Event.{Event}
 use Rattle.mtrace_log.specs.declared.event.LineFault.{LineFault}
-use Rattle.mtrace_log.specs.Trace.{HasGiven, HasGivenThen}
+use Rattle.mtrace_log.specs.Trace.{HasGiven, HasGivenAll, HasGivenAndFailed}
 use Rattle.mtrace_log.specs.declared.call.Call.{Call}
-use Rattle.mtrace_log.specs.declared.call.Call.TheVariants as call
 use Rattle.mtrace_log.specs.declared.line.Line.{Line}
 use Rattle.mtrace_log.specs.declared.line.ReadFault.{ReadFault}
 use Rattle.mtrace_log.specs.declared.line.ReadFault.TheVariants.{ReaderFailed, TooManyLines}
@@ -77,8 +76,8 @@ GivesFault (Faulted first) fault old new reader_old reader_new before after = (f
 -- once and last, its end or its failure. Where no number is left, the reader has not failed.
 abbrev pub CallsFor : Status → List Call → List Call → Type 0
 CallsFor Reading old new = HasGiven old new
-CallsFor Ended old new = HasGivenThen call.Ended old new
-CallsFor (Faulted ReaderFailed) old new = HasGivenThen call.Failed old new
+CallsFor Ended old new = HasGivenAll old new
+CallsFor (Faulted ReaderFailed) old new = HasGivenAndFailed old new
 CallsFor (Faulted TooManyLines) old new = HasGiven old new
 
 -- what a call does while lines are read

@@ -33,30 +33,42 @@ pub record MovedThen (by : ℕ → Call) (last : Call) (old new : List Call) : T
   pub moved : Moved by old middle
   pub then : new ≡ last ∷ middle
 
--- the reader gave pieces
+-- ---- a reader
+
+-- it gave pieces
 abbrev pub HasGiven : List Call → List Call → Type 0
 HasGiven old new = Moved Gave old new
 
--- the reader gave pieces, and then the last call came to this
-abbrev pub HasGivenThen : Call → List Call → List Call → Type 0
-HasGivenThen last old new = MovedThen Gave last old new
+-- it gave pieces, and then, once and last, told its end
+abbrev pub HasGivenAll : List Call → List Call → Type 0
+HasGivenAll old new = MovedThen Gave Ended old new
 
--- the writer took pieces
+-- it gave pieces, and then, once and last, failed
+abbrev pub HasGivenAndFailed : List Call → List Call → Type 0
+HasGivenAndFailed old new = MovedThen Gave Failed old new
+
+-- it gave pieces, and perhaps told its end, once and last
+abbrev pub HasNotFailed : List Call → List Call → Type 0
+HasNotFailed old new = HasGiven old new ⊎ HasGivenAll old new
+
+-- ---- a writer
+
+-- it took pieces
 abbrev pub HasTaken : List Call → List Call → Type 0
 HasTaken old new = Moved Took old new
 
--- the writer took pieces, and then the last call came to this
-abbrev pub HasTakenThen : Call → List Call → List Call → Type 0
-HasTakenThen last old new = MovedThen Took last old new
+-- it took pieces, and then, once and last, flushed
+abbrev pub HasTakenAndFlushed : List Call → List Call → Type 0
+HasTakenAndFlushed old new = MovedThen Took Flushed old new
 
--- the reader gave pieces, and perhaps then told its end
-abbrev pub HasNotFailed : List Call → List Call → Type 0
-HasNotFailed old new = HasGiven old new ⊎ HasGivenThen Ended old new
+-- it took pieces, and then, once and last, failed to take any of some bytes
+abbrev pub HasTakenAndFailed : List Call → List Call → Type 0
+HasTakenAndFailed old new = MovedThen Took Failed old new
 
--- the writer took pieces, and then one flush was asked, whatever came of it
+-- it took pieces, and then, once and last, was asked to flush, whatever came of it
 abbrev pub FlushWasAsked : List Call → List Call → Type 0
-FlushWasAsked old new = HasTakenThen Flushed old new ⊎ HasTakenThen FlushFailed old new
+FlushWasAsked old new = HasTakenAndFlushed old new ⊎ MovedThen Took FlushFailed old new
 
--- the writer took pieces, and then failed once, last
+-- it took pieces, and then, once and last, failed: to take bytes, or to flush
 abbrev pub HasFailedToWrite : List Call → List Call → Type 0
-HasFailedToWrite old new = HasTakenThen Failed old new ⊎ HasTakenThen FlushFailed old new
+HasFailedToWrite old new = HasTakenAndFailed old new ⊎ MovedThen Took FlushFailed old new
