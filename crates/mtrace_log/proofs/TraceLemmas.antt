@@ -53,10 +53,17 @@ pub offered_none : (bytes : ℕ) → 0 < bytes → offered bytes (Ok 0) ≡ Fail
 offered_none zero some = absurd (omega arith)
 offered_none (suc bytes) some = refl
 
+-- a flush was asked
+pub flush_asked : (old new : List Call) (answer : Result (Unit {0}) Failure) → new ≡ flushed answer ∷ old → FlushWasAsked old new
+flush_asked old new (Ok done) told = inl (moved_then_last Took Flushed old old new (moved_none Took old) told)
+flush_asked old new (Err failure) told = inr (moved_then_last Took FlushFailed old old new (moved_none Took old) told)
+
 -- a writer that took pieces, and was then asked to flush
-pub flush_after : (old middle new : List Call) (answer : Result (Unit {0}) Failure) → HasTaken old middle → new ≡ flushed answer ∷ middle → FlushWasAsked old new
-flush_after old middle new (Ok done) taken told = inl (moved_then_last Took Flushed old middle new taken told)
-flush_after old middle new (Err failure) taken told = inr (moved_then_last Took FlushFailed old middle new taken told)
+pub flush_after : (old middle new : List Call) → HasTaken old middle → FlushWasAsked middle new → FlushWasAsked old new
+flush_after old middle new taken asked = elim asked [
+  | inl did ↦ inl (moved_then_append Took Flushed old middle new taken did)
+  | inr failed ↦ inr (moved_then_append Took FlushFailed old middle new taken failed)
+]
 
 -- a writer that took pieces, and then failed in the end
 pub failed_after : (old middle new : List Call) → HasTaken old middle → HasFailedToWrite middle new → HasFailedToWrite old new

@@ -122,6 +122,14 @@ fn finish<H: Heaped, W: Sink>(
     }
 }
 
+/// Asks the writer to flush; it doesn't matter what comes of it.
+fn ask_flush<W: Sink>(writer: &mut W)
+    ensures kept { W.taken writer.new ≡ W.taken writer.old }
+    ensures asked { FlushWasAsked (W.trace writer.old) (W.trace writer.new) }
+{
+    let _ = writer.flush();
+}
+
 /// Reads a log of mtrace(3), replays it on a heap by the settings, and writes what is wrong with its
 /// lines, each as it comes, and then the report of leaks: what is held at the end of the log.
 ///
@@ -171,7 +179,7 @@ pub fn run_leaks<R: Source, W: Sink>(
         Ok(noted) => finish(writer, &replay, noted),
         Err(RunFault::Write) => Err(RunFault::Write),
         Err(fault) => {
-            let _ = writer.flush();
+            ask_flush(writer);
             Err(fault)
         }
     }

@@ -1,8 +1,9 @@
-use Rattle.std.proofs.Common.{refl, ap, ◌∙◌, inl, inr}
+use Rattle.std.proofs.Common.{Bool, sym, subst, inr}
 use Rattle.std.proofs.lemmas.Result.{on_ok_weaker}
 use Rattle.mtrace_log.specs.declared.call.Call.TheVariants.{Took, Flushed}
 use Rattle.mtrace_log.proofs.TraceLemmas.{moved_then_append, flush_after, failed_after}
-use Rattle.tlsf_tool.proofs.RunLemmas.{report_write}
+use Rattle.tlsf_tool.specs.Run.{Bytes, StopsAtLine}
+use Rattle.tlsf_tool.proofs.RunLemmas.{report_write, same_error}
 use Rattle.tlsf_tool.proofs.run.run_leaks.Goals as goal
 
 pub returns-in-Ok-replay_lines-clause-write_fault : goal.returns-in-Ok-replay_lines-clause-write_fault
@@ -26,6 +27,10 @@ returns-in-Ok-replay_lines-clause-writer_failed g c = λ e.
     failed_after _ _ _ taken (rw e at c.finish.ensures.failed)
 
 pub returns-clause-flush_asked : goal.returns-clause-flush_asked
-returns-clause-flush_asked g c = λ e.
-    let taken = c.in-Err.ensures.writer_took (λ is. cc) in
-    flush_after _ _ _ c.flush.result taken c.flush.ensures.told
+returns-clause-flush_asked g c = λ e. flush_after _ _ _ (c.in-Err.ensures.writer_took (λ is. cc)) c.ask_flush.ensures.asked
+
+pub returns-clause-no_memory : goal.returns-clause-no_memory
+returns-clause-no_memory g c = λ e.
+    let P : Bytes → Type 0 = λ taken. StopsAtLine c.args.settings (g.R.Source.left c.args.reader.now) (g.R.Source.left c.replay_lines.new.reader) (g.W.Sink.taken c.args.writer.now) taken in
+    let at_line = subst P (sym c.ask_flush.ensures.kept) (c.in-Err.ensures.memory (same_error _ Bool _ _ e) c.args.settings c.in-Ok.ensures) in
+    inr (at_line, flush_after _ _ _ (c.in-Err.ensures.writer_took (λ is. cc)) c.ask_flush.ensures.asked)
