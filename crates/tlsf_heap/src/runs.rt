@@ -1,7 +1,7 @@
 //! A run of requests on a heap.
 
 ghost use Rattle.std.specs.Prelude.{◌≡◌, ◌+◌, ◌≤◌, IfOk, IfErr, OnErr};
-ghost use Rattle.tlsf_heap.specs.Run.{Step, Run, most_touches};
+ghost use Rattle.tlsf_heap.specs.Run.{MayLack, Step, Run, most_touches};
 
 use crate::{Answer, Heaped, Request};
 use std::alloc::Global;
@@ -9,12 +9,12 @@ use tlsf_store::StoreError;
 
 /// The heap's answer to one request.
 fn answer<H: Heaped>(heap: &mut H, request: Request) -> Answer
-    ensures step { Step request result (H.content heap.old) (H.content heap.new) }
+    ensures step { Step (MayLack H.lacks) request result (H.content heap.old) (H.content heap.new) }
     ensures floor { H.touches heap.old ≤ H.touches heap.new }
     ensures bound { H.touches heap.new ≤ H.touches heap.old + most_touches request }
 {
     match request {
-        Request::AddPool { base, bytes } => match heap.add_pool(base, bytes) {
+        Request::AddPool(base, bytes) => match heap.add_pool(base, bytes) {
             Ok(()) => Answer::Done,
             Err(refusal) => Answer::Refused(refusal),
         },
@@ -42,7 +42,7 @@ pub fn run<H: Heaped>(
     heap: &mut H,
     requests: &[Request],
 ) -> Result<Vec<Answer>, StoreError>
-    ensures answers { IfOk result (λ answers. Run requests.now answers.items (H.content heap.old) (H.content heap.new) (H.touches heap.old) (H.touches heap.new)) }
+    ensures answers { IfOk result (λ answers. Run (MayLack H.lacks) requests.now answers.items (H.content heap.old) (H.content heap.new) (H.touches heap.old) (H.touches heap.new)) }
     ensures untouched { OnErr result (heap.new ≡ heap.old) }
     ensures no_memory { IfErr result (λ error. error ≡ StoreError.OutOfMemory) }
 {

@@ -76,10 +76,7 @@ fn run_again<H: Heaped>(alloc: Global) -> bool {
     let Ok(mut heap) = H::create(alloc, 4) else {
         return true;
     };
-    let requests = [Request::AddPool {
-        base: 0,
-        bytes: 1024,
-    }];
+    let requests = [Request::AddPool(0, 1024)];
     match run(alloc, &mut heap, &requests) {
         Ok(answers) => answers.first() == Some(&Answer::Done) || heap.pools().is_empty(),
         Err(error) => {

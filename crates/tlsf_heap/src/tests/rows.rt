@@ -59,7 +59,7 @@ fn given_at(given: &Vec<Ptr>, place: u32) -> Ptr {
 /// The request, where these pointers were given.
 fn request(ask: Ask, given: &Vec<Ptr>) -> Request {
     match ask {
-        Ask::Pool(base, bytes) => Request::AddPool { base, bytes },
+        Ask::Pool(base, bytes) => Request::AddPool(base, bytes),
         Ask::Malloc(n) => Request::Malloc(n),
         Ask::Free(place) => Request::Free(given_at(given, place)),
         Ask::FreeOf(ptr) => Request::Free(ptr),
@@ -296,10 +296,7 @@ fn runs_at_once<H: Heaped>(alloc: Global) -> Result<bool, StoreError> {
         alloc,
         &mut heap,
         &[
-            Request::AddPool {
-                base: 0,
-                bytes: 1024,
-            },
+            Request::AddPool(0, 1024),
             Request::Malloc(100),
             Request::Malloc(0),
             Request::Malloc(1),

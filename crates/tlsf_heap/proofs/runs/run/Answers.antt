@@ -12,6 +12,6 @@ loop-request-preserved g c =
       count = omega (arith, c.push_reserved.ensures.len, c.loop-request.invariant.count);
       room = c.push_reserved.ensures.capacity ∙ c.loop-request.invariant.room;
       answered = rw (longer, c.push_reserved.ensures.items)
-          (run-more _ c.loop-request.answers.items asked c.answer-given.result _ _ _ _ _ _ c.loop-request.invariant.answered
+          (run-more _ _ c.loop-request.answers.items asked c.answer-given.result _ _ _ _ _ _ c.loop-request.invariant.answered
           c.answer-given.ensures.step c.answer-given.ensures.floor c.answer-given.ensures.bound);
     }

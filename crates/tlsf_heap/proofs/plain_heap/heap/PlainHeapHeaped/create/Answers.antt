@@ -4,7 +4,7 @@ use Rattle.tlsf_heap.specs.Pools.{created}
 use Rattle.tlsf_heap.specs.PlainHeap.{IsPlain, content_of}
 use Rattle.tlsf_heap.proofs.GoodContent.{created_is_good}
 use Rattle.tlsf_heap.proofs.GoodSlotsKept.{created_slots}
-use Rattle.tlsf_heap.proofs.plain_heap.heap.PlainHeap.create.Goals as goal
+use Rattle.tlsf_heap.proofs.plain_heap.heap.PlainHeapHeaped.create.Goals as goal
 
 -- no pool, and all lists
 fields : (c : goal.After-new) → content_of c.args.records c.new.result.items c.in-Ok.lists.items ≡ created c.args.records
