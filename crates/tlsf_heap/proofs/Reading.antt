@@ -106,14 +106,14 @@ module _ (cells : Cells) (stands : Stands cells) where
     | inr past ↦ absurd (true≢false (sym h ∙ ap (begins_below base) (none_past k past)))
   ]
 
-  pub narrowed_all : (base : ℕ) → IsNarrowed base cells.pools 0 7
+  pub narrowed_all : (base : ℕ) → IsNarrowed base cells.pools 0 (most_pools - 1)
   narrowed_all base = record { below = λ j h. absurd (omega (arith, h)); above = inr refl }
 
   -- what is left once only one pool can be it
   pub narrowed_found : (base place : ℕ) → place < most_pools → IsNarrowed base cells.pools place place → slot_if base (pool_at cells.pools place) ≡ slot_for base (entries_of cells.pools)
   narrowed_found base place within narrowed =
       ap (slot_if base) (entry_at place within)
-      ∙ found_at base 0 place 7 entries ascending (omega (arith, few))
+      ∙ found_at base 0 place (most_pools - 1) entries ascending (omega (arith, few))
       (λ j h. ap (begins_below base) (sym (entry_at j (omega (arith, h, within)))) ∙ narrowed.below j h)
       (elim narrowed.above [ inl h ↦ inl (ap (begins_below base) (sym (entry_at place within)) ∙ h) | inr h ↦ inr h ])
       ∙ sym (ap (slot_for base) (entries_are cells stands))

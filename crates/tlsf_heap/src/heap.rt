@@ -32,7 +32,7 @@ impl Model for Heap {
 }
 
 impl Heap {
-    ghost use Rattle.std.specs.Prelude.{◌≡◌, ℕ, ◌+◌, ◌<◌, ◌≤◌, ◌^◌, ◌==◌, ◌⊎◌, ◌↔◌, [], ◌∷◌, map, Ok, Err, IfOk, IfErr, IfSome, IfNone, OnOk, OnErr};
+    ghost use Rattle.std.specs.Prelude.{◌≡◌, ◌≢◌, ℕ, ◌+◌, ◌<◌, ◌≤◌, ◌^◌, ◌==◌, ◌⊎◌, ◌↔◌, [], ◌∷◌, map, Ok, Err, IfOk, IfErr, IfSome, IfNone, OnOk, OnErr};
     ghost use Rattle.tlsf_store.specs.declared.errors.StoreError.TheVariants.{BadCount};
     ghost use Rattle.tlsf_store.specs.Records.{most_records};
     ghost use Rattle.tlsf_heap.specs.Good.{IsGood};
@@ -76,6 +76,7 @@ impl Heap {
         ensures ok { OnOk result (added base bytes self.old.content ≡ Ok self.new.content) }
         ensures refused { IfErr result (λ refusal. added base bytes self.old.content ≡ Err refusal) }
         ensures table_full { result ≡ Err TableFull → HasFewRecords self.old.content }
+        ensures never_memory { result ≢ Err Refusal.OutOfMemory }
         ensures unchanged { OnErr result (self.new.content ≡ self.old.content) }
         ensures others { OnErr result (self.new.rows ≡ self.old.rows) }
         ensures floor { self.old.touches ≤ self.new.touches }
@@ -100,6 +101,7 @@ impl Heap {
         ensures refused { IfErr result (λ refusal. (slot : ℕ) → served slot n self.old.content ≡ Err refusal) }
         ensures no_fit { result ≡ Err NoFit → NoneFits n self.old.content }
         ensures table_full { result ≡ Err TableFull → HasFewRecords self.old.content }
+        ensures never_memory { result ≢ Err Refusal.OutOfMemory }
         ensures unchanged { OnErr result (self.new.content ≡ self.old.content) }
         ensures others { OnErr result (self.new.rows ≡ self.old.rows) }
         ensures floor { self.old.touches ≤ self.new.touches }
@@ -117,6 +119,7 @@ impl Heap {
     pub fn free(&mut self, ptr: Ptr) -> Result<(), Refusal>
         ensures ok { OnOk result (freed (λ slot. slot == ptr.1) ptr.0 self.old.content ≡ Ok self.new.content) }
         ensures refused { IfErr result (λ refusal. freed (λ slot. slot == ptr.1) ptr.0 self.old.content ≡ Err refusal) }
+        ensures never_memory { result ≢ Err Refusal.OutOfMemory }
         ensures unchanged { OnErr result (self.new.content ≡ self.old.content) }
         ensures others { OnErr result (self.new.rows ≡ self.old.rows) }
         ensures floor { self.old.touches ≤ self.new.touches }

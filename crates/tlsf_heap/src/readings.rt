@@ -7,7 +7,10 @@ ghost use Rattle.tlsf_heap.specs.Rows.{rows_from};
 ghost use Rattle.tlsf_heap.specs.Readings.{is_state_live, rows_by, rest_of, stands_at, slot_for, begins_below, slot_if, AreInOrder, IsNarrowed};
 
 use crate::{Cursor, Refusal, Row};
-use tlsf_store::{Pool, Slot, State, Store};
+use tlsf_store::{MOST_POOLS, Pool, Slot, State, Store};
+
+/// Half of the pool entries.
+const HALF: u32 = MOST_POOLS as u32 / 2;
 
 /// The cursor at the first row of the pool that begins at `base`. Four touches.
 ///
@@ -35,9 +38,9 @@ fn find(store: &mut Store, base: u64) -> Option<Slot>
     ensures value { result ≡ slot_for base (entries_of store.old.pools) }
     ensures touches { store.new ≡ touched 4 store.old }
 {
-    let place = skip(store, base, 0, 4);
-    let place = skip(store, base, place, 2);
-    let place = skip(store, base, place, 1);
+    let place = skip(store, base, 0, HALF);
+    let place = skip(store, base, place, HALF / 2);
+    let place = skip(store, base, place, HALF / 4);
     first_if(store.pool(place), base)
 }
 

@@ -1,5 +1,5 @@
 -- What contracts see of a store: its cells, and how often they were touched. A touch is one read or
--- write of a record, a class head, a bitmap word, a vacant mark or a pool entry.
+-- write of a record, a class head, a bitmap word, the vacant mark or a pool entry.
 use Rattle.std.specs.Prelude.{ℕ, ◌+◌, ◌<◌, ◌^◌, List, Option, Some, None, All, replicate, slice_index_or, slice_set}
 use Rattle.tlsf_class.specs.Classes.{classes, levels}
 use Rattle.tlsf_store.specs.declared.records.Record.{Record}

@@ -206,7 +206,8 @@ impl Store {
     }
 
     /// Takes a vacant record for a free block, with no place, size or links yet; `None` exactly where
-    /// no record is vacant. Which vacant record it is, is open. Two touches.
+    /// no record is vacant. Which vacant record it is, is open. Two touches: the vacant mark and the
+    /// record.
     pub fn take_vacant(&mut self) -> Option<Slot>
         ensures none { IfNone result (vacant_count self.old.records ≡ 0) }
         ensures within { IfSome result (λ slot. slot < length self.old.records) }
@@ -218,8 +219,8 @@ impl Store {
         self.table.take()
     }
 
-    /// Makes a record vacant that isn't. Three touches: the first vacant slot is read and written, and
-    /// the record is written.
+    /// Makes a record vacant that isn't. Three touches: the vacant mark is read and written, and the record
+    /// is written.
     pub fn give_vacant(&mut self, slot: Slot)
         requires within { slot < length self.old.records }
         requires used { (record_at self.old.records slot).state ≢ Vacant }
