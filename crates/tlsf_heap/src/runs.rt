@@ -1,9 +1,9 @@
 //! A run of requests on a heap.
 
-ghost use Rattle.std.specs.Prelude.{◌≡◌, ◌+◌, ◌≤◌, IfOk, IfErr, OnErr};
+ghost use Rattle.std.specs.Prelude.{◌≡◌, ◌≢◌, ◌+◌, ◌≤◌, All, IfOk, IfErr, OnErr};
 ghost use Rattle.tlsf_heap.specs.Run.{MayLack, Step, Run, most_touches};
 
-use crate::{Answer, Heaped, Request};
+use crate::{Answer, Heaped, Refusal, Request};
 use std::alloc::Global;
 use tlsf_store::StoreError;
 
@@ -32,7 +32,7 @@ fn answer<H: Heaped>(heap: &mut H, request: Request) -> Answer
 /// Asks the heap for each of the requests, one after the other, and gives their answers in order.
 /// Requests may repeat, and pointers may be stale.
 ///
-/// It takes memory for all answers first.
+/// It takes memory for all answers first. Over a heap that lacks no memory, no answer is `OutOfMemory`.
 ///
 /// # Errors
 ///
@@ -43,6 +43,7 @@ pub fn run<H: Heaped>(
     requests: &[Request],
 ) -> Result<Vec<Answer>, StoreError>
     ensures answers { IfOk result (λ answers. Run (MayLack H.lacks) requests.now answers.items (H.content heap.old) (H.content heap.new) (H.touches heap.old) (H.touches heap.new)) }
+    ensures memory { IfOk result (λ answers. (MayLack H.lacks → ⊥) → All (λ answer. answer ≢ Answer.Refused Refusal.OutOfMemory) answers.items) }
     ensures untouched { OnErr result (heap.new ≡ heap.old) }
     ensures no_memory { IfErr result (λ error. error ≡ StoreError.OutOfMemory) }
 {
