@@ -4,7 +4,7 @@ use Rattle.std.proofs.lemmas.Bool.{cases_lt}
 use Rattle.std.proofs.lemmas.Nat.{div-add-mod', mod_below, le-div, div_below, leading_top, shl_whole}
 use Rattle.std.proofs.Math.Nat.{pow-suc, pow-le-pow_right}
 use Rattle.std.specs.Int.Count.{count_leading_zeros}
-use Rattle.tlsf_class.specs.Classes.{unit, steps, levels, classes, level_power, step_power, low_at, low, class, need}
+use Rattle.tlsf_class.specs.Classes.{unit, steps, levels, classes, greatest_size, level_power, step_power, low_at, low, class, need}
 use Rattle.tlsf_class.proofs.LowestSizes.{low_at-first, low_at-later, low-lt, low-le, low-unit}
 use Rattle.tlsf_class.proofs.ClassLaws.{class_from, class-low, need_from, need-low, le-low_need}
 
@@ -173,7 +173,7 @@ record IsTop (s j : ℕ) : Type 0 where
   most : 2 ^ j ≤ s
   below : s < 2 ^ suc j
 
-shift_of_top : (s j : ℕ) → unit * steps ≤ s → s < 2 ^ 30 → IsTop s j → (5 ≤ j) × IsShift s (j - 5)
+shift_of_top : (s j : ℕ) → unit * steps ≤ s → s ≤ greatest_size → IsTop s j → (5 ≤ j) × IsShift s (j - 5)
 shift_of_top s j above most top =
     let first : suc level_power ≤ j =
     elim (cases_lt j (suc level_power)) [
@@ -200,7 +200,7 @@ shift_of_top s j above most top =
       },
     )
 
-pub shift-leading_zeros : (s : ℕ) → unit * steps ≤ s → s < 2 ^ 30 → (5 ≤ 31 - count_leading_zeros 32 s) × IsShift s (31 - count_leading_zeros 32 s - 5)
+pub shift-leading_zeros : (s : ℕ) → unit * steps ≤ s → s ≤ greatest_size → (5 ≤ 31 - count_leading_zeros 32 s) × IsShift s (31 - count_leading_zeros 32 s - 5)
 shift-leading_zeros s above most =
     let top : (j : ℕ) × (count_leading_zeros 32 s + suc j ≡ 32) × (2 ^ j ≤ s) × (s < 2 ^ suc j) = leading_top 32 s (omega arith) (omega arith) in
     let is : 31 - count_leading_zeros 32 s ≡ top.0 = omega (arith, top.1) in
