@@ -3,6 +3,7 @@
 //! smallest sizes, as in `tlsf.c`. Sizes are in bytes.
 #![tactic(auto)]
 
+pub mod laws;
 mod rounding;
 mod size_class;
 mod sizes;
