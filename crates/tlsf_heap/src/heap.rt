@@ -14,7 +14,8 @@ use tlsf_store::{MOST_POOLS, Store, StoreError};
 /// A heap over a table of records: pools of blocks, and a free list for each size class, found by
 /// bitmaps.
 ///
-/// After a refusal its content is as it was. No call after `create` takes memory.
+/// After a refusal its content is as it was. A refusal and a reading leave each cursor where it stands.
+/// No call after `create` takes memory.
 #[derive(Drop)]
 pub struct Heap {
     store: Store,
@@ -32,7 +33,7 @@ impl Model for Heap {
 }
 
 impl Heap {
-    ghost use Rattle.std.specs.Prelude.{◌≡◌, ◌≢◌, ℕ, ◌+◌, ◌<◌, ◌≤◌, ◌^◌, ◌==◌, ◌⊎◌, ◌↔◌, [], ◌∷◌, map, Ok, Err, IfOk, IfErr, IfSome, IfNone, OnOk, OnErr};
+    ghost use Rattle.std.specs.Prelude.{◌≡◌, ◌≢◌, ℕ, ◌+◌, ◌<◌, ◌≤◌, ◌==◌, ◌⊎◌, ◌↔◌, [], ◌∷◌, map, Ok, Err, IfOk, IfErr, IfSome, IfNone, OnOk, OnErr};
     ghost use Rattle.tlsf_store.specs.declared.errors.StoreError.TheVariants.{BadCount};
     ghost use Rattle.tlsf_store.specs.Records.{most_records};
     ghost use Rattle.tlsf_heap.specs.Good.{IsGood};

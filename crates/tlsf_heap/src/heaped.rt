@@ -1,6 +1,6 @@
 //! What every heap does.
 
-ghost use Rattle.std.specs.Prelude.{◌≡◌, ◌≢◌, ℕ, ◌+◌, ◌^◌, ◌<◌, ◌≤◌, ◌==◌, ◌⊎◌, ◌↔◌, List, [], ◌∷◌, map, Ok, Err, IfOk, IfErr, OnOk, OnErr, IfSome, IfNone};
+ghost use Rattle.std.specs.Prelude.{◌≡◌, ◌≢◌, ℕ, ◌+◌, ◌<◌, ◌≤◌, ◌==◌, ◌⊎◌, ◌↔◌, List, [], ◌∷◌, map, Ok, Err, IfOk, IfErr, OnOk, OnErr, IfSome, IfNone};
 ghost use Rattle.tlsf_store.specs.declared.errors.StoreError.TheVariants.{BadCount};
 ghost use Rattle.tlsf_store.specs.Records.{most_records};
 ghost use Rattle.tlsf_heap.specs.declared.cursor.Cursor.{Cursor};
@@ -20,7 +20,7 @@ use std::alloc::Global;
 use tlsf_store::{MOST_POOLS, StoreError};
 
 /// A heap of pools of blocks. Each call is a step on its content; a refused call leaves the content as
-/// it was, and the cursors where they stand.
+/// it was. A refusal and a reading leave each cursor where it stands.
 ///
 /// A heap that may lack memory may answer `OutOfMemory` to `add_pool`, `malloc` and `free` in place of any
 /// answer. Contracts alone see whether it may, its content, and how often it has touched its table of

@@ -38,21 +38,18 @@ impl Model for PlainHeap {
 }
 
 impl PlainHeap {
-    ghost use Rattle.std.specs.Prelude.{◌≡◌, ◌≢◌, ℕ, ◌+◌, ◌^◌, ◌<◌, ◌≤◌, ◌⊎◌, ◌↔◌, ◌==◌, Bool, true, [], ◌∷◌, length, map, nat_le, Ok, Err, Some, IfOk, IfErr, OnOk, OnErr, IfSome, IfNone};
+    ghost use Rattle.std.specs.Prelude.{◌≡◌, ◌≢◌, ℕ, ◌<◌, Bool, true, length, nat_le, Err, IfOk, IfErr, OnOk, OnErr};
     ghost use Rattle.std.specs.List.{list_all};
-    ghost use Rattle.tlsf_store.specs.declared.errors.StoreError.TheVariants.{BadCount};
     ghost use Rattle.tlsf_heap.specs.Content.{blocks_of, used_records};
     ghost use Rattle.tlsf_heap.specs.GoodSlots.{slot_times};
-    ghost use Rattle.tlsf_heap.specs.Free.{free as freed, is_live as is_live_in, after_free};
+    ghost use Rattle.tlsf_heap.specs.Free.{is_live as is_live_in, after_free};
     ghost use Rattle.tlsf_heap.specs.Malloc.{malloc as served, allocated};
     ghost use Rattle.tlsf_store.specs.Cells.{most_pools};
-    ghost use Rattle.tlsf_heap.specs.Pools.{created, add_pool as added, with_pool, can_be_pool as can_be, is_apart as apart};
-    ghost use Rattle.tlsf_heap.specs.Counted.{range_of};
-    ghost use Rattle.tlsf_heap.specs.Rows.{rows_from};
-    ghost use Rattle.tlsf_heap.specs.PlainHeap.{IsChosen, rest, stands};
+    ghost use Rattle.tlsf_heap.specs.Pools.{with_pool, can_be_pool as can_be, is_apart as apart};
+    ghost use Rattle.tlsf_heap.specs.PlainHeap.{IsChosen};
 
     /// The block that is to hold `n` bytes: the first of the first list that isn't empty at or above
-    /// the class needed. It gets the least slot that no live block has.
+    /// the class needed. It gets a slot that no live block has.
     ///
     /// # Errors
     ///
