@@ -51,7 +51,7 @@ module _ {A B : Type 0} (rename : A → B) where
       ∙ ap (λ back. map (renamed_block rename) (cond (is_at place block) others (block ∷ [])) ++ back) (replaced-renamed place others blocks)
       ∙ sym (map-append (renamed_block rename) (cond (is_at place block) others (block ∷ [])) (replaced place others blocks))
 
-  replaced_in-renamed : (place : ℕ) (others : List (Block A)) (renamed_others : List (Block B)) → map (renamed_block rename) others ≡ renamed_others → (pools : List (Pool A))
+  pub replaced_in-renamed : (place : ℕ) (others : List (Block A)) (renamed_others : List (Block B)) → map (renamed_block rename) others ≡ renamed_others → (pools : List (Pool A))
       → map (replaced_in place renamed_others) (map (renamed_pool rename) pools) ≡ map (renamed_pool rename) (map (replaced_in place others) pools)
   replaced_in-renamed place others renamed_others same [] = refl
   replaced_in-renamed place others renamed_others same (pool ∷ pools) =

@@ -6,3 +6,5 @@ pub mod Allocated
 pub mod Freed
 pub mod Covered
 pub mod FreedIsGood
+pub mod FreedSlots
+pub mod FreeRenamed
