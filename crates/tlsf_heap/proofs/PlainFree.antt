@@ -1,24 +1,25 @@
 -- What the plain heap's free joins: the neighbours and what is left are blocks of whole units, not above the greatest size.
-use Rattle.std.proofs.Common.{◌≡◌, ℕ, ◌+◌, ◌%◌, ◌<◌, ◌≤◌, ◌^◌, Bool, true, false, cond, List, [], ◌∷◌, ◌++◌, refl, sym, ap, ◌∙◌, arith, Option, Some, None, inl, inr, All}
+use Rattle.std.proofs.Common.{◌≡◌, ℕ, ◌+◌, ◌%◌, ◌<◌, ◌≤◌, Bool, true, false, cond, List, [], ◌∷◌, ◌++◌, map, refl, sym, ap, ◌∙◌, arith, Option, Some, None, inl, inr}
 use Rattle.std.specs.Prelude.{⊤, ◌||◌, ◌==◌, Ok, Err}
 use Rattle.std.specs.List.{AllByRecursion, list_any}
 use Rattle.std.specs.Option.{option_or}
-use Rattle.std.proofs.lemmas.List.Elements.{All-cons}
 use Rattle.std.proofs.lemmas.Bool.{cases_Bool, eqb-true, or_cases}
 use Rattle.tlsf_class.specs.Classes.{unit, greatest_size}
 use Rattle.tlsf_heap.specs.declared.refusal.Refusal.TheVariants.{BadPointer}
 use Rattle.tlsf_heap.specs.Content.{Block, Pool, Content, blocks_of, is_free, is_at, size_at}
 use Rattle.tlsf_heap.specs.Lists.{link}
-use Rattle.tlsf_heap.specs.Free.{is_live, in_front_of, behind, if_free, first_in_pools, size_of, start_of, unlink_block, after_free, free}
+use Rattle.tlsf_heap.specs.Free.{is_live, in_front_of, behind, if_free, first_in_pools, size_of, start_of, unlink_block}
+use Rattle.tlsf_heap.specs.LocalFree.{free_block, without_block, after_free, free}
+use Rattle.tlsf_heap.specs.Malloc.{replaced_in}
 use Rattle.tlsf_heap.specs.Good.{Covers, AreGoodPools}
 use Rattle.tlsf_heap.specs.PlainHeap.{IsPlain, IsSized}
 use Rattle.tlsf_heap.proofs.Blocks.{NoneAt, NoneAt-below}
 use Rattle.tlsf_heap.proofs.GoodContent.{IsWhole, whole_in_pools, Covers-le}
 use Rattle.tlsf_heap.proofs.Freeing.{in_front_none, size_at-here, size_at-elsewhere, live_later}
-use Rattle.tlsf_heap.proofs.FreeIsGood.{option_or-None, NoneAt-above, none_in_front, none_behind, live_above, live_below, Ascends-covers, live-append, size_at-front, size_at-back, untouched, after_free_is_good}
-use Rattle.tlsf_heap.proofs.GoodSlotsKept.{after_free_slots}
+use Rattle.tlsf_heap.proofs.FreeIsGood.{option_or-None, NoneAt-above, none_in_front, none_behind, live_above, live_below, Ascends-covers, live-append, size_at-front, size_at-back, untouched}
+use Rattle.tlsf_heap.proofs.Meaning.FreedIsGood.{freed_is_good}
+use Rattle.tlsf_heap.proofs.Meaning.FreedSlots.{after_free_slots}
 use Rattle.tlsf_heap.proofs.Blocks.{Ascends-pools}
-use Rattle.tlsf_heap.proofs.MergedInOrder.{sizes, sizes-cons}
 
 -- the fact holds of the block, where there is one
 abbrev pub OfSome : (Block ℕ → Type 0) → Option (Block ℕ) → Type 0
@@ -146,30 +147,29 @@ pub live_in_pools : (is_meant : ℕ → Bool) (place : ℕ) (pools : List (Pool 
 live_in_pools is_meant place [] = refl
 live_in_pools is_meant place (pool ∷ pools) = ap (λ b. is_live is_meant place pool.blocks || b) (live_in_pools is_meant place pools) ∙ sym (live-append is_meant place pool.blocks (blocks_of pools))
 
--- the bytes of a pool's blocks are those of the pool
-sizes_of_covers : (from to : ℕ) (blocks : List (Block ℕ)) → Covers from to blocks → from + sizes blocks ≡ to
-sizes_of_covers from to [] c = omega (arith, c)
-sizes_of_covers from to (block ∷ blocks) c = omega (arith, sizes-cons block blocks, sizes_of_covers (from + block.size) to blocks c.3)
-
-pub sizes_few : (from : ℕ) (pools : List (Pool ℕ)) → AreGoodPools from pools → All (λ (pool : Pool ℕ). sizes pool.blocks < 2 ^ 32) pools
-sizes_few from [] g = λ k d below. absurd (omega (arith, below))
-sizes_few from (pool ∷ pools) g = All-cons (λ (pool : Pool ℕ). sizes pool.blocks < 2 ^ 32) pool pools
-    (omega (arith, sizes_of_covers pool.base (pool.base + pool.bytes) pool.blocks g.1.covered, g.1.most_bytes))
-    (sizes_few (pool.base + pool.bytes) pools g.2)
-
--- the lists as the code writes them are those after free
-pub rejoined_is : (place size_there start size : ℕ) (front front_too back back_too : Option (Block ℕ)) (lists : List (List ℕ)) → front ≡ front_too → back ≡ back_too → start ≡ start_of front place
-    → size ≡ size_of front + size_there + size_of back
-    → link start size (unlink_block back (unlink_block front lists)) ≡ link (start_of front_too place) (size_of front_too + size_there + size_of back_too) (unlink_block back_too (unlink_block front_too lists))
-rejoined_is place size_there start size front front_too back back_too lists f b at all =
-    ap (λ n. link n size (unlink_block back (unlink_block front lists))) at
-    ∙ ap (λ n. link (start_of front place) n (unlink_block back (unlink_block front lists))) all
-    ∙ ap (λ o. link (start_of o place) (size_of o + size_there + size_of back) (unlink_block back (unlink_block o lists))) f
-    ∙ ap (λ o. link (start_of front_too place) (size_of front_too + size_there + size_of o) (unlink_block o (unlink_block front_too lists))) b
+-- the parts that the code makes are those of the content after free
+pub after_free_is : (records place : ℕ) (pools : List (Pool ℕ)) (lists : List (List ℕ)) (front back : Option (Block ℕ)) (start size : ℕ)
+    → front ≡ if_free (first_in_pools (in_front_of place) pools) → back ≡ if_free (first_in_pools (behind place) pools)
+    → start ≡ start_of front place → size ≡ size_of front + size_at place (blocks_of pools) + size_of back
+    → (first second third : List (Pool ℕ)) (rejoined : List (List ℕ)) → first ≡ without_block front pools → second ≡ without_block back first
+    → third ≡ map (replaced_in place (free_block start size ∷ [])) second → rejoined ≡ link start size (unlink_block back (unlink_block front lists))
+    → record { records = records; pools = third; lists = rejoined } ≡ after_free place (record { records = records; pools = pools; lists = lists })
+after_free_is records place pools lists front back start size f b at all first second third rejoined one two three relinked =
+    let of : Option (Block ℕ) → Option (Block ℕ) → ℕ → ℕ → Content ℕ = λ front back start size. record {
+      records = records;
+      pools = map (replaced_in place (free_block start size ∷ [])) (without_block back (without_block front pools));
+      lists = link start size (unlink_block back (unlink_block front lists));
+    } in
+    ap (λ ps. record { records = records; pools = ps; lists = rejoined }) (three ∙ ap (map (replaced_in place (free_block start size ∷ []))) (two ∙ ap (without_block back) one))
+    ∙ ap (λ (ls : List (List ℕ)). record { records = records; pools = map (replaced_in place (free_block start size ∷ [])) (without_block back (without_block front pools)); lists = ls }) relinked
+    ∙ ap (λ n. of front back n size) at
+    ∙ ap (of front back (start_of front place)) all
+    ∙ ap (λ o. of o back (start_of o place) (size_of o + size_at place (blocks_of pools) + size_of back)) f
+    ∙ ap (λ o. let front = if_free (first_in_pools (in_front_of place) pools) in of front o (start_of front place) (size_of front + size_at place (blocks_of pools) + size_of o)) b
 
 -- the plain heap keeps what it keeps where a live block is freed
 pub freed_is_plain : (is_meant : ℕ → Bool) (place : ℕ) (content : Content ℕ) → IsPlain content → is_live is_meant place (blocks_of content.pools) ≡ true → IsPlain (after_free place content)
-freed_is_plain is_meant place content plain live = record { good = after_free_is_good is_meant place content plain.good live; slots = after_free_slots place content plain.slots }
+freed_is_plain is_meant place content plain live = record { good = freed_is_good is_meant place content plain.good live; slots = after_free_slots place content plain.slots }
 
 -- what the search for a live block answers
 pub live_found : (place slot p s : ℕ) (pools others : List (Pool ℕ)) (found : Bool) → found ≡ list_any (λ (pool : Pool ℕ). is_live (λ owner. owner == s) p pool.blocks) others → p ≡ place → s ≡ slot → others ≡ pools

@@ -5,14 +5,12 @@
 
 mod block;
 mod choice;
-mod cut;
 mod heap;
-mod joined;
 mod lists;
-mod merge;
 mod neighbours;
 mod pool;
 mod pools;
+mod replaced;
 mod slots;
 #[cfg(test)]
 mod tests;

@@ -113,9 +113,9 @@ module _ {A B : Type 0} (rename : A → B) where
       ∙ ap (λ front. of size front (free_behind place (renamed rename content))) (free_in_front-renamed place content)
       ∙ ap (of size (option_map (renamed_block rename) (free_in_front place content))) (free_behind-renamed place content)
       ∙ ap (λ ps. record { records = content.records; pools = ps; lists = lists_after place size (option_map (renamed_block rename) (free_in_front place content)) (option_map (renamed_block rename) (free_behind place content)) content.lists })
-          (pools_after-renamed place size (free_in_front place content) (free_behind place content) content.pools)
+      (pools_after-renamed place size (free_in_front place content) (free_behind place content) content.pools)
       ∙ ap (λ (ls : List (List ℕ)). record { records = content.records; pools = map (renamed_pool rename) (pools_after place size (free_in_front place content) (free_behind place content) content.pools); lists = ls })
-          (lists_after-renamed place size (free_in_front place content) (free_behind place content) content.lists)
+      (lists_after-renamed place size (free_in_front place content) (free_behind place content) content.lists)
 
   -- free leaves the same, or refuses, where the block that is meant is live in both
   pub free-renamed : (is_meant : A → Bool) (is_meant_too : B → Bool) (place : ℕ) (content : Content A)

@@ -21,9 +21,9 @@ impl Model for Block {
 }
 
 impl Block {
-    ghost use Rattle.std.specs.Prelude.{◌≡◌, ◌+◌, ◌<◌, ◌^◌, ◌&&◌, ◌==◌, None, Some};
+    ghost use Rattle.std.specs.Prelude.{◌≡◌, ◌&&◌, ◌==◌, None, Some};
     ghost use Rattle.tlsf_heap.specs.Content.{is_free, is_at};
-    ghost use Rattle.tlsf_heap.specs.Free.{is_owned_by, freed};
+    ghost use Rattle.tlsf_heap.specs.Free.{is_owned_by};
     ghost use Rattle.tlsf_heap.specs.GoodSlots.{is_slot};
     ghost use Rattle.tlsf_heap.specs.Rows.{row_of};
 
@@ -77,29 +77,6 @@ impl Block {
         match self.owner {
             Some(owner) => self.place == place && owner == slot,
             None => false,
-        }
-    }
-
-    /// The block, free where it begins at the place.
-    pub fn freed_at(&self, place: u32) -> Block
-        ensures { result ≡ freed place self.now }
-    {
-        if self.place == place {
-            Block::free(self.place, self.size)
-        } else {
-            *self
-        }
-    }
-
-    /// The block with `bytes` more bytes.
-    pub fn grown(&self, bytes: u32) -> Block
-        requires { self.now.size + bytes < 2 ^ 32 }
-        ensures { result ≡ record self.now { size = self.now.size + bytes } }
-    {
-        Block {
-            place: self.place,
-            size: self.size + bytes,
-            owner: self.owner,
         }
     }
 

@@ -1,10 +1,10 @@
+use super::block::Block;
 use super::choice::Choice;
-use super::cut::cut_in_pools;
 use super::lists::{in_front, list_number, no_places, pick, rejoined, relink};
-use super::merge::merge_in_pools;
-use super::neighbours::{behind, cursor_at, is_live, joined};
+use super::neighbours::{behind, cursor_at, is_live, neighbours};
 use super::pool::Pool;
 use super::pools::{block_at, block_count, has_pool, is_apart, place_for, ranges, size_at};
+use super::replaced::{cut_in_pools, replaced_in_pools, without_block};
 use super::slots::least_slot;
 use crate::pools::can_be_pool;
 use crate::{Cursor, Heaped, Ptr, Refusal, Row};
@@ -42,7 +42,8 @@ impl PlainHeap {
     ghost use Rattle.std.specs.List.{list_all};
     ghost use Rattle.tlsf_heap.specs.Content.{blocks_of, used_records};
     ghost use Rattle.tlsf_heap.specs.GoodSlots.{slot_times};
-    ghost use Rattle.tlsf_heap.specs.Free.{is_live as is_live_in, after_free};
+    ghost use Rattle.tlsf_heap.specs.Free.{is_live as is_live_in};
+    ghost use Rattle.tlsf_heap.specs.LocalFree.{after_free};
     ghost use Rattle.tlsf_heap.specs.Malloc.{malloc as served, allocated};
     ghost use Rattle.tlsf_store.specs.Cells.{most_pools};
     ghost use Rattle.tlsf_heap.specs.Pools.{with_pool, can_be_pool as can_be, is_apart as apart};
@@ -136,9 +137,14 @@ impl PlainHeap {
         ensures err { OnErr result (self.new ≡ self.old) }
     {
         let alloc = *self.pools.allocator();
-        let left = joined(self.pools.as_slice(), place);
-        let pools = merge_in_pools(alloc, self.pools.as_slice(), place)?;
-        let lists = rejoined(alloc, self.lists.as_slice(), left)?;
+        let beside = neighbours(self.pools.as_slice(), place);
+        let front = beside.front;
+        let back = beside.back;
+        let one = Block::free(beside.start, beside.size);
+        let lists = rejoined(alloc, self.lists.as_slice(), beside)?;
+        let pools = without_block(alloc, self.pools.as_slice(), front)?;
+        let pools = without_block(alloc, pools.as_slice(), back)?;
+        let pools = replaced_in_pools(alloc, pools.as_slice(), place, &[one])?;
         self.pools = pools;
         self.lists = lists;
         Ok(())

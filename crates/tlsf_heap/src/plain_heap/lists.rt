@@ -9,7 +9,7 @@ ghost use Rattle.tlsf_heap.specs.PlainHeap.{IsSized, lists_of};
 
 use super::block::Block;
 use super::choice::Choice;
-use super::joined::Joined;
+use super::neighbours::FreeNeighbours;
 use std::alloc::{AllocError, Global};
 use tlsf_class::{CLASSES, class_for, class_of};
 
@@ -181,17 +181,17 @@ fn leave(alloc: Global, lists: &mut Vec<Vec<u32>>, block: Option<Block>) -> Resu
 pub fn rejoined(
     alloc: Global,
     lists: &[Vec<u32>],
-    joined: Joined,
+    neighbours: FreeNeighbours,
 ) -> Result<Vec<Vec<u32>>, AllocError>
     requires full { length lists.now ≡ classes }
-    requires front_sized { IsSized joined.front }
-    requires back_sized { IsSized joined.back }
+    requires front_sized { IsSized neighbours.front }
+    requires back_sized { IsSized neighbours.back }
     ensures { IfOk result (λ v. lists_of v.items
-        ≡ link joined.place joined.size (unlink_block joined.back (unlink_block joined.front (lists_of lists.now)))) }
+        ≡ link neighbours.start neighbours.size (unlink_block neighbours.back (unlink_block neighbours.front (lists_of lists.now)))) }
 {
     let mut all = all_copied(alloc, lists)?;
-    leave(alloc, &mut all, joined.front)?;
-    leave(alloc, &mut all, joined.back)?;
-    enter(alloc, &mut all, joined.place, joined.size)?;
+    leave(alloc, &mut all, neighbours.front)?;
+    leave(alloc, &mut all, neighbours.back)?;
+    enter(alloc, &mut all, neighbours.start, neighbours.size)?;
     Ok(all)
 }

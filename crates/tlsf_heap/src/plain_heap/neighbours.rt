@@ -1,17 +1,30 @@
 //! The live block that is freed, and its neighbours.
 
-ghost use Rattle.std.specs.Prelude.{◌≡◌, ℕ, Bool, true, ◌+◌, ◌==◌, option_map};
+ghost use Rattle.std.specs.Prelude.{◌≡◌, ℕ, Bool, true, ◌+◌, ◌%◌, ◌<◌, ◌≤◌, ◌==◌, option_map};
 ghost use Rattle.std.specs.List.{list_any};
+ghost use Rattle.tlsf_class.specs.Classes.{unit, greatest_size};
 ghost use Rattle.tlsf_heap.specs.Content.{blocks_of, size_at as size_of_block_at};
 ghost use Rattle.tlsf_heap.specs.Free.{is_live as is_live_in, in_front_of as front_of, behind as back_of, if_free as free_one, first_in_pools, size_of as option_size, start_of};
 ghost use Rattle.tlsf_heap.specs.Good.{AreGoodPools};
 ghost use Rattle.tlsf_heap.specs.PlainHeap.{IsSized};
 
 use super::block::Block;
-use super::joined::Joined;
 use super::pool::Pool;
 use super::pools::size_at;
 use crate::Cursor;
+
+/// The free neighbours of a block that is freed, and where the free block of all their bytes begins, and its
+/// size, in bytes.
+#[derive(Clone, Copy)]
+pub struct FreeNeighbours {
+    pub front: Option<Block>,
+    pub back: Option<Block>,
+    pub start: u32,
+    pub size: u32,
+    ghost some: { 0 < size },
+    ghost in_units: { size % unit ≡ 0 },
+    ghost most: { size ≤ greatest_size },
+}
 
 /// Whether a live block of the pools has the place and the slot.
 pub fn is_live(pools: &[Pool], place: u32, slot: u16) -> bool
@@ -76,15 +89,15 @@ pub fn cursor_at(block: Option<Block>) -> Cursor
     }
 }
 
-/// What the live block at the place becomes that is freed.
-pub fn joined(pools: &[Pool], place: u32) -> Joined
+/// The free neighbours of the live block at the place, and the free block of all their bytes.
+pub fn neighbours(pools: &[Pool], place: u32) -> FreeNeighbours
     requires good { AreGoodPools 0 pools.now }
     requires live { (is_meant : ℕ → Bool) × (is_live_in is_meant place (blocks_of pools.now) ≡ true) }
     ensures front { result.front ≡ free_one (first_in_pools (front_of place) pools.now) }
     ensures back { result.back ≡ free_one (first_in_pools (back_of place) pools.now) }
     ensures front_sized { IsSized result.front }
     ensures back_sized { IsSized result.back }
-    ensures place { result.place ≡ start_of result.front place }
+    ensures start { result.start ≡ start_of result.front place }
     ensures size { result.size ≡ option_size result.front + size_of_block_at place (blocks_of pools.now) + option_size result.back }
 {
     let front = if_free(in_front_of(pools, place));
@@ -94,10 +107,10 @@ pub fn joined(pools: &[Pool], place: u32) -> Joined
         None => place,
     };
     let size = size_of(&front) + size_at(pools, place) + size_of(&back);
-    Joined {
+    FreeNeighbours {
         front,
         back,
-        place: start,
+        start,
         size,
     }
 }

@@ -1,7 +1,5 @@
 use super::block::Block;
-use super::choice::Choice;
-use super::cut::cut_in;
-use super::merge::merge_in;
+use super::replaced::replaced;
 use std::alloc::{AllocError, Global};
 use std::marker::Model;
 
@@ -23,12 +21,12 @@ impl Model for Pool {
 }
 
 impl Pool {
-    ghost use Rattle.std.specs.Prelude.{◌≡◌, ◌+◌, ◌<◌, ◌^◌, ◌==◌, length, sum_by, IfOk, find};
-    ghost use Rattle.tlsf_heap.specs.Free.{is_live, in_front_of, behind, merged_in};
+    ghost use Rattle.std.specs.Prelude.{◌≡◌, ◌<◌, ◌==◌, length, IfOk, find};
+    ghost use Rattle.tlsf_heap.specs.Free.{is_live, in_front_of, behind};
     ghost use Rattle.std.specs.List.{list_any};
     ghost use Rattle.tlsf_heap.specs.Content.{is_at};
     ghost use Rattle.tlsf_heap.specs.GoodSlots.{is_slot};
-    ghost use Rattle.tlsf_heap.specs.Malloc.{gap, cut, replaced_in};
+    ghost use Rattle.tlsf_heap.specs.Malloc.{gap, replaced_in};
 
     /// A pool that is one free block.
     pub fn new(alloc: Global, base: u32, bytes: u32) -> Result<Self, AllocError>
@@ -84,12 +82,24 @@ impl Pool {
         self.blocks.iter().any(|block| block.has_slot(slot))
     }
 
-    /// The pool with the block chosen cut.
-    pub fn cut(&self, alloc: Global, choice: Choice) -> Result<Pool, AllocError>
-        ensures { IfOk result (λ pool. pool
-            ≡ replaced_in choice.place (cut choice.slot choice.place choice.asked choice.size) self.now) }
+    /// The pool, copied.
+    pub fn copied(&self, alloc: Global) -> Result<Pool, AllocError>
+        ensures { IfOk result (λ pool. pool ≡ self.now) }
     {
-        let blocks = cut_in(alloc, self.blocks.as_slice(), choice)?;
+        let mut blocks = Vec::new(alloc);
+        blocks.extend_from_slice(self.blocks.as_slice())?;
+        Ok(Pool {
+            base: self.base,
+            bytes: self.bytes,
+            blocks,
+        })
+    }
+
+    /// The pool, where the block at the place gives way to the others.
+    pub fn replaced(&self, alloc: Global, place: u32, others: &[Block]) -> Result<Pool, AllocError>
+        ensures { IfOk result (λ pool. pool ≡ replaced_in place others.now self.now) }
+    {
+        let blocks = replaced(alloc, self.blocks.as_slice(), place, others)?;
         Ok(Pool {
             base: self.base,
             bytes: self.bytes,
@@ -132,18 +142,5 @@ impl Pool {
             }
         }
         None
-    }
-
-    /// The pool with the block at the place free, and merged.
-    pub fn merged(&self, alloc: Global, place: u32) -> Result<Pool, AllocError>
-        requires { sum_by (λ block. block.size) self.now.blocks < 2 ^ 32 }
-        ensures { IfOk result (λ pool. pool ≡ merged_in place self.now) }
-    {
-        let blocks = merge_in(alloc, self.blocks.as_slice(), place)?;
-        Ok(Pool {
-            base: self.base,
-            bytes: self.bytes,
-            blocks,
-        })
     }
 }

@@ -1,36 +1,32 @@
-use Rattle.std.proofs.Common.{◌≡◌, ℕ, ◌+◌, ◌<◌, ◌^◌, true, List, sym, ap, ◌∙◌, subst, map, All}
-use Rattle.tlsf_heap.specs.Content.{Content, Pool, blocks_of, size_at}
-use Rattle.tlsf_heap.specs.Free.{is_live, merged_in, unlink_block, after_free, if_free, first_in_pools, in_front_of, behind, size_of}
+use Rattle.std.proofs.Common.{◌≡◌, ℕ, ◌+◌, true, List, [], ◌∷◌, sym, ap, ◌∙◌, subst, map}
+use Rattle.tlsf_heap.specs.Content.{Content, blocks_of, size_at}
+use Rattle.tlsf_heap.specs.Free.{is_live, unlink_block, if_free, first_in_pools, in_front_of, behind, size_of}
+use Rattle.tlsf_heap.specs.LocalFree.{free_block, without_block, after_free}
+use Rattle.tlsf_heap.specs.Malloc.{replaced_in}
 use Rattle.tlsf_heap.specs.Lists.{link}
 use Rattle.tlsf_heap.specs.PlainHeap.{IsPlain, content_of, lists_of}
-use Rattle.tlsf_heap.proofs.MergedInOrder.{sizes}
-use Rattle.tlsf_heap.proofs.PlainFree.{sizes_few, rejoined_is, freed_is_plain}
+use Rattle.tlsf_heap.proofs.PlainFree.{after_free_is, freed_is_plain}
 use Rattle.tlsf_heap.proofs.plain_heap.heap.PlainHeap.release.Goals as goal
 
-pub merge_in_pools-requires : goal.merge_in_pools-requires
-merge_in_pools-requires c =
-    let P : List (Pool ℕ) → Type 0 = λ ps. All (λ (pool : Pool ℕ). sizes pool.blocks < 2 ^ 32) ps in
-    subst P (sym c.as_slice-2.ensures.value) (sizes_few 0 c.self.inside.pools.items c.self.invariant.good.pools_good)
-
 -- the new fields stand for the content after free
-fields : (c : goal.After-drop-self-inside-2) → content_of c.self.inside.records c.in_ok-pools.pools.items c.in_ok-lists.lists.items
+fields : (c : goal.After-drop-pools-3) → content_of c.self.inside.records c.in_ok-pools-3.pools.items c.in_ok-lists.lists.items
     ≡ after_free c.args.place (content_of c.self.inside.records c.self.inside.pools.items c.self.inside.lists.items)
 fields c =
     let place = c.args.place in
     let pools = c.self.inside.pools.items in
-    let left = c.joined-left.result in
-    let is = c.joined-left.ensures in
+    let beside = c.neighbours-beside.result in
+    let is = c.neighbours-beside.ensures in
     let same = c.as_slice.ensures.value in
-    let lists = c.in_ok-lists.ensures
-    ∙ ap (λ ls. link left.place left.size (unlink_block left.back (unlink_block left.front (lists_of ls)))) c.as_slice-3.ensures.value
-    ∙ rejoined_is place (size_at place (blocks_of pools)) left.place left.size left.front (if_free (first_in_pools (in_front_of place) pools)) left.back (if_free (first_in_pools (behind place) pools))
-    (lists_of c.self.inside.lists.items)
+    after_free_is c.self.inside.records place pools (lists_of c.self.inside.lists.items) beside.front beside.back beside.start beside.size
     (is.front ∙ ap (λ ps. if_free (first_in_pools (in_front_of place) ps)) same)
     (is.back ∙ ap (λ ps. if_free (first_in_pools (behind place) ps)) same)
-    is.place
-    (is.size ∙ ap (λ ps. size_of left.front + size_at place (blocks_of ps) + size_of left.back) same) in
-    ap (λ ps. content_of c.self.inside.records ps c.in_ok-lists.lists.items) (c.in_ok-pools.ensures ∙ ap (map (merged_in place)) c.as_slice-2.ensures.value)
-    ∙ ap (λ ls. record { records = c.self.inside.records; pools = map (merged_in place) pools; lists = ls }) lists
+    is.start
+    (is.size ∙ ap (λ ps. size_of beside.front + size_at place (blocks_of ps) + size_of beside.back) same)
+    c.in_ok-pools.pools.items c.in_ok-pools-2.pools.items c.in_ok-pools-3.pools.items (lists_of c.in_ok-lists.lists.items)
+    (c.in_ok-pools.ensures ∙ ap (without_block beside.front) c.as_slice-3.ensures.value)
+    (c.in_ok-pools-2.ensures ∙ ap (without_block beside.back) c.as_slice-4.ensures.value)
+    (c.in_ok-pools-3.ensures ∙ ap (λ one. map (replaced_in place (one ∷ [])) c.as_slice-5.result.now) c.free-one.ensures ∙ ap (map (replaced_in place (free_block beside.start beside.size ∷ []))) c.as_slice-5.ensures.value)
+    (c.in_ok-lists.ensures ∙ ap (λ ls. link beside.start beside.size (unlink_block beside.back (unlink_block beside.front (lists_of ls)))) c.as_slice-2.ensures.value)
 
 pub invariant_of-self : goal.invariant_of-self
 invariant_of-self c =
