@@ -21,4 +21,5 @@ pub mod Joinable
 pub mod Steps
 pub mod Live
 pub mod Allotted
+pub mod Served
 mod Rows
