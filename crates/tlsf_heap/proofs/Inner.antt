@@ -22,4 +22,5 @@ pub mod Steps
 pub mod Live
 pub mod Allotted
 pub mod Served
+pub mod Picked
 mod Rows

@@ -51,7 +51,7 @@ module _ (records : List Record) where
       ∙ ap (λ pools. pool_of area ∷ pools) (pools_read areas (omega (arith, few, both)) chains.1)
 
   -- a node that begins elsewhere than its record says
-  abbrev strays : Node → Bool
+  abbrev pub strays : Node → Bool
   strays node = not (eqb (record_at records node.slot).place node.place)
 
   none_strays : (before : Option ℕ) (nodes : List Node) → AreLinked in_pool (pool_views records) before nodes → count_by strays nodes ≡ 0
@@ -81,7 +81,7 @@ module _ (cells : Cells) (layout : Layout) (was : Represents cells layout) where
       let all : Node → Bool = λ node. true in
       omega (arith, few, count_all (list_of number layout.lists), was.agree number all, count_by-le-length (λ node. is_listed_in number node && true) (nodes_of layout.areas))
 
-  list_strays : (number : ℕ) → count_by (strays cells.records) (list_of number layout.lists) ≡ 0
+  pub list_strays : (number : ℕ) → count_by (strays cells.records) (list_of number layout.lists) ≡ 0
   list_strays number =
       omega (arith, was.agree number (strays cells.records), count_and (is_listed_in number) (strays cells.records) (nodes_of layout.areas), none_in_areas cells.records layout.areas was.chains.chains)
 
