@@ -2,8 +2,9 @@
 use Rattle.std.proofs.Common.{◌≡◌, ℕ, zero, suc, ◌+◌, ◌≤◌, Bool, true, false, not, ◌&&◌, eqb, List, [], ◌∷◌, length, map, refl, sym, ap, ◌∙◌, arith, count_by, Option, Some, None, inl, inr}
 use Rattle.std.specs.List.{AllByRecursion}
 use Rattle.std.proofs.lemmas.Bool.{cases_Bool, eq-eqb, eqb-true}
-use Rattle.std.proofs.lemmas.List.{length-append}
+use Rattle.std.proofs.lemmas.List.{length-append, length-map}
 use Rattle.std.proofs.lemmas.List.Sums.{count_by-le-length}
+use Rattle.tlsf_class.specs.Classes.{classes}
 use Rattle.tlsf_store.specs.declared.records.Record.{Record}
 use Rattle.tlsf_store.specs.Records.{record_at}
 use Rattle.tlsf_store.specs.Cells.{Cells}
@@ -116,3 +117,11 @@ stands_touched cells n stands = record { layout = stands.layout; represented = s
 pub content_touched : (cells : Cells) (n : ℕ) → content_of (record cells { touches = n }) ≡ content_of cells
 unfolding content_of
 content_touched cells n = refl
+
+pub records_are : (cells : Cells) → (content_of cells).records ≡ length cells.records
+unfolding content_of
+records_are cells = refl
+
+-- the index of cells that stand is that of a store
+pub heads_count : (cells : Cells) (stands : Stands cells) → length cells.heads ≡ classes
+heads_count cells stands = ap length stands.represented.index.heads_are ∙ length-map stands.layout.lists first_slot ∙ stands.represented.index.lists_count

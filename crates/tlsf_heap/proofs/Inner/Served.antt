@@ -1,7 +1,7 @@
 -- What stands after a free block was taken, whole or in part, and that it is what malloc gives.
-use Rattle.std.proofs.Common.{◌≡◌, ◌≢◌, ℕ, ◌+◌, ◌%◌, ◌<◌, ◌≤◌, Bool, true, false, cond, ◌&&◌, List, [], ◌∷◌, length, map, refl, sym, ap, ◌∙◌, subst, arith, count_by, Option, Some, Ok, Err, inl, inr}
+use Rattle.std.proofs.Common.{◌≡◌, ◌≢◌, ℕ, ◌+◌, ◌%◌, ◌<◌, ◌≤◌, Bool, true, false, cond, ◌&&◌, eqb, List, [], ◌∷◌, length, map, refl, sym, ap, ◌∙◌, subst, arith, count_by, Option, Some, Ok, Err, inl, inr}
 use Rattle.std.specs.Prelude.{Result, nat_lt, nat_le}
-use Rattle.std.proofs.lemmas.Bool.{cases_lt, lt-ltb, le-ltb, le-leb, lt-leb, and_left, and_right}
+use Rattle.std.proofs.lemmas.Bool.{cases_lt, eq-eqb, lt-ltb, le-ltb, le-leb, lt-leb, and_left, and_right}
 use Rattle.std.proofs.lemmas.List.{length-map}
 use Rattle.tlsf_class.specs.Classes.{unit}
 use Rattle.tlsf_store.specs.declared.records.Record.{Record}
@@ -11,21 +11,24 @@ use Rattle.tlsf_store.specs.Cells.{Cells}
 use Rattle.tlsf_store.proofs.RecordLaws.{vacant_count-take}
 use Rattle.tlsf_heap.specs.declared.refusal.Refusal.{Refusal}
 use Rattle.tlsf_heap.specs.declared.refusal.Refusal.TheVariants.{TableFull}
-use Rattle.tlsf_heap.specs.Content.{Content, blocks_of, size_at, used_records}
+use Rattle.tlsf_heap.specs.GoodSlots.{is_slot, slot_times}
+use Rattle.tlsf_heap.specs.Content.{Block, Content, blocks_of, size_at, used_records}
 use Rattle.tlsf_heap.specs.Lists.{pick}
 use Rattle.tlsf_heap.specs.Malloc.{allocated, malloc_picked}
 use Rattle.tlsf_heap.specs.Good.{IsGood}
-use Rattle.tlsf_heap.specs.Inner.Nodes.{Status, InUse, Listed, Node, Layout, turned, rest_node, block_of, pool_of, content_by, nodes_of}
+use Rattle.tlsf_heap.specs.Inner.Nodes.{Status, InUse, Listed, Loose, Node, Layout, turned, rest_node, owner_of, block_of, pool_of, content_by, nodes_of, has_slot}
 use Rattle.tlsf_heap.specs.Inner.Spots.{Spot, filled}
 use Rattle.tlsf_heap.specs.Inner.Joined.{is_loose}
 use Rattle.tlsf_heap.specs.Inner.Represents.{Represents}
 use Rattle.tlsf_heap.specs.Inner.Following.{content_of, Stands}
 use Rattle.tlsf_heap.specs.Inner.At.{At, areas_at, layout_at, StandsAt, at_taken, at_cut}
 use Rattle.tlsf_heap.proofs.GoodContent.{Picked, picked, allocated_is_good}
-use Rattle.tlsf_heap.proofs.Inner.Counts.{one_if, count-cons}
+use Rattle.tlsf_heap.proofs.Inner.Counts.{one_if, count-cons, count-map}
 use Rattle.tlsf_heap.proofs.Inner.Plugs.{count-filled}
 use Rattle.tlsf_heap.proofs.Inner.Sums.{all_records}
-use Rattle.tlsf_heap.proofs.Inner.Followed.{content_is, stood_for}
+use Rattle.tlsf_heap.proofs.Inner.Followed.{content_is, stood_for, records_are}
+use Rattle.tlsf_heap.proofs.Inner.Chains.{uses_most}
+use Rattle.tlsf_heap.proofs.Inner.Steps.{slot_used}
 use Rattle.tlsf_heap.proofs.Inner.Live.{NodeAt, told_of}
 use Rattle.tlsf_heap.proofs.Meaning.Places.{Told, alone, blocks_of_areas}
 use Rattle.tlsf_heap.proofs.Meaning.NodeBlocks.{size_is}
@@ -167,3 +170,40 @@ module _ (cells : Cells) (stands : Stands cells) (place slot asked : ℕ) (by : 
       rw (lt-ltb asked by.at.node.size less, le-leb (content_of cells).records (used_records (content_of cells)) (no_room cells stands no_vacant)) refl in
       ap (λ n. cond (nat_lt asked n && nat_le (content_of cells).records (used_records (content_of cells))) (Err TableFull) (Ok (place, allocated owner place asked n (content_of cells)))) size_there
       ∙ ap (λ b. cond b (Err TableFull) (Ok (place, allocated owner place asked by.at.node.size (content_of cells)))) refused
+
+-- the slot of a listed node is of no live block
+owned_few : (slot : ℕ) (status : Status) (q : ℕ) → one_if (is_slot slot (owner_of status q)) ≤ one_if (eqb q slot)
+owned_few slot InUse q = omega arith
+owned_few slot Listed q = omega arith
+owned_few slot Loose q = omega arith
+
+owners_few : (slot : ℕ) (nodes : List Node) → count_by (λ node. is_slot slot (owner_of node.status node.slot)) nodes ≤ count_by (has_slot slot) nodes
+owners_few slot [] = omega arith
+owners_few slot (node ∷ nodes) =
+    omega (arith, count-cons (λ n. is_slot slot (owner_of n.status n.slot)) node nodes, count-cons (has_slot slot) node nodes, owned_few slot node.status node.slot, owners_few slot nodes)
+
+pub slot_new : (cells : Cells) (stands : Stands cells) (place slot : ℕ) → NodeAt place slot Listed cells stands.layout → slot_times slot (blocks_of (content_of cells).pools) ≡ 0
+slot_new cells stands place slot by =
+    let at : At = by.at in
+    let owns : Node → Bool = λ n. is_slot slot (owner_of n.status n.slot) in
+    let blocks = ap (λ (x : Content ℕ). slot_times slot (blocks_of x.pools)) (stood_for cells stands ∙ ap content_by by.layout_is) ∙ ap (slot_times slot) (blocks_of_areas (areas_at at)) ∙ count-map (λ (b : Block ℕ). is_slot slot b.owner) block_of (nodes_of (areas_at at)) in
+    let free : one_if (owns at.node) ≡ 0 = ap (λ s. one_if (is_slot slot (owner_of s at.node.slot))) by.stands.1.status_is in
+    omega (
+      arith,
+      blocks,
+      count-filled owns at.spot (at.node ∷ at.nodes),
+      count-cons owns at.node at.nodes,
+      free,
+      owners_few slot (nodes_of at.spot.areas_before),
+      owners_few slot at.spot.before,
+      owners_few slot (nodes_of at.spot.areas_behind),
+      owners_few slot at.nodes,
+      by.stands.0.chains.once slot,
+      uses_most (record_at cells.records slot).state,
+      count-filled (has_slot slot) at.spot (at.node ∷ at.nodes),
+      count-cons (has_slot slot) at.node at.nodes,
+      ap one_if (eq-eqb at.node.slot slot by.stands.1.slot_is),
+    )
+
+pub slot_below : (cells : Cells) (stands : Stands cells) (place slot : ℕ) → NodeAt place slot Listed cells stands.layout → slot < (content_of cells).records
+slot_below cells stands place slot by = omega (arith, (slot_used cells slot Listed by.at by.stands).0, records_are cells)
