@@ -1,5 +1,5 @@
 -- The first block of the lists is the one that is picked: its node, its record and its place.
-use Rattle.std.proofs.Common.{◌≡◌, ℕ, zero, suc, ◌+◌, ◌≤◌, Bool, true, false, not, ◌&&◌, eqb, List, [], ◌∷◌, length, map, drop, refl, sym, ap, ◌∙◌, subst, arith, count_by, Option, Some, None, option_map, inl, inr}
+use Rattle.std.proofs.Common.{◌≡◌, ℕ, zero, suc, ◌+◌, Bool, true, false, not, ◌&&◌, eqb, List, [], ◌∷◌, map, drop, refl, sym, ap, ◌∙◌, subst, arith, count_by, Option, Some, None, option_map, inl, inr}
 use Rattle.std.specs.Prelude.{IfSome, IfNone, option_and_then}
 use Rattle.std.specs.List.{AllByRecursion}
 use Rattle.std.proofs.lemmas.Bool.{cases_Bool, eqb-true, false≢true}
@@ -15,7 +15,7 @@ use Rattle.tlsf_heap.specs.Lists.{first_of_lists, pick}
 use Rattle.tlsf_heap.specs.Bitmaps.{first_head}
 use Rattle.tlsf_heap.specs.Release.{is_state_free}
 use Rattle.tlsf_heap.specs.Inner.Nodes.{Status, InUse, Listed, Loose, Node, Area, nodes_of, list_of, is_listed, is_listed_in}
-use Rattle.tlsf_heap.specs.Inner.Represents.{InPool, in_pool, pool_views, state_of, first_slot, AreLinked, IsChain, Represents}
+use Rattle.tlsf_heap.specs.Inner.Represents.{InPool, in_pool, pool_views, state_of, first_slot, AreLinked, IsChain}
 use Rattle.tlsf_heap.specs.Inner.Following.{content_of, Stands}
 use Rattle.tlsf_heap.proofs.Inner.Counts.{one_if, count-cons}
 use Rattle.tlsf_heap.proofs.Inner.Plugs.{count-nodes}

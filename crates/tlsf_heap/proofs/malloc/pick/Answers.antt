@@ -1,5 +1,5 @@
 use Rattle.std.proofs.Common.{sym, ◌∙◌}
-use Rattle.tlsf_heap.proofs.Inner.Picked.{Tells, search_tells}
+use Rattle.tlsf_heap.proofs.Inner.Picked.{search_tells}
 use Rattle.tlsf_heap.proofs.Inner.Followed.{heads_count}
 use Rattle.tlsf_heap.proofs.malloc.pick.Goals as goal
 

@@ -1,12 +1,12 @@
-use Rattle.std.proofs.Common.{◌≡◌, ◌≢◌, ℕ, ◌<◌, length, sym, ap, ◌∙◌, subst, arith, Some, Ok}
+use Rattle.std.proofs.Common.{◌≡◌, ℕ, ◌<◌, length, sym, ap, ◌∙◌, subst, arith, Some, Ok}
 use Rattle.tlsf_store.specs.declared.records.Record.{Record}
 use Rattle.tlsf_store.specs.declared.records.State.TheVariants.{Free}
 use Rattle.tlsf_store.specs.Records.{blank, record_at, vacant_count}
 use Rattle.tlsf_store.specs.Cells.{Cells, touched, with_taken}
 use Rattle.tlsf_heap.specs.Malloc.{malloc_picked}
-use Rattle.tlsf_heap.specs.Inner.Nodes.{InUse, Listed}
+use Rattle.tlsf_heap.specs.Inner.Nodes.{Listed}
 use Rattle.tlsf_heap.specs.Inner.Following.{Stands, content_of}
-use Rattle.tlsf_heap.specs.Inner.At.{At, StandsAt, with_slot}
+use Rattle.tlsf_heap.specs.Inner.At.{StandsAt, with_slot}
 use Rattle.tlsf_heap.proofs.Inner.Followed.{content_touched}
 use Rattle.tlsf_heap.proofs.Inner.Steps.{size_read}
 use Rattle.tlsf_heap.proofs.Inner.Allotted.{slot_stands}
