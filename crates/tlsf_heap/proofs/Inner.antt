@@ -23,4 +23,5 @@ pub mod Live
 pub mod Allotted
 pub mod Served
 pub mod Picked
+pub mod Empty
 mod Rows

@@ -175,7 +175,7 @@ owned_few slot InUse q = omega arith
 owned_few slot Listed q = omega arith
 owned_few slot Loose q = omega arith
 
-owners_few : (slot : ℕ) (nodes : List Node) → count_by (λ node. is_slot slot (owner_of node.status node.slot)) nodes ≤ count_by (has_slot slot) nodes
+pub owners_few : (slot : ℕ) (nodes : List Node) → count_by (λ node. is_slot slot (owner_of node.status node.slot)) nodes ≤ count_by (has_slot slot) nodes
 owners_few slot [] = omega arith
 owners_few slot (node ∷ nodes) =
     omega (arith, count-cons (λ n. is_slot slot (owner_of n.status n.slot)) node nodes, count-cons (has_slot slot) node nodes, owned_few slot node.status node.slot, owners_few slot nodes)
