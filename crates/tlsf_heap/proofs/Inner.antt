@@ -21,4 +21,7 @@ pub mod Joinable
 pub mod Steps
 pub mod Live
 pub mod Allotted
+pub mod Served
+pub mod Picked
+pub mod Empty
 mod Rows

@@ -12,6 +12,7 @@ mod free;
 mod free_lists;
 mod heap;
 mod heaped;
+mod malloc;
 mod marks;
 mod plain_heap;
 mod pointer;

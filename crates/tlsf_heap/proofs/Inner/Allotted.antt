@@ -1,29 +1,25 @@
 -- A listed node leaves its list and is in use, and what is left behind its first bytes is listed: what the steps need and leave.
-use Rattle.std.proofs.Common.{◌≡◌, ◌≢◌, ℕ, ◌+◌, ◌-◌, ◌%◌, ◌<◌, ◌≤◌, Bool, false, List, [], ◌∷◌, length, map, refl, sym, ap, ◌∙◌, subst, arith, count_by, Option, Some}
+use Rattle.std.proofs.Common.{◌≡◌, ℕ, ◌+◌, ◌-◌, ◌%◌, ◌<◌, Bool, List, ◌∷◌, length, map, refl, ap, subst, arith, Some}
 use Rattle.std.proofs.lemmas.Bool.{eq-eqb}
-use Rattle.tlsf_class.specs.Classes.{unit, greatest_size, class}
-use Rattle.tlsf_store.specs.declared.records.Record.{Record}
+use Rattle.tlsf_class.specs.Classes.{unit, class}
 use Rattle.tlsf_store.specs.declared.records.State.TheVariants.{Live}
 use Rattle.tlsf_store.specs.Records.{blank, record_at}
-use Rattle.tlsf_store.specs.Cells.{Cells, head_at, with_taken}
-use Rattle.tlsf_heap.specs.Good.{Covers, times}
+use Rattle.tlsf_store.specs.Cells.{Cells, with_taken}
+use Rattle.tlsf_heap.specs.Good.{Covers}
 use Rattle.tlsf_heap.specs.Edits.{IsUsed, linked, unlinked}
 use Rattle.tlsf_heap.specs.Chains.{with_state, split}
-use Rattle.tlsf_heap.specs.Release.{AreCovered}
-use Rattle.tlsf_heap.specs.Inner.Nodes.{Status, InUse, Listed, Loose, Node, turned, rest_node, block_of, pool_of, is_listed}
-use Rattle.tlsf_heap.specs.Inner.Spots.{Spot}
+use Rattle.tlsf_heap.specs.Inner.Nodes.{Status, InUse, Listed, Loose, Node, turned, rest_node, block_of, is_listed}
 use Rattle.tlsf_heap.specs.Inner.Joined.{is_loose}
 use Rattle.tlsf_heap.specs.Inner.Represents.{Represents}
-use Rattle.tlsf_heap.specs.Inner.At.{At, areas_at, layout_at, IsAt, StandsAt, at_unlisted, at_taken, with_slot, at_split, at_cut}
-use Rattle.tlsf_heap.proofs.GoodContent.{IsWhole}
+use Rattle.tlsf_heap.specs.Inner.At.{At, layout_at, StandsAt, at_unlisted, at_taken, with_slot, at_split, at_cut}
 use Rattle.tlsf_heap.proofs.Inner.Counts.{one_if, count-cons}
 use Rattle.tlsf_heap.proofs.Inner.Plugs.{count-filled}
-use Rattle.tlsf_heap.proofs.Inner.Chains.{times-cons, AtNode, at_node}
+use Rattle.tlsf_heap.proofs.Inner.Chains.{times-cons, at_node}
 use Rattle.tlsf_heap.proofs.Inner.Used.{stands_used, next_used}
 use Rattle.tlsf_heap.proofs.Inner.Unlinked.{unlinked_laid, prev_free_used, next_free_used}
 use Rattle.tlsf_heap.proofs.Inner.Split.{split_laid}
 use Rattle.tlsf_heap.proofs.Inner.Taken.{slot_taken}
-use Rattle.tlsf_heap.proofs.Inner.Steps.{slot_used, size_read, whole_at, first_used, covered_turned, turned_stands, listed_stands}
+use Rattle.tlsf_heap.proofs.Inner.Steps.{covered_turned, turned_stands, listed_stands}
 use Rattle.tlsf_heap.proofs.Meaning.Covered.{covered_refilled}
 
 module _ (cells : Cells) (slot : ℕ) (at : At) (stands : StandsAt slot Listed cells at) where

@@ -1,17 +1,17 @@
 -- The content of cells that represent a layout is that of the layout.
-use Rattle.std.proofs.Common.{◌≡◌, ℕ, zero, suc, ◌+◌, ◌≤◌, Bool, true, false, not, ◌&&◌, eqb, List, [], ◌∷◌, length, map, refl, sym, ap, ◌∙◌, arith, count_by, Option, Some, None, inl, inr}
+use Rattle.std.proofs.Common.{◌≡◌, ℕ, zero, suc, ◌≤◌, Bool, true, not, ◌&&◌, eqb, List, [], ◌∷◌, length, map, refl, sym, ap, ◌∙◌, arith, count_by, Option, Some, None, inl, inr}
 use Rattle.std.specs.List.{AllByRecursion}
 use Rattle.std.proofs.lemmas.Bool.{cases_Bool, eq-eqb, eqb-true}
-use Rattle.std.proofs.lemmas.List.{length-append}
+use Rattle.std.proofs.lemmas.List.{length-append, length-map}
 use Rattle.std.proofs.lemmas.List.Sums.{count_by-le-length}
+use Rattle.tlsf_class.specs.Classes.{classes}
 use Rattle.tlsf_store.specs.declared.records.Record.{Record}
 use Rattle.tlsf_store.specs.Records.{record_at}
 use Rattle.tlsf_store.specs.Cells.{Cells}
-use Rattle.tlsf_heap.specs.Content.{Block, Pool, Content}
 use Rattle.tlsf_heap.specs.Layout.{entries_of}
 use Rattle.tlsf_heap.proofs.EntryLists.{entries_of-padded}
 use Rattle.tlsf_heap.specs.Inner.Nodes.{Status, InUse, Listed, Loose, Node, Area, Layout, owner_of, block_of, pool_of, content_by, nodes_of, list_of, is_listed_in}
-use Rattle.tlsf_heap.specs.Inner.Represents.{InPool, InList, in_pool, in_list, pool_views, list_views, state_of, first_slot, AreLinked, IsChain, Represents}
+use Rattle.tlsf_heap.specs.Inner.Represents.{InPool, in_pool, in_list, pool_views, list_views, state_of, first_slot, AreLinked, IsChain, Represents}
 use Rattle.tlsf_heap.specs.Inner.Following.{follow, owner_in, block_at, pool_from, list_from, content_of, Stands}
 use Rattle.tlsf_heap.proofs.Inner.Counts.{one_if, count-cons, count_and, count_all}
 use Rattle.tlsf_heap.proofs.Inner.Plugs.{count-nodes}
@@ -51,7 +51,7 @@ module _ (records : List Record) where
       ∙ ap (λ pools. pool_of area ∷ pools) (pools_read areas (omega (arith, few, both)) chains.1)
 
   -- a node that begins elsewhere than its record says
-  abbrev strays : Node → Bool
+  abbrev pub strays : Node → Bool
   strays node = not (eqb (record_at records node.slot).place node.place)
 
   none_strays : (before : Option ℕ) (nodes : List Node) → AreLinked in_pool (pool_views records) before nodes → count_by strays nodes ≡ 0
@@ -81,7 +81,7 @@ module _ (cells : Cells) (layout : Layout) (was : Represents cells layout) where
       let all : Node → Bool = λ node. true in
       omega (arith, few, count_all (list_of number layout.lists), was.agree number all, count_by-le-length (λ node. is_listed_in number node && true) (nodes_of layout.areas))
 
-  list_strays : (number : ℕ) → count_by (strays cells.records) (list_of number layout.lists) ≡ 0
+  pub list_strays : (number : ℕ) → count_by (strays cells.records) (list_of number layout.lists) ≡ 0
   list_strays number =
       omega (arith, was.agree number (strays cells.records), count_and (is_listed_in number) (strays cells.records) (nodes_of layout.areas), none_in_areas cells.records layout.areas was.chains.chains)
 
@@ -116,3 +116,11 @@ stands_touched cells n stands = record { layout = stands.layout; represented = s
 pub content_touched : (cells : Cells) (n : ℕ) → content_of (record cells { touches = n }) ≡ content_of cells
 unfolding content_of
 content_touched cells n = refl
+
+pub records_are : (cells : Cells) → (content_of cells).records ≡ length cells.records
+unfolding content_of
+records_are cells = refl
+
+-- the index of cells that stand is that of a store
+pub heads_count : (cells : Cells) (stands : Stands cells) → length cells.heads ≡ classes
+heads_count cells stands = ap length stands.represented.index.heads_are ∙ length-map stands.layout.lists first_slot ∙ stands.represented.index.lists_count

@@ -1,20 +1,17 @@
 -- A node takes in the free one behind it, or is taken in by the free one in front: what the steps need and leave.
-use Rattle.std.proofs.Common.{◌≡◌, ℕ, ◌+◌, ◌%◌, ◌^◌, ◌<◌, ◌≤◌, Bool, true, false, cond, List, [], ◌∷◌, length, map, refl, sym, ap, ◌∙◌, subst, arith, count_by, Option, Some, None, inl, inr}
+use Rattle.std.proofs.Common.{◌≡◌, ℕ, ◌+◌, Bool, true, false, cond, List, [], ◌∷◌, map, refl, sym, ap, ◌∙◌, subst, arith, count_by, Option, Some, None, inl, inr}
 use Rattle.std.proofs.lemmas.Bool.{cases_Bool, false≢true}
-use Rattle.tlsf_class.specs.Classes.{unit, greatest_size, class}
+use Rattle.tlsf_class.specs.Classes.{class}
 use Rattle.tlsf_store.specs.declared.records.Record.{Record}
-use Rattle.tlsf_store.specs.declared.records.State.{State}
-use Rattle.tlsf_store.specs.declared.records.State.TheVariants.{Vacant, Free, Live}
 use Rattle.tlsf_store.specs.Records.{record_at}
 use Rattle.tlsf_store.specs.Cells.{Cells}
 use Rattle.tlsf_heap.specs.Edits.{unlinked}
-use Rattle.tlsf_heap.specs.Chains.{absorbed}
 use Rattle.tlsf_heap.specs.Release.{AreCovered, is_state_free, joined}
-use Rattle.tlsf_heap.specs.Inner.Nodes.{Status, InUse, Listed, Loose, Node, Area, turned, block_of, pool_of, nodes_of, is_listed, left}
+use Rattle.tlsf_heap.specs.Inner.Nodes.{Status, InUse, Listed, Loose, Node, turned, block_of, pool_of, is_listed, left}
 use Rattle.tlsf_heap.specs.Inner.Spots.{Spot, laid, filled}
 use Rattle.tlsf_heap.specs.Inner.Joined.{is_loose, past, listed_first, left_by, grown_in_front, grown_behind}
 use Rattle.tlsf_heap.specs.Inner.Represents.{InPool, in_pool, pool_views, state_of, first_slot, AreChains, Represents}
-use Rattle.tlsf_heap.specs.Inner.At.{At, areas_at, layout_at, IsAt, StandsAt, front_joined, back_joined, IsJoinable}
+use Rattle.tlsf_heap.specs.Inner.At.{At, StandsAt, front_joined, back_joined, IsJoinable}
 use Rattle.tlsf_heap.proofs.GoodContent.{IsWhole}
 use Rattle.tlsf_heap.proofs.Inner.Counts.{one_if, count-cons}
 use Rattle.tlsf_heap.proofs.Inner.Plugs.{count-filled}

@@ -1,8 +1,7 @@
 -- A free block that is in no list enters its class's list.
-use Rattle.std.proofs.Common.{◌≡◌, ◌≢◌, ℕ, ◌+◌, ◌/◌, ◌<◌, ◌≤◌, Bool, false, ◌&&◌, eqb, List, ◌∷◌, length, map, get_or, set, refl, sym, ap, ◌∙◌, subst, arith, count_by, Option, Some, None}
-use Rattle.std.proofs.lemmas.Bool.{eq-eqb}
+use Rattle.std.proofs.Common.{◌≡◌, ◌≢◌, ℕ, ◌≤◌, Bool, ◌&&◌, List, ◌∷◌, length, set, refl, sym, ap, ◌∙◌, subst, arith, count_by, Option, Some, None}
 use Rattle.std.proofs.lemmas.List.{length-set, length-map}
-use Rattle.tlsf_class.specs.Classes.{classes, class}
+use Rattle.tlsf_class.specs.Classes.{class}
 use Rattle.tlsf_class.proofs.ClassLaws.{class-lt}
 use Rattle.tlsf_store.specs.declared.records.Record.{Record}
 use Rattle.tlsf_store.specs.Records.{record_at}
@@ -11,14 +10,14 @@ use Rattle.tlsf_heap.specs.Layout.{padded}
 use Rattle.tlsf_heap.specs.Edits.{edited_in, with_prev_free, with_free_links, marked, linked}
 use Rattle.tlsf_heap.specs.Inner.Nodes.{Status, Node, Area, Listed, Loose, turned, nodes_of, has_slot, list_of, is_listed_in, entered}
 use Rattle.tlsf_heap.specs.Inner.Spots.{Spot, laid, filled}
-use Rattle.tlsf_heap.specs.Inner.Represents.{InPool, InList, pool_view, list_view, pool_views, list_views, state_of, in_pool, in_list, first_slot, AreLinked, uses_in, AreChains, Agree, Represented, Represents}
+use Rattle.tlsf_heap.specs.Inner.Represents.{InPool, pool_view, list_view, pool_views, list_views, state_of, in_pool, in_list, first_slot, AreLinked, AreChains, Agree, Represents}
 use Rattle.tlsf_heap.proofs.Marking.{marks_set}
-use Rattle.tlsf_heap.proofs.Inner.Counts.{one_if, count-cons}
+use Rattle.tlsf_heap.proofs.Inner.Counts.{count-cons}
 use Rattle.tlsf_heap.proofs.Inner.Plugs.{count-filled}
 use Rattle.tlsf_heap.proofs.Inner.Links.{linked_same, linked_moved, first_stands}
 use Rattle.tlsf_heap.proofs.Inner.Reads.{length-edited, edited_here, edited_apart, edited_kept}
 use Rattle.tlsf_heap.proofs.Inner.Lists.{lists_apart, each_written, heads-written, head_of, count-entered}
-use Rattle.tlsf_heap.proofs.Inner.Chains.{chains_refilled, linked_at, uses_most, used_below, unlisted, unlisted_nowhere, listed_within, entries-filled, AtNode, at_node}
+use Rattle.tlsf_heap.proofs.Inner.Chains.{chains_refilled, linked_at, uses_most, used_below, unlisted_nowhere, listed_within, entries-filled, AtNode, at_node}
 use Rattle.tlsf_heap.proofs.Inner.Taken.{counted_apart}
 
 -- a node at a spot enters or leaves its list: its pool doesn't see it

@@ -1,23 +1,21 @@
 -- The live block that a pointer is of, as a node at its spot, and what is left once it was freed.
-use Rattle.std.proofs.Common.{◌≡◌, ◌≢◌, ℕ, ◌+◌, ◌≤◌, Bool, true, false, ◌&&◌, List, [], ◌∷◌, map, refl, sym, ap, ◌∙◌, subst, arith, count_by, Option, Some, None, inl, inr}
+use Rattle.std.proofs.Common.{◌≡◌, ◌≢◌, ℕ, Bool, true, false, ◌&&◌, ◌∷◌, map, refl, sym, ap, ◌∙◌, subst, arith, count_by, inl, inr}
 use Rattle.std.specs.Prelude.{◌==◌}
 use Rattle.std.specs.List.{list_any}
 use Rattle.std.proofs.lemmas.Bool.{cases_Bool, eq-eqb, eqb-true, and_parts, false≢true}
-use Rattle.tlsf_store.specs.declared.records.Record.{Record}
-use Rattle.tlsf_store.specs.declared.records.State.{State}
-use Rattle.tlsf_store.specs.declared.records.State.TheVariants.{Vacant, Free, Live}
+use Rattle.tlsf_store.specs.declared.records.State.TheVariants.{Free, Live}
 use Rattle.tlsf_store.specs.Records.{record_at}
 use Rattle.tlsf_store.specs.Cells.{Cells}
-use Rattle.tlsf_heap.specs.Content.{Block, Pool, Content, blocks_of, is_at}
+use Rattle.tlsf_heap.specs.Content.{Block, Content, blocks_of, is_at}
 use Rattle.tlsf_heap.specs.Good.{times, IsGood}
 use Rattle.tlsf_heap.specs.Free.{is_owned_by, is_live}
 use Rattle.tlsf_heap.specs.LocalFree.{after_free}
-use Rattle.tlsf_heap.specs.Inner.Nodes.{Status, InUse, Listed, Loose, Node, Layout, turned, owner_of, block_of, pool_of, content_by, nodes_of, has_slot, has_place}
+use Rattle.tlsf_heap.specs.Inner.Nodes.{Status, InUse, Listed, Loose, Node, Layout, owner_of, block_of, pool_of, content_by, nodes_of, has_slot, has_place}
 use Rattle.tlsf_heap.specs.Inner.Spots.{filled}
 use Rattle.tlsf_heap.specs.Inner.Represents.{InPool, state_of, uses_in, Represents}
-use Rattle.tlsf_heap.specs.Inner.Joined.{is_loose, freed}
+use Rattle.tlsf_heap.specs.Inner.Joined.{is_loose}
 use Rattle.tlsf_heap.specs.Inner.Following.{content_of, Stands}
-use Rattle.tlsf_heap.specs.Inner.At.{At, areas_at, layout_at, IsAt, StandsAt, at_freed}
+use Rattle.tlsf_heap.specs.Inner.At.{At, areas_at, layout_at, StandsAt, at_freed}
 use Rattle.tlsf_heap.proofs.Inner.Counts.{one_if, count-cons, any_counts, counts_any, any-map}
 use Rattle.tlsf_heap.proofs.Inner.Plugs.{count-filled}
 use Rattle.tlsf_heap.proofs.Inner.Chains.{AtNode, at_node, uses_most}
@@ -49,6 +47,20 @@ pub record NodeAt (place slot : ℕ) (status : Status) (cells : Cells) (layout :
   pub stands : StandsAt slot status cells at
   pub place_is : at.node.place ≡ place
   pub layout_is : layout ≡ layout_at at
+
+-- what the lists of a good layout tell
+pub told_of : (cells : Cells) (layout : Layout) → Represents cells layout → IsGood (content_by layout) → Told layout.areas layout.lists
+told_of cells layout was good = record {
+  full = was.index.lists_count;
+  agree = was.agree;
+  slots = λ q. omega (arith, was.chains.once q, uses_most (record_at cells.records q).state);
+  places = places_once layout good;
+}
+
+settled_free : (status : Status) → is_loose status ≡ false → state_of status ≡ Free → status ≡ Listed
+settled_free InUse settled free = absurd (cc)
+settled_free Listed settled free = refl
+settled_free Loose settled free = absurd (false≢true (sym settled))
 
 module _ (cells : Cells) (stands : Stands cells) where
   -- a node that is found, where no node is loose
@@ -108,6 +120,25 @@ module _ (cells : Cells) (stands : Stands cells) where
       ∙ counts_any test (nodes_of stands.layout.areas)
       (omega (arith, ap (λ areas. count_by test (nodes_of areas)) found.whole, count-filled test found.spot (found.node ∷ found.nodes), count-cons test found.node found.nodes, ap one_if passes))
 
+  -- a free block is a listed node
+  pub free_at : (slot : ℕ) → (record_at cells.records slot).state ≡ Free → NodeAt (record_at cells.records slot).place slot Listed cells stands.layout
+  free_at slot free =
+      let none : times slot stands.layout.taken ≡ 0 = ap (times slot) stands.none_taken in
+      let found : Located (has_slot slot) stands.layout.areas = located (has_slot slot) stands.layout.areas (omega (arith, stands.represented.chains.once slot, none, ap uses_in free)) in
+      let own : found.node.slot ≡ slot = eqb-true found.node.slot slot found.passes in
+      let P : Layout → Type 0 = λ l. Represents cells l in
+      let was : Represents cells (record stands.layout { areas = filled found.spot (found.node ∷ found.nodes) }) = subst P (ap (λ areas. record stands.layout { areas = areas }) found.whole) stands.represented in
+      let here : AtNode cells.records found.spot found.node found.nodes stands.layout.taken = at_node cells.records found.spot found.node found.nodes stands.layout.taken was.chains in
+      let state : state_of found.node.status ≡ Free = sym (ap (λ (v : InPool). v.state) here.says) ∙ ap (λ q. (record_at cells.records q).state) own ∙ free in
+      let place : found.node.place ≡ (record_at cells.records slot).place = sym (ap (λ (v : InPool). v.place) here.says) ∙ ap (λ q. (record_at cells.records q).place) own in
+      let loose : Node → Bool = λ node. is_loose node.status in
+      let all = ap (λ areas. count_by loose (nodes_of areas)) (sym found.whole) ∙ stands.settled in
+      let settled : is_loose found.node.status ≡ false = (elim (cases_Bool (is_loose found.node.status)) [
+        | inl is ↦ absurd (omega (arith, all, count-filled loose found.spot (found.node ∷ found.nodes), count-cons loose found.node found.nodes, ap one_if is))
+        | inr isnt ↦ isnt
+      ]) in
+      node_at (has_slot slot) (record_at cells.records slot).place slot Listed found own (settled_free found.node.status settled state) place
+
   pub not_live : (place slot : ℕ) → ((record_at cells.records slot).state ≡ Live → (record_at cells.records slot).place ≢ place) → is_live (λ owner. owner == slot) place (blocks_of (content_of cells).pools) ≡ false
   not_live place slot isnt = elim (cases_Bool (is_live (λ owner. owner == slot) place (blocks_of (content_of cells).pools))) [
     | inl live ↦
@@ -128,12 +159,7 @@ module _ (cells : Cells) (stands : Stands cells) where
       let good : IsGood (content_by (layout_at at)) = subst P node.layout_is stands.good in
       let was = node.stands.0 in
       let loose : Node → Bool = λ n. is_loose n.status in
-      let all_told : Told (areas_at at) at.lists = record {
-        full = was.index.lists_count;
-        agree = was.agree;
-        slots = λ q. omega (arith, was.chains.once q, uses_most (record_at cells.records q).state);
-        places = places_once (layout_at at) good;
-      } in
+      let all_told : Told (areas_at at) at.lists = told_of cells (layout_at at) was good in
       let others = node.stands.1.others_settled in
       let is : content_by (layout_at (at_freed at)) ≡ after_free at.node.place (content_by (layout_at at)) =
       freed_is at.spot at.node at.nodes at.lists all_told at.count at.taken at.taken (omega (arith, others, count-filled loose at.spot at.nodes)) (omega (arith, others, count-filled loose at.spot at.nodes)) in

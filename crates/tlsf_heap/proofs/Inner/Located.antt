@@ -1,5 +1,5 @@
 -- A node of the areas at a spot.
-use Rattle.std.proofs.Common.{◌≡◌, ℕ, ◌+◌, ◌≤◌, Bool, true, List, [], ◌∷◌, refl, ap, arith, count_by, inl, inr}
+use Rattle.std.proofs.Common.{◌≡◌, ◌≤◌, Bool, true, List, [], ◌∷◌, ap, arith, count_by, inl, inr}
 use Rattle.std.proofs.lemmas.Bool.{cases_lt}
 use Rattle.tlsf_heap.specs.Inner.Nodes.{Node, Area, nodes_of}
 use Rattle.tlsf_heap.specs.Inner.Spots.{plug, Spot, filled}

@@ -1,5 +1,5 @@
 -- What holds of a list with items in front, nearest first, holds of its parts; how many nodes a filled spot has.
-use Rattle.std.proofs.Common.{◌≡◌, ℕ, ◌+◌, Bool, List, [], ◌∷◌, map, refl, ap, ◌∙◌, arith, count_by}
+use Rattle.std.proofs.Common.{◌≡◌, ℕ, ◌+◌, Bool, List, [], ◌∷◌, map, refl, arith, count_by}
 use Rattle.std.specs.List.{AllByRecursion}
 use Rattle.tlsf_heap.specs.Inner.Nodes.{Node, Area, nodes_of}
 use Rattle.tlsf_heap.specs.Inner.Spots.{plug, Spot, filled}

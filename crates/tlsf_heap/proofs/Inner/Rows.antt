@@ -1,20 +1,20 @@
 -- Layouts of worked rows: what the cells say of their nodes, what they stand for, and what edits leave.
-use Rattle.std.proofs.Common.{◌≡◌, ℕ, List, [], ◌∷◌, map, replicate, Option, Some, None, refl}
+use Rattle.std.proofs.Common.{◌≡◌, ℕ, List, [], ◌∷◌, map, replicate, Some, None, refl}
 use Rattle.tlsf_class.specs.Classes.{classes, class, low}
-use Rattle.tlsf_store.specs.declared.records.State.TheVariants.{Live, Free}
+use Rattle.tlsf_store.specs.declared.records.State.TheVariants.{Live}
 use Rattle.tlsf_store.specs.Cells.{Cells, empty_cells, with_taken}
 use Rattle.tlsf_heap.specs.declared.pool_entry.PoolEntry.{PoolEntry}
-use Rattle.tlsf_heap.specs.Content.{Block, Pool, Content}
+use Rattle.tlsf_heap.specs.Content.{Content}
 use Rattle.tlsf_heap.specs.Edits.{linked, unlinked}
-use Rattle.tlsf_heap.specs.Chains.{with_state, split, absorbed}
+use Rattle.tlsf_heap.specs.Chains.{with_state, split}
 use Rattle.tlsf_heap.specs.Entries.{pool_entered}
 use Rattle.tlsf_heap.specs.LocalFree.{after_free}
 use Rattle.tlsf_heap.specs.Malloc.{malloc}
 use Rattle.tlsf_heap.specs.Pools.{created, with_pool}
-use Rattle.std.specs.Prelude.{Result, Ok}
-use Rattle.tlsf_heap.specs.Inner.Nodes.{Node, Layout, InUse, Listed, Loose, turned, content_by, list_of, left, entered}
-use Rattle.tlsf_heap.specs.Inner.Spots.{plug, Spot, filled, laid}
-use Rattle.tlsf_heap.specs.Inner.Represents.{pool_views, list_views, in_pool, in_list, AreLinked, first_slot, uses_in}
+use Rattle.std.specs.Prelude.{Ok}
+use Rattle.tlsf_heap.specs.Inner.Nodes.{Node, Layout, InUse, Listed, content_by, list_of, left, entered}
+use Rattle.tlsf_heap.specs.Inner.Spots.{Spot, filled, laid}
+use Rattle.tlsf_heap.specs.Inner.Represents.{pool_views, list_views, in_pool, in_list, AreLinked, first_slot}
 use Rattle.tlsf_heap.specs.Inner.Joined.{freed}
 
 -- a pool of 1024 bytes in a store of 4 records

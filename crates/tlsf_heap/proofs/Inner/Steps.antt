@@ -1,16 +1,14 @@
 -- A node at a spot that changes its state or enters its list: what the steps need and leave.
-use Rattle.std.proofs.Common.{◌≡◌, ℕ, ◌<◌, false, List, ◌∷◌, length, map, refl, sym, ap, ◌∙◌, subst, arith, Some}
+use Rattle.std.proofs.Common.{◌≡◌, ℕ, false, ◌∷◌, map, refl, sym, ap, ◌∙◌, subst, Some}
 use Rattle.tlsf_class.specs.Classes.{class}
-use Rattle.tlsf_store.specs.declared.records.Record.{Record}
 use Rattle.tlsf_store.specs.Records.{record_at}
 use Rattle.tlsf_store.specs.Cells.{Cells, head_at}
 use Rattle.tlsf_heap.specs.Edits.{IsUsed, linked}
 use Rattle.tlsf_heap.specs.Chains.{with_state}
 use Rattle.tlsf_heap.specs.Release.{AreCovered}
 use Rattle.tlsf_heap.specs.Inner.Nodes.{Status, Listed, Loose, Node, turned, block_of, pool_of, is_listed}
-use Rattle.tlsf_heap.specs.Inner.Spots.{filled}
 use Rattle.tlsf_heap.specs.Inner.Represents.{InPool, state_of, Represents}
-use Rattle.tlsf_heap.specs.Inner.At.{At, areas_at, layout_at, IsAt, StandsAt, at_turned, at_listed}
+use Rattle.tlsf_heap.specs.Inner.At.{At, areas_at, layout_at, StandsAt, at_turned, at_listed}
 use Rattle.tlsf_heap.proofs.GoodContent.{IsWhole}
 use Rattle.tlsf_heap.proofs.Inner.Chains.{AtNode, at_node}
 use Rattle.tlsf_heap.proofs.Inner.Used.{node_is_used, head_used}

@@ -9,17 +9,17 @@ use Rattle.tlsf_store.specs.Records.{record_at}
 use Rattle.tlsf_store.specs.Cells.{Cells, with_head, with_level_word, with_step_word, head_at}
 use Rattle.tlsf_heap.specs.Bitmaps.{AreMarked, head_bit}
 use Rattle.tlsf_heap.specs.Layout.{padded}
-use Rattle.tlsf_heap.specs.Edits.{edited_in, without_bit, IsUsed, with_prev_free, with_behind, with_level_cleared, unmarked, unlinked}
+use Rattle.tlsf_heap.specs.Edits.{edited_in, without_bit, IsUsed, with_prev_free, with_behind, with_level_cleared, unlinked}
 use Rattle.tlsf_heap.specs.Inner.Nodes.{Node, Area, Listed, Loose, turned, nodes_of, has_slot, list_of, is_listed_in, without_slot, left}
 use Rattle.tlsf_heap.specs.Inner.Spots.{plug, Spot, laid, filled}
-use Rattle.tlsf_heap.specs.Inner.Represents.{InPool, InList, pool_view, list_view, pool_views, list_views, in_pool, in_list, first_slot, AreLinked, uses_in, AreChains, Agree, Represented, Represents}
+use Rattle.tlsf_heap.specs.Inner.Represents.{InList, pool_view, list_view, pool_views, list_views, in_list, first_slot, AreLinked, AreChains, Agree, Represented, Represents}
 use Rattle.tlsf_heap.proofs.Marking.{marks_kept, marks_cleared}
 use Rattle.tlsf_heap.proofs.Inner.Counts.{one_if, count-cons, count-plug, count_but, filter_one, Split, split_at}
-use Rattle.tlsf_heap.proofs.Inner.Plugs.{around, count-filled}
-use Rattle.tlsf_heap.proofs.Inner.Links.{Some-same, first-plug, from_behind, linked_same, linked_parts, linked_plugged, linked_moved, first_stands}
+use Rattle.tlsf_heap.proofs.Inner.Plugs.{count-filled}
+use Rattle.tlsf_heap.proofs.Inner.Links.{first-plug, from_behind, linked_same, linked_parts, linked_plugged, linked_moved, first_stands}
 use Rattle.tlsf_heap.proofs.Inner.Reads.{length-edited, edited_here, edited_apart, edited_kept}
 use Rattle.tlsf_heap.proofs.Inner.Lists.{lists_apart, each_written, heads-written, head_of, count-left_same, count-left_other}
-use Rattle.tlsf_heap.proofs.Inner.Chains.{chains_refilled, linked_at, uses_most, used_below, listed_within, entries-filled, slots_most, AtNode, at_node}
+use Rattle.tlsf_heap.proofs.Inner.Chains.{uses_most, used_below, listed_within, entries-filled, slots_most}
 use Rattle.tlsf_heap.proofs.Inner.Linked.{chains_turned}
 use Rattle.tlsf_heap.proofs.Inner.Used.{listed_used}
 

@@ -1,8 +1,6 @@
 -- Slots in use: a node's own, those beside it in its pool and in its list, and the first of each list.
-use Rattle.std.proofs.Common.{◌≡◌, ◌≢◌, ℕ, ◌+◌, ◌<◌, ◌≤◌, List, [], ◌∷◌, length, map, refl, sym, ap, ◌∙◌, subst, arith, count_by, Option, Some, None}
-use Rattle.std.proofs.lemmas.List.{get_or-map, get_or_default}
-use Rattle.tlsf_class.specs.Classes.{classes, class}
-use Rattle.tlsf_class.proofs.ClassLaws.{class-lt}
+use Rattle.std.proofs.Common.{◌≡◌, ◌≢◌, ℕ, ◌+◌, ◌≤◌, List, refl, sym, ap, ◌∙◌, subst, arith, count_by, Option, Some, None}
+use Rattle.tlsf_class.specs.Classes.{class}
 use Rattle.tlsf_store.specs.declared.records.Record.{Record}
 use Rattle.tlsf_store.specs.declared.records.State.{State}
 use Rattle.tlsf_store.specs.declared.records.State.TheVariants.{Vacant, Free, Live}
@@ -11,11 +9,10 @@ use Rattle.tlsf_store.specs.Cells.{Cells, head_at}
 use Rattle.tlsf_heap.specs.Good.{times}
 use Rattle.tlsf_heap.specs.Edits.{IsUsed}
 use Rattle.tlsf_heap.specs.Inner.Nodes.{Node, Layout, nodes_of, has_slot, list_of}
-use Rattle.tlsf_heap.specs.Inner.Spots.{Spot, laid, filled}
+use Rattle.tlsf_heap.specs.Inner.Spots.{Spot}
 use Rattle.tlsf_heap.specs.Inner.Represents.{InPool, first_slot, uses_in, Represents}
 use Rattle.tlsf_heap.proofs.Inner.Counts.{count-cons}
-use Rattle.tlsf_heap.proofs.Inner.Plugs.{around, count-filled}
-use Rattle.tlsf_heap.proofs.Inner.Links.{count-front, first_stands}
+use Rattle.tlsf_heap.proofs.Inner.Links.{first_stands}
 use Rattle.tlsf_heap.proofs.Inner.Chains.{used_below, listed_within, AtNode}
 use Rattle.tlsf_heap.proofs.Inner.Lists.{head_of}
 

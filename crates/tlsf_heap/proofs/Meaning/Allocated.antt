@@ -1,7 +1,7 @@
 -- What a layout stands for after the node at a spot was taken, whole or in part.
-use Rattle.std.proofs.Common.{◌≡◌, ℕ, ◌+◌, ◌-◌, ◌<◌, List, [], ◌∷◌, map, refl, sym, ap, ◌∙◌, arith, Some}
+use Rattle.std.proofs.Common.{◌≡◌, ℕ, ◌+◌, ◌-◌, ◌<◌, List, [], ◌∷◌, map, refl, sym, ap, ◌∙◌, arith}
 use Rattle.std.proofs.lemmas.Bool.{ne_eqb}
-use Rattle.tlsf_heap.specs.Content.{Block, Pool, Content}
+use Rattle.tlsf_heap.specs.Content.{Block, Pool}
 use Rattle.tlsf_heap.specs.Lists.{link, unlink}
 use Rattle.tlsf_heap.specs.Malloc.{gap, link_gap, cut, replaced_in, allocated}
 use Rattle.tlsf_heap.specs.Inner.Nodes.{Node, InUse, Listed, turned, rest_node, block_of, pool_of, content_by, left, entered}

@@ -1,5 +1,5 @@
 -- A block at a spot among the blocks of all pools: it gives way to others, its size, and the blocks beside it.
-use Rattle.std.proofs.Common.{◌≡◌, ℕ, ◌+◌, ◌≤◌, Bool, true, false, List, [], ◌∷◌, ◌++◌, map, find, refl, sym, ap, ◌∙◌, arith, count_by, Option, Some, None, option_map, unwrap_or, inl, inr}
+use Rattle.std.proofs.Common.{◌≡◌, ℕ, ◌+◌, ◌≤◌, Bool, true, false, List, [], ◌∷◌, ◌++◌, map, find, refl, ap, ◌∙◌, arith, count_by, Option, Some, None, option_map, unwrap_or, inl, inr}
 use Rattle.std.specs.Option.{option_or}
 use Rattle.std.proofs.lemmas.Bool.{cases_Bool, cases_lt, eq-eqb, eqb-true}
 use Rattle.tlsf_heap.specs.Content.{Block, Pool, blocks_of, is_at, size_at}

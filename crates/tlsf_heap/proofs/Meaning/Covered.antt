@@ -1,5 +1,5 @@
 -- Pools that their blocks cover: the block of a node at a spot, and other nodes of the same bytes there.
-use Rattle.std.proofs.Common.{◌≡◌, ℕ, ◌+◌, ◌≤◌, List, [], ◌∷◌, map, refl, sym, ap, ◌∙◌, subst, arith}
+use Rattle.std.proofs.Common.{◌≡◌, ℕ, ◌+◌, List, [], ◌∷◌, map, subst, arith}
 use Rattle.std.specs.List.{AllByRecursion}
 use Rattle.tlsf_heap.specs.Content.{Block, Pool}
 use Rattle.tlsf_heap.specs.Good.{Covers, AreGoodPools}

@@ -1,12 +1,12 @@
 -- The block of a node at a spot, in what the layout stands for.
-use Rattle.std.proofs.Common.{◌≡◌, ℕ, ◌+◌, Bool, List, [], ◌∷◌, ◌++◌, map, refl, sym, ap, ◌∙◌, subst, arith, count_by, Option}
+use Rattle.std.proofs.Common.{◌≡◌, ℕ, List, ◌∷◌, ◌++◌, map, sym, ap, ◌∙◌, arith, count_by, Option}
 use Rattle.std.proofs.lemmas.List.{map-append}
-use Rattle.tlsf_heap.specs.Content.{Block, Pool, blocks_of, is_at, size_at}
+use Rattle.tlsf_heap.specs.Content.{Block, blocks_of, is_at, size_at}
 use Rattle.tlsf_heap.specs.Malloc.{replaced_in}
 use Rattle.tlsf_heap.specs.Free.{in_front_of, behind, first_in_pools}
 use Rattle.tlsf_heap.specs.Inner.Nodes.{Node, Area, block_of, pool_of, nodes_of, has_place}
 use Rattle.tlsf_heap.specs.Inner.Spots.{plug, Spot, filled}
-use Rattle.tlsf_heap.proofs.Inner.Counts.{one_if, count-cons, count-map}
+use Rattle.tlsf_heap.proofs.Inner.Counts.{count-map}
 use Rattle.tlsf_heap.proofs.Inner.Plugs.{map-plug}
 use Rattle.tlsf_heap.proofs.Meaning.BlockSpots.{BlockSpot, first_of, filled_pools, IsAlone, replaced_at, front_at, back_at, size_here}
 use Rattle.tlsf_heap.proofs.Meaning.Places.{blocks_of_areas, Alone}

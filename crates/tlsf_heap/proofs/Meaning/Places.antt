@@ -1,10 +1,10 @@
 -- Each place is that of one node; a class's list by places, after a node entered or left it.
-use Rattle.std.proofs.Common.{◌≡◌, ℕ, ◌+◌, ◌<◌, ◌≤◌, Bool, true, false, not, ◌&&◌, eqb, List, [], ◌∷◌, ◌++◌, length, map, set, refl, sym, ap, ◌∙◌, subst, arith, count_by, inl, inr}
-use Rattle.std.proofs.lemmas.Bool.{cases_Bool, cases_eq, eq-eqb, eqb-true}
+use Rattle.std.proofs.Common.{◌≡◌, ℕ, ◌+◌, ◌≤◌, Bool, true, false, not, List, [], ◌∷◌, ◌++◌, length, map, set, refl, sym, ap, ◌∙◌, subst, arith, count_by, inl, inr}
+use Rattle.std.proofs.lemmas.Bool.{cases_Bool, cases_eq, eq-eqb}
 use Rattle.std.proofs.lemmas.List.{map-set, get_or-map, map-append}
 use Rattle.tlsf_class.specs.Classes.{classes, class}
 use Rattle.tlsf_class.proofs.ClassLaws.{class-lt}
-use Rattle.tlsf_heap.specs.Content.{Block, Pool, blocks_of, is_at}
+use Rattle.tlsf_heap.specs.Content.{Block, blocks_of, is_at}
 use Rattle.tlsf_heap.specs.Lists.{list_of as places_of, without, link, unlink}
 use Rattle.tlsf_heap.specs.Good.{IsGood}
 use Rattle.tlsf_heap.specs.Inner.Nodes.{Node, Area, Layout, block_of, pool_of, content_by, nodes_of, has_slot, has_place, list_of, is_listed_in, without_slot, left, entered}

@@ -1,6 +1,5 @@
 -- Edits of a store's cells for calls to come, and a pool's entry beside its first record.
-use Rattle.std.specs.Prelude.{ℕ, ◌+◌, ◌-◌, List, map}
-use Rattle.tlsf_store.specs.declared.records.Record.{Record}
+use Rattle.std.specs.Prelude.{ℕ, ◌+◌, ◌-◌, List}
 use Rattle.tlsf_store.specs.Records.{blank, record_at}
 use Rattle.tlsf_store.specs.Cells.{Cells, with_record}
 use Rattle.tlsf_heap.specs.declared.pool_entry.PoolEntry.{PoolEntry}

@@ -1,8 +1,8 @@
-use Rattle.std.proofs.Common.{◌≡◌, ℕ, true, cond, refl, sym, ap, ◌∙◌, subst, Ok, Err}
+use Rattle.std.proofs.Common.{◌≡◌, ℕ, true, cond, sym, ap, ◌∙◌, subst, Ok, Err}
 use Rattle.std.specs.Prelude.{◌==◌}
 use Rattle.tlsf_store.specs.Cells.{Cells}
 use Rattle.tlsf_heap.specs.declared.refusal.Refusal.TheVariants.{BadPointer}
-use Rattle.tlsf_heap.specs.Content.{Content, blocks_of}
+use Rattle.tlsf_heap.specs.Content.{blocks_of}
 use Rattle.tlsf_heap.specs.Free.{is_live}
 use Rattle.tlsf_heap.specs.LocalFree.{after_free}
 use Rattle.tlsf_heap.specs.Inner.Nodes.{InUse}

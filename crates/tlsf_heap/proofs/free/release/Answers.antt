@@ -2,8 +2,8 @@ use Rattle.std.proofs.Common.{◌≡◌, ℕ, refl, sym, subst}
 use Rattle.tlsf_store.specs.declared.records.State.TheVariants.{Free}
 use Rattle.tlsf_store.specs.Cells.{Cells, touched}
 use Rattle.tlsf_heap.specs.Chains.{with_state}
-use Rattle.tlsf_heap.specs.Inner.Nodes.{InUse, Loose, Listed}
-use Rattle.tlsf_heap.specs.Inner.At.{At, StandsAt, at_turned, front_joined, back_joined, at_freed}
+use Rattle.tlsf_heap.specs.Inner.Nodes.{InUse, Loose}
+use Rattle.tlsf_heap.specs.Inner.At.{At, StandsAt, at_turned, front_joined, back_joined}
 use Rattle.tlsf_heap.proofs.Inner.Steps.{slot_used, turned_stands}
 use Rattle.tlsf_heap.proofs.free.release.Goals as goal
 

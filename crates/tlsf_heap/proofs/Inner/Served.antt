@@ -1,0 +1,207 @@
+-- What stands after a free block was taken, whole or in part, and that it is what malloc gives.
+use Rattle.std.proofs.Common.{◌≡◌, ℕ, ◌%◌, ◌<◌, ◌≤◌, Bool, true, false, cond, ◌&&◌, eqb, List, [], ◌∷◌, length, map, refl, sym, ap, ◌∙◌, subst, arith, count_by, Some, Ok, Err, inl, inr}
+use Rattle.std.specs.Prelude.{nat_lt, nat_le}
+use Rattle.std.proofs.lemmas.Bool.{cases_lt, eq-eqb, lt-ltb, le-ltb, le-leb, lt-leb, and_left, and_right}
+use Rattle.std.proofs.lemmas.List.{length-map}
+use Rattle.tlsf_class.specs.Classes.{unit}
+use Rattle.tlsf_store.specs.declared.records.State.TheVariants.{Free}
+use Rattle.tlsf_store.specs.Records.{blank, blank_in, record_at, vacant_count}
+use Rattle.tlsf_store.specs.Cells.{Cells}
+use Rattle.tlsf_store.proofs.RecordLaws.{vacant_count-take}
+use Rattle.tlsf_heap.specs.declared.refusal.Refusal.TheVariants.{TableFull}
+use Rattle.tlsf_heap.specs.GoodSlots.{is_slot, slot_times}
+use Rattle.tlsf_heap.specs.Content.{Block, Content, blocks_of, size_at, used_records}
+use Rattle.tlsf_heap.specs.Lists.{pick}
+use Rattle.tlsf_heap.specs.Malloc.{allocated, malloc_picked}
+use Rattle.tlsf_heap.specs.Good.{IsGood}
+use Rattle.tlsf_heap.specs.Inner.Nodes.{Status, InUse, Listed, Loose, Node, Layout, turned, owner_of, block_of, pool_of, content_by, nodes_of, has_slot}
+use Rattle.tlsf_heap.specs.Inner.Spots.{filled}
+use Rattle.tlsf_heap.specs.Inner.Joined.{is_loose}
+use Rattle.tlsf_heap.specs.Inner.Represents.{Represents}
+use Rattle.tlsf_heap.specs.Inner.Following.{content_of, Stands}
+use Rattle.tlsf_heap.specs.Inner.At.{At, areas_at, layout_at, StandsAt, at_taken, at_cut}
+use Rattle.tlsf_heap.proofs.GoodContent.{picked, allocated_is_good}
+use Rattle.tlsf_heap.proofs.Inner.Counts.{one_if, count-cons, count-map}
+use Rattle.tlsf_heap.proofs.Inner.Plugs.{count-filled}
+use Rattle.tlsf_heap.proofs.Inner.Sums.{all_records}
+use Rattle.tlsf_heap.proofs.Inner.Followed.{content_is, stood_for, records_are}
+use Rattle.tlsf_heap.proofs.Inner.Chains.{uses_most}
+use Rattle.tlsf_heap.proofs.Inner.Steps.{slot_used}
+use Rattle.tlsf_heap.proofs.Inner.Live.{NodeAt, told_of}
+use Rattle.tlsf_heap.proofs.Meaning.Places.{Told, alone, blocks_of_areas}
+use Rattle.tlsf_heap.proofs.Meaning.NodeBlocks.{size_is}
+use Rattle.tlsf_heap.proofs.Meaning.Allocated.{whole_is, part_is}
+
+-- a content of nodes uses a record for each
+pub used_is : (layout : Layout) → used_records (content_by layout) ≡ length (nodes_of layout.areas)
+used_is layout = ap length (blocks_of_areas layout.areas) ∙ length-map (nodes_of layout.areas) block_of
+
+-- where a record is vacant, or none is
+pub room_left : (cells : Cells) (stands : Stands cells) (rest : ℕ) → rest < length cells.records → record_at cells.records rest ≡ blank → used_records (content_of cells) < (content_of cells).records
+room_left cells stands rest within vacant =
+    omega (
+      arith,
+      ap used_records (stood_for cells stands),
+      ap (λ (x : Content ℕ). x.records) (stood_for cells stands),
+      used_is stands.layout,
+      all_records cells stands.layout stands.represented,
+      stands.represented.count,
+      vacant_count-take cells.records rest (blank_in Free) within vacant (λ e. absurd (cc)),
+    )
+
+pub no_room : (cells : Cells) (stands : Stands cells) → vacant_count cells.records ≡ 0 → (content_of cells).records ≤ used_records (content_of cells)
+no_room cells stands none =
+    omega (
+      arith,
+      none,
+      ap used_records (stood_for cells stands),
+      ap (λ (x : Content ℕ). x.records) (stood_for cells stands),
+      used_is stands.layout,
+      all_records cells stands.layout stands.represented,
+      stands.represented.count,
+      ap (λ (xs : List ℕ). length xs) stands.none_taken,
+    )
+
+-- new cells that represent a layout in which no node is loose
+stands_with : (new : Cells) (slot : ℕ) (status : Status) (at : At) (content : Content ℕ) → StandsAt slot status new at → is_loose status ≡ false → at.taken ≡ [] → content_by (layout_at at) ≡ content → IsGood content → Stands new × (content_of new ≡ content)
+stands_with new slot status at content after settled none is good =
+    let loose : Node → Bool = λ n. is_loose n.status in
+    let P : Content ℕ → Type 0 = λ x. IsGood x in (
+      record {
+        layout = layout_at at;
+        represented = after.0;
+        settled = omega (
+          arith,
+          after.1.others_settled,
+          count-filled loose at.spot (at.node ∷ at.nodes),
+          count-filled loose at.spot at.nodes,
+          count-cons loose at.node at.nodes,
+          ap (λ s. one_if (is_loose s)) after.1.status_is,
+          ap one_if settled,
+        );
+        none_taken = none;
+        good = subst P (sym is) good;
+      },
+      content_is new (layout_at at) after.0 ∙ is,
+    )
+
+module _ (cells : Cells) (stands : Stands cells) (place slot asked : ℕ) (by : NodeAt place slot Listed cells stands.layout) (some : 0 < asked) (whole : asked % unit ≡ 0) (found : pick asked (content_of cells).lists ≡ Some place) where
+  abbrev at : At
+  at = by.at
+
+  abbrev node : Node
+  node = turned Listed by.at.node
+
+  abbrev content : Content ℕ
+  content = content_of cells
+
+  good : IsGood (content_of cells)
+  good = let P : Content ℕ → Type 0 = λ x. IsGood x in subst P (sym (stood_for cells stands)) stands.good
+
+  -- the layout with the node as a listed one
+  same : stands.layout ≡ layout_at (record by.at { node = turned Listed by.at.node })
+  same = by.layout_is ∙ ap (λ s. layout_at (record by.at { node = turned s by.at.node })) by.stands.1.status_is
+
+  stood : content_of cells ≡ content_by (layout_at (record by.at { node = turned Listed by.at.node }))
+  stood = stood_for cells stands ∙ ap content_by same
+
+  told : Told (filled by.at.spot (turned Listed by.at.node ∷ by.at.nodes)) by.at.lists
+  told =
+      let P : Layout → Type 0 = λ l. Represents cells l in
+      let Q : Layout → Type 0 = λ l. IsGood (content_by l) in
+      told_of cells (layout_at (record by.at { node = turned Listed by.at.node })) (subst P same stands.represented) (subst Q same stands.good)
+
+  size_there : size_at place (blocks_of (content_of cells).pools) ≡ by.at.node.size
+  size_there =
+      ap (λ (x : Content ℕ). size_at place (blocks_of x.pools)) stood
+      ∙ ap (λ p. size_at p (blocks_of (map pool_of (filled by.at.spot (turned Listed by.at.node ∷ by.at.nodes))))) (sym by.place_is)
+      ∙ size_is by.at.spot (turned Listed by.at.node) by.at.nodes (alone by.at.spot (turned Listed by.at.node) by.at.nodes told.places)
+
+  pub holds : asked ≤ by.at.node.size
+  holds = omega (arith, (picked asked place (content_of cells) good found).holds, size_there)
+
+  none : by.at.taken ≡ []
+  none = ap (λ (l : Layout). l.taken) (sym by.layout_is) ∙ stands.none_taken
+
+  -- what malloc gives, where a rest has a record
+  gives : (asked < by.at.node.size → used_records (content_of cells) < (content_of cells).records)
+      → (malloc_picked slot asked (Some place) (content_of cells) ≡ Ok (place, allocated slot place asked by.at.node.size (content_of cells))) × IsGood (allocated slot place asked by.at.node.size (content_of cells))
+  gives room =
+      let P : ℕ → Type 0 = λ n. IsGood (allocated slot place asked n (content_of cells)) in
+      let served : (nat_lt asked by.at.node.size && nat_le (content_of cells).records (used_records (content_of cells))) ≡ false = (elim (cases_lt asked by.at.node.size) [
+        | inl larger ↦ and_right (nat_lt asked by.at.node.size) _ (lt-leb (content_of cells).records (used_records (content_of cells)) (room larger))
+        | inr as_large ↦ and_left _ _ (le-ltb asked by.at.node.size as_large)
+      ]) in (
+        ap (λ n. cond (nat_lt asked n && nat_le (content_of cells).records (used_records (content_of cells))) (Err TableFull) (Ok (place, allocated slot place asked n (content_of cells)))) size_there
+            ∙ ap (λ b. cond b (Err TableFull) (Ok (place, allocated slot place asked by.at.node.size (content_of cells)))) served,
+        subst P size_there (allocated_is_good slot asked place (content_of cells) good found some whole (λ larger. room (omega (arith, larger, size_there)))),
+      )
+
+  -- the block taken is the slot's, at its place
+  renamed : (bytes : ℕ) → allocated by.at.node.slot by.at.node.place bytes by.at.node.size (content_by (layout_at (record by.at { node = turned Listed by.at.node }))) ≡ allocated slot place bytes by.at.node.size (content_of cells)
+  renamed bytes =
+      ap (λ x. allocated by.at.node.slot by.at.node.place bytes by.at.node.size x) (sym stood)
+      ∙ ap (λ s. allocated s by.at.node.place bytes by.at.node.size (content_of cells)) by.stands.1.slot_is
+      ∙ ap (λ p. allocated slot p bytes by.at.node.size (content_of cells)) by.place_is
+
+  pub whole_stands : (new : Cells) → StandsAt slot InUse new (at_taken by.at) → asked ≡ by.at.node.size → Stands new × (malloc_picked slot asked (Some place) (content_of cells) ≡ Ok (place, content_of new))
+  whole_stands new after all =
+      let given = gives (λ larger. absurd (omega (arith, larger, all))) in
+      let is : content_by (layout_at (at_taken by.at)) ≡ allocated slot place asked by.at.node.size (content_of cells) =
+      whole_is by.at.count by.at.spot (turned Listed by.at.node) by.at.nodes by.at.lists told by.at.taken by.at.taken
+      ∙ renamed by.at.node.size ∙ ap (λ n. allocated slot place n by.at.node.size (content_of cells)) (sym all) in
+      let after_all = stands_with new slot InUse (at_taken by.at) (allocated slot place asked by.at.node.size (content_of cells)) after refl none is given.1 in
+      (after_all.0, given.0 ∙ ap (λ x. Ok (place, x)) (sym after_all.1))
+
+  pub part_stands : (new : Cells) (rest : ℕ) → StandsAt rest Listed new (at_cut rest asked (at_taken by.at)) → asked < by.at.node.size → used_records (content_of cells) < (content_of cells).records
+      → Stands new × (malloc_picked slot asked (Some place) (content_of cells) ≡ Ok (place, content_of new))
+  part_stands new rest after less room =
+      let given = gives (λ larger. room) in
+      let is : content_by (layout_at (at_cut rest asked (at_taken by.at))) ≡ allocated slot place asked by.at.node.size (content_of cells) =
+      part_is by.at.count by.at.spot (turned Listed by.at.node) by.at.nodes by.at.lists told rest asked by.at.taken by.at.taken less ∙ renamed asked in
+      let after_all = stands_with new rest Listed (at_cut rest asked (at_taken by.at)) (allocated slot place asked by.at.node.size (content_of cells)) after refl none is given.1 in
+      (after_all.0, given.0 ∙ ap (λ x. Ok (place, x)) (sym after_all.1))
+
+  pub full_refused : vacant_count cells.records ≡ 0 → asked < by.at.node.size → (owner : ℕ) → malloc_picked owner asked (Some place) (content_of cells) ≡ Err TableFull
+  full_refused no_vacant less owner =
+      let refused : (nat_lt asked by.at.node.size && nat_le (content_of cells).records (used_records (content_of cells))) ≡ true =
+      rw (lt-ltb asked by.at.node.size less, le-leb (content_of cells).records (used_records (content_of cells)) (no_room cells stands no_vacant)) refl in
+      ap (λ n. cond (nat_lt asked n && nat_le (content_of cells).records (used_records (content_of cells))) (Err TableFull) (Ok (place, allocated owner place asked n (content_of cells)))) size_there
+      ∙ ap (λ b. cond b (Err TableFull) (Ok (place, allocated owner place asked by.at.node.size (content_of cells)))) refused
+
+-- the slot of a listed node is of no live block
+owned_few : (slot : ℕ) (status : Status) (q : ℕ) → one_if (is_slot slot (owner_of status q)) ≤ one_if (eqb q slot)
+owned_few slot InUse q = omega arith
+owned_few slot Listed q = omega arith
+owned_few slot Loose q = omega arith
+
+pub owners_few : (slot : ℕ) (nodes : List Node) → count_by (λ node. is_slot slot (owner_of node.status node.slot)) nodes ≤ count_by (has_slot slot) nodes
+owners_few slot [] = omega arith
+owners_few slot (node ∷ nodes) =
+    omega (arith, count-cons (λ n. is_slot slot (owner_of n.status n.slot)) node nodes, count-cons (has_slot slot) node nodes, owned_few slot node.status node.slot, owners_few slot nodes)
+
+pub slot_new : (cells : Cells) (stands : Stands cells) (place slot : ℕ) → NodeAt place slot Listed cells stands.layout → slot_times slot (blocks_of (content_of cells).pools) ≡ 0
+slot_new cells stands place slot by =
+    let at : At = by.at in
+    let owns : Node → Bool = λ n. is_slot slot (owner_of n.status n.slot) in
+    let blocks = ap (λ (x : Content ℕ). slot_times slot (blocks_of x.pools)) (stood_for cells stands ∙ ap content_by by.layout_is) ∙ ap (slot_times slot) (blocks_of_areas (areas_at at)) ∙ count-map (λ (b : Block ℕ). is_slot slot b.owner) block_of (nodes_of (areas_at at)) in
+    let free : one_if (owns at.node) ≡ 0 = ap (λ s. one_if (is_slot slot (owner_of s at.node.slot))) by.stands.1.status_is in
+    omega (
+      arith,
+      blocks,
+      count-filled owns at.spot (at.node ∷ at.nodes),
+      count-cons owns at.node at.nodes,
+      free,
+      owners_few slot (nodes_of at.spot.areas_before),
+      owners_few slot at.spot.before,
+      owners_few slot (nodes_of at.spot.areas_behind),
+      owners_few slot at.nodes,
+      by.stands.0.chains.once slot,
+      uses_most (record_at cells.records slot).state,
+      count-filled (has_slot slot) at.spot (at.node ∷ at.nodes),
+      count-cons (has_slot slot) at.node at.nodes,
+      ap one_if (eq-eqb at.node.slot slot by.stands.1.slot_is),
+    )
+
+pub slot_below : (cells : Cells) (stands : Stands cells) (place slot : ℕ) → NodeAt place slot Listed cells stands.layout → slot < (content_of cells).records
+slot_below cells stands place slot by = omega (arith, (slot_used cells slot Listed by.at by.stands).0, records_are cells)

@@ -1,0 +1,139 @@
+//! malloc: the block picked is taken, whole or in part.
+
+ghost use Rattle.std.specs.Prelude.{◌≡◌, ℕ, ◌+◌, ◌%◌, ◌<◌, ◌≤◌, Some, None, Ok, Err, IfSome, IfNone, IfOk, IfErr, OnErr};
+ghost use Rattle.tlsf_class.specs.Classes.{unit};
+ghost use Rattle.tlsf_store.specs.declared.records.State.TheVariants.{Free};
+ghost use Rattle.tlsf_store.specs.Records.{record_at};
+ghost use Rattle.tlsf_heap.specs.Content.{blocks_of};
+ghost use Rattle.tlsf_heap.specs.Lists.{pick as picked};
+ghost use Rattle.tlsf_heap.specs.Malloc.{malloc as served, malloc_picked};
+ghost use Rattle.tlsf_heap.specs.GoodSlots.{slot_times};
+ghost use Rattle.tlsf_heap.specs.Inner.Following.{Stands, content_of};
+ghost use Rattle.tlsf_heap.specs.Inner.Nodes.{InUse, Listed};
+ghost use Rattle.tlsf_heap.specs.Inner.At.{At, StandsAt, with_slot, at_taken, at_cut};
+
+use crate::chains::{set_state, split};
+use crate::free_lists::{link, unlink};
+use crate::search::search;
+use crate::{Ptr, Refusal};
+use tlsf_class::{class_for, class_of, round};
+use tlsf_store::{Slot, State, Store};
+
+/// A live block of `n` bytes, rounded up to the unit. At most 30 touches.
+///
+/// # Errors
+///
+/// As `Heap::malloc`.
+pub(crate) fn malloc(store: &mut Store, n: u64) -> Result<Ptr, Refusal>
+    requires { Stands store.old }
+    ensures stands { Stands store.new }
+    ensures ok { IfOk result (λ ptr. served ptr.1 n (content_of store.old) ≡ Ok (ptr.0, content_of store.new)) }
+    ensures slot_below { IfOk result (λ ptr. ptr.1 < (content_of store.old).records) }
+    ensures slot_new { IfOk result (λ ptr. slot_times ptr.1 (blocks_of (content_of store.old).pools) ≡ 0) }
+    ensures refused { IfErr result (λ refusal. (slot : ℕ) → served slot n (content_of store.old) ≡ Err refusal) }
+    ensures unchanged { OnErr result (content_of store.new ≡ content_of store.old) }
+    ensures floor { store.old.touches ≤ store.new.touches }
+    ensures bound { store.new.touches ≤ store.old.touches + 42 }
+{
+    if n == 0 {
+        return Err(Refusal::ZeroSize);
+    }
+    let Some(asked) = round(n) else {
+        return Err(Refusal::NoFit);
+    };
+    let Some(slot) = pick(store, asked) else {
+        return Err(Refusal::NoFit);
+    };
+    take(store, slot, asked)
+}
+
+/// The first block of the first list that isn't empty, at or above the class from which each block holds
+/// `asked` bytes. At most four touches.
+fn pick(store: &mut Store, asked: u32) -> Option<Slot>
+    requires stands { Stands store.old }
+    requires whole { asked % unit ≡ 0 }
+    requires some { 0 < asked }
+    ensures free { IfSome result (λ slot. (record_at store.old.records slot).state ≡ Free) }
+    ensures found { IfSome result (λ slot. picked asked (content_of store.old).lists ≡ Some (record_at store.old.records slot).place) }
+    ensures none { IfNone result (picked asked (content_of store.old).lists ≡ None) }
+    ensures cells { store.new ≡ record store.old { touches = store.new.touches } }
+    ensures floor { store.old.touches ≤ store.new.touches }
+    ensures bound { store.new.touches ≤ store.old.touches + 4 }
+{
+    let Some(class) = class_for(asked) else {
+        return None;
+    };
+    search(store, class)
+}
+
+/// The first `asked` bytes of the block picked are a live block. At most 26 touches.
+///
+/// # Errors
+///
+/// `TableFull` where a rest would be left and no record is vacant; then the content is as it was.
+fn take(store: &mut Store, slot: Slot, asked: u32) -> Result<Ptr, Refusal>
+    requires stands { Stands store.old }
+    requires whole { asked % unit ≡ 0 }
+    requires some { 0 < asked }
+    requires free { (record_at store.old.records slot).state ≡ Free }
+    requires found { picked asked (content_of store.old).lists ≡ Some (record_at store.old.records slot).place }
+    ensures stands { Stands store.new }
+    ensures ok { IfOk result (λ ptr. malloc_picked ptr.1 asked (Some (record_at store.old.records slot).place) (content_of store.old) ≡ Ok (ptr.0, content_of store.new)) }
+    ensures slot { IfOk result (λ ptr. ptr.1 ≡ slot) }
+    ensures refused { IfErr result (λ refusal. (owner : ℕ) → malloc_picked owner asked (Some (record_at store.old.records slot).place) (content_of store.old) ≡ Err refusal) }
+    ensures unchanged { OnErr result (content_of store.new ≡ content_of store.old) }
+    ensures floor { store.old.touches ≤ store.new.touches }
+    ensures bound { store.new.touches ≤ store.old.touches + 38 }
+{
+    let block = store.read(slot);
+    if block.size == asked {
+        take_whole(store, slot, asked);
+        return Ok(Ptr::new(block.place, slot.0));
+    }
+    let Some(rest) = store.take_vacant() else {
+        return Err(Refusal::TableFull);
+    };
+    take_part(store, slot, rest, asked, block.size);
+    Ok(Ptr::new(block.place, slot.0))
+}
+
+/// The first bytes of a free block of `size` bytes, which leaves its class's list, are a live block. What
+/// is left is a free block of the slot `rest`, first in its class's list. At most 23 touches.
+fn take_part(store: &mut Store, slot: Slot, rest: Slot, bytes: u32, size: u32)
+    requires stands { (at : At) × StandsAt slot Listed store.old (with_slot rest at) × (size ≡ at.node.size) }
+    requires some { 0 < bytes }
+    requires less { bytes < size }
+    requires whole { bytes % unit ≡ 0 }
+    ensures leads { (at : At) → StandsAt slot Listed store.old (with_slot rest at) → size ≡ at.node.size → StandsAt rest Listed store.new (at_cut rest bytes (at_taken at)) }
+    ensures floor { store.old.touches ≤ store.new.touches }
+    ensures bound { store.new.touches ≤ store.old.touches + 35 }
+{
+    take_whole(store, slot, size);
+    cut(store, slot, rest, bytes, size);
+}
+
+/// A free block of `size` bytes leaves its class's list and is live. At most eight touches.
+fn take_whole(store: &mut Store, slot: Slot, size: u32)
+    requires { (at : At) × StandsAt slot Listed store.old at × (size ≡ at.node.size) }
+    ensures leads { (at : At) → StandsAt slot Listed store.old at → size ≡ at.node.size → StandsAt slot InUse store.new (at_taken at) }
+    ensures floor { store.old.touches ≤ store.new.touches }
+    ensures bound { store.new.touches ≤ store.old.touches + 18 }
+{
+    unlink(store, class_of(size), slot);
+    set_state(store, slot, State::Live);
+}
+
+/// A live block of `size` bytes keeps its first bytes. What is left is a free block of the slot `rest`,
+/// first in its class's list. At most 15 touches.
+fn cut(store: &mut Store, slot: Slot, rest: Slot, bytes: u32, size: u32)
+    requires stands { (at : At) × StandsAt slot InUse store.old (with_slot rest at) × (size ≡ at.node.size) }
+    requires some { 0 < bytes }
+    requires less { bytes < size }
+    requires whole { bytes % unit ≡ 0 }
+    ensures leads { (at : At) → StandsAt slot InUse store.old (with_slot rest at) → size ≡ at.node.size → StandsAt rest Listed store.new (at_cut rest bytes at) }
+    ensures floor { store.old.touches ≤ store.new.touches }
+    ensures bound { store.new.touches ≤ store.old.touches + 17 }
+{
+    split(store, slot, rest, bytes);
+    link(store, class_of(size - bytes), rest);
+}
