@@ -1,17 +1,26 @@
 -- free does the same to a content, whatever its live blocks are known by.
-use Rattle.std.proofs.Common.{◌≡◌, ℕ, ◌+◌, Bool, cond, ◌&&◌, List, [], ◌∷◌, map, refl, sym, ap, ◌∙◌, Option, Some, None, option_map, Ok, Err}
+use Rattle.std.proofs.Common.{◌≡◌, ℕ, ◌+◌, Bool, cond, List, [], ◌∷◌, map, refl, sym, ap, ◌∙◌, Option, Some, None, option_map, Ok, Err}
 use Rattle.std.specs.Prelude.{is_none}
 use Rattle.std.specs.Option.{option_or}
 use Rattle.tlsf_heap.specs.declared.refusal.Refusal.TheVariants.{BadPointer}
 use Rattle.tlsf_heap.specs.Content.{Block, Pool, Content, blocks_of, is_free, is_at, size_at}
 use Rattle.tlsf_heap.specs.Lists.{link}
-use Rattle.tlsf_heap.specs.Free.{is_live, freed, join, merged, merged_in, in_front_of, behind, if_free, first_in_pools, free_in_front, free_behind, unlink_block, size_of, start_of, after_free, free}
+use Rattle.tlsf_heap.specs.Malloc.{replaced_in}
+use Rattle.tlsf_heap.specs.Free.{is_live, in_front_of, behind, if_free, first_in_pools, free_in_front, free_behind, unlink_block, size_of, start_of}
+use Rattle.tlsf_heap.specs.Free.{free_block, without_block, after_free, free}
 use Rattle.tlsf_heap.specs.Bare.{renamed_block, renamed_pool, renamed, renamed_result}
-use Rattle.tlsf_heap.proofs.BareSteps.{ap-cond, size_at-renamed}
+use Rattle.tlsf_heap.proofs.BareSteps.{ap-cond, size_at-renamed, replaced_in-renamed}
 
--- the lists once a block of the pool is free, by its free neighbours
-abbrev lists_after : {A : Type 0} → ℕ → ℕ → Option (Block A) → Option (Block A) → List (List ℕ) → List (List ℕ)
-lists_after place size front back lists = link (start_of front place) (size_of front + size + size_of back) (unlink_block back (unlink_block front lists))
+-- the pools and the lists once a block of this size is free, by its free neighbours
+module _ {A : Type 0} (place size : ℕ) (front back : Option (Block A)) where
+  abbrev whole_size : ℕ
+  whole_size = size_of front + size + size_of back
+
+  abbrev pools_after : List (Pool A) → List (Pool A)
+  pools_after pools = map (replaced_in place (free_block (start_of front place) whole_size ∷ [])) (without_block back (without_block front pools))
+
+  abbrev lists_after : List (List ℕ) → List (List ℕ)
+  lists_after lists = link (start_of front place) whole_size (unlink_block back (unlink_block front lists))
 
 module _ {A B : Type 0} (rename : A → B) where
   is_none-renamed : (owner : Option A) → is_none (option_map rename owner) ≡ is_none owner
@@ -20,32 +29,6 @@ module _ {A B : Type 0} (rename : A → B) where
 
   is_free-renamed : (block : Block A) → is_free (renamed_block rename block) ≡ is_free block
   is_free-renamed block = is_none-renamed block.owner
-
-  freed-renamed : (place : ℕ) (blocks : List (Block A)) → map (freed place) (map (renamed_block rename) blocks) ≡ map (renamed_block rename) (map (freed place) blocks)
-  freed-renamed place [] = refl
-  freed-renamed place (block ∷ blocks) =
-      ap (λ first. first ∷ map (freed place) (map (renamed_block rename) blocks)) (sym (ap-cond (renamed_block rename) (is_at place block) (record block { owner = None }) block))
-      ∙ ap (λ more. renamed_block rename (freed place block) ∷ more) (freed-renamed place blocks)
-
-  join-renamed : (block : Block A) (blocks : List (Block A)) → join (renamed_block rename block) (map (renamed_block rename) blocks) ≡ map (renamed_block rename) (join block blocks)
-  join-renamed block [] = refl
-  join-renamed block (next ∷ blocks) =
-      let joined : List (Block A) = record block { size = block.size + next.size } ∷ blocks in
-      let apart : List (Block A) = block ∷ next ∷ blocks in
-      ap (λ free. cond (free && is_free (renamed_block rename next)) (map (renamed_block rename) joined) (map (renamed_block rename) apart)) (is_free-renamed block)
-      ∙ ap (λ free. cond (is_free block && free) (map (renamed_block rename) joined) (map (renamed_block rename) apart)) (is_free-renamed next)
-      ∙ sym (ap-cond (map (renamed_block rename)) (is_free block && is_free next) joined apart)
-
-  merged-renamed : (blocks : List (Block A)) → merged (map (renamed_block rename) blocks) ≡ map (renamed_block rename) (merged blocks)
-  merged-renamed [] = refl
-  merged-renamed (block ∷ blocks) = ap (join (renamed_block rename block)) (merged-renamed blocks) ∙ join-renamed block (merged blocks)
-
-  merged_in-renamed : (place : ℕ) (pools : List (Pool A)) → map (merged_in place) (map (renamed_pool rename) pools) ≡ map (renamed_pool rename) (map (merged_in place) pools)
-  merged_in-renamed place [] = refl
-  merged_in-renamed place (pool ∷ pools) =
-      let blocks = ap merged (freed-renamed place pool.blocks) ∙ merged-renamed (map (freed place) pool.blocks) in
-      ap (λ (bs : List (Block B)). record { base = pool.base; bytes = pool.bytes; blocks = bs } ∷ map (merged_in place) (map (renamed_pool rename) pools)) blocks
-      ∙ ap (λ more. renamed_pool rename (merged_in place pool) ∷ more) (merged_in-renamed place pools)
 
   in_front_of-renamed : (place : ℕ) (blocks : List (Block A)) → in_front_of place (map (renamed_block rename) blocks) ≡ option_map (renamed_block rename) (in_front_of place blocks)
   in_front_of-renamed place [] = refl
@@ -96,17 +79,43 @@ module _ {A B : Type 0} (rename : A → B) where
   lists_after-renamed place size (Some front) None lists = refl
   lists_after-renamed place size (Some front) (Some back) lists = refl
 
+  without_block-renamed : (block : Option (Block A)) (pools : List (Pool A)) → without_block (option_map (renamed_block rename) block) (map (renamed_pool rename) pools) ≡ map (renamed_pool rename) (without_block block pools)
+  without_block-renamed None pools = refl
+  without_block-renamed (Some block) pools = replaced_in-renamed rename block.place [] [] refl pools
+
+  -- the place and the size of a neighbour are told by no owner
+  start_of-renamed : (block : Option (Block A)) (place : ℕ) → start_of (option_map (renamed_block rename) block) place ≡ start_of block place
+  start_of-renamed None place = refl
+  start_of-renamed (Some block) place = refl
+
+  size_of-renamed : (block : Option (Block A)) → size_of (option_map (renamed_block rename) block) ≡ size_of block
+  size_of-renamed None = refl
+  size_of-renamed (Some block) = refl
+
+  pools_after-renamed : (place size : ℕ) (front back : Option (Block A)) (pools : List (Pool A))
+      → pools_after place size (option_map (renamed_block rename) front) (option_map (renamed_block rename) back) (map (renamed_pool rename) pools) ≡ map (renamed_pool rename) (pools_after place size front back pools)
+  pools_after-renamed place size front back pools =
+      let one : ℕ → ℕ → List (Block B) = λ start n. free_block start n ∷ [] in
+      let left : List (Pool B) = without_block (option_map (renamed_block rename) back) (without_block (option_map (renamed_block rename) front) (map (renamed_pool rename) pools)) in
+      ap (λ start. map (replaced_in place (one start (size_of (option_map (renamed_block rename) front) + size + size_of (option_map (renamed_block rename) back)))) left) (start_of-renamed front place)
+      ∙ ap (λ n. map (replaced_in place (one (start_of front place) (n + size + size_of (option_map (renamed_block rename) back)))) left) (size_of-renamed front)
+      ∙ ap (λ n. map (replaced_in place (one (start_of front place) (size_of front + size + n))) left) (size_of-renamed back)
+      ∙ ap (λ ps. map (replaced_in place (one (start_of front place) (size_of front + size + size_of back))) (without_block (option_map (renamed_block rename) back) ps)) (without_block-renamed front pools)
+      ∙ ap (map (replaced_in place (one (start_of front place) (size_of front + size + size_of back)))) (without_block-renamed back (without_block front pools))
+      ∙ replaced_in-renamed rename place (free_block (start_of front place) (size_of front + size + size_of back) ∷ []) (one (start_of front place) (size_of front + size + size_of back)) refl (without_block back (without_block front pools))
+
   after_free-renamed : (place : ℕ) (content : Content A) → after_free place (renamed rename content) ≡ renamed rename (after_free place content)
   after_free-renamed place content =
       let size = size_at place (blocks_of content.pools) in
-      let lists =
-      ap (λ s. lists_after place s (free_in_front place (renamed rename content)) (free_behind place (renamed rename content)) content.lists) (size_at-renamed rename place content.pools)
-      ∙ ap (λ front. lists_after place size front (free_behind place (renamed rename content)) content.lists) (free_in_front-renamed place content)
-      ∙ ap (λ back. lists_after place size (option_map (renamed_block rename) (free_in_front place content)) back content.lists) (free_behind-renamed place content)
-      ∙ lists_after-renamed place size (free_in_front place content) (free_behind place content) content.lists
-      in
-      ap (λ pools. record { records = content.records; pools = pools; lists = (after_free place (renamed rename content)).lists }) (merged_in-renamed place content.pools)
-      ∙ ap (λ (ls : List (List ℕ)). record { records = content.records; pools = map (renamed_pool rename) (map (merged_in place) content.pools); lists = ls }) lists
+      let pools = map (renamed_pool rename) content.pools in
+      let of : ℕ → Option (Block B) → Option (Block B) → Content B = λ s front back. record { records = content.records; pools = pools_after place s front back pools; lists = lists_after place s front back content.lists } in
+      ap (λ s. of s (free_in_front place (renamed rename content)) (free_behind place (renamed rename content))) (size_at-renamed rename place content.pools)
+      ∙ ap (λ front. of size front (free_behind place (renamed rename content))) (free_in_front-renamed place content)
+      ∙ ap (of size (option_map (renamed_block rename) (free_in_front place content))) (free_behind-renamed place content)
+      ∙ ap (λ ps. record { records = content.records; pools = ps; lists = lists_after place size (option_map (renamed_block rename) (free_in_front place content)) (option_map (renamed_block rename) (free_behind place content)) content.lists })
+      (pools_after-renamed place size (free_in_front place content) (free_behind place content) content.pools)
+      ∙ ap (λ (ls : List (List ℕ)). record { records = content.records; pools = map (renamed_pool rename) (pools_after place size (free_in_front place content) (free_behind place content) content.pools); lists = ls })
+      (lists_after-renamed place size (free_in_front place content) (free_behind place content) content.lists)
 
   -- free leaves the same, or refuses, where the block that is meant is live in both
   pub free-renamed : (is_meant : A → Bool) (is_meant_too : B → Bool) (place : ℕ) (content : Content A)

@@ -1,4 +1,4 @@
--- create, add_pool, malloc and free keep the live slots distinct, and below the number of records.
+-- create, add_pool and malloc keep the live slots distinct, and below the number of records.
 use Rattle.std.proofs.Common.{◌≡◌, ℕ, ◌+◌, ◌-◌, ◌<◌, ◌≤◌, Bool, true, false, cond, ◌&&◌, List, [], ◌∷◌, ◌++◌, map, refl, sym, ap, subst, arith, count_by, Option, Some, None, inl, inr}
 use Rattle.std.specs.Prelude.{◌==◌, is_none}
 use Rattle.std.proofs.lemmas.Bool.{cases_Bool, eqb-true, and_parts, ne_eqb}
@@ -6,7 +6,6 @@ use Rattle.tlsf_heap.specs.Content.{Block, Pool, Content, blocks_of, is_free, is
 use Rattle.tlsf_heap.specs.Lists.{pick}
 use Rattle.tlsf_heap.specs.Malloc.{gap, cut, allocated}
 use Rattle.tlsf_heap.specs.Pools.{created, with_pool}
-use Rattle.tlsf_heap.specs.Free.{freed, join, merged, merged_in, after_free}
 use Rattle.tlsf_heap.specs.Good.{IsGood}
 use Rattle.tlsf_heap.specs.GoodSlots.{is_slot, slot_times, HasGoodSlots}
 use Rattle.tlsf_heap.proofs.Blocks.{count_by-cons, count_by-append, one_if}
@@ -75,57 +74,3 @@ module _ (owner m place : ℕ) (content : Content ℕ) (good : IsGood content) (
         let other : (owner == slot) ≡ false = ne_eqb owner slot (λ e. absurd (omega (arith, e, above, within))) in
         omega (arith, slot_times-allocated slot, ap one_if other, slots.below slot above);
   }
-
-freed_slots : (slot place : ℕ) (blocks : List (Block ℕ)) → slot_times slot (map (freed place) blocks) ≤ slot_times slot blocks
-freed_slots slot place [] = omega arith
-freed_slots slot place (block ∷ blocks) =
-    let rest = freed_slots slot place blocks in
-    let old = slot_times-cons slot block blocks in
-    elim (is_at place block) as (λ b. slot_times slot (cond b (record block { owner = None }) block ∷ map (freed place) blocks) ≤ slot_times slot (block ∷ blocks)) [
-      | true ↦ omega (arith, slot_times-cons slot (record block { owner = None }) (map (freed place) blocks), old, rest)
-      | false ↦ omega (arith, slot_times-cons slot block (map (freed place) blocks), old, rest)
-    ]
-
--- only free blocks are joined
-join_slots : (slot : ℕ) (block : Block ℕ) (blocks : List (Block ℕ)) → slot_times slot (join block blocks) ≡ slot_times slot (block ∷ blocks)
-join_slots slot block [] = refl
-join_slots slot block (next ∷ blocks) = elim (cases_Bool (is_free block && is_free next)) [
-  | inl both ↦
-      let next_free : is_none next.owner ≡ true = (and_parts (is_free block) (is_free next) both).1 in
-      let block_free : is_none block.owner ≡ true = (and_parts (is_free block) (is_free next) both).0 in
-      let P : Bool → Type 0 = λ b. slot_times slot (cond b (record block { size = block.size + next.size } ∷ blocks) (block ∷ next ∷ blocks)) ≡ slot_times slot (block ∷ next ∷ blocks) in
-      subst P (sym both)
-      (omega (
-        arith,
-        slot_times-cons slot (record block { size = block.size + next.size }) blocks,
-        slot_times-cons slot block (next ∷ blocks),
-        slot_times-cons slot next blocks,
-        ap one_if (free_has_none slot next.owner next_free),
-        ap one_if (free_has_none slot block.owner block_free),
-      ))
-  | inr apart ↦ ap (λ b. slot_times slot (cond b (record block { size = block.size + next.size } ∷ blocks) (block ∷ next ∷ blocks))) apart
-]
-
-merged_slots : (slot : ℕ) (blocks : List (Block ℕ)) → slot_times slot (merged blocks) ≡ slot_times slot blocks
-merged_slots slot [] = refl
-merged_slots slot (block ∷ blocks) =
-    omega (arith, join_slots slot block (merged blocks), slot_times-cons slot block (merged blocks), slot_times-cons slot block blocks, merged_slots slot blocks)
-
-pools_slots : (slot place : ℕ) (pools : List (Pool ℕ)) → slot_times slot (blocks_of (map (merged_in place) pools)) ≤ slot_times slot (blocks_of pools)
-pools_slots slot place [] = omega arith
-pools_slots slot place (pool ∷ pools) =
-    omega (
-      arith,
-      slot_times-append slot (merged (map (freed place) pool.blocks)) (blocks_of (map (merged_in place) pools)),
-      slot_times-append slot pool.blocks (blocks_of pools),
-      merged_slots slot (map (freed place) pool.blocks),
-      freed_slots slot place pool.blocks,
-      pools_slots slot place pools,
-    )
-
--- free gives back one slot, and changes no other
-pub after_free_slots : (place : ℕ) (content : Content ℕ) → HasGoodSlots content → HasGoodSlots (after_free place content)
-after_free_slots place content slots = record {
-  distinct = λ slot. omega (arith, pools_slots slot place content.pools, slots.distinct slot);
-  below = λ slot above. omega (arith, pools_slots slot place content.pools, slots.below slot above);
-}

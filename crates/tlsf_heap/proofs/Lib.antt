@@ -1,45 +1,28 @@
 -- Lemmas that several proofs share.
 pub mod Blocks
+pub mod BlockPlaces
 pub mod Replacing
 pub mod FreeLists
 pub mod MallocCases
 pub mod GoodContent
-pub mod Merging
-pub mod Freeing
-pub mod FreeIsGood
 pub mod GoodSlotsKept
 pub mod SlotsLeft
 pub mod PlainLists
 pub mod PlainPools
 pub mod PlainMalloc
-pub mod MergedInOrder
 pub mod PlainFree
 pub mod PlainRows
-pub mod Joining
 pub mod EntryLists
 pub mod Searching
 pub mod Marking
 pub mod Linking
 pub mod LinkedLayout
 pub mod Unlinking
-pub mod UnlinkedLayout
 pub mod ListMeaning
 pub mod NewArea
 pub mod Rechained
-pub mod PutBehind
-pub mod SplitLayout
 pub mod Slots
-pub mod Neighbours
-pub mod AbsorbedLayout
-pub mod Loose
-pub mod Releasing
-pub mod Released
-pub mod JoinSteps
 pub mod Reading
-pub mod SameBlocks
-pub mod SlotsReplaced
-pub mod TakenWhole
-pub mod TakenPart
 pub mod Followed
 pub mod NewPool
 pub mod AddPool
@@ -47,9 +30,7 @@ pub mod HeapStands
 pub mod RunSteps
 pub mod BareSteps
 pub mod BareFree
-pub mod Allocating
 pub mod Implied
-mod LayoutRows
 mod HeapRows
 mod RunRows
 pub mod Inner

@@ -7,4 +7,3 @@ pub mod Freed
 pub mod Covered
 pub mod FreedIsGood
 pub mod FreedSlots
-pub mod FreeRenamed

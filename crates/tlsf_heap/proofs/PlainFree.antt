@@ -9,14 +9,13 @@ use Rattle.tlsf_heap.specs.declared.refusal.Refusal.TheVariants.{BadPointer}
 use Rattle.tlsf_heap.specs.Content.{Block, Pool, Content, blocks_of, is_free, is_at, size_at}
 use Rattle.tlsf_heap.specs.Lists.{link}
 use Rattle.tlsf_heap.specs.Free.{is_live, in_front_of, behind, if_free, first_in_pools, size_of, start_of, unlink_block}
-use Rattle.tlsf_heap.specs.LocalFree.{free_block, without_block, after_free, free}
+use Rattle.tlsf_heap.specs.Free.{free_block, without_block, after_free, free}
 use Rattle.tlsf_heap.specs.Malloc.{replaced_in}
 use Rattle.tlsf_heap.specs.Good.{Covers, AreGoodPools}
 use Rattle.tlsf_heap.specs.PlainHeap.{IsPlain, IsSized}
 use Rattle.tlsf_heap.proofs.Blocks.{NoneAt, NoneAt-below}
 use Rattle.tlsf_heap.proofs.GoodContent.{IsWhole, whole_in_pools, Covers-le}
-use Rattle.tlsf_heap.proofs.Freeing.{in_front_none, size_at-here, size_at-elsewhere, live_later}
-use Rattle.tlsf_heap.proofs.FreeIsGood.{option_or-None, NoneAt-above, none_in_front, none_behind, live_above, live_below, Ascends-covers, live-append, size_at-front, size_at-back, untouched}
+use Rattle.tlsf_heap.proofs.BlockPlaces.{in_front_none, size_at-here, size_at-elsewhere, live_later, option_or-None, NoneAt-above, none_in_front, none_behind, live_above, live_below, Ascends-covers, live-append, size_at-front, size_at-back, untouched}
 use Rattle.tlsf_heap.proofs.Meaning.FreedIsGood.{freed_is_good}
 use Rattle.tlsf_heap.proofs.Meaning.FreedSlots.{after_free_slots}
 use Rattle.tlsf_heap.proofs.Blocks.{Ascends-pools}

@@ -15,7 +15,7 @@ use Rattle.tlsf_heap.specs.PlainHeap.{rows_at, rest_at, rest_from, is_from}
 use Rattle.tlsf_heap.proofs.Blocks.{Ascends, Ascends-pools, NoneAt}
 use Rattle.tlsf_heap.proofs.GoodContent.{Covers-le}
 use Rattle.tlsf_heap.proofs.Replacing.{find-none}
-use Rattle.tlsf_heap.proofs.FreeIsGood.{option_or-None, NoneAt-above, none_behind, Ascends-covers, untouched}
+use Rattle.tlsf_heap.proofs.BlockPlaces.{option_or-None, NoneAt-above, none_behind, Ascends-covers, untouched}
 use Rattle.tlsf_heap.proofs.PlainFree.{OfSome, back_of_all, first_of_all}
 
 -- what the pool's rows are from the block behind on

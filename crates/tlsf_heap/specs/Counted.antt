@@ -3,7 +3,7 @@ use Rattle.std.specs.Prelude.{ℕ, List}
 use Rattle.tlsf_heap.specs.declared.row.Row.{Row}
 use Rattle.tlsf_store.specs.Cells.{Cells}
 use Rattle.tlsf_heap.specs.Content.{Pool, Content}
-use Rattle.tlsf_heap.specs.Layout.{content_of}
+use Rattle.tlsf_heap.specs.Inner.Following.{content_of}
 use Rattle.tlsf_heap.specs.Readings.{rows_by}
 
 pub record Counted : Type 0 where

@@ -1,4 +1,4 @@
--- free: the block becomes free and is joined with its free neighbours in the pool.
+-- free: the block and its free neighbours in the pool give way to one free block.
 use Rattle.std.specs.Prelude.{ℕ, ◌+◌, Bool, false, ◌&&◌, List, [], ◌∷◌, map, Option, Some, None, Result, Ok, Err, if◌then◌else◌}
 use Rattle.std.specs.List.{list_any}
 use Rattle.std.specs.Option.{option_or}
@@ -6,6 +6,7 @@ use Rattle.tlsf_heap.specs.declared.refusal.Refusal.{Refusal}
 use Rattle.tlsf_heap.specs.declared.refusal.Refusal.TheVariants.{BadPointer}
 use Rattle.tlsf_heap.specs.Content.{Block, Pool, Content, blocks_of, is_free, is_at, size_at}
 use Rattle.tlsf_heap.specs.Lists.{link, unlink}
+use Rattle.tlsf_heap.specs.Malloc.{replaced_in}
 
 module _ {A : Type 0} where
   -- whether the block is live and its owner is meant
@@ -16,24 +17,6 @@ module _ {A : Type 0} where
   -- whether a live block has this place and the owner that is meant
   abbrev pub is_live : (A → Bool) → ℕ → List (Block A) → Bool
   is_live is_meant place blocks = list_any (λ block. is_at place block && is_owned_by is_meant block.owner) blocks
-
-  -- the block at the place is free
-  abbrev pub freed : ℕ → Block A → Block A
-  freed place block = if is_at place block then record block { owner = None } else block
-
-  -- a free block takes in a free one behind it
-  abbrev pub join : Block A → List (Block A) → List (Block A)
-  join block [] = block ∷ []
-  join block (next ∷ blocks) = if is_free block && is_free next then record block { size = block.size + next.size } ∷ blocks else block ∷ next ∷ blocks
-
-  -- each free block takes in the free ones behind it
-  abbrev pub merged : List (Block A) → List (Block A)
-  merged [] = []
-  merged (block ∷ blocks) = join block (merged blocks)
-
-  -- the block at the place is free, and merged
-  abbrev pub merged_in : ℕ → Pool A → Pool A
-  merged_in place pool = record pool { blocks = merged (map (freed place) pool.blocks) }
 
   -- the block in front of the one at the place, and the one behind it
   abbrev pub in_front_of : ℕ → List (Block A) → Option (Block A)
@@ -78,14 +61,26 @@ module _ {A : Type 0} where
   start_of None place = place
   start_of (Some block) place = block.place
 
-  -- the content after free: the neighbours leave their lists, and the block that is left enters its own in front
+  -- one free block
+  abbrev pub free_block : ℕ → ℕ → Block A
+  free_block place size = record { place = place; size = size; owner = None }
+
+  -- a block, where there is one, gives way to nothing
+  abbrev pub without_block : Option (Block A) → List (Pool A) → List (Pool A)
+  without_block None pools = pools
+  without_block (Some block) pools = map (replaced_in block.place []) pools
+
+  -- the content after free: the neighbours are gone, from their lists too, and the block gives way to a free one
+  -- of all their bytes, which enters its list in front
   abbrev pub after_free : ℕ → Content A → Content A
   after_free place content =
       let front = free_in_front place content in
       let back = free_behind place content in
+      let start = start_of front place in
+      let size = size_of front + size_at place (blocks_of content.pools) + size_of back in
       record content {
-        pools = map (merged_in place) content.pools;
-        lists = link (start_of front place) (size_of front + size_at place (blocks_of content.pools) + size_of back) (unlink_block back (unlink_block front content.lists));
+        pools = map (replaced_in place (free_block start size ∷ [])) (without_block back (without_block front content.pools));
+        lists = link start size (unlink_block back (unlink_block front content.lists));
       }
 
   -- free of the block at the place whose owner is meant: the new content, or BadPointer

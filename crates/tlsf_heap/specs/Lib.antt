@@ -20,5 +20,4 @@ pub mod Run
 pub mod Bare
 pub mod PlainHeap
 pub mod Implied
-pub mod LocalFree
 pub mod Inner

@@ -4,7 +4,7 @@ ghost use Rattle.std.specs.Prelude.{◌≡◌, ◌+◌, ◌≤◌, ◌==◌, Ok,
 ghost use Rattle.tlsf_class.specs.Classes.{class};
 ghost use Rattle.tlsf_heap.specs.Content.{blocks_of};
 ghost use Rattle.tlsf_heap.specs.Free.{is_live as is_live_in};
-ghost use Rattle.tlsf_heap.specs.LocalFree.{free as freed};
+ghost use Rattle.tlsf_heap.specs.Free.{free as freed};
 ghost use Rattle.tlsf_heap.specs.Edits.{unlinked};
 ghost use Rattle.tlsf_heap.specs.Release.{is_state_free, joined};
 ghost use Rattle.tlsf_heap.specs.Inner.Nodes.{InUse, Listed, Loose};

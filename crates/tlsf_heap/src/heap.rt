@@ -1,10 +1,10 @@
 //! The heap.
 
-use crate::allocation::malloc;
 use crate::entries::{entries, pool_ranges};
+use crate::free::free;
+use crate::malloc::malloc;
 use crate::pools::add_pool;
 use crate::readings::{first, row};
-use crate::release::free;
 use crate::{Cursor, Heaped, Ptr, Refusal, Row};
 use arrayvec::ArrayVec;
 use std::alloc::Global;
@@ -22,7 +22,7 @@ pub struct Heap {
 }
 
 impl Model for Heap {
-    ghost use Rattle.tlsf_heap.specs.Layout.{Stands};
+    ghost use Rattle.tlsf_heap.specs.Inner.Following.{Stands};
     ghost use Rattle.tlsf_heap.specs.Counted.{Counted, counted};
 
     ghost Value = { Counted };

@@ -2,7 +2,6 @@
 //! found by bitmaps.
 #![tactic(auto)]
 
-mod allocation;
 mod answer;
 mod calls;
 mod chains;
@@ -20,7 +19,6 @@ mod pool_entry;
 mod pools;
 mod readings;
 mod refusal;
-mod release;
 mod request;
 mod row;
 mod runs;

@@ -8,7 +8,7 @@ use Rattle.tlsf_heap.specs.Content.{Content}
 use Rattle.tlsf_heap.specs.Edits.{linked, unlinked}
 use Rattle.tlsf_heap.specs.Chains.{with_state, split}
 use Rattle.tlsf_heap.specs.Entries.{pool_entered}
-use Rattle.tlsf_heap.specs.LocalFree.{after_free}
+use Rattle.tlsf_heap.specs.Free.{after_free}
 use Rattle.tlsf_heap.specs.Malloc.{malloc}
 use Rattle.tlsf_heap.specs.Pools.{created, with_pool}
 use Rattle.std.specs.Prelude.{Ok}

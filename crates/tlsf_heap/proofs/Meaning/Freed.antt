@@ -7,7 +7,7 @@ use Rattle.tlsf_heap.specs.Content.{Block, Content, blocks_of, size_at}
 use Rattle.tlsf_heap.specs.Lists.{link}
 use Rattle.tlsf_heap.specs.Malloc.{replaced_in}
 use Rattle.tlsf_heap.specs.Free.{if_free, free_in_front, free_behind, unlink_block, size_of, start_of}
-use Rattle.tlsf_heap.specs.LocalFree.{free_block, without_block, after_free}
+use Rattle.tlsf_heap.specs.Free.{free_block, without_block, after_free}
 use Rattle.tlsf_heap.specs.Inner.Nodes.{Status, InUse, Listed, Loose, Node, turned, owner_of, block_of, pool_of, content_by, has_place, is_listed, entered}
 use Rattle.tlsf_heap.specs.Inner.Spots.{Spot, filled, laid}
 use Rattle.tlsf_heap.specs.Inner.Joined.{is_loose, listed_first, past, left_by, grown_in_front, grown_behind, spot_past, merged_node, freed}

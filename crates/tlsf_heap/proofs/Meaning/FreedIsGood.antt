@@ -9,7 +9,7 @@ use Rattle.tlsf_heap.specs.Lists.{list_of, link}
 use Rattle.tlsf_heap.specs.Malloc.{replaced_in}
 use Rattle.tlsf_heap.specs.Good.{Covers, NoFreeNeighbours, IsGoodPool, AreGoodPools, times, is_listed, AreLists, IsGood}
 use Rattle.tlsf_heap.specs.Free.{is_owned_by, is_live, if_free, free_in_front, free_behind, unlink_block, size_of, start_of}
-use Rattle.tlsf_heap.specs.LocalFree.{free_block, without_block, after_free, free}
+use Rattle.tlsf_heap.specs.Free.{free_block, without_block, after_free, free}
 use Rattle.tlsf_heap.specs.Inner.Spots.{plug}
 use Rattle.tlsf_heap.proofs.Blocks.{Ascends-pools}
 use Rattle.tlsf_heap.proofs.FreeLists.{stands, times-link, times-unlink, length-link, length-unlink}

@@ -43,7 +43,7 @@ impl PlainHeap {
     ghost use Rattle.tlsf_heap.specs.Content.{blocks_of, used_records};
     ghost use Rattle.tlsf_heap.specs.GoodSlots.{slot_times};
     ghost use Rattle.tlsf_heap.specs.Free.{is_live as is_live_in};
-    ghost use Rattle.tlsf_heap.specs.LocalFree.{after_free};
+    ghost use Rattle.tlsf_heap.specs.Free.{after_free};
     ghost use Rattle.tlsf_heap.specs.Malloc.{malloc as served, allocated};
     ghost use Rattle.tlsf_store.specs.Cells.{most_pools};
     ghost use Rattle.tlsf_heap.specs.Pools.{with_pool, can_be_pool as can_be, is_apart as apart};

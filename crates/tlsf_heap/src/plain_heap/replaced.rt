@@ -3,7 +3,7 @@
 ghost use Rattle.std.specs.Prelude.{◌≡◌, ◌++◌, ◌∷◌, [], map, if◌then◌else◌, IfOk, OnOk};
 ghost use Rattle.tlsf_heap.specs.Content.{is_at};
 ghost use Rattle.tlsf_heap.specs.Malloc.{cut, replaced as replaced_blocks, replaced_in};
-ghost use Rattle.tlsf_heap.specs.LocalFree.{without_block as pools_without};
+ghost use Rattle.tlsf_heap.specs.Free.{without_block as pools_without};
 
 use super::block::Block;
 use super::choice::Choice;

@@ -4,7 +4,7 @@ use Rattle.tlsf_store.specs.Cells.{Cells}
 use Rattle.tlsf_heap.specs.declared.refusal.Refusal.TheVariants.{BadPointer}
 use Rattle.tlsf_heap.specs.Content.{blocks_of}
 use Rattle.tlsf_heap.specs.Free.{is_live}
-use Rattle.tlsf_heap.specs.LocalFree.{after_free}
+use Rattle.tlsf_heap.specs.Free.{after_free}
 use Rattle.tlsf_heap.specs.Inner.Nodes.{InUse}
 use Rattle.tlsf_heap.specs.Inner.Following.{Stands, content_of}
 use Rattle.tlsf_heap.specs.Inner.At.{StandsAt}

@@ -1,7 +1,7 @@
 use Rattle.std.proofs.Common.{◌≡◌, ℕ, ◌+◌, true, List, [], ◌∷◌, sym, ap, ◌∙◌, subst, map}
 use Rattle.tlsf_heap.specs.Content.{Content, blocks_of, size_at}
 use Rattle.tlsf_heap.specs.Free.{is_live, unlink_block, if_free, first_in_pools, in_front_of, behind, size_of}
-use Rattle.tlsf_heap.specs.LocalFree.{free_block, without_block, after_free}
+use Rattle.tlsf_heap.specs.Free.{free_block, without_block, after_free}
 use Rattle.tlsf_heap.specs.Malloc.{replaced_in}
 use Rattle.tlsf_heap.specs.Lists.{link}
 use Rattle.tlsf_heap.specs.PlainHeap.{IsPlain, content_of, lists_of}
