@@ -24,4 +24,5 @@ pub mod Allotted
 pub mod Served
 pub mod Picked
 pub mod Empty
+pub mod PoolEntered
 mod Rows
