@@ -25,4 +25,5 @@ pub mod Served
 pub mod Picked
 pub mod Empty
 pub mod PoolEntered
+pub mod RowsRead
 mod Rows
