@@ -24,4 +24,6 @@ pub mod Allotted
 pub mod Served
 pub mod Picked
 pub mod Empty
+pub mod PoolEntered
+pub mod RowsRead
 mod Rows

@@ -18,7 +18,7 @@ use Rattle.tlsf_heap.proofs.Inner.Plugs.{count-nodes}
 use Rattle.tlsf_heap.proofs.Inner.Sums.{all_records}
 
 -- following what is said at linked nodes gives their slots
-follow_linked : {V : Type 0} (says : Option ℕ → Node → Option ℕ → V) (at : ℕ → V) (next : V → Option ℕ) → ((prev : Option ℕ) (node : Node) (after : Option ℕ) → next (says prev node after) ≡ after)
+pub follow_linked : {V : Type 0} (says : Option ℕ → Node → Option ℕ → V) (at : ℕ → V) (next : V → Option ℕ) → ((prev : Option ℕ) (node : Node) (after : Option ℕ) → next (says prev node after) ≡ after)
     → (n : ℕ) (before : Option ℕ) (nodes : List Node) → length nodes ≤ n → AreLinked says at before nodes → follow n (λ slot. next (at slot)) (first_slot nodes) ≡ map (λ node. node.slot) nodes
 follow_linked says at next tells zero before [] few l = refl
 follow_linked says at next tells zero before (node ∷ nodes) few l = absurd (omega (arith, few))
@@ -33,7 +33,7 @@ owner_is Listed slot = refl
 owner_is Loose slot = refl
 
 module _ (records : List Record) where
-  blocks_read : (before : Option ℕ) (nodes : List Node) → AreLinked in_pool (pool_views records) before nodes → map (block_at records) (map (λ node. node.slot) nodes) ≡ map block_of nodes
+  pub blocks_read : (before : Option ℕ) (nodes : List Node) → AreLinked in_pool (pool_views records) before nodes → map (block_at records) (map (λ node. node.slot) nodes) ≡ map block_of nodes
   blocks_read before [] l = refl
   blocks_read before (node ∷ nodes) l =
       let here : block_at records node.slot ≡ block_of node =
@@ -73,7 +73,7 @@ module _ (records : List Record) where
   ]
 
 module _ (cells : Cells) (layout : Layout) (was : Represents cells layout) where
-  few : length (nodes_of layout.areas) ≤ length cells.records
+  pub few : length (nodes_of layout.areas) ≤ length cells.records
   few = omega (arith, all_records cells layout was)
 
   list_few : (number : ℕ) → length (list_of number layout.lists) ≤ length cells.records
