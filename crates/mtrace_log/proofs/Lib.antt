@@ -4,6 +4,8 @@ pub mod HexLemmas
 pub mod FieldLemmas
 pub mod EventLemmas
 pub mod SpellingLemmas
+pub mod TraceLemmas
 pub mod LineLemmas
 pub mod ReadLemmas
+pub mod CallLemmas
 mod Vectors

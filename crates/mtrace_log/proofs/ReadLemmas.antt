@@ -57,10 +57,10 @@ HasRead-end before after events so_far at_end =
     }
 
 -- a first fault, behind whole lines
-pub HasRead-fault : (fault : ReadFault) (count : ℕ) (before middle after : Option (List ℕ)) (failures_old failures_new : ℕ) (events : List (Result Event LineFault)) → HasRead before middle events
-    → StopsReading fault count middle after failures_old failures_new → HasReadBefore before after events
-HasRead-fault ReaderFailed count before middle after failures_old failures_new events so_far stop =
-    let (piece, lacks, taken, failed) = stop in
+pub HasRead-fault : (fault : ReadFault) (count : ℕ) (before middle after : Option (List ℕ)) (events : List (Result Event LineFault)) → HasRead before middle events
+    → StopsReading fault count middle after → HasReadBefore before after events
+HasRead-fault ReaderFailed count before middle after events so_far stop =
+    let (piece, lacks, taken) = stop in
     record {
       pieces = so_far.pieces;
       lost = piece;
@@ -69,8 +69,8 @@ HasRead-fault ReaderFailed count before middle after failures_old failures_new e
       read = so_far.read;
       taken = prepend_known-step (whole_lines so_far.pieces) piece before middle after so_far.taken taken;
     }
-HasRead-fault TooManyLines count before middle after failures_old failures_new events so_far stop =
-    let (full, same, more, kept) = stop in
+HasRead-fault TooManyLines count before middle after events so_far stop =
+    let (full, same, more) = stop in
     record {
       pieces = so_far.pieces;
       lost = [];
@@ -115,16 +115,16 @@ HasReadSo-end {R} left start old new reader_old reader_new events so_far found =
     by_status (Faulted fault) before end = absurd end
 
 -- a fault
-pub HasReadSo-fault : {R : Type 0} (left : R → Option (List ℕ)) (start : Option (List ℕ)) (old new : Progress) (reader_old reader_new : R) (failures_old failures_new : ℕ) (fault : ReadFault) (events : List (Result Event LineFault))
+pub HasReadSo-fault : {R : Type 0} (left : R → Option (List ℕ)) (start : Option (List ℕ)) (old new : Progress) (reader_old reader_new : R) (fault : ReadFault) (events : List (Result Event LineFault))
     → HasReadSo old.status start (to_come old (left reader_old)) events
-    → GivesFault old.status fault old new reader_old reader_new (to_come old (left reader_old)) (to_come new (left reader_new)) failures_old failures_new
+    → GivesFault old.status fault old new reader_old reader_new (to_come old (left reader_old)) (to_come new (left reader_new))
     → HasReadBefore start (to_come new (left reader_new)) events
-HasReadSo-fault {R} left start old new reader_old reader_new failures_old failures_new fault events so_far given = by_status old.status so_far given
+HasReadSo-fault {R} left start old new reader_old reader_new fault events so_far given = by_status old.status so_far given
   where
     by_status : (status : Status) → HasReadSo status start (to_come old (left reader_old)) events
-        → GivesFault status fault old new reader_old reader_new (to_come old (left reader_old)) (to_come new (left reader_new)) failures_old failures_new
+        → GivesFault status fault old new reader_old reader_new (to_come old (left reader_old)) (to_come new (left reader_new))
         → HasReadBefore start (to_come new (left reader_new)) events
-    by_status Reading before stop = HasRead-fault fault old.count start (to_come old (left reader_old)) (to_come new (left reader_new)) failures_old failures_new events before stop.2
+    by_status Reading before stop = HasRead-fault fault old.count start (to_come old (left reader_old)) (to_come new (left reader_new)) events before stop.2
     by_status Ended before stop = absurd stop
     by_status (Faulted first) before stop = subst (λ text. HasReadBefore start text events) (unchanged left old new reader_old reader_new stop.1 stop.2) before
 

@@ -1,8 +1,8 @@
 -- Laws of the spellings of events: each is one line, short enough, and tells its event.
 use Rattle.std.proofs.Common.{◌≡◌, ◌≢◌, ℕ, zero, suc, ◌≤◌, List, [], ◌∷◌, length, get_or, drop, Option, Some, None, IfSome, Result, Ok, Err, refl, sym, ap, ◌∙◌, arith, append_assoc, length-append}
 use Rattle.mtrace_log.specs.Bytes.{Lacks, space, newline}
-use Rattle.mtrace_log.specs.Address.{size_text, pointer_text}
-use Rattle.mtrace_log.specs.Location.{IsLocation}
+use Rattle.mtrace_log.specs.Address.{longest_address, size_text, pointer_text}
+use Rattle.mtrace_log.specs.Location.{longest_location, IsLocation}
 use Rattle.mtrace_log.specs.Spelling.{location_text, alloc_text, spell, IsEvent, longest_line}
 use Rattle.mtrace_log.specs.Fields.{IsPointer, IsSize}
 use Rattle.mtrace_log.specs.Reading.{Reads}
@@ -31,13 +31,13 @@ Lacks-spell End valid = (λ e. absurd (omega arith), (λ e. absurd (omega arith)
 Lacks-spell (Alloc place address size) valid =
     AllByRecursion-append (λ b. b ≢ newline) (location_text place) (alloc_text address size) (Lacks-location_text place valid.0) (Lacks-alloc_text address size)
 
--- ---- at most 297 bytes
+-- ---- no line is longer than the longest
 
-length-pointer_text : (pointer : Option ℕ) → IsPointer pointer → length (pointer_text pointer) ≤ 18
+length-pointer_text : (pointer : Option ℕ) → IsPointer pointer → length (pointer_text pointer) ≤ longest_address
 length-pointer_text None valid = omega arith
 length-pointer_text (Some n) valid = omega (arith, length-hex_digits-le n valid.1)
 
-length-size_text : (size : ℕ) → IsSize size → length (size_text size) ≤ 18
+length-size_text : (size : ℕ) → IsSize size → length (size_text size) ≤ longest_address
 length-size_text zero fits = omega arith
 length-size_text (suc n) fits = omega (arith, length-hex_digits-le (suc n) fits)
 

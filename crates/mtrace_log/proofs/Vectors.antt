@@ -5,6 +5,7 @@ use Rattle.std.specs.Char.{digit_char}
 use Rattle.std.specs.Int.Digits.{digits_of, digits_with_fuel}
 use Rattle.std.proofs.lemmas.Int.Digits.{digits_of_step}
 use Rattle.mtrace_log.specs.Address.{address_text}
+use Rattle.mtrace_log.specs.Location.{longest_location}
 use Rattle.mtrace_log.specs.Spelling.{spell, longest_line}
 use Rattle.mtrace_log.specs.Lines.{lines_of}
 use Rattle.mtrace_log.specs.declared.event.Event.TheVariants.{Start, End, Alloc}
@@ -43,9 +44,9 @@ digits-turns (suc turns) (suc n) fits =
 greatest_address : address_text 0xffff_ffff_ffff_ffff ≡ codes "0xffffffffffffffff"
 greatest_address = ap (λ digits. codes "0x" ++ map digit_char digits) (digits-turns 16 0xffff_ffff_ffff_ffff (omega arith))
 
-length_of_longest_line : length (spell (Alloc (Some (replicate 255 97)) (Some 0xffff_ffff_ffff_ffff) 0xffff_ffff_ffff_ffff)) ≡ longest_line
+length_of_longest_line : length (spell (Alloc (Some (replicate longest_location 97)) (Some 0xffff_ffff_ffff_ffff) 0xffff_ffff_ffff_ffff)) ≡ longest_line
 length_of_longest_line =
-    ap (λ text. length (codes "@ " ++ (replicate 255 97 ++ 32 ∷ []) ++ (codes "+ " ++ (text ++ 32 ∷ text)))) greatest_address
+    ap (λ text. length (codes "@ " ++ (replicate longest_location 97 ++ 32 ∷ []) ++ (codes "+ " ++ (text ++ 32 ∷ text)))) greatest_address
 
 -- ---- lines
 

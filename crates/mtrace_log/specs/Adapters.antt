@@ -1,5 +1,6 @@
 -- What a clause reads of the adapters of std's readers and writers.
-use Rattle.std.specs.Prelude.{ℕ, ◌-◌, ◌^◌}
+use Rattle.std.specs.Prelude.{ℕ, ◌-◌, ◌^◌, List}
+use Rattle.mtrace_log.specs.declared.call.Call.{Call}
 use Rattle.mtrace_log.specs.declared.from_read.FromRead.{FromRead}
 use Rattle.mtrace_log.specs.declared.to_write.ToWrite.{ToWrite}
 
@@ -11,14 +12,14 @@ reader_of source = source.reader
 abbrev pub calls_left : {R : Type 0} → FromRead R → ℕ
 calls_left source = 2 ^ 64 - 1 - source.calls
 
--- how many pulls have failed
-abbrev pub failed_pulls : {R : Type 0} → FromRead R → ℕ
-failed_pulls source = source.failures.count
+-- what its calls came to
+abbrev pub reader_trace : {R : Type 0} → FromRead R → List Call
+reader_trace source = source.trace.calls
 
 -- the writer of std's
 abbrev pub writer_of : {W : Type 0} → ToWrite W → W
 writer_of sink = sink.writer
 
--- how many puts and flushes have failed
-abbrev pub failed_puts : {W : Type 0} → ToWrite W → ℕ
-failed_puts sink = sink.failures.count
+-- what its calls came to
+abbrev pub writer_trace : {W : Type 0} → ToWrite W → List Call
+writer_trace sink = sink.trace.calls

@@ -7,6 +7,10 @@ use Rattle.std.specs.Int.Digits.{digits_of}
 abbrev pub IsAddress : ℕ → Type 0
 IsAddress address = (0 < address) × (address < 2 ^ 64)
 
+-- the longest address, in bytes: `0x` and 16 digits
+abbrev pub longest_address : ℕ
+longest_address = 18
+
 -- the digits of a number in base 16, `0` to `9` and `a` to `f`, the highest first, none for 0
 abbrev pub hex_digits : ℕ → List ℕ
 hex_digits n = map digit_char (digits_of 16 n)

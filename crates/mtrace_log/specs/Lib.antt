@@ -6,6 +6,7 @@ pub mod Spelling
 pub mod Reading
 pub mod Fields
 pub mod Lines
+pub mod Trace
 pub mod Progress
 pub mod State
 pub mod LineBuffer

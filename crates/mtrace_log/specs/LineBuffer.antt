@@ -1,8 +1,10 @@
 -- What the buffer of a line holds, and how a piece of a text ended.
-use Rattle.std.specs.Prelude.{◌≡◌, ℕ, ◌+◌, ◌<◌, List, [], ◌∷◌, ◌++◌, length, Option, MatchBool}
+use Rattle.std.specs.Prelude.{◌≡◌, ℕ, ◌<◌, List, [], ◌∷◌, ◌++◌, length, Option, MatchBool}
 use Rattle.std.specs.Io.KnownBytes.{prepend_known, IsAtEnd}
 use Rattle.mtrace_log.specs.Bytes.{Lacks, newline}
 use Rattle.mtrace_log.specs.Spelling.{longest_line}
+use Rattle.mtrace_log.specs.Trace.{HasGiven, HasGivenAll, HasGivenAndFailed}
+use Rattle.mtrace_log.specs.declared.call.Call.{Call}
 use Rattle.mtrace_log.specs.declared.line_buffer.LineBuffer.{LineBuffer}
 use Rattle.mtrace_log.specs.declared.pieces.Stop.{Stop}
 use Rattle.mtrace_log.specs.declared.pieces.Stop.TheVariants.{Newline, End, Failed}
@@ -17,11 +19,11 @@ TakesUpTo Newline piece before after = before ≡ prepend_known (piece ++ newlin
 TakesUpTo End piece before after = (before ≡ prepend_known piece after) × IsAtEnd after
 TakesUpTo Failed piece before after = before ≡ prepend_known piece after
 
--- how the reader's failures rose
-abbrev pub FailsBy : Stop → ℕ → ℕ → Type 0
-FailsBy Newline old new = new ≡ old
-FailsBy End old new = new ≡ old
-FailsBy Failed old new = new ≡ old + 1
+-- what the calls of the reader came to for it
+abbrev pub CallsUpTo : Stop → List Call → List Call → Type 0
+CallsUpTo Newline old new = HasGiven old new
+CallsUpTo End old new = HasGivenAll old new
+CallsUpTo Failed old new = HasGivenAndFailed old new
 
 -- one piece without newline was taken and is in the buffer
 pub record TakesPiece (buffer : LineBuffer) (stop : Stop) (before after : Option (List ℕ)) : Type 0 where

@@ -6,8 +6,12 @@ use Rattle.std.specs.List.{AllByRecursion}
 abbrev pub IsLocationByte : ℕ → Type 0
 IsLocationByte b = (0x20 < b) × (b ≢ 0x7F)
 
--- a location is 1 to 255 such bytes
+-- the greatest number of bytes in a location
+abbrev pub longest_location : ℕ
+longest_location = 255
+
+-- a location is some such bytes, and not too many
 pub record IsLocation (bytes : List ℕ) : Type 0 where
   pub some : 0 < length bytes
-  pub short : length bytes ≤ 255
+  pub short : length bytes ≤ longest_location
   pub allowed : AllByRecursion IsLocationByte bytes

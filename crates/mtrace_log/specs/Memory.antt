@@ -1,5 +1,6 @@
 -- What a clause reads of the reader and the writer over memory.
 use Rattle.std.specs.Prelude.{ℕ, zero, suc, List, length, min, Bool, Option, Some, None}
+use Rattle.mtrace_log.specs.declared.call.Call.{Call}
 use Rattle.mtrace_log.specs.declared.memory.memory_source.MemorySource.{MemorySource}
 use Rattle.mtrace_log.specs.declared.memory.memory_sink.MemorySink.{MemorySink}
 use Rattle.mtrace_log.specs.declared.memory.memory_sink.Full.{Full as WhenFull}
@@ -30,9 +31,9 @@ one_call_less (Some (suc calls)) = Some calls
 abbrev pub source_count : MemorySource → ℕ → ℕ
 source_count source room = min (min (length (source_left source)) (source_piece source)) room
 
--- how many pulls have failed
-abbrev pub failed_pulls : MemorySource → ℕ
-failed_pulls source = source.failures.count
+-- what its calls came to
+abbrev pub source_trace : MemorySource → List Call
+source_trace source = source.trace.calls
 
 -- the bytes taken
 abbrev pub sink_taken : MemorySink → List ℕ
@@ -54,9 +55,9 @@ sink_full sink = sink.full
 abbrev pub flush_fails : MemorySink → Bool
 flush_fails sink = sink.flush_fails
 
--- how many puts and flushes have failed
-abbrev pub failed_puts : MemorySink → ℕ
-failed_puts sink = sink.failures.count
+-- what its calls came to
+abbrev pub sink_trace : MemorySink → List Call
+sink_trace sink = sink.trace.calls
 
 -- how many of so many bytes a call takes
 abbrev pub sink_count : MemorySink → ℕ → ℕ

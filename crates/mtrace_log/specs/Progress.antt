@@ -5,6 +5,8 @@ use Rattle.mtrace_log.specs.Bytes.{Lacks, newline}
 use Rattle.mtrace_log.specs.Reading.{Reads}
 use Rattle.mtrace_log.specs.declared.event.Event.{Event}
 use Rattle.mtrace_log.specs.declared.event.LineFault.{LineFault}
+use Rattle.mtrace_log.specs.Trace.{HasGiven, HasGivenAll, HasGivenAndFailed}
+use Rattle.mtrace_log.specs.declared.call.Call.{Call}
 use Rattle.mtrace_log.specs.declared.line.Line.{Line}
 use Rattle.mtrace_log.specs.declared.line.ReadFault.{ReadFault}
 use Rattle.mtrace_log.specs.declared.line.ReadFault.TheVariants.{ReaderFailed, TooManyLines}
@@ -58,26 +60,33 @@ FindsEnd (Faulted fault) old new reader_old reader_new before after = ⊥
 
 -- A first fault: the reader failed in this call, within a piece that is lost, or there are as many
 -- lines as there are numbers and more is to come.
-abbrev pub StopsReading : ReadFault → ℕ → Option (List ℕ) → Option (List ℕ) → (failures_old failures_new : ℕ) → Type 0
-StopsReading ReaderFailed count before after failures_old failures_new = (piece : List ℕ) × Lacks newline piece
-    × (before ≡ prepend_known piece after) × (failures_new ≡ failures_old + 1)
-StopsReading TooManyLines count before after failures_old failures_new = (count ≡ greatest_number)
-    × (before ≡ after) × HasMore after × (failures_new ≡ failures_old)
+abbrev pub StopsReading : ReadFault → ℕ → Option (List ℕ) → Option (List ℕ) → Type 0
+StopsReading ReaderFailed count before after = (piece : List ℕ) × Lacks newline piece × (before ≡ prepend_known piece after)
+StopsReading TooManyLines count before after = (count ≡ greatest_number) × (before ≡ after) × HasMore after
 
 -- A fault: a first one, or the same one again, which asked nothing and changed nothing.
-abbrev pub GivesFault : {R : Type 0} → Status → ReadFault → (old new : Progress) → (reader_old reader_new : R) → (before after : Option (List ℕ)) → (failures_old failures_new : ℕ) → Type 0
-GivesFault Reading fault old new reader_old reader_new before after failures_old failures_new = (new.status ≡ Faulted fault)
-    × (new.count ≡ old.count) × StopsReading fault old.count before after failures_old failures_new
-GivesFault Ended fault old new reader_old reader_new before after failures_old failures_new = ⊥
-GivesFault (Faulted first) fault old new reader_old reader_new before after failures_old failures_new = (fault ≡ first)
+abbrev pub GivesFault : {R : Type 0} → Status → ReadFault → (old new : Progress) → (reader_old reader_new : R) → (before after : Option (List ℕ)) → Type 0
+GivesFault Reading fault old new reader_old reader_new before after = (new.status ≡ Faulted fault)
+    × (new.count ≡ old.count) × StopsReading fault old.count before after
+GivesFault Ended fault old new reader_old reader_new before after = ⊥
+GivesFault (Faulted first) fault old new reader_old reader_new before after = (fault ≡ first)
     × (new ≡ old) × (reader_new ≡ reader_old)
 
+-- What the calls of the reader came to, by the status that they led to: pieces alone, or pieces and then,
+-- once and last, its end or its failure. Where no number is left, the reader has not failed.
+abbrev pub CallsFor : Status → List Call → List Call → Type 0
+CallsFor Reading old new = HasGiven old new
+CallsFor Ended old new = HasGivenAll old new
+CallsFor (Faulted ReaderFailed) old new = HasGivenAndFailed old new
+CallsFor (Faulted TooManyLines) old new = HasGiven old new
+
 -- what a call does while lines are read
-abbrev pub ReadsOn : {R : Type 0} → (left : R → Option (List ℕ)) → (failures : R → ℕ) → (old new : Progress) → (reader_old reader_new : R) → Result (Option Line) ReadFault → Type 0
-ReadsOn left failures old new reader_old reader_new (Ok (Some line)) = GivesLine old new (to_come old (left reader_old)) (to_come new (left reader_new)) line
-    × (failures reader_new ≡ failures reader_old)
-ReadsOn left failures old new reader_old reader_new (Ok None) = (new.status ≡ Ended)
+abbrev pub ReadsOn : {R : Type 0} → (left : R → Option (List ℕ)) → (trace : R → List Call) → (old new : Progress) → (reader_old reader_new : R) → Result (Option Line) ReadFault → Type 0
+ReadsOn left trace old new reader_old reader_new (Ok (Some line)) = GivesLine old new (to_come old (left reader_old)) (to_come new (left reader_new)) line
+    × CallsFor new.status (trace reader_old) (trace reader_new)
+ReadsOn left trace old new reader_old reader_new (Ok None) = (new.status ≡ Ended)
     × FindsEnd Reading old new reader_old reader_new (to_come old (left reader_old)) (to_come new (left reader_new))
-    × (failures reader_new ≡ failures reader_old)
-ReadsOn left failures old new reader_old reader_new (Err fault) = GivesFault Reading fault old new reader_old reader_new
-    (to_come old (left reader_old)) (to_come new (left reader_new)) (failures reader_old) (failures reader_new)
+    × CallsFor new.status (trace reader_old) (trace reader_new)
+ReadsOn left trace old new reader_old reader_new (Err fault) = GivesFault Reading fault old new reader_old reader_new
+    (to_come old (left reader_old)) (to_come new (left reader_new))
+    × CallsFor new.status (trace reader_old) (trace reader_new)

@@ -30,7 +30,7 @@ pub enum Event {
 #[derive(Clone, Copy, Debug, PartialEq, Eq)]
 pub enum LineFault {
     /// It has more bytes than the longest line, 297 without its newline.
-    TooLong,
+    TooLong = 1,
     /// It is the line of no event.
-    NotALine,
+    NotALine = 2,
 }

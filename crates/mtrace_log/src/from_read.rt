@@ -1,10 +1,13 @@
-ghost use Rattle.std.specs.Prelude.{◌≡◌, ℕ, ◌+◌, ◌-◌, ◌^◌, ◌<◌, ◌≤◌, List, length, take, Option, None, IfOk, OnOk, OnErr, IsErr};
+ghost use Rattle.std.specs.Prelude.{◌≡◌, ℕ, ◌-◌, ◌^◌, ◌<◌, ◌≤◌, List, [], ◌∷◌, length, take, Option, None, IfOk, OnErr, IsErr};
 ghost use Rattle.std.specs.Io.KnownBytes.{ReadConsumes};
-ghost use Rattle.mtrace_log.specs.Adapters.{reader_of, calls_left, failed_pulls};
+ghost use Rattle.mtrace_log.specs.declared.call.Call.{Call};
+ghost use Rattle.mtrace_log.specs.Adapters.{reader_of, calls_left, reader_trace};
+ghost use Rattle.mtrace_log.specs.Trace.{pulled};
 
+use crate::call::Call;
 use crate::failed::Failed;
-use crate::failures::Failures;
 use crate::source::Source;
+use crate::trace::Trace;
 use std::io::Read;
 
 /// A reader of std's as a [`Source`]: one read a pull, and an error of any kind is a failure.
@@ -14,7 +17,7 @@ use std::io::Read;
 pub struct FromRead<R> {
     reader: R,
     calls: u64,
-    failures: Failures,
+    trace: Trace,
 }
 
 impl<R: Read> FromRead<R> {
@@ -22,12 +25,30 @@ impl<R: Read> FromRead<R> {
     pub fn new(reader: R) -> Self
         ensures reader { reader_of result ≡ reader }
         ensures calls { calls_left result ≡ 2 ^ 64 - 1 }
-        ensures failures { failed_pulls result ≡ 0 }
+        ensures trace { reader_trace result ≡ [] }
     {
         FromRead {
             reader,
             calls: 0,
-            failures: Failures::new(),
+            trace: Trace::new(),
+        }
+    }
+
+    // Reads once, where a read is left. What it came to is not told yet.
+    fn read_once(&mut self, buf: &mut [u8]) -> Result<usize, Failed>
+        ensures bound { IfOk result (λ n. n ≤ length buf.new) }
+        ensures reads { ReadConsumes (R.remaining (reader_of self.old)) (R.remaining (reader_of self.new)) result buf.new }
+        ensures counted { calls_left self.new ≡ calls_left self.old - 1 }
+        ensures exhausted { calls_left self.old ≡ 0 → IsErr result }
+        ensures trace { reader_trace self.new ≡ reader_trace self.old }
+    {
+        if self.calls == u64::MAX {
+            return Err(Failed);
+        }
+        self.calls += 1;
+        match self.reader.read(buf) {
+            Ok(count) => Ok(count),
+            Err(_) => Err(Failed),
         }
     }
 }
@@ -35,7 +56,7 @@ impl<R: Read> FromRead<R> {
 impl<R: Read> Source for FromRead<R> {
     ghost left = { λ source. None };
 
-    ghost failures = { failed_pulls };
+    ghost trace = { reader_trace };
 
     ghost budget = { calls_left };
 
@@ -49,22 +70,12 @@ impl<R: Read> Source for FromRead<R> {
         ensures bound { IfOk result (λ n. n ≤ length buf.new) }
         // The bytes are those that the reader gave, where it tells them, and 0 is its end.
         ensures reads { ReadConsumes (R.remaining (reader_of self.old)) (R.remaining (reader_of self.new)) result buf.new }
-        ensures no_failure { OnOk result (failed_pulls self.new ≡ failed_pulls self.old) }
-        ensures failure { OnErr result (failed_pulls self.new ≡ failed_pulls self.old + 1) }
+        ensures told { reader_trace self.new ≡ pulled result ∷ reader_trace self.old }
         ensures counted { calls_left self.new ≡ calls_left self.old - 1 }
         ensures exhausted { calls_left self.old ≡ 0 → IsErr result }
     {
-        if self.calls == u64::MAX {
-            self.failures.rise();
-            return Err(Failed);
-        }
-        self.calls += 1;
-        match self.reader.read(buf) {
-            Ok(count) => Ok(count),
-            Err(_) => {
-                self.failures.rise();
-                Err(Failed)
-            }
-        }
+        let answer = self.read_once(buf);
+        self.trace.add(Call::pulled(&answer));
+        answer
     }
 }

@@ -5,9 +5,9 @@
 #![tactic(auto)]
 
 mod addr;
+mod call;
 mod event;
 mod failed;
-mod failures;
 mod from_read;
 mod hex;
 pub mod laws;
@@ -23,8 +23,10 @@ mod source;
 #[cfg(test)]
 mod tests;
 mod to_write;
+mod trace;
 
 pub use crate::addr::Addr;
+pub use crate::call::Call;
 pub use crate::event::{Event, LineFault};
 pub use crate::failed::Failed;
 pub use crate::from_read::FromRead;

@@ -1,6 +1,6 @@
-ghost use Rattle.std.specs.Prelude.{◌≡◌, ℕ, ◌+◌, ◌<◌, List, [], length, IfOk, IfErr, OnOk, IfSome, IfNone};
+ghost use Rattle.std.specs.Prelude.{◌≡◌, ℕ, ◌+◌, ◌<◌, List, [], length, IfOk, IfErr, IfSome, IfNone};
 ghost use Rattle.mtrace_log.specs.Reading.{Reads};
-ghost use Rattle.mtrace_log.specs.Progress.{Progress, Reading, Ended, to_come, greatest_number, GivesLine, FindsEnd, GivesFault, ReadsOn};
+ghost use Rattle.mtrace_log.specs.Progress.{Progress, Reading, Ended, to_come, greatest_number, GivesLine, FindsEnd, GivesFault, ReadsOn, CallsFor};
 ghost use Rattle.mtrace_log.specs.State.{held_by, status_of};
 ghost use Rattle.mtrace_log.specs.LineBuffer.{Holds};
 ghost use Rattle.mtrace_log.specs.declared.line.ReadFault.TheVariants.{ReaderFailed};
@@ -73,9 +73,10 @@ impl Lines {
             × FindsEnd self.old.status self.old self.new reader.old reader.new
             (to_come self.old (R.left reader.old)) (to_come self.new (R.left reader.new)))) }
         ensures fault { IfErr result (λ fault. GivesFault self.old.status fault self.old self.new reader.old reader.new
-            (to_come self.old (R.left reader.old)) (to_come self.new (R.left reader.new))
-            (R.failures reader.old) (R.failures reader.new)) }
-        ensures no_failure { OnOk result (R.failures reader.new ≡ R.failures reader.old) }
+            (to_come self.old (R.left reader.old)) (to_come self.new (R.left reader.new))) }
+        // What came of the calls of the reader: pieces alone, or pieces and then, once and last, its end
+        // or its failure.
+        ensures calls { self.old.status ≡ Reading → CallsFor self.new.status (R.trace reader.old) (R.trace reader.new) }
         // Where the reader failed, all that it gave is taken: the text to come is what it has left.
         ensures nothing_held { IfErr result (λ fault. fault ≡ ReaderFailed → self.new.held ≡ []) }
     {
@@ -90,7 +91,7 @@ impl Lines {
     // The next line, while lines are read.
     fn read_next<R: Source>(&mut self, reader: &mut R) -> Result<Option<Line>, ReadFault>
         requires { self.old.status ≡ Reading }
-        ensures reads { ReadsOn R.left R.failures self.old self.new reader.old reader.new result }
+        ensures reads { ReadsOn R.left R.trace self.old self.new reader.old reader.new result }
         ensures nothing_held { IfErr result (λ fault. fault ≡ ReaderFailed → self.new.held ≡ []) }
     {
         if self.count == u64::MAX {
@@ -117,7 +118,7 @@ impl Lines {
     fn find_end<R: Source>(&mut self, reader: &mut R) -> Result<Option<Line>, ReadFault>
         requires reading { self.old.status ≡ Reading }
         requires full { self.old.count ≡ greatest_number }
-        ensures reads { ReadsOn R.left R.failures self.old self.new reader.old reader.new result }
+        ensures reads { ReadsOn R.left R.trace self.old self.new reader.old reader.new result }
         ensures nothing_held { IfErr result (λ fault. fault ≡ ReaderFailed → self.new.held ≡ []) }
     {
         match pull_byte(reader) {

@@ -1,18 +1,20 @@
-ghost use Rattle.std.specs.Prelude.{◌≡◌, ℕ, ◌+◌, ◌<◌, ◌≤◌, List, length, take, Option, IfOk, OnOk, OnErr};
+ghost use Rattle.std.specs.Prelude.{◌≡◌, ℕ, ◌≤◌, List, ◌∷◌, length, take, Option, IfOk, OnErr};
 ghost use Rattle.std.specs.Io.KnownBytes.{append_known};
+ghost use Rattle.mtrace_log.specs.declared.call.Call.{Call};
+ghost use Rattle.mtrace_log.specs.Trace.{offered, flushed};
 
 use crate::failed::Failed;
 
 /// A writer that takes bytes piece by piece.
 ///
-/// Contracts alone see the bytes that it has taken, where its type tells them, and how often it has
-/// failed.
+/// Contracts alone see the bytes that it has taken, where its type tells them, and what each of its
+/// calls came to.
 pub trait Sink {
     // The bytes taken, where they are known.
     ghost taken: { Self → Option (List ℕ) };
 
-    // How often it has failed.
-    ghost failures: { Self → ℕ };
+    // What each call came to, the latest first.
+    ghost trace: { Self → List Call };
 
     /// Takes the first of `bytes`, as many as it answers.
     ///
@@ -25,11 +27,7 @@ pub trait Sink {
         ensures bound { IfOk result (λ n. n ≤ length bytes.now) }
         ensures bytes { IfOk result (λ n. taken self.new ≡ append_known (taken self.old) (take n bytes.now)) }
         ensures kept { OnErr result (taken self.new ≡ taken self.old) }
-        ensures some_taken { IfOk result (λ n. 0 < n → failures self.new ≡ failures self.old) }
-        ensures none_asked { IfOk result (λ n. length bytes.now ≡ 0 → failures self.new ≡ failures self.old) }
-        ensures none_taken { IfOk result (λ n. n ≡ 0 → 0 < length bytes.now
-            → failures self.new ≡ failures self.old + 1) }
-        ensures failure { OnErr result (failures self.new ≡ failures self.old + 1) };
+        ensures told { trace self.new ≡ offered (length bytes.now) result ∷ trace self.old };
 
     /// Passes on what it has taken and still holds.
     ///
@@ -38,6 +36,5 @@ pub trait Sink {
     /// `Failed` where that fails.
     fn flush(&mut self) -> Result<(), Failed>
         ensures kept { taken self.new ≡ taken self.old }
-        ensures no_failure { OnOk result (failures self.new ≡ failures self.old) }
-        ensures failure { OnErr result (failures self.new ≡ failures self.old + 1) };
+        ensures told { trace self.new ≡ flushed result ∷ trace self.old };
 }

@@ -1,18 +1,20 @@
-ghost use Rattle.std.specs.Prelude.{◌≡◌, ℕ, ◌+◌, ◌<◌, ◌≤◌, List, length, take, Option, IfOk, OnOk, OnErr};
+ghost use Rattle.std.specs.Prelude.{◌≡◌, ℕ, ◌<◌, ◌≤◌, List, ◌∷◌, length, take, Option, IfOk, OnErr};
 ghost use Rattle.std.specs.Io.KnownBytes.{prepend_known, IsAtEnd};
+ghost use Rattle.mtrace_log.specs.declared.call.Call.{Call};
+ghost use Rattle.mtrace_log.specs.Trace.{pulled};
 
 use crate::failed::Failed;
 
 /// A reader that gives bytes piece by piece.
 ///
-/// Contracts alone see the bytes that it has left, where its type tells them, how often it has
-/// failed, and a number that falls with each piece, so that every run over a `Source` ends.
+/// Contracts alone see the bytes that it has left, where its type tells them, what each of its calls
+/// came to, and a number that falls with each piece, so that every run over a `Source` ends.
 pub trait Source {
     // The bytes left, where they are known.
     ghost left: { Self → Option (List ℕ) };
 
-    // How often it has failed.
-    ghost failures: { Self → ℕ };
+    // What each call came to, the latest first.
+    ghost trace: { Self → List Call };
 
     // At most how many more pieces it gives.
     ghost budget: { Self → ℕ };
@@ -29,8 +31,7 @@ pub trait Source {
         ensures bytes { IfOk result (λ n. left self.old ≡ prepend_known (take n buf.new) (left self.new)) }
         ensures end { IfOk result (λ n. n ≡ 0 → IsAtEnd (left self.new)) }
         ensures kept { OnErr result (left self.new ≡ left self.old) }
-        ensures no_failure { OnOk result (failures self.new ≡ failures self.old) }
-        ensures failure { OnErr result (failures self.new ≡ failures self.old + 1) }
+        ensures told { trace self.new ≡ pulled result ∷ trace self.old }
         ensures falls { IfOk result (λ n. 0 < n → budget self.new < budget self.old) }
         ensures never_rises { budget self.new ≤ budget self.old };
 }

@@ -1,10 +1,13 @@
-ghost use Rattle.std.specs.Prelude.{◌≡◌, ℕ, ◌+◌, ◌<◌, ◌≤◌, List, length, take, Option, None, IfOk, OnOk, OnErr};
+ghost use Rattle.std.specs.Prelude.{◌≡◌, ◌≤◌, List, [], ◌∷◌, length, take, Option, None, IfOk, OnErr};
 ghost use Rattle.std.specs.Io.KnownBytes.{WriteAppends, Keeps};
-ghost use Rattle.mtrace_log.specs.Adapters.{writer_of, failed_puts};
+ghost use Rattle.mtrace_log.specs.declared.call.Call.{Call};
+ghost use Rattle.mtrace_log.specs.Adapters.{writer_of, writer_trace};
+ghost use Rattle.mtrace_log.specs.Trace.{offered, flushed};
 
+use crate::call::Call;
 use crate::failed::Failed;
-use crate::failures::Failures;
 use crate::sink::Sink;
+use crate::trace::Trace;
 use std::io::Write;
 
 /// A writer of std's as a [`Sink`]: one write a put, one flush a flush, and an error of any kind is a
@@ -14,18 +17,18 @@ use std::io::Write;
 #[derive(Drop)]
 pub struct ToWrite<W> {
     writer: W,
-    failures: Failures,
+    trace: Trace,
 }
 
 impl<W: Write> ToWrite<W> {
     /// The writer as a `Sink`.
     pub fn new(writer: W) -> Self
         ensures writer { writer_of result ≡ writer }
-        ensures failures { failed_puts result ≡ 0 }
+        ensures trace { writer_trace result ≡ [] }
     {
         ToWrite {
             writer,
-            failures: Failures::new(),
+            trace: Trace::new(),
         }
     }
 }
@@ -33,7 +36,7 @@ impl<W: Write> ToWrite<W> {
 impl<W: Write> Sink for ToWrite<W> {
     ghost taken = { λ sink. None };
 
-    ghost failures = { failed_puts };
+    ghost trace = { writer_trace };
 
     /// Writes once.
     ///
@@ -44,24 +47,14 @@ impl<W: Write> Sink for ToWrite<W> {
         ensures bound { IfOk result (λ n. n ≤ length bytes.now) }
         // The bytes taken are those that the writer took, where it tells them.
         ensures writes { WriteAppends (W.contents (writer_of self.old)) (W.contents (writer_of self.new)) result bytes.now }
-        ensures some_taken { IfOk result (λ n. 0 < n → failed_puts self.new ≡ failed_puts self.old) }
-        ensures none_asked { IfOk result (λ n. length bytes.now ≡ 0 → failed_puts self.new ≡ failed_puts self.old) }
-        ensures none_taken { IfOk result (λ n. n ≡ 0 → 0 < length bytes.now
-            → failed_puts self.new ≡ failed_puts self.old + 1) }
-        ensures failure { OnErr result (failed_puts self.new ≡ failed_puts self.old + 1) }
+        ensures told { writer_trace self.new ≡ offered (length bytes.now) result ∷ writer_trace self.old }
     {
-        match self.writer.write(bytes) {
-            Ok(count) => {
-                if count == 0 && !bytes.is_empty() {
-                    self.failures.rise();
-                }
-                Ok(count)
-            }
-            Err(_) => {
-                self.failures.rise();
-                Err(Failed)
-            }
-        }
+        let answer = match self.writer.write(bytes) {
+            Ok(count) => Ok(count),
+            Err(_) => Err(Failed),
+        };
+        self.trace.add(Call::offered(bytes.len(), &answer));
+        answer
     }
 
     /// Flushes once.
@@ -71,15 +64,13 @@ impl<W: Write> Sink for ToWrite<W> {
     /// `Failed` where the flush answered an error.
     fn flush(&mut self) -> Result<(), Failed>
         ensures keeps { Keeps (W.contents (writer_of self.old)) (W.contents (writer_of self.new)) }
-        ensures no_failure { OnOk result (failed_puts self.new ≡ failed_puts self.old) }
-        ensures failure { OnErr result (failed_puts self.new ≡ failed_puts self.old + 1) }
+        ensures told { writer_trace self.new ≡ flushed result ∷ writer_trace self.old }
     {
-        match self.writer.flush() {
+        let answer = match self.writer.flush() {
             Ok(()) => Ok(()),
-            Err(_) => {
-                self.failures.rise();
-                Err(Failed)
-            }
-        }
+            Err(_) => Err(Failed),
+        };
+        self.trace.add(Call::flushed(&answer));
+        answer
     }
 }

@@ -4,7 +4,8 @@ use Rattle.std.proofs.lemmas.Bool.{cases_lt}
 use Rattle.std.proofs.lemmas.Nat.{div-add-mod', mod_below, le-div, div_below, leading_top, shl_whole}
 use Rattle.std.proofs.Math.Nat.{pow-suc, pow-le-pow_right}
 use Rattle.std.specs.Int.Count.{count_leading_zeros}
-use Rattle.tlsf_class.specs.Classes.{unit, steps, levels, classes, level_power, step_power, low_at, low, class, need}
+use Rattle.tlsf_class.specs.Classes.{unit, steps, levels, classes, greatest_size, level_power, step_power, low_at, low, class, need}
+use Rattle.tlsf_class.specs.Mapping.{IsHighestBit, mapped}
 use Rattle.tlsf_class.proofs.LowestSizes.{low_at-first, low_at-later, low-lt, low-le, low-unit}
 use Rattle.tlsf_class.proofs.ClassLaws.{class_from, class-low, need_from, need-low, le-low_need}
 
@@ -173,7 +174,7 @@ record IsTop (s j : ℕ) : Type 0 where
   most : 2 ^ j ≤ s
   below : s < 2 ^ suc j
 
-shift_of_top : (s j : ℕ) → unit * steps ≤ s → s < 2 ^ 30 → IsTop s j → (5 ≤ j) × IsShift s (j - 5)
+shift_of_top : (s j : ℕ) → unit * steps ≤ s → s ≤ greatest_size → IsTop s j → (5 ≤ j) × IsShift s (j - 5)
 shift_of_top s j above most top =
     let first : suc level_power ≤ j =
     elim (cases_lt j (suc level_power)) [
@@ -200,11 +201,24 @@ shift_of_top s j above most top =
       },
     )
 
-pub shift-leading_zeros : (s : ℕ) → unit * steps ≤ s → s < 2 ^ 30 → (5 ≤ 31 - count_leading_zeros 32 s) × IsShift s (31 - count_leading_zeros 32 s - 5)
+pub shift-leading_zeros : (s : ℕ) → unit * steps ≤ s → s ≤ greatest_size → (5 ≤ 31 - count_leading_zeros 32 s) × IsShift s (31 - count_leading_zeros 32 s - 5)
 shift-leading_zeros s above most =
     let top : (j : ℕ) × (count_leading_zeros 32 s + suc j ≡ 32) × (2 ^ j ≤ s) × (s < 2 ^ suc j) = leading_top 32 s (omega arith) (omega arith) in
     let is : 31 - count_leading_zeros 32 s ≡ top.0 = omega (arith, top.1) in
     rw is (shift_of_top s top.0 above most (record { most = top.2; below = top.3 }))
+
+-- the class of a size by its highest bit and the five behind it
+pub class-highest_bit : (s j : ℕ) → unit * steps ≤ s → s ≤ greatest_size → IsHighestBit j s → class s ≡ mapped j s
+class-highest_bit s j above most highest =
+    let found = shift_of_top s j above most (record { most = highest.0; below = (let P : ℕ → Type 0 = λ n. s < 2 ^ n in subst P (omega arith) highest.1) }) in
+    let shift : IsShift s (j - 5) = found.1 in
+    let q : ℕ = s / 2 ^ (j - 5) in
+    let first : step_power < j - 5 = shift.first in
+    let least : steps ≤ q = le-div steps s (2 ^ (j - 5)) (pow_pos (j - 5)) shift.from in
+    let less : q < 2 * steps = div_below s (2 ^ (j - 5)) (2 * steps) (pow_pos (j - 5)) shift.below in
+    let step : q % steps ≡ q - steps = omega (arith, div-add-mod' q steps, mod_below q steps (omega arith)) in
+    let is : class s ≡ (j - 5 - step_power) * steps + q - steps = (class-shift s (j - 5) shift).1 in
+    is ∙ omega (arith, step)
 
 -- ---- the lowest size of a class, from its level and step
 

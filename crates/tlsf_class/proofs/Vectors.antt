@@ -1,6 +1,7 @@
 -- The definitions at worked sizes.
 use Rattle.std.proofs.Common.{◌≡◌, refl, Some, None}
 use Rattle.tlsf_class.specs.Classes.{low, class, need}
+use Rattle.tlsf_class.specs.Mapping.{mapped}
 use Rattle.tlsf_class.specs.Rounding.{rounded, round}
 
 class_of_8 : class 8 ≡ 1
@@ -110,3 +111,17 @@ round_of_the_greatest_size = refl
 round_above_the_greatest_size : round 1073741817 ≡ None
 unfolding rounded
 round_above_the_greatest_size = refl
+
+-- ---- the mapping by the bits of a size
+
+mapped_first : mapped 8 256 ≡ 32
+mapped_first = refl
+
+mapped_last_step : mapped 8 504 ≡ 63
+mapped_last_step = refl
+
+mapped_middle : mapped 9 712 ≡ 76
+mapped_middle = refl
+
+mapped_greatest : mapped 29 1_073_741_816 ≡ 735
+mapped_greatest = refl

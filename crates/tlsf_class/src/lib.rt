@@ -3,6 +3,7 @@
 //! smallest sizes, as in `tlsf.c`. Sizes are in bytes.
 #![tactic(auto)]
 
+pub mod laws;
 mod rounding;
 mod size_class;
 mod sizes;
@@ -17,13 +18,13 @@ pub use sizes::{class_for, class_of, low};
 pub const CLASSES: u32 = LEVELS * STEPS;
 
 /// Every place and every size is a multiple of it, in bytes.
-const UNIT: u32 = 8;
+pub const UNIT: u32 = 8;
 
 /// How many first levels there are.
-const LEVELS: u32 = 23;
+pub const LEVELS: u32 = 23;
 
 /// How many steps a first level has, and the power of two that it is.
-const STEPS: u32 = 1 << STEPS_POWER;
+pub const STEPS: u32 = 1 << STEPS_POWER;
 
 const STEPS_POWER: u32 = 5;
 
@@ -34,9 +35,7 @@ const SMALL_END: u32 = UNIT * STEPS;
 const STEP_POWER: u32 = 2;
 
 /// The greatest size of a block, in bytes.
-const GREATEST_SIZE: u32 = (1 << 30) - UNIT;
+pub const GREATEST_SIZE: u32 = (1 << 30) - UNIT;
 
 /// The lowest size of the last class, in bytes.
 const GREATEST_LOW: u32 = (2 * STEPS - 1) << (LEVELS - 1 + STEP_POWER);
-
-const _: () = prove!(CLASSES == 736);

@@ -68,7 +68,7 @@ fn next_low(size: u32) -> u32
 /// The power of two that the steps of a size's first level are, for a size above level 0.
 fn step_shift(size: u32) -> u32
     requires above { unit * steps ≤ size }
-    requires most { size < 2 ^ 30 }
+    requires most { size ≤ greatest_size }
     ensures first { step_power < result }
     ensures last { result < levels + step_power }
     ensures from { steps * 2 ^ result ≤ size }

@@ -2,14 +2,15 @@
 
 use super::*;
 
-/// The lowest sizes of the first levels, as the format's table gives them.
-const LEVEL_LOWS: [(u32, u32); 6] = [
-    (0, 0),
-    (1, 256),
-    (2, 512),
-    (3, 1_024),
-    (16, 8_388_608),
-    (22, 536_870_912),
+/// First levels, as the format's table gives them: the number, the lowest size, the step, and the highest
+/// multiple of the unit.
+const FIRST_LEVELS: [(u32, u32, u32, u32); 6] = [
+    (0, 0, 8, 248),
+    (1, 256, 8, 504),
+    (2, 512, 16, 1_016),
+    (3, 1_024, 32, 2_040),
+    (16, 8_388_608, 262_144, 16_777_208),
+    (22, 536_870_912, 16_777_216, 1_073_741_816),
 ];
 
 const CLASSES_OF: [(u32, u32); 14] = [
@@ -45,10 +46,39 @@ const ROUNDED: [(u64, Option<u32>); 5] = [
 ];
 
 #[test]
-fn lowest_sizes_of_the_first_levels(rt: HostRuntime) {
-    for (level, size) in LEVEL_LOWS {
+fn how_many_classes(rt: HostRuntime) {
+    assert_eq!(rt; (LEVELS, STEPS, CLASSES), (23, 32, 736));
+}
+
+#[test]
+fn lowest_sizes_and_steps_of_the_first_levels(rt: HostRuntime) {
+    for (level, lowest, step, _highest) in FIRST_LEVELS {
         assert!(rt; level < LEVELS);
-        assert_eq!(rt; low(Class::new(32 * level)), size, "at level {level}");
+        assert_eq!(rt; low(Class::new(STEPS * level)), lowest, "at level {level}");
+        for number in 1..STEPS {
+            let below = low(Class::new(STEPS * level + number - 1));
+            assert_eq!(rt;
+                low(Class::new(STEPS * level + number)).checked_sub(below),
+                Some(step),
+                "at level {level}"
+            );
+        }
+    }
+}
+
+/// The highest size of a first level is of its last class, and one unit more is of the next level.
+#[test]
+fn highest_sizes_of_the_first_levels(rt: HostRuntime) {
+    for (level, _lowest, _step, highest) in FIRST_LEVELS {
+        assert!(rt; level < LEVELS && highest % UNIT == 0 && highest >= UNIT);
+        assert!(rt; highest <= GREATEST_SIZE);
+        let next = STEPS * (level + 1);
+        assert_eq!(rt; class_of(highest).number(), next - 1, "at level {level}");
+        if highest < GREATEST_SIZE {
+            let more = highest + UNIT;
+            assert!(rt; more % UNIT == 0 && more <= GREATEST_SIZE);
+            assert_eq!(rt; class_of(more).number(), next, "at level {level}");
+        }
     }
 }
 
@@ -104,7 +134,11 @@ fn scanned_class_for(size: u32) -> Option<u32> {
 fn each_class_is_that_of_a_scan(rt: HostRuntime) {
     for number in 1..CLASSES {
         let lowest = low(Class::new(number));
-        for size in [lowest.saturating_sub(8), lowest, lowest.saturating_add(8)] {
+        for size in [
+            lowest.saturating_sub(UNIT),
+            lowest,
+            lowest.saturating_add(UNIT),
+        ] {
             if size % UNIT == 0 && size >= UNIT && size <= GREATEST_SIZE {
                 assert_eq!(rt;
                     class_of(size).number(),

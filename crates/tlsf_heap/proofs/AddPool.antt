@@ -8,12 +8,12 @@ use Rattle.tlsf_class.specs.Classes.{classes, unit}
 use Rattle.tlsf_store.specs.declared.records.Record.{Record}
 use Rattle.tlsf_store.specs.declared.records.State.TheVariants.{Free}
 use Rattle.tlsf_store.specs.Records.{blank, blank_in, record_at, vacant_count}
-use Rattle.tlsf_store.specs.Cells.{Cells, head_at, touched, with_taken}
+use Rattle.tlsf_store.specs.Cells.{Cells, head_at, touched, with_taken, most_pools}
 use Rattle.tlsf_store.proofs.RecordLaws.{record_at-set_same, record_at-set_other, vacant_count-take}
 use Rattle.tlsf_heap.specs.declared.refusal.Refusal.TheVariants.{BadPool, PoolsFull, TableFull}
 use Rattle.tlsf_heap.specs.Content.{used_records}
 use Rattle.tlsf_heap.specs.Lists.{list_of}
-use Rattle.tlsf_heap.specs.Pools.{add_pool, with_pool, can_be_pool, is_apart, most_pools}
+use Rattle.tlsf_heap.specs.Pools.{add_pool, with_pool, can_be_pool, is_apart}
 use Rattle.tlsf_heap.specs.Good.{times}
 use Rattle.tlsf_heap.specs.Edits.{IsUsed}
 use Rattle.tlsf_heap.specs.Layout.{Area, Stands, home_of, at_home, first_slot, slots_of, pool_of, content_by, content_of, entries_of}
@@ -135,7 +135,7 @@ module _ (old : Cells) (stands : Stands old) (slot base bytes : ℕ) (within : s
       ∙ ap (λ content. Ok content) (sym (content_of-touches t _ ∙ pool_content old stands slot base bytes within vacant can (apart_is old stands base bytes ∙ apart) few_pools room (some_bytes base bytes can)))
 
 -- what the steps of add_pool leave
-pub put_cells : (old one two last : Cells) (result : Option ℕ) (slot first base bytes : ℕ) → one ≡ touched 8 old → result ≡ Some slot → two ≡ touched 2 (with_taken one result) → first ≡ slot
+pub put_cells : (old one two last : Cells) (result : Option ℕ) (slot first base bytes : ℕ) → one ≡ touched most_pools old → result ≡ Some slot → two ≡ touched 2 (with_taken one result) → first ≡ slot
     → last ≡ record (pool_entered (record { base = base; bytes = bytes; first = first }) two) { touches = last.touches }
     → last ≡ record (pool_entered (record { base = base; bytes = bytes; first = slot }) (with_taken old (Some slot))) { touches = last.touches }
 put_cells old one two last result slot first base bytes read is taken same put =
@@ -143,8 +143,8 @@ put_cells old one two last result slot first base bytes read is taken same put =
     ∙ ap (λ s. record (pool_entered (record { base = base; bytes = bytes; first = first }) s) { touches = last.touches }) (taken ∙ ap (λ o. touched 2 (with_taken one o)) is ∙ ap (λ s. touched 2 (with_taken s (Some slot))) read)
     ∙ ap (λ f. record (pool_entered (record { base = base; bytes = bytes; first = f }) (with_taken old (Some slot))) { touches = last.touches }) same
 
-pub taken_used : (old one two : Cells) (result : Option ℕ) (slot k : ℕ) → one ≡ touched 8 old → result ≡ Some slot → two ≡ touched 2 (with_taken one result) → Stands old → slot < length old.records → k < classes → IsUsed two.records (head_at two.heads k)
+pub taken_used : (old one two : Cells) (result : Option ℕ) (slot k : ℕ) → one ≡ touched most_pools old → result ≡ Some slot → two ≡ touched 2 (with_taken one result) → Stands old → slot < length old.records → k < classes → IsUsed two.records (head_at two.heads k)
 taken_used old one two result slot k read is taken stands within below =
-    let cells : two ≡ touched 2 (with_taken (touched 8 old) (Some slot)) = taken ∙ ap (λ o. touched 2 (with_taken one o)) is ∙ ap (λ s. touched 2 (with_taken s (Some slot))) read in
+    let cells : two ≡ touched 2 (with_taken (touched most_pools old) (Some slot)) = taken ∙ ap (λ o. touched 2 (with_taken one o)) is ∙ ap (λ s. touched 2 (with_taken s (Some slot))) read in
     let P : Cells → Type 0 = λ s. IsUsed s.records (head_at s.heads k) in
     subst P (sym cells) (used_after_take old.records slot (head_at old.heads k) within (head_used old stands k below))

@@ -6,7 +6,7 @@ use Rattle.std.proofs.lemmas.List.{take_more, get_or-map, get_or_past, get_or_ap
 use Rattle.std.proofs.lemmas.List.Elements.{All-push}
 use Rattle.std.proofs.lemmas.List.Sums.{prefix_len_is}
 use Rattle.tlsf_store.specs.declared.pools.Pool.{Pool as StoredPool}
-use Rattle.tlsf_store.specs.Cells.{pool_at, pool_entries, IsPoolBelow}
+use Rattle.tlsf_store.specs.Cells.{pool_at, most_pools, IsPoolBelow}
 use Rattle.tlsf_heap.specs.declared.pool_entry.PoolEntry.{PoolEntry}
 use Rattle.tlsf_heap.specs.Layout.{pool_in, entry_in, padded, padded_at, entries_of}
 use Rattle.tlsf_heap.specs.Entries.{entry_place, with_entry}
@@ -40,7 +40,7 @@ entries_below_more count entries (Some pool) all below = All-push (FirstBelow co
 
 -- the entries of what was written from them
 pub entries_of-padded : (entries : List PoolEntry) → entries_of (padded entries) ≡ entries
-entries_of-padded entries = entries_of-append (map (λ e. Some (pool_in e)) entries) (replicate (pool_entries - length entries) None) ∙ whole entries (pool_entries - length entries)
+entries_of-padded entries = entries_of-append (map (λ e. Some (pool_in e)) entries) (replicate (most_pools - length entries) None) ∙ whole entries (most_pools - length entries)
   where
     nothing : (n : ℕ) → entries_of (replicate n None) ≡ []
     nothing zero = refl
@@ -50,31 +50,31 @@ entries_of-padded entries = entries_of-append (map (λ e. Some (pool_in e)) entr
     whole [] n = nothing n
     whole (e ∷ es) n = ap (λ r. e ∷ r) (whole es n)
 
-pub length-padded : (entries : List PoolEntry) → length entries ≤ pool_entries → length (padded entries) ≡ pool_entries
+pub length-padded : (entries : List PoolEntry) → length entries ≤ most_pools → length (padded entries) ≡ most_pools
 length-padded entries few = omega (
   arith,
   few,
-  length-append (map (λ (e : PoolEntry). Some (pool_in e)) entries) (replicate (pool_entries - length entries) None),
+  length-append (map (λ (e : PoolEntry). Some (pool_in e)) entries) (replicate (most_pools - length entries) None),
   length-map {A = PoolEntry} {B = Option StoredPool} entries (λ e. Some (pool_in e)),
-  length-replicate {A = Option StoredPool} (pool_entries - length entries) None,
+  length-replicate {A = Option StoredPool} (most_pools - length entries) None,
 )
 
-pub padded_at_is : (entries : List PoolEntry) (k : ℕ) → k < pool_entries → padded_at entries k ≡ pool_at (padded entries) k
+pub padded_at_is : (entries : List PoolEntry) (k : ℕ) → k < most_pools → padded_at entries k ≡ pool_at (padded entries) k
 padded_at_is entries k within =
     let pools : List (Option StoredPool) = map (λ e. Some (pool_in e)) entries in
     let same : length pools ≡ length entries = length-map entries (λ e. Some (pool_in e)) in
     elim (cases_lt k (length pools)) [
-      | inl below ↦ sym (get_or_append_left pools (replicate (pool_entries - length entries) None) None k below)
+      | inl below ↦ sym (get_or_append_left pools (replicate (most_pools - length entries) None) None k below)
       | inr past ↦
-          let behind : k - length pools < pool_entries - length entries = omega (arith, past, same, within) in
+          let behind : k - length pools < most_pools - length entries = omega (arith, past, same, within) in
           get_or_past pools k None past
-          ∙ sym (get_or-append_right pools (replicate (pool_entries - length entries) None) (length pools) k None refl past
-          ∙ get_or-replicate (pool_entries - length entries) (k - length pools) None None behind)
+          ∙ sym (get_or-append_right pools (replicate (most_pools - length entries) None) (length pools) k None refl past
+          ∙ get_or-replicate (most_pools - length entries) (k - length pools) None None behind)
     ]
 
-pub written_is_padded : (pools : List (Option StoredPool)) (entries : List PoolEntry) → length pools ≡ pool_entries → length entries ≤ pool_entries → ((k : ℕ) → k < pool_entries → pool_at pools k ≡ padded_at entries k) → pools ≡ padded entries
+pub written_is_padded : (pools : List (Option StoredPool)) (entries : List PoolEntry) → length pools ≡ most_pools → length entries ≤ most_pools → ((k : ℕ) → k < most_pools → pool_at pools k ≡ padded_at entries k) → pools ≡ padded entries
 written_is_padded pools entries count few written =
-    ext_get_or None pools (padded entries) (count ∙ sym (length-padded entries few)) (λ k within. let below : k < pool_entries = omega (arith, within, count) in written k below ∙ padded_at_is entries k below)
+    ext_get_or None pools (padded entries) (count ∙ sym (length-padded entries few)) (λ k within. let below : k < most_pools = omega (arith, within, count) in written k below ∙ padded_at_is entries k below)
 
 pub padded_at-below : (count : ℕ) (entries : List PoolEntry) (k : ℕ) → All (FirstBelow count) entries → IsPoolBelow count (padded_at entries k)
 padded_at-below count entries k all = elim (cases_lt k (length entries)) [

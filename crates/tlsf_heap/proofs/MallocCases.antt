@@ -1,12 +1,18 @@
 -- malloc by its cases, whatever live blocks are known by.
-use Rattle.std.proofs.Common.{◌≡◌, ◌≢◌, ℕ, refl, ap, ◌∙◌, Some, None}
-use Rattle.std.specs.Prelude.{Ok, Err}
+use Rattle.std.proofs.Common.{◌≡◌, ◌≢◌, ℕ, ◌<◌, Bool, true, false, cond, refl, ap, ◌∙◌, Option, Some, None, Result}
+use Rattle.std.specs.Prelude.{◌&&◌, ◌==◌, nat_lt, nat_le, Ok, Err}
 use Rattle.std.proofs.lemmas.Bool.{eq-eqb, ne_eqb}
 use Rattle.tlsf_class.specs.Rounding.{round}
-use Rattle.tlsf_heap.specs.declared.refusal.Refusal.TheVariants.{ZeroSize, NoFit}
-use Rattle.tlsf_heap.specs.Content.{Content}
+use Rattle.tlsf_heap.specs.declared.refusal.Refusal.{Refusal}
+use Rattle.tlsf_heap.specs.declared.refusal.Refusal.TheVariants.{ZeroSize, NoFit, TableFull, OutOfMemory}
+use Rattle.tlsf_heap.specs.Content.{Content, blocks_of, size_at, used_records}
 use Rattle.tlsf_heap.specs.Lists.{pick}
-use Rattle.tlsf_heap.specs.Malloc.{malloc_picked, malloc_rounded, malloc}
+use Rattle.tlsf_heap.specs.Malloc.{allocated, malloc_picked, malloc_rounded, malloc}
+
+-- a refusal that isn't want of memory, or else what lacks none
+cond_lacks_none : {T : Type 0} (b : Bool) (refusal : Refusal) (result : Result T Refusal) → refusal ≢ OutOfMemory → result ≢ Err OutOfMemory → cond b (Err refusal) result ≢ Err OutOfMemory
+cond_lacks_none true refusal result named lacks_none is = named (cc)
+cond_lacks_none false refusal result named lacks_none is = lacks_none is
 
 module _ {A : Type 0} (owner : A) (n : ℕ) (content : Content A) where
   pub refused_zero : n ≡ 0 → malloc owner n content ≡ Err ZeroSize
@@ -24,3 +30,17 @@ module _ {A : Type 0} (owner : A) (n : ℕ) (content : Content A) where
   -- where a block is picked, it is what malloc takes
   pub picked_is_served : n ≢ 0 → (asked place : ℕ) → round n ≡ Some asked → pick asked content.lists ≡ Some place → malloc owner n content ≡ malloc_picked owner asked (Some place) content
   picked_is_served some asked place rounded is = some_asked some ∙ ap (λ m. malloc_rounded owner m content) rounded ∙ ap (λ place. malloc_picked owner asked place content) is
+
+  -- it is never refused for want of memory
+  picked_lacks_none : (m : ℕ) (place : Option ℕ) → malloc_picked owner m place content ≢ Err OutOfMemory
+  picked_lacks_none m None is = cc
+  picked_lacks_none m (Some place) is =
+      let size = size_at place (blocks_of content.pools) in
+      cond_lacks_none (nat_lt m size && nat_le content.records (used_records content)) TableFull (Ok (place, allocated owner place m size content)) (λ e. cc) (λ e. cc) is
+
+  rounded_lacks_none : (m : Option ℕ) → malloc_rounded owner m content ≢ Err OutOfMemory
+  rounded_lacks_none None is = cc
+  rounded_lacks_none (Some m) is = picked_lacks_none m (pick m content.lists) is
+
+  pub malloc_lacks_none : malloc owner n content ≢ Err OutOfMemory
+  malloc_lacks_none is = cond_lacks_none (n == 0) ZeroSize (malloc_rounded owner (round n) content) (λ e. cc) (rounded_lacks_none (round n)) is

@@ -9,7 +9,7 @@ use Rattle.tlsf_store.specs.declared.records.State.TheVariants.{Vacant, Free, Li
 use Rattle.tlsf_store.specs.Records.{blank, record_at, is_vacant}
 use Rattle.std.proofs.lemmas.List.FromFn.{get_or-map-range_with_len, length-range_with_len}
 use Rattle.std.specs.List.{range_with_len}
-use Rattle.tlsf_store.specs.Cells.{Cells, pool_at, pool_entries}
+use Rattle.tlsf_store.specs.Cells.{Cells, pool_at, most_pools}
 use Rattle.tlsf_heap.specs.declared.pool_entry.PoolEntry.{PoolEntry}
 use Rattle.tlsf_heap.specs.declared.refusal.Refusal.TheVariants.{NoPool}
 use Rattle.tlsf_heap.specs.declared.row.Row.{Row}
@@ -89,31 +89,31 @@ module _ (cells : Cells) (stands : Stands cells) where
   ascending : Rises 0 entries
   ascending = rises cells.records 0 0 stands.layout.areas (omega arith) stands.good.pools_good
 
-  few : length entries ≤ pool_entries
+  few : length entries ≤ most_pools
   few = omega (arith, length-map {A = Area} {B = PoolEntry} stands.layout.areas (λ a. a.entry), length-map {A = Area} {B = Pool ℕ} stands.layout.areas (pool_of cells.records), stands.good.pools_few)
 
-  entry_at : (k : ℕ) → k < pool_entries → pool_at cells.pools k ≡ padded_at entries k
+  entry_at : (k : ℕ) → k < most_pools → pool_at cells.pools k ≡ padded_at entries k
   entry_at k within = ap (λ ps. pool_at ps k) stands.represented.entries ∙ sym (padded_at_is entries k within)
 
-  none_past : (k : ℕ) → pool_entries ≤ k → pool_at cells.pools k ≡ None
+  none_past : (k : ℕ) → most_pools ≤ k → pool_at cells.pools k ≡ None
   none_past k past = ap (λ ps. pool_at ps k) stands.represented.entries ∙ get_or_past (padded entries) k None (omega (arith, past, length-padded entries few))
 
   pub in_order : (base : ℕ) → AreInOrder base cells.pools
-  in_order base j k le h = elim (cases_lt k pool_entries) [
+  in_order base j k le h = elim (cases_lt k most_pools) [
     | inl within ↦
         ap (begins_below base) (entry_at j (omega (arith, le, within)))
         ∙ in_order_entries base 0 j k entries ascending le (ap (begins_below base) (sym (entry_at k within)) ∙ h)
     | inr past ↦ absurd (true≢false (sym h ∙ ap (begins_below base) (none_past k past)))
   ]
 
-  pub narrowed_all : (base : ℕ) → IsNarrowed base cells.pools 0 7
+  pub narrowed_all : (base : ℕ) → IsNarrowed base cells.pools 0 (most_pools - 1)
   narrowed_all base = record { below = λ j h. absurd (omega (arith, h)); above = inr refl }
 
   -- what is left once only one pool can be it
-  pub narrowed_found : (base place : ℕ) → place < pool_entries → IsNarrowed base cells.pools place place → slot_if base (pool_at cells.pools place) ≡ slot_for base (entries_of cells.pools)
+  pub narrowed_found : (base place : ℕ) → place < most_pools → IsNarrowed base cells.pools place place → slot_if base (pool_at cells.pools place) ≡ slot_for base (entries_of cells.pools)
   narrowed_found base place within narrowed =
       ap (slot_if base) (entry_at place within)
-      ∙ found_at base 0 place 7 entries ascending (omega (arith, few))
+      ∙ found_at base 0 place (most_pools - 1) entries ascending (omega (arith, few))
       (λ j h. ap (begins_below base) (sym (entry_at j (omega (arith, h, within)))) ∙ narrowed.below j h)
       (elim narrowed.above [ inl h ↦ inl (ap (begins_below base) (sym (entry_at place within)) ∙ h) | inr h ↦ inr h ])
       ∙ sym (ap (slot_for base) (entries_are cells stands))

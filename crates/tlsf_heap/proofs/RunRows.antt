@@ -38,7 +38,7 @@ abbrev answered : List Answer
 answered = Done ∷ Given (0, 2) ∷ Refused ZeroSize ∷ Given (104, 0) ∷ Refused BadPointer ∷ Refused NoFit ∷ Given (112, 3) ∷ []
 
 -- run-of-requests, with slots that a heap may choose, and touches that it may need
-run_of_requests : Run asked answered (created 4) three_blocks 0 5
+run_of_requests : Run ⊥ asked answered (created 4) three_blocks 0 5
 unfolding class need low rounded
 run_of_requests = (
   empty,
@@ -55,7 +55,7 @@ run_of_requests = (
     (
       one_block,
       5,
-      (refl, λ named slot. refl),
+      (refl, λ named slot. refl, λ is. cc),
       lit≤ tt,
       lit≤ tt,
       (
@@ -67,13 +67,13 @@ run_of_requests = (
         (
           two_blocks,
           5,
-          (refl, λ named. refl),
+          (refl, λ named. refl, λ is. cc),
           lit≤ tt,
           lit≤ tt,
           (
             two_blocks,
             5,
-            (refl, λ named slot. refl),
+            (refl, λ named slot. refl, λ is. cc),
             lit≤ tt,
             lit≤ tt,
             (

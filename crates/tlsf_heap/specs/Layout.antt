@@ -8,7 +8,7 @@ use Rattle.tlsf_store.specs.declared.records.Record.{Record}
 use Rattle.tlsf_store.specs.declared.pools.Pool.{Pool as StoredPool}
 use Rattle.tlsf_heap.specs.declared.pool_entry.PoolEntry.{PoolEntry}
 use Rattle.tlsf_store.specs.Records.{record_at}
-use Rattle.tlsf_store.specs.Cells.{Cells, head_at, pool_entries}
+use Rattle.tlsf_store.specs.Cells.{Cells, head_at, most_pools}
 use Rattle.tlsf_heap.specs.Content.{Block, Pool, Content}
 use Rattle.tlsf_heap.specs.Lists.{list_of}
 use Rattle.tlsf_heap.specs.Good.{times, IsGood}
@@ -93,7 +93,7 @@ entry_in pool = record { base = pool.base; bytes = pool.bytes; first = pool.firs
 
 -- the entries, and none behind them
 abbrev pub padded : List PoolEntry → List (Option StoredPool)
-padded entries = map (λ entry. Some (pool_in entry)) entries ++ replicate (pool_entries - length entries) None
+padded entries = map (λ entry. Some (pool_in entry)) entries ++ replicate (most_pools - length entries) None
 
 -- the pool of this number, none behind the last entry
 abbrev pub padded_at : List PoolEntry → ℕ → Option StoredPool

@@ -4,13 +4,11 @@ use Rattle.std.specs.List.{list_all}
 use Rattle.tlsf_heap.specs.declared.refusal.Refusal.{Refusal}
 use Rattle.tlsf_heap.specs.declared.refusal.Refusal.TheVariants.{BadPool, PoolsFull, TableFull}
 use Rattle.tlsf_class.specs.Classes.{unit, classes, greatest_size}
+pub use Rattle.tlsf_store.specs.Records.{most_records}
+pub use Rattle.tlsf_store.specs.Cells.{most_pools}
 use Rattle.tlsf_heap.specs.Content.{Pool, Content, used_records}
 use Rattle.tlsf_heap.specs.Lists.{link}
 use Rattle.tlsf_heap.specs.Malloc.{gap}
-
--- at most so many pools
-abbrev pub most_pools : ℕ
-most_pools = 8
 
 -- no pool ends above this place
 abbrev pub end_of_places : ℕ

@@ -1,12 +1,12 @@
 -- Readings of a heap: the rows from a block on, and the entry of the pool that begins at a place.
-use Rattle.std.specs.Prelude.{◌≡◌, ◌≢◌, ℕ, ◌<◌, ◌≤◌, ◌==◌, nat_lt, Bool, true, false, List, [], ◌∷◌, map, length, Option, Some, None, if◌then◌else◌, slice_index_or, ◌⊎◌, ⊤}
+use Rattle.std.specs.Prelude.{◌≡◌, ◌≢◌, ℕ, ◌-◌, ◌<◌, ◌≤◌, ◌==◌, nat_lt, Bool, true, false, List, [], ◌∷◌, map, length, Option, Some, None, if◌then◌else◌, slice_index_or, ◌⊎◌, ⊤}
 use Rattle.std.specs.List.{range_with_len}
 use Rattle.tlsf_store.specs.declared.records.Record.{Record}
 use Rattle.tlsf_store.specs.declared.records.State.{State}
 use Rattle.tlsf_store.specs.declared.records.State.TheVariants.{Vacant, Free, Live}
 use Rattle.tlsf_store.specs.declared.pools.Pool.{Pool as StoredPool}
 use Rattle.tlsf_store.specs.Records.{record_at, is_vacant}
-use Rattle.tlsf_store.specs.Cells.{pool_at}
+use Rattle.tlsf_store.specs.Cells.{pool_at, most_pools}
 use Rattle.tlsf_heap.specs.declared.pool_entry.PoolEntry.{PoolEntry}
 use Rattle.tlsf_heap.specs.declared.cursor.Cursor.{Cursor}
 use Rattle.tlsf_heap.specs.declared.row.Row.{Row}
@@ -66,4 +66,4 @@ AreInOrder base pools = (j k : ℕ) → j ≤ k → begins_below base (pool_at p
 -- the pools in front of the place begin below the base, and the last doesn't, or is the last of all
 pub record IsNarrowed (base : ℕ) (pools : List (Option StoredPool)) (place last : ℕ) : Type 0 where
   pub below : (j : ℕ) → j < place → begins_below base (pool_at pools j) ≡ true
-  pub above : (begins_below base (pool_at pools last) ≡ false) ⊎ (last ≡ 7)
+  pub above : (begins_below base (pool_at pools last) ≡ false) ⊎ (last ≡ most_pools - 1)

@@ -36,13 +36,18 @@ IsRefused (AddPool base bytes) refusal content = add_pool base bytes content ≡
 IsRefused (Malloc n) refusal content = (slot : ℕ) → malloc slot n content ≡ Err refusal
 IsRefused (Free pointer) refusal content = free (λ slot. slot == pointer.1) pointer.0 content ≡ Err refusal
 
--- one request and its answer: a refusal changes nothing, and only want of memory needs no other reason
-abbrev pub Step : Request → Answer → Content ℕ → Content ℕ → Type 0
-Step request Done old new = Does request old new
-Step request (Given pointer) old new = Gives request pointer old new
-Step request (Moved pointer) old new = ⊥
-Step request (Size bytes) old new = ⊥
-Step request (Refused refusal) old new = (new ≡ old) × (refusal ≢ OutOfMemory → IsRefused request refusal old)
+-- some heap may lack memory
+abbrev pub MayLack : {H : Type 0} → (H → Type 0) → Type 0
+MayLack {H} lacks = (heap : H) × lacks heap
+
+-- one request and its answer: a refusal changes nothing; want of memory alone needs no other reason, and
+-- comes only where memory may be lacking
+abbrev pub Step : (lacks : Type 0) → Request → Answer → Content ℕ → Content ℕ → Type 0
+Step lacks request Done old new = Does request old new
+Step lacks request (Given pointer) old new = Gives request pointer old new
+Step lacks request (Moved pointer) old new = ⊥
+Step lacks request (Size bytes) old new = ⊥
+Step lacks request (Refused refusal) old new = (new ≡ old) × (refusal ≢ OutOfMemory → IsRefused request refusal old) × (refusal ≡ OutOfMemory → lacks)
 
 -- how often the table is touched for a request, at most
 abbrev pub most_touches : Request → ℕ
@@ -52,10 +57,10 @@ most_touches (Free pointer) = 96
 
 -- each request has its answer, each on the content that the one before left; the count of touches never
 -- falls, and rises by no more than the request may
-abbrev pub Run : List Request → List Answer → (old new : Content ℕ) → (before after : ℕ) → Type 0
-Run [] [] old new before after = (new ≡ old) × (after ≡ before)
-Run [] (answer ∷ answers) old new before after = ⊥
-Run (request ∷ requests) [] old new before after = ⊥
-Run (request ∷ requests) (answer ∷ answers) old new before after =
-    (mid : Content ℕ) × (count : ℕ) × Step request answer old mid × (before ≤ count) × (count ≤ before + most_touches request)
-    × Run requests answers mid new count after
+abbrev pub Run : (lacks : Type 0) → List Request → List Answer → (old new : Content ℕ) → (before after : ℕ) → Type 0
+Run lacks [] [] old new before after = (new ≡ old) × (after ≡ before)
+Run lacks [] (answer ∷ answers) old new before after = ⊥
+Run lacks (request ∷ requests) [] old new before after = ⊥
+Run lacks (request ∷ requests) (answer ∷ answers) old new before after =
+    (mid : Content ℕ) × (count : ℕ) × Step lacks request answer old mid × (before ≤ count) × (count ≤ before + most_touches request)
+    × Run lacks requests answers mid new count after

@@ -21,7 +21,7 @@ use crate::{Ptr, Refusal};
 use tlsf_class::{class_for, class_of, round};
 use tlsf_store::{Slot, State, Store};
 
-/// A live block of `n` bytes, rounded up to the unit. At most 30 touches.
+/// A live block of `n` bytes, rounded up to the unit. At most 32 touches.
 ///
 /// # Errors
 ///
@@ -34,8 +34,9 @@ pub(crate) fn malloc(store: &mut Store, n: u64) -> Result<Ptr, Refusal>
     ensures slot_new { IfOk result (λ ptr. slot_times ptr.1 (blocks_of (content_of store.old).pools) ≡ 0) }
     ensures refused { IfErr result (λ refusal. (slot : ℕ) → served slot n (content_of store.old) ≡ Err refusal) }
     ensures unchanged { OnErr result (content_of store.new ≡ content_of store.old) }
+    ensures cells { OnErr result (store.new ≡ record store.old { touches = store.new.touches }) }
     ensures floor { store.old.touches ≤ store.new.touches }
-    ensures bound { store.new.touches ≤ store.old.touches + 42 }
+    ensures bound { store.new.touches ≤ store.old.touches + 32 }
 {
     if n == 0 {
         return Err(Refusal::ZeroSize);
@@ -68,7 +69,7 @@ fn pick(store: &mut Store, asked: u32) -> Option<Slot>
     search(store, class)
 }
 
-/// The first `asked` bytes of the block picked are a live block. At most 26 touches.
+/// The first `asked` bytes of the block picked are a live block. At most 28 touches.
 ///
 /// # Errors
 ///
@@ -84,8 +85,9 @@ fn take(store: &mut Store, slot: Slot, asked: u32) -> Result<Ptr, Refusal>
     ensures slot { IfOk result (λ ptr. ptr.1 ≡ slot) }
     ensures refused { IfErr result (λ refusal. (owner : ℕ) → malloc_picked owner asked (Some (place_at store.old.records slot)) (content_of store.old) ≡ Err refusal) }
     ensures unchanged { OnErr result (content_of store.new ≡ content_of store.old) }
+    ensures cells { OnErr result (store.new ≡ record store.old { touches = store.new.touches }) }
     ensures floor { store.old.touches ≤ store.new.touches }
-    ensures bound { store.new.touches ≤ store.old.touches + 38 }
+    ensures bound { store.new.touches ≤ store.old.touches + 28 }
 {
     let block = store.read(slot);
     if block.size == asked {
@@ -99,7 +101,7 @@ fn take(store: &mut Store, slot: Slot, asked: u32) -> Result<Ptr, Refusal>
     Ok(Ptr::new(block.place, slot.0))
 }
 
-/// A free block of `bytes` bytes leaves its class's list and is live. At most eight touches.
+/// A free block of `bytes` bytes leaves its class's list and is live. At most ten touches.
 fn take_whole(store: &mut Store, slot: Slot, bytes: u32)
     requires whole { bytes % unit ≡ 0 }
     requires some { 0 < bytes }
@@ -110,14 +112,14 @@ fn take_whole(store: &mut Store, slot: Slot, bytes: u32)
     requires still_used { IsUsed (unlinked (class bytes) slot store.old).records (Some slot) }
     ensures cells { store.new ≡ record (taken_whole slot bytes store.old) { touches = store.new.touches } }
     ensures floor { store.old.touches ≤ store.new.touches }
-    ensures bound { store.new.touches ≤ store.old.touches + 18 }
+    ensures bound { store.new.touches ≤ store.old.touches + 10 }
 {
     unlink(store, class_of(bytes), slot);
     set_state(store, slot, State::Live);
 }
 
 /// The first bytes of a free block of `size` bytes, which leaves its class's list, are a live block. What
-/// is left is a free block of the slot `rest`, first in its class's list. At most 23 touches.
+/// is left is a free block of the slot `rest`, first in its class's list. At most 25 touches.
 fn take_part(store: &mut Store, slot: Slot, rest: Slot, bytes: u32, size: u32)
     requires whole { size % unit ≡ 0 }
     requires most { size ≤ greatest_size }
@@ -136,7 +138,7 @@ fn take_part(store: &mut Store, slot: Slot, rest: Slot, bytes: u32, size: u32)
     requires slot_cut { IsUsed (cut slot rest bytes size store.old).records (Some slot) }
     ensures cells { store.new ≡ record (taken_part slot rest bytes size store.old) { touches = store.new.touches } }
     ensures floor { store.old.touches ≤ store.new.touches }
-    ensures bound { store.new.touches ≤ store.old.touches + 35 }
+    ensures bound { store.new.touches ≤ store.old.touches + 25 }
 {
     unlink(store, class_of(size), slot);
     split(store, slot, rest, bytes);

@@ -3,7 +3,7 @@
 use crate::{Cursor, Heap, Heaped, Ptr, Refusal, Row};
 use arrayvec::ArrayVec;
 use std::alloc::Global;
-use tlsf_store::StoreError;
+use tlsf_store::{MOST_POOLS, StoreError};
 
 impl Heaped for Heap {
     ghost use Rattle.tlsf_heap.specs.Readings.{rows_behind, is_at_row};
@@ -11,6 +11,8 @@ impl Heaped for Heap {
     ghost content = { λ heap. heap.content };
 
     ghost touches = { λ heap. heap.touches };
+
+    ghost lacks = { λ heap. ⊥ };
 
     ghost stands = { λ heap cursor. is_at_row heap.rows cursor };
 
@@ -32,7 +34,7 @@ impl Heaped for Heap {
         Heap::free(self, ptr)
     }
 
-    fn pools(&mut self) -> ArrayVec<(u64, u64), 8> {
+    fn pools(&mut self) -> ArrayVec<(u64, u64), MOST_POOLS> {
         Heap::pools(self)
     }
 
@@ -42,5 +44,9 @@ impl Heaped for Heap {
 
     fn row(&mut self, cursor: Cursor) -> Option<(Row, Cursor)> {
         Heap::row(self, cursor)
+    }
+
+    fn keeps_good(&self) {
+        Heap::keeps_good(self)
     }
 }

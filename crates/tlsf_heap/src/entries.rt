@@ -3,24 +3,21 @@
 ghost use Rattle.std.specs.Prelude.{◌≡◌, ◌+◌, ◌<◌, ◌≤◌, ◌++◌, [], length, map, All, ◌∷◌};
 ghost use Rattle.std.specs.List.{list_all, insert};
 ghost use Rattle.arrayvec.specs.ArrayVec.{array_vec_len};
-ghost use Rattle.tlsf_store.specs.Cells.{touched, pool_entries};
+ghost use Rattle.tlsf_store.specs.Cells.{touched, most_pools};
 ghost use Rattle.tlsf_heap.specs.Layout.{entries_of, padded_at};
 ghost use Rattle.tlsf_heap.specs.Pools.{end_of_places};
 ghost use Rattle.tlsf_heap.specs.Entries.{entry_place, with_entry, with_entries, is_entry_apart, entry_range};
 
 use crate::pool_entry::PoolEntry;
 use arrayvec::ArrayVec;
-use tlsf_store::{Pool, Store};
+use tlsf_store::{MOST_POOLS, Pool, Store};
 
-/// At most so many pools.
-pub(crate) const MOST_POOLS: usize = 8;
-
-/// The entries of the store's pools. Eight touches.
+/// The entries of the store's pools. One touch an entry.
 pub(crate) fn entries(store: &mut Store) -> ArrayVec<PoolEntry, MOST_POOLS>
-    requires { length store.old.pools ≡ pool_entries }
+    requires { length store.old.pools ≡ most_pools }
     ensures value { result.items ≡ entries_of store.old.pools }
     ensures below { All (λ entry. entry.first < length store.old.records) result.items }
-    ensures touches { store.new ≡ touched 8 store.old }
+    ensures touches { store.new ≡ touched most_pools store.old }
 {
     let mut entries = ArrayVec::new();
     for number in 0..MOST_POOLS as u32 {
@@ -31,7 +28,7 @@ pub(crate) fn entries(store: &mut Store) -> ArrayVec<PoolEntry, MOST_POOLS>
 
 /// Appends an entry, if there is one.
 fn push_entry(entries: &mut ArrayVec<PoolEntry, MOST_POOLS>, pool: Option<Pool>)
-    requires { array_vec_len entries.old < 8 }
+    requires { array_vec_len entries.old < most_pools }
     ensures items { entries.new.items ≡ entries.old.items ++ entries_of (pool ∷ []) }
 {
     if let Some(pool) = pool {
@@ -49,12 +46,12 @@ fn pool_at(entries: &[PoolEntry], number: usize) -> Option<Pool>
     }
 }
 
-/// Writes these entries, and none behind them. Eight touches.
+/// Writes these entries, and none behind them. One touch an entry.
 pub(crate) fn set_entries(store: &mut Store, entries: &[PoolEntry])
-    requires count { length store.old.pools ≡ pool_entries }
-    requires few { length entries.now ≤ pool_entries }
+    requires count { length store.old.pools ≡ most_pools }
+    requires few { length entries.now ≤ most_pools }
     requires below { All (λ entry. entry.first < length store.old.records) entries.now }
-    ensures { store.new ≡ touched 8 (with_entries entries.now store.old) }
+    ensures { store.new ≡ touched most_pools (with_entries entries.now store.old) }
 {
     for number in 0..MOST_POOLS {
         store.set_pool(number as u32, pool_at(entries, number));
@@ -88,7 +85,7 @@ pub(crate) fn place_for(entries: &[PoolEntry], base: u32) -> usize
 
 /// Where the pools of the entries begin and how many bytes they have.
 pub(crate) fn pool_ranges(entries: &[PoolEntry]) -> ArrayVec<(u64, u64), MOST_POOLS>
-    requires { length entries.now ≤ 8 }
+    requires { length entries.now ≤ most_pools }
     ensures { result.items ≡ map entry_range entries.now }
 {
     let mut ranges = ArrayVec::new();

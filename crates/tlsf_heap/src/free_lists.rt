@@ -17,7 +17,7 @@ pub(crate) fn link(store: &mut Store, class: Class, slot: Slot)
     requires first_used { IsUsed store.old.records (head_at store.old.heads class) }
     ensures cells { store.new ≡ record (linked class slot store.old) { touches = store.new.touches } }
     ensures floor { store.old.touches ≤ store.new.touches }
-    ensures bound { store.new.touches ≤ store.old.touches + 12 }
+    ensures bound { store.new.touches ≤ store.old.touches + 10 }
 {
     let first = store.head(class);
     set_in_front(store, slot, first);
@@ -25,14 +25,14 @@ pub(crate) fn link(store: &mut Store, class: Class, slot: Slot)
     mark(store, class);
 }
 
-/// Takes a free block out of its class's list, wherever it stands in it. At most six touches.
+/// Takes a free block out of its class's list, wherever it stands in it. At most eight touches.
 pub(crate) fn unlink(store: &mut Store, class: Class, slot: Slot)
     requires within { slot < length store.old.records }
     requires prev_used { IsUsed store.old.records (record_at store.old.records slot).prev_free }
     requires next_used { IsUsed store.old.records (record_at store.old.records slot).next_free }
     ensures cells { store.new ≡ record (unlinked class slot store.old) { touches = store.new.touches } }
     ensures floor { store.old.touches ≤ store.new.touches }
-    ensures bound { store.new.touches ≤ store.old.touches + 16 }
+    ensures bound { store.new.touches ≤ store.old.touches + 8 }
 {
     let block = store.read(slot);
     set_in_back(store, block.next_free, block.prev_free);

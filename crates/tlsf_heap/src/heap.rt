@@ -1,20 +1,21 @@
 //! The heap.
 
 use crate::allocation::malloc;
-use crate::entries::{MOST_POOLS, entries, pool_ranges};
+use crate::entries::{entries, pool_ranges};
 use crate::pools::add_pool;
 use crate::readings::{first, row};
 use crate::release::free;
-use crate::{Cursor, Ptr, Refusal, Row};
+use crate::{Cursor, Heaped, Ptr, Refusal, Row};
 use arrayvec::ArrayVec;
 use std::alloc::Global;
 use std::marker::Model;
-use tlsf_store::{Store, StoreError};
+use tlsf_store::{MOST_POOLS, Store, StoreError};
 
 /// A heap over a table of records: pools of blocks, and a free list for each size class, found by
 /// bitmaps.
 ///
-/// After a refusal its content is as it was. No call after `create` takes memory.
+/// After a refusal its content is as it was. A refusal and a reading leave each cursor where it stands.
+/// No call after `create` takes memory.
 #[derive(Drop)]
 pub struct Heap {
     store: Store,
@@ -32,8 +33,9 @@ impl Model for Heap {
 }
 
 impl Heap {
-    ghost use Rattle.std.specs.Prelude.{◌≡◌, ℕ, ◌+◌, ◌<◌, ◌≤◌, ◌^◌, ◌==◌, ◌⊎◌, ◌↔◌, [], ◌∷◌, map, Ok, Err, IfOk, IfErr, IfSome, IfNone, OnOk, OnErr};
+    ghost use Rattle.std.specs.Prelude.{◌≡◌, ◌≢◌, ℕ, ◌+◌, ◌<◌, ◌≤◌, ◌==◌, ◌⊎◌, ◌↔◌, [], ◌∷◌, map, Ok, Err, IfOk, IfErr, IfSome, IfNone, OnOk, OnErr};
     ghost use Rattle.tlsf_store.specs.declared.errors.StoreError.TheVariants.{BadCount};
+    ghost use Rattle.tlsf_store.specs.Records.{most_records};
     ghost use Rattle.tlsf_heap.specs.Good.{IsGood};
     ghost use Rattle.tlsf_heap.specs.GoodSlots.{HasGoodSlots, slot_times};
     ghost use Rattle.tlsf_heap.specs.Content.{blocks_of};
@@ -55,7 +57,7 @@ impl Heap {
     pub fn create(alloc: Global, records: u32) -> Result<Heap, StoreError>
         ensures made { IfOk result (λ heap. heap.content ≡ created records) }
         ensures untouched { IfOk result (λ heap. heap.touches ≡ 0) }
-        ensures bad_count { (result ≡ Err BadCount) ↔ ((records ≡ 0) ⊎ (2 ^ 16 ≤ records)) }
+        ensures bad_count { (result ≡ Err BadCount) ↔ ((records ≡ 0) ⊎ (most_records < records)) }
     {
         match Store::create(alloc, records) {
             Ok(store) => Ok(Heap { store }),
@@ -75,7 +77,9 @@ impl Heap {
         ensures ok { OnOk result (added base bytes self.old.content ≡ Ok self.new.content) }
         ensures refused { IfErr result (λ refusal. added base bytes self.old.content ≡ Err refusal) }
         ensures table_full { result ≡ Err TableFull → HasFewRecords self.old.content }
+        ensures never_memory { result ≢ Err Refusal.OutOfMemory }
         ensures unchanged { OnErr result (self.new.content ≡ self.old.content) }
+        ensures others { OnErr result (self.new.rows ≡ self.old.rows) }
         ensures floor { self.old.touches ≤ self.new.touches }
         ensures bound { self.new.touches ≤ self.old.touches + 64 }
     {
@@ -98,7 +102,9 @@ impl Heap {
         ensures refused { IfErr result (λ refusal. (slot : ℕ) → served slot n self.old.content ≡ Err refusal) }
         ensures no_fit { result ≡ Err NoFit → NoneFits n self.old.content }
         ensures table_full { result ≡ Err TableFull → HasFewRecords self.old.content }
+        ensures never_memory { result ≢ Err Refusal.OutOfMemory }
         ensures unchanged { OnErr result (self.new.content ≡ self.old.content) }
+        ensures others { OnErr result (self.new.rows ≡ self.old.rows) }
         ensures floor { self.old.touches ≤ self.new.touches }
         ensures bound { self.new.touches ≤ self.old.touches + 96 }
     {
@@ -114,7 +120,9 @@ impl Heap {
     pub fn free(&mut self, ptr: Ptr) -> Result<(), Refusal>
         ensures ok { OnOk result (freed (λ slot. slot == ptr.1) ptr.0 self.old.content ≡ Ok self.new.content) }
         ensures refused { IfErr result (λ refusal. freed (λ slot. slot == ptr.1) ptr.0 self.old.content ≡ Err refusal) }
+        ensures never_memory { result ≢ Err Refusal.OutOfMemory }
         ensures unchanged { OnErr result (self.new.content ≡ self.old.content) }
+        ensures others { OnErr result (self.new.rows ≡ self.old.rows) }
         ensures floor { self.old.touches ≤ self.new.touches }
         ensures bound { self.new.touches ≤ self.old.touches + 96 }
     {
@@ -124,6 +132,7 @@ impl Heap {
     /// Where each pool begins and how many bytes it has, in order of base. At most eight touches.
     pub fn pools(&mut self) -> ArrayVec<(u64, u64), MOST_POOLS>
         ensures value { result.items ≡ map range_of self.old.content.pools }
+        ensures others { self.new.rows ≡ self.old.rows }
         ensures unchanged { self.new.content ≡ self.old.content }
         ensures floor { self.old.touches ≤ self.new.touches }
         ensures bound { self.new.touches ≤ self.old.touches + 8 }
@@ -141,6 +150,7 @@ impl Heap {
         ensures ok { IfOk result (λ cursor. rows_from base self.old.content.pools ≡ Ok (rows_behind self.new.rows cursor)) }
         ensures stands { IfOk result (λ cursor. is_at_row self.new.rows cursor) }
         ensures refused { IfErr result (λ refusal. rows_from base self.old.content.pools ≡ Err refusal) }
+        ensures others { self.new.rows ≡ self.old.rows }
         ensures unchanged { self.new.content ≡ self.old.content }
         ensures floor { self.old.touches ≤ self.new.touches }
         ensures bound { self.new.touches ≤ self.old.touches + 4 }
@@ -168,7 +178,7 @@ impl Heap {
     /// no two free ones stand side by side. The list of a class has the places of the free blocks of that
     /// class, each once, and no others. There are at most as many blocks as records. Live blocks have
     /// slots of their own, each below the number of records. Places and sizes are multiples of the unit,
-    /// and no two blocks overlap.
+    /// and no two blocks overlap. As `Heaped` it counts the touches of its store, and lacks no memory.
     pub fn keeps_good(&self)
         ensures good { IsGood self.now.content }
         ensures slots { HasGoodSlots self.now.content }
@@ -176,6 +186,8 @@ impl Heap {
         ensures disjoint { HasDisjointBlocks self.now.content }
         ensures listed_once { ListsFreeBlocks self.now.content }
         ensures listed_alone { ListsNothingElse self.now.content }
+        ensures touches { ⟦<Heap as Heaped>⟧.touches self.now ≡ self.now.touches }
+        ensures memory { ⟦<Heap as Heaped>⟧.lacks self.now → ⊥ }
     {
         let _store = &self.store;
     }

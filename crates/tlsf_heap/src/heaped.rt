@@ -1,33 +1,39 @@
 //! What every heap does.
 
-ghost use Rattle.std.specs.Prelude.{◌≡◌, ◌≢◌, ℕ, ◌+◌, ◌^◌, ◌<◌, ◌≤◌, ◌==◌, ◌⊎◌, ◌↔◌, List, [], ◌∷◌, map, Ok, Err, IfOk, IfErr, OnOk, OnErr, IfSome, IfNone};
+ghost use Rattle.std.specs.Prelude.{◌≡◌, ◌≢◌, ℕ, ◌+◌, ◌<◌, ◌≤◌, ◌==◌, ◌⊎◌, ◌↔◌, List, [], ◌∷◌, map, Ok, Err, IfOk, IfErr, OnOk, OnErr, IfSome, IfNone};
 ghost use Rattle.tlsf_store.specs.declared.errors.StoreError.TheVariants.{BadCount};
+ghost use Rattle.tlsf_store.specs.Records.{most_records};
 ghost use Rattle.tlsf_heap.specs.declared.cursor.Cursor.{Cursor};
 ghost use Rattle.tlsf_heap.specs.declared.row.Row.{Row};
 ghost use Rattle.tlsf_heap.specs.Content.{Content, blocks_of};
 ghost use Rattle.tlsf_heap.specs.Pools.{created, add_pool as added};
 ghost use Rattle.tlsf_heap.specs.Malloc.{malloc as served};
 ghost use Rattle.tlsf_heap.specs.Free.{free as freed};
-ghost use Rattle.tlsf_heap.specs.GoodSlots.{slot_times};
+ghost use Rattle.tlsf_heap.specs.Good.{IsGood};
+ghost use Rattle.tlsf_heap.specs.GoodSlots.{HasGoodSlots, slot_times};
 ghost use Rattle.tlsf_heap.specs.Counted.{range_of};
 ghost use Rattle.tlsf_heap.specs.Rows.{rows_from};
 
 use crate::{Cursor, Ptr, Refusal, Row};
 use arrayvec::ArrayVec;
 use std::alloc::Global;
-use tlsf_store::StoreError;
+use tlsf_store::{MOST_POOLS, StoreError};
 
 /// A heap of pools of blocks. Each call is a step on its content; a refused call leaves the content as
-/// it was.
+/// it was. A refusal and a reading leave each cursor where it stands.
 ///
-/// A heap may answer `OutOfMemory` to `add_pool`, `malloc` and `free` in place of any answer. Contracts
-/// alone see its content and how often it has touched its table of records.
+/// A heap that may lack memory may answer `OutOfMemory` to `add_pool`, `malloc` and `free` in place of any
+/// answer. Contracts alone see whether it may, its content, and how often it has touched its table of
+/// records.
 pub trait Heaped: Drop {
     // The pools, their blocks and the free lists.
     ghost content: { Self → Content ℕ };
 
     // How often the table of records was touched.
     ghost touches: { Self → ℕ };
+
+    // Whether it may lack memory.
+    ghost lacks: { Self → Type 0 };
 
     // Whether a cursor stands at a row of this content, or behind the last of a pool.
     ghost stands: { Self → Cursor → Type 0 };
@@ -43,7 +49,7 @@ pub trait Heaped: Drop {
     fn create(alloc: Global, records: u32) -> Result<Self, StoreError>
         ensures made { IfOk result (λ heap. content heap ≡ created records) }
         ensures untouched { IfOk result (λ heap. touches heap ≡ 0) }
-        ensures bad_count { (result ≡ Err BadCount) ↔ ((records ≡ 0) ⊎ (2 ^ 16 ≤ records)) };
+        ensures bad_count { (result ≡ Err BadCount) ↔ ((records ≡ 0) ⊎ (most_records < records)) };
 
     /// A pool of `bytes` bytes from the place `base` on, as one free block. At most 64 touches.
     ///
@@ -52,11 +58,14 @@ pub trait Heaped: Drop {
     /// `BadPool` where base or bytes isn't a multiple of the unit, bytes isn't from the unit to the
     /// greatest size, the end is above 2^32, or the pool overlaps another; `PoolsFull` where there are
     /// as many pools as there can be; `TableFull` where each record is in use; `OutOfMemory` where
-    /// memory is refused.
+    /// memory is refused, which it may lack.
     fn add_pool(&mut self, base: u64, bytes: u64) -> Result<(), Refusal>
         ensures ok { OnOk result (added base bytes (content self.old) ≡ Ok (content self.new)) }
         ensures refused { IfErr result (λ refusal. refusal ≢ Refusal.OutOfMemory → added base bytes (content self.old) ≡ Err refusal) }
+        ensures memory { IfErr result (λ refusal. refusal ≡ Refusal.OutOfMemory → lacks self.old) }
         ensures unchanged { OnErr result (content self.new ≡ content self.old) }
+        ensures others_stand { OnErr result ((other : Cursor) → stands self.old other → stands self.new other) }
+        ensures others { OnErr result ((other : Cursor) → rest self.new other ≡ rest self.old other) }
         ensures floor { touches self.old ≤ touches self.new }
         ensures bound { touches self.new ≤ touches self.old + 64 };
 
@@ -66,13 +75,16 @@ pub trait Heaped: Drop {
     ///
     /// `ZeroSize` where `n` is 0; `NoFit` where no list that may be searched has a block, or `n` is above
     /// the greatest size; `TableFull` where a rest would be left and each record is in use; `OutOfMemory`
-    /// where memory is refused.
+    /// where memory is refused, which it may lack.
     fn malloc(&mut self, n: u64) -> Result<Ptr, Refusal>
         ensures ok { IfOk result (λ ptr. served ptr.1 n (content self.old) ≡ Ok (ptr.0, content self.new)) }
         ensures slot_below { IfOk result (λ ptr. ptr.1 < (content self.old).records) }
         ensures slot_new { IfOk result (λ ptr. slot_times ptr.1 (blocks_of (content self.old).pools) ≡ 0) }
         ensures refused { IfErr result (λ refusal. refusal ≢ Refusal.OutOfMemory → (slot : ℕ) → served slot n (content self.old) ≡ Err refusal) }
+        ensures memory { IfErr result (λ refusal. refusal ≡ Refusal.OutOfMemory → lacks self.old) }
         ensures unchanged { OnErr result (content self.new ≡ content self.old) }
+        ensures others_stand { OnErr result ((other : Cursor) → stands self.old other → stands self.new other) }
+        ensures others { OnErr result ((other : Cursor) → rest self.new other ≡ rest self.old other) }
         ensures floor { touches self.old ≤ touches self.new }
         ensures bound { touches self.new ≤ touches self.old + 96 };
 
@@ -81,17 +93,23 @@ pub trait Heaped: Drop {
     ///
     /// # Errors
     ///
-    /// `BadPointer` where no live block has both; `OutOfMemory` where memory is refused.
+    /// `BadPointer` where no live block has both; `OutOfMemory` where memory is refused, which it
+    /// may lack.
     fn free(&mut self, ptr: Ptr) -> Result<(), Refusal>
         ensures ok { OnOk result (freed (λ slot. slot == ptr.1) ptr.0 (content self.old) ≡ Ok (content self.new)) }
         ensures refused { IfErr result (λ refusal. refusal ≢ Refusal.OutOfMemory → freed (λ slot. slot == ptr.1) ptr.0 (content self.old) ≡ Err refusal) }
+        ensures memory { IfErr result (λ refusal. refusal ≡ Refusal.OutOfMemory → lacks self.old) }
         ensures unchanged { OnErr result (content self.new ≡ content self.old) }
+        ensures others_stand { OnErr result ((other : Cursor) → stands self.old other → stands self.new other) }
+        ensures others { OnErr result ((other : Cursor) → rest self.new other ≡ rest self.old other) }
         ensures floor { touches self.old ≤ touches self.new }
         ensures bound { touches self.new ≤ touches self.old + 96 };
 
     /// Where each pool begins and how many bytes it has, in order of base. At most eight touches.
-    fn pools(&mut self) -> ArrayVec<(u64, u64), 8>
+    fn pools(&mut self) -> ArrayVec<(u64, u64), MOST_POOLS>
         ensures value { result.items ≡ map range_of (content self.old).pools }
+        ensures others_stand { (other : Cursor) → stands self.old other → stands self.new other }
+        ensures others { (other : Cursor) → rest self.new other ≡ rest self.old other }
         ensures unchanged { content self.new ≡ content self.old }
         ensures floor { touches self.old ≤ touches self.new }
         ensures bound { touches self.new ≤ touches self.old + 8 };
@@ -105,6 +123,8 @@ pub trait Heaped: Drop {
         ensures ok { IfOk result (λ cursor. rows_from base (content self.old).pools ≡ Ok (rest self.new cursor)) }
         ensures stands { IfOk result (λ cursor. stands self.new cursor) }
         ensures refused { IfErr result (λ refusal. rows_from base (content self.old).pools ≡ Err refusal) }
+        ensures others_stand { (other : Cursor) → stands self.old other → stands self.new other }
+        ensures others { (other : Cursor) → rest self.new other ≡ rest self.old other }
         ensures unchanged { content self.new ≡ content self.old }
         ensures floor { touches self.old ≤ touches self.new }
         ensures bound { touches self.new ≤ touches self.old + 4 };
@@ -122,4 +142,12 @@ pub trait Heaped: Drop {
         ensures floor { touches self.old ≤ touches self.new }
         ensures bound { IfSome result (λ given. touches self.new ≤ touches self.old + 4) }
         ensures no_touch { IfNone result (touches self.new ≡ touches self.old) };
+
+    /// Says what every heap keeps, and does nothing. Its pools are covered by their blocks end to end, and
+    /// no two free ones stand side by side. The list of a class has the places of the free blocks of that
+    /// class, each once, and no others. There are at most as many blocks as records. Live blocks have
+    /// slots of their own, each below the number of records.
+    fn keeps_good(&self)
+        ensures good { IsGood (content self.now) }
+        ensures slots { HasGoodSlots (content self.now) };
 }

@@ -6,11 +6,8 @@ ghost use Rattle.tlsf_class.specs.Classes.{levels};
 ghost use Rattle.tlsf_store.specs.Cells.{touched};
 ghost use Rattle.tlsf_heap.specs.Edits.{with_bit, without_bit, marked, unmarked, with_level_cleared};
 
-use tlsf_class::Class;
+use tlsf_class::{Class, STEPS};
 use tlsf_store::Store;
-
-/// How many classes a first level has.
-pub(crate) const STEPS: u32 = u32::BITS;
 
 /// The word with this bit set.
 pub(crate) fn set_bit(word: u32, bit: u32) -> u32

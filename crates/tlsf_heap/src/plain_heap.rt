@@ -4,7 +4,6 @@
 //! refused memory changes nothing.
 
 mod block;
-mod calls;
 mod choice;
 mod cut;
 mod heap;

@@ -5,28 +5,27 @@ ghost use Rattle.arrayvec.specs.ArrayVec.{array_vec_len};
 ghost use Rattle.tlsf_class.specs.Classes.{unit, greatest_size, class};
 ghost use Rattle.tlsf_store.specs.declared.records.State.TheVariants.{Vacant};
 ghost use Rattle.tlsf_store.specs.Records.{record_at};
-ghost use Rattle.tlsf_store.specs.Cells.{head_at, pool_entries};
+ghost use Rattle.tlsf_store.specs.Cells.{head_at, most_pools};
 ghost use Rattle.tlsf_heap.specs.Edits.{IsUsed};
 ghost use Rattle.tlsf_heap.specs.Layout.{Stands, content_of, entries_of};
 ghost use Rattle.tlsf_heap.specs.Pools.{can_be_pool as can_be, add_pool as added};
 ghost use Rattle.tlsf_heap.specs.Entries.{free_record, pool_entered};
 
 use crate::Refusal;
-use crate::entries::{MOST_POOLS, entries, is_apart, place_for, set_entries};
+use crate::entries::{entries, is_apart, place_for, set_entries};
 use crate::free_lists::link;
 use crate::pool_entry::PoolEntry;
 use arrayvec::ArrayVec;
-use tlsf_class::class_of;
-use tlsf_store::{Record, Slot, State, Store};
+use tlsf_class::{GREATEST_SIZE, class_of};
+use tlsf_store::{MOST_POOLS, Record, Slot, State, Store};
 
-/// Where the last place ends, in bytes.
-const END_OF_PLACES: u64 = 1 << 32;
+/// Where the last place ends, in bytes: no pool ends above it.
+pub const END_OF_PLACES: u64 = 1 << 32;
 
-/// The greatest number of bytes of a pool.
-const GREATEST_POOL: u64 = (1 << 30) - UNIT;
+/// The unit and the greatest size of a pool, in bytes.
+const UNIT: u64 = tlsf_class::UNIT as u64;
 
-/// Places and sizes are multiples of it, in bytes.
-const UNIT: u64 = 8;
+const GREATEST_POOL: u64 = GREATEST_SIZE as u64;
 
 /// Whether base and bytes can be those of a pool.
 pub(crate) fn can_be_pool(base: u64, bytes: u64) -> bool
@@ -39,7 +38,7 @@ pub(crate) fn can_be_pool(base: u64, bytes: u64) -> bool
         && base <= END_OF_PLACES - bytes
 }
 
-/// A pool of `bytes` bytes from the place `base` on enters the store, as one free block. At most 64
+/// A pool of `bytes` bytes from the place `base` on enters the store, as one free block. At most 29
 /// touches.
 ///
 /// # Errors
@@ -51,8 +50,9 @@ pub(crate) fn add_pool(store: &mut Store, base: u64, bytes: u64) -> Result<(), R
     ensures ok { OnOk result (added base bytes (content_of store.old) ≡ Ok (content_of store.new)) }
     ensures refused { IfErr result (λ refusal. added base bytes (content_of store.old) ≡ Err refusal) }
     ensures unchanged { OnErr result (content_of store.new ≡ content_of store.old) }
+    ensures cells { OnErr result (store.new ≡ record store.old { touches = store.new.touches }) }
     ensures floor { store.old.touches ≤ store.new.touches }
-    ensures bound { store.new.touches ≤ store.old.touches + 64 }
+    ensures bound { store.new.touches ≤ store.old.touches + 29 }
 {
     let entries = entries(store);
     if !can_be_pool(base, bytes) || !is_apart(entries.as_slice(), base, bytes) {
@@ -80,15 +80,15 @@ fn put_pool(store: &mut Store, mut entries: ArrayVec<PoolEntry, MOST_POOLS>, ent
     requires bytes_in_units { entry.bytes % unit ≡ 0 }
     requires least { unit ≤ entry.bytes }
     requires most { entry.bytes ≤ greatest_size }
-    requires room { array_vec_len entries < pool_entries }
-    requires count { length store.old.pools ≡ pool_entries }
+    requires room { array_vec_len entries < most_pools }
+    requires count { length store.old.pools ≡ most_pools }
     requires entries { entries.items ≡ entries_of store.old.pools }
     requires below { All (λ e. e.first < length store.old.records) entries.items }
     requires slot_used { IsUsed store.old.records (Some entry.first) }
     requires first_used { IsUsed store.old.records (head_at store.old.heads (class entry.bytes)) }
     ensures cells { store.new ≡ record (pool_entered entry store.old) { touches = store.new.touches } }
     ensures floor { store.old.touches ≤ store.new.touches }
-    ensures bound { store.new.touches ≤ store.old.touches + 32 }
+    ensures bound { store.new.touches ≤ store.old.touches + 19 }
 {
     let slot = Slot(entry.first);
     let place = place_for(entries.as_slice(), entry.base);

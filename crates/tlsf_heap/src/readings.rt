@@ -1,13 +1,16 @@
 //! Readings: the first row of a pool, and the rows behind it.
 
 ghost use Rattle.std.specs.Prelude.{◌≡◌, ◌+◌, ◌-◌, ◌*◌, ◌<◌, ◌≤◌, [], ◌∷◌, length, Ok, Err, IfOk, IfErr, IfSome, IfNone};
-ghost use Rattle.tlsf_store.specs.Cells.{touched, pool_at, pool_entries};
+ghost use Rattle.tlsf_store.specs.Cells.{touched, pool_at, most_pools};
 ghost use Rattle.tlsf_heap.specs.Layout.{Stands, content_of, entries_of};
 ghost use Rattle.tlsf_heap.specs.Rows.{rows_from};
 ghost use Rattle.tlsf_heap.specs.Readings.{is_state_live, rows_by, rest_of, stands_at, slot_for, begins_below, slot_if, AreInOrder, IsNarrowed};
 
 use crate::{Cursor, Refusal, Row};
-use tlsf_store::{Pool, Slot, State, Store};
+use tlsf_store::{MOST_POOLS, Pool, Slot, State, Store};
+
+/// Half of the pool entries.
+const HALF: u32 = MOST_POOLS as u32 / 2;
 
 /// The cursor at the first row of the pool that begins at `base`. Four touches.
 ///
@@ -35,16 +38,16 @@ fn find(store: &mut Store, base: u64) -> Option<Slot>
     ensures value { result ≡ slot_for base (entries_of store.old.pools) }
     ensures touches { store.new ≡ touched 4 store.old }
 {
-    let place = skip(store, base, 0, 4);
-    let place = skip(store, base, place, 2);
-    let place = skip(store, base, place, 1);
+    let place = skip(store, base, 0, HALF);
+    let place = skip(store, base, place, HALF / 2);
+    let place = skip(store, base, place, HALF / 4);
     first_if(store.pool(place), base)
 }
 
 /// Passes the next `width` pools where the last of them begins below `base`. One touch.
 fn skip(store: &mut Store, base: u64, place: u32, width: u32) -> u32
     requires some { 0 < width }
-    requires within { place + width + width ≤ pool_entries }
+    requires within { place + width + width ≤ most_pools }
     requires in_order { AreInOrder base store.old.pools }
     requires narrowed { IsNarrowed base store.old.pools place (place + width + width - 1) }
     ensures narrowed { IsNarrowed base store.old.pools result (result + width - 1) }
@@ -94,7 +97,7 @@ pub(crate) fn row(store: &mut Store, cursor: Cursor) -> Option<(Row, Cursor)>
     ensures none { IfNone result (rest_of (rows_by store.old.records) cursor.next ≡ []) }
     ensures cells { store.new ≡ record store.old { touches = store.new.touches } }
     ensures floor { store.old.touches ≤ store.new.touches }
-    ensures bound { IfSome result (λ given. store.new.touches ≤ store.old.touches + 4) }
+    ensures bound { IfSome result (λ given. store.new.touches ≤ store.old.touches + 1) }
     ensures no_touch { IfNone result (store.new.touches ≡ store.old.touches) }
 {
     let Some(next) = cursor.next else {

@@ -4,23 +4,23 @@
 #[derive(Clone, Copy, Debug, PartialEq, Eq)]
 pub enum Refusal {
     /// No byte was asked for.
-    ZeroSize,
+    ZeroSize = 1,
     /// No block that fits is free, or more was asked for than a block can have.
-    NoFit,
+    NoFit = 2,
     /// A rest would be left, and the table has no room for it.
-    TableFull,
+    TableFull = 3,
     /// The pointer names no live block.
-    BadPointer,
+    BadPointer = 4,
     /// The alignment isn't a power of two, or is too large.
-    BadAlign,
+    BadAlign = 5,
     /// Base or size of the pool aren't allowed, or it overlaps another.
-    BadPool,
+    BadPool = 6,
     /// The heap has as many pools as it can have.
-    PoolsFull,
+    PoolsFull = 7,
     /// A block of the pool is live.
-    PoolInUse,
+    PoolInUse = 8,
     /// Memory for the answer was refused.
-    OutOfMemory,
+    OutOfMemory = 9,
     /// No pool begins there.
-    NoPool,
+    NoPool = 10,
 }

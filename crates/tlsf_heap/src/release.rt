@@ -17,7 +17,7 @@ use crate::{Ptr, Refusal};
 use tlsf_class::class_of;
 use tlsf_store::{Slot, State, Store};
 
-/// The block becomes free, and one free block with its free neighbours in the pool. At most 46 touches.
+/// The block becomes free, and one free block with its free neighbours in the pool. At most 50 touches.
 ///
 /// # Errors
 ///
@@ -28,8 +28,9 @@ pub(crate) fn free(store: &mut Store, ptr: Ptr) -> Result<(), Refusal>
     ensures ok { OnOk result (freed (λ slot. slot == ptr.1) ptr.0 (content_of store.old) ≡ Ok (content_of store.new)) }
     ensures refused { IfErr result (λ refusal. freed (λ slot. slot == ptr.1) ptr.0 (content_of store.old) ≡ Err refusal) }
     ensures unchanged { OnErr result (content_of store.new ≡ content_of store.old) }
+    ensures cells { OnErr result (store.new ≡ record store.old { touches = store.new.touches }) }
     ensures floor { store.old.touches ≤ store.new.touches }
-    ensures bound { store.new.touches ≤ store.old.touches + 75 }
+    ensures bound { store.new.touches ≤ store.old.touches + 50 }
 {
     if !is_live(store, ptr) {
         return Err(Refusal::BadPointer);
@@ -56,14 +57,14 @@ fn is_live(store: &mut Store, ptr: Ptr) -> bool
     }
 }
 
-/// A live block becomes free, and one free block with its free neighbours in the pool. At most 45 touches.
+/// A live block becomes free, and one free block with its free neighbours in the pool. At most 49 touches.
 fn release(store: &mut Store, slot: Slot)
     requires stands { Stands store.old }
     requires live { (record_at store.old.records slot).state ≡ Live }
     ensures stands { Stands store.new }
     ensures content { content_of store.new ≡ after_free (place_at store.old.records slot) (content_of store.old) }
     ensures floor { store.old.touches ≤ store.new.touches }
-    ensures bound { store.new.touches ≤ store.old.touches + 74 }
+    ensures bound { store.new.touches ≤ store.old.touches + 49 }
 {
     set_state(store, slot, State::Free);
     let start = join_front(store, slot);
@@ -82,7 +83,7 @@ fn is_free(state: State) -> bool
 }
 
 /// A free block in front takes in the block, which is free and in no list. The answer is where the block
-/// that is left begins. At most 16 touches.
+/// that is left begins. At most 18 touches.
 fn join_front(store: &mut Store, slot: Slot) -> Slot
     requires { IsLoose slot store.old }
     ensures loose { IsLoose result store.new }
@@ -91,7 +92,7 @@ fn join_front(store: &mut Store, slot: Slot) -> Slot
     ensures size { (record_at store.new.records result).size ≡ size_of (free_front store.old.records slot) + (record_at store.old.records slot).size }
     ensures back { free_back store.new.records result ≡ free_back store.old.records slot }
     ensures floor { store.old.touches ≤ store.new.touches }
-    ensures bound { store.new.touches ≤ store.old.touches + 26 }
+    ensures bound { store.new.touches ≤ store.old.touches + 18 }
 {
     let block = store.read(slot);
     let Some(prev) = block.prev else {
@@ -105,7 +106,7 @@ fn join_front(store: &mut Store, slot: Slot) -> Slot
     prev
 }
 
-/// The block, which is free and in no list, takes in a free one behind it. At most 16 touches.
+/// The block, which is free and in no list, takes in a free one behind it. At most 18 touches.
 fn join_back(store: &mut Store, slot: Slot)
     requires { IsLoose slot store.old }
     ensures loose { IsLoose slot store.new }
@@ -113,7 +114,7 @@ fn join_back(store: &mut Store, slot: Slot)
     ensures place { place_at store.new.records slot ≡ place_at store.old.records slot }
     ensures size { (record_at store.new.records slot).size ≡ (record_at store.old.records slot).size + size_of (free_back store.old.records slot) }
     ensures floor { store.old.touches ≤ store.new.touches }
-    ensures bound { store.new.touches ≤ store.old.touches + 26 }
+    ensures bound { store.new.touches ≤ store.old.touches + 18 }
 {
     let block = store.read(slot);
     let Some(next) = block.next else {
@@ -126,7 +127,7 @@ fn join_back(store: &mut Store, slot: Slot)
     join(store, slot, next, next, back.size);
 }
 
-/// One of two neighbours, `listed`, leaves its class's list, and the first takes in the other. At most 14
+/// One of two neighbours, `listed`, leaves its class's list, and the first takes in the other. At most 16
 /// touches.
 fn join(store: &mut Store, front: Slot, behind: Slot, listed: Slot, size: u32)
     requires whole { size % unit ≡ 0 }
@@ -141,7 +142,7 @@ fn join(store: &mut Store, front: Slot, behind: Slot, listed: Slot, size: u32)
     requires fits { (record_at (unlinked (class size) listed store.old).records front).size + (record_at (unlinked (class size) listed store.old).records behind).size < 2 ^ 32 }
     ensures cells { store.new ≡ record (joined front behind listed size store.old) { touches = store.new.touches } }
     ensures floor { store.old.touches ≤ store.new.touches }
-    ensures bound { store.new.touches ≤ store.old.touches + 24 }
+    ensures bound { store.new.touches ≤ store.old.touches + 16 }
 {
     unlink(store, class_of(size), listed);
     absorb(store, front, behind);
@@ -152,7 +153,7 @@ fn enter(store: &mut Store, slot: Slot)
     requires { IsLoose slot store.old }
     ensures cells { store.new ≡ record (linked (class (record_at store.old.records slot).size) slot store.old) { touches = store.new.touches } }
     ensures floor { store.old.touches ≤ store.new.touches }
-    ensures bound { store.new.touches ≤ store.old.touches + 13 }
+    ensures bound { store.new.touches ≤ store.old.touches + 11 }
 {
     let block = store.read(slot);
     link(store, class_of(block.size), slot);

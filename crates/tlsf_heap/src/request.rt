@@ -5,15 +5,10 @@ use crate::Ptr;
 /// What a heap is asked for.
 #[derive(Clone, Copy, Debug, PartialEq, Eq)]
 pub enum Request {
-    /// A pool of `bytes` bytes from the place `base` on.
-    AddPool {
-        /// Where the pool begins, in bytes.
-        base: u64,
-        /// How many bytes it has.
-        bytes: u64,
-    },
-    /// A block of at least so many bytes.
+    /// A pool: where it begins, and how many bytes it has.
+    AddPool(u64, u64),
+    /// A live block of at least so many bytes.
     Malloc(u64),
-    /// That a block becomes free.
+    /// That the pointer's block becomes free.
     Free(Ptr),
 }

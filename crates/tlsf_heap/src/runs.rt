@@ -1,20 +1,20 @@
 //! A run of requests on a heap.
 
-ghost use Rattle.std.specs.Prelude.{◌≡◌, ◌+◌, ◌≤◌, IfOk, IfErr, OnErr};
-ghost use Rattle.tlsf_heap.specs.Run.{Step, Run, most_touches};
+ghost use Rattle.std.specs.Prelude.{◌≡◌, ◌≢◌, ◌+◌, ◌≤◌, All, IfOk, IfErr, OnErr};
+ghost use Rattle.tlsf_heap.specs.Run.{MayLack, Step, Run, most_touches};
 
-use crate::{Answer, Heaped, Request};
+use crate::{Answer, Heaped, Refusal, Request};
 use std::alloc::Global;
 use tlsf_store::StoreError;
 
 /// The heap's answer to one request.
 fn answer<H: Heaped>(heap: &mut H, request: Request) -> Answer
-    ensures step { Step request result (H.content heap.old) (H.content heap.new) }
+    ensures step { Step (MayLack H.lacks) request result (H.content heap.old) (H.content heap.new) }
     ensures floor { H.touches heap.old ≤ H.touches heap.new }
     ensures bound { H.touches heap.new ≤ H.touches heap.old + most_touches request }
 {
     match request {
-        Request::AddPool { base, bytes } => match heap.add_pool(base, bytes) {
+        Request::AddPool(base, bytes) => match heap.add_pool(base, bytes) {
             Ok(()) => Answer::Done,
             Err(refusal) => Answer::Refused(refusal),
         },
@@ -32,7 +32,7 @@ fn answer<H: Heaped>(heap: &mut H, request: Request) -> Answer
 /// Asks the heap for each of the requests, one after the other, and gives their answers in order.
 /// Requests may repeat, and pointers may be stale.
 ///
-/// It takes memory for all answers first.
+/// It takes memory for all answers first. Over a heap that lacks no memory, no answer is `OutOfMemory`.
 ///
 /// # Errors
 ///
@@ -42,7 +42,8 @@ pub fn run<H: Heaped>(
     heap: &mut H,
     requests: &[Request],
 ) -> Result<Vec<Answer>, StoreError>
-    ensures answers { IfOk result (λ answers. Run requests.now answers.items (H.content heap.old) (H.content heap.new) (H.touches heap.old) (H.touches heap.new)) }
+    ensures answers { IfOk result (λ answers. Run (MayLack H.lacks) requests.now answers.items (H.content heap.old) (H.content heap.new) (H.touches heap.old) (H.touches heap.new)) }
+    ensures memory { IfOk result (λ answers. (MayLack H.lacks → ⊥) → All (λ answer. answer ≢ Answer.Refused Refusal.OutOfMemory) answers.items) }
     ensures untouched { OnErr result (heap.new ≡ heap.old) }
     ensures no_memory { IfErr result (λ error. error ≡ StoreError.OutOfMemory) }
 {

@@ -4,8 +4,7 @@ ghost use Rattle.std.specs.Prelude.{◌≡◌, ◌+◌, ◌*◌, ◌≤◌, leng
 ghost use Rattle.tlsf_class.specs.Classes.{steps, levels, classes};
 ghost use Rattle.tlsf_heap.specs.Bitmaps.{AreMarked, HasNoBit, IsLowestFrom, first_head};
 
-use crate::marks::STEPS;
-use tlsf_class::Class;
+use tlsf_class::{Class, STEPS};
 use tlsf_store::{Slot, Store};
 
 /// The lowest bit set in the word at or above a place.

@@ -9,19 +9,69 @@ use std::process::Abort;
 use tlsf_store::StoreError;
 
 /// Whether these are the heap's pools.
-fn has_pools(heap: &mut Heap, ranges: &[(u64, u64)]) -> bool {
+fn has_pools<H: Heaped>(heap: &mut H, ranges: &[(u64, u64)]) -> bool {
     heap.pools().as_slice() == ranges
+}
+
+/// A heap of so many records, where memory isn't refused.
+fn made<H: Heaped>(rt: &impl Abort, alloc: Global, records: u32) -> H {
+    match H::create(alloc, records) {
+        Ok(heap) => heap,
+        Err(_) => panic!(rt; "no heap"),
+    }
+}
+
+fn bad_count<H: Heaped>(alloc: Global, records: u32) -> bool {
+    H::create(alloc, records).err() == Some(StoreError::BadCount)
 }
 
 #[test]
 fn bad_counts(rt: HostRuntime) {
-    assert!(rt; Heap::create(rt.alloc(), 0).err() == Some(StoreError::BadCount));
-    assert!(rt; Heap::create(rt.alloc(), 65_536).err() == Some(StoreError::BadCount));
+    for records in [0, 65_536] {
+        assert!(rt; bad_count::<Heap>(rt.alloc(), records));
+        assert!(rt; bad_count::<PlainHeap>(rt.alloc(), records));
+    }
+}
+
+/// A heap of any number of records has a pool and its blocks; of one record a pool is one block.
+fn serves<H: Heaped>(rt: &impl Abort, alloc: Global, records: u32) {
+    let mut heap: H = made(rt, alloc, records);
+    assert_eq!(rt; heap.add_pool(0, 64), Ok(()));
+    assert_eq!(rt; heap.malloc(64).map(|ptr| ptr.place()), Ok(0));
+    let mut heap: H = made(rt, alloc, records);
+    assert_eq!(rt; heap.add_pool(0, 64), Ok(()));
+    let served = if records == 1 {
+        Err(Refusal::TableFull)
+    } else {
+        Ok(0)
+    };
+    assert_eq!(rt; heap.malloc(8).map(|ptr| ptr.place()), served);
 }
 
 #[test]
-fn pools_in_order(rt: HostRuntime) {
-    let mut heap = Heap::create(rt.alloc(), 3).expect(&rt, "a heap");
+fn counts_of_records(rt: HostRuntime) {
+    for records in [1, 1_000, 65_535] {
+        serves::<Heap>(&rt, rt.alloc(), records);
+        serves::<PlainHeap>(&rt, rt.alloc(), records);
+    }
+}
+
+/// The greatest table holds as many blocks as it has records. It is full then: the last one is given
+/// whole alone.
+#[test]
+fn greatest_table_filled(rt: HostRuntime) {
+    let mut heap: Heap = made(&rt, rt.alloc(), 65_535);
+    assert_eq!(rt; heap.add_pool(0, 524_288), Ok(()));
+    for number in 1..65_535 {
+        assert_eq!(rt; heap.malloc(8).map(|ptr| ptr.place()), Ok((number - 1) * 8));
+    }
+    assert_eq!(rt; heap.malloc(8), Err(Refusal::TableFull));
+    assert_eq!(rt; heap.malloc(16).map(|ptr| ptr.place()), Ok(524_272));
+    assert_eq!(rt; heap.malloc(8), Err(Refusal::NoFit));
+}
+
+fn pools_in_order<H: Heaped>(rt: &impl Abort, alloc: Global) {
+    let mut heap: H = made(rt, alloc, 3);
     assert_eq!(rt; heap.add_pool(128, 64), Ok(()));
     assert_eq!(rt; heap.add_pool(0, 64), Ok(()));
     assert_eq!(rt; heap.add_pool(64, 64), Ok(()));
@@ -31,9 +81,8 @@ fn pools_in_order(rt: HostRuntime) {
     assert!(rt; has_pools(&mut heap, &[(0, 64), (64, 64), (128, 64)]));
 }
 
-#[test]
-fn pool_limits(rt: HostRuntime) {
-    let mut heap = Heap::create(rt.alloc(), 4).expect(&rt, "a heap");
+fn pool_limits<H: Heaped>(rt: &impl Abort, alloc: Global) {
+    let mut heap: H = made(rt, alloc, 4);
     assert_eq!(rt; heap.add_pool(4_294_967_232, 64), Ok(()));
     assert_eq!(rt; heap.add_pool(4_294_967_240, 64), Err(Refusal::BadPool));
     assert_eq!(rt; heap.add_pool(4, 64), Err(Refusal::BadPool));
@@ -46,9 +95,8 @@ fn pool_limits(rt: HostRuntime) {
     assert!(rt; has_pools(&mut heap, &[(4_294_967_232, 64)]));
 }
 
-#[test]
-fn at_most_eight_pools(rt: HostRuntime) {
-    let mut heap = Heap::create(rt.alloc(), 8).expect(&rt, "a heap");
+fn at_most_eight_pools<H: Heaped>(rt: &impl Abort, alloc: Global) {
+    let mut heap: H = made(rt, alloc, 8);
     for number in 0..8 {
         assert_eq!(rt; heap.add_pool(number * 64, 64), Ok(()));
     }
@@ -56,18 +104,29 @@ fn at_most_eight_pools(rt: HostRuntime) {
     assert_eq!(rt; heap.add_pool(480, 64), Err(Refusal::BadPool));
 }
 
-#[test]
-fn first_of_each_pool(rt: HostRuntime) {
-    let mut heap = Heap::create(rt.alloc(), 8).expect(&rt, "a heap");
-    assert_eq!(rt; heap.first(0), Err(Refusal::NoPool));
+fn first_of_each_pool<H: Heaped>(rt: &impl Abort, alloc: Global) {
+    let mut heap: H = made(rt, alloc, 8);
+    assert!(rt; heap.first(0) == Err(Refusal::NoPool));
     for number in 0..8 {
         assert_eq!(rt; heap.add_pool(number * 64, 64), Ok(()));
     }
     for number in 0..8 {
         assert!(rt; heap.first(number * 64).is_ok());
-        assert_eq!(rt; heap.first(number * 64 + 8), Err(Refusal::NoPool));
+        assert!(rt; heap.first(number * 64 + 8) == Err(Refusal::NoPool));
     }
-    assert_eq!(rt; heap.first(512), Err(Refusal::NoPool));
+    assert!(rt; heap.first(512) == Err(Refusal::NoPool));
+}
+
+#[test]
+fn pools_of_both_heaps(rt: HostRuntime) {
+    pools_in_order::<Heap>(&rt, rt.alloc());
+    pools_in_order::<PlainHeap>(&rt, rt.alloc());
+    pool_limits::<Heap>(&rt, rt.alloc());
+    pool_limits::<PlainHeap>(&rt, rt.alloc());
+    at_most_eight_pools::<Heap>(&rt, rt.alloc());
+    at_most_eight_pools::<PlainHeap>(&rt, rt.alloc());
+    first_of_each_pool::<Heap>(&rt, rt.alloc());
+    first_of_each_pool::<PlainHeap>(&rt, rt.alloc());
 }
 
 /// Whether a run that was refused memory left the heap as it was, and is served when it is made again.
@@ -76,10 +135,7 @@ fn run_again<H: Heaped>(alloc: Global) -> bool {
     let Ok(mut heap) = H::create(alloc, 4) else {
         return true;
     };
-    let requests = [Request::AddPool {
-        base: 0,
-        bytes: 1024,
-    }];
+    let requests = [Request::AddPool(0, 1024)];
     match run(alloc, &mut heap, &requests) {
         Ok(answers) => answers.first() == Some(&Answer::Done) || heap.pools().is_empty(),
         Err(error) => {

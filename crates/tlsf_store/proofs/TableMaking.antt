@@ -1,9 +1,9 @@
 -- A table as it is made, from the first slot on.
-use Rattle.std.proofs.Common.{◌≡◌, ◌≢◌, ℕ, suc, ◌+◌, ◌<◌, ◌^◌, true, List, [], ◌∷◌, ◌++◌, length, map, replicate, Option, Some, None, All, ◌∙◌, sym, ap, subst, refl, arith}
+use Rattle.std.proofs.Common.{◌≡◌, ◌≢◌, ℕ, suc, ◌+◌, ◌<◌, ◌≤◌, true, List, [], ◌∷◌, ◌++◌, length, map, replicate, Option, Some, None, All, ◌∙◌, sym, ap, subst, refl, arith}
 use Rattle.std.proofs.lemmas.List.{length_push, get_or_push, get_or_append_left, map_push, replicate_more}
 use Rattle.std.proofs.lemmas.List.Elements.{All-push}
 use Rattle.tlsf_store.specs.declared.records.Record.{Record}
-use Rattle.tlsf_store.specs.Records.{blank, record_at, is_vacant, vacant_count, IsBelow, IsKept}
+use Rattle.tlsf_store.specs.Records.{most_records, blank, record_at, is_vacant, vacant_count, IsBelow, IsKept}
 use Rattle.tlsf_store.specs.Table.{seen, IsVacantAt, next_at, IsTable}
 use Rattle.tlsf_store.specs.VacantChain.{IsChain}
 use Rattle.tlsf_store.proofs.Chains.{BeginsAt, chain_begins, chain_stays, chain_away_from_used}
@@ -70,7 +70,7 @@ begun_vacant count records first number begun less r is =
     (subst (λ v. IsKept count v) (sym is) kept)
 
 -- a whole table of vacant records
-pub begun_all : (count : ℕ) (records : List Record) (first : Option ℕ) → IsBegun count records first count → count < 2 ^ 16 →
+pub begun_all : (count : ℕ) (records : List Record) (first : Option ℕ) → IsBegun count records first count → count ≤ most_records →
     IsTable records first count
 begun_all count records first begun few =
     record {

@@ -1,5 +1,5 @@
 -- What contracts see of a store: its cells, and how often they were touched. A touch is one read or
--- write of a record, a class head, a bitmap word, a vacant mark or a pool entry.
+-- write of a record, a class head, a bitmap word, the vacant mark or a pool entry.
 use Rattle.std.specs.Prelude.{ℕ, ◌+◌, ◌<◌, ◌^◌, List, Option, Some, None, All, replicate, slice_index_or, slice_set}
 use Rattle.tlsf_class.specs.Classes.{classes, levels}
 use Rattle.tlsf_store.specs.declared.records.Record.{Record}
@@ -7,9 +7,9 @@ use Rattle.tlsf_store.specs.declared.records.State.TheVariants.{Free}
 use Rattle.tlsf_store.specs.declared.pools.Pool.{Pool}
 use Rattle.tlsf_store.specs.Records.{blank, blank_in, IsBelow}
 
--- how many pool entries there are
-abbrev pub pool_entries : ℕ
-pool_entries = 8
+-- at most so many pools: there is an entry for each
+abbrev pub most_pools : ℕ
+most_pools = 8
 
 -- the cells of a store
 pub record Cells : Type 0 where
@@ -72,7 +72,7 @@ empty_cells count =
       heads = replicate classes None;
       level_word = 0;
       step_words = replicate levels 0;
-      pools = replicate pool_entries None;
+      pools = replicate most_pools None;
       touches = 0;
     }
 

@@ -5,6 +5,10 @@ use Rattle.tlsf_store.specs.declared.records.State.{State}
 use Rattle.tlsf_store.specs.declared.records.State.TheVariants.{Vacant, Free, Live}
 use Rattle.tlsf_store.specs.declared.records.Record.{Record}
 
+-- at most so many records
+abbrev pub most_records : ℕ
+most_records = 65535
+
 -- a record in this state, with no block and no links
 abbrev pub blank_in : State → Record
 blank_in s = record { place = 0; size = 0; state = s; prev = None; next = None; prev_free = None; next_free = None }

@@ -1,9 +1,9 @@
 -- The table of records as it stands in memory: vacant records keep the chain in their links.
-use Rattle.std.specs.Prelude.{◌≡◌, ℕ, ◌<◌, ◌^◌, List, Option, length, true, All}
+use Rattle.std.specs.Prelude.{◌≡◌, ℕ, ◌<◌, ◌≤◌, List, Option, length, true, All}
 use Rattle.tlsf_store.specs.declared.records.State.{State}
 use Rattle.tlsf_store.specs.declared.records.State.TheVariants.{Vacant, Free, Live}
 use Rattle.tlsf_store.specs.declared.records.Record.{Record}
-use Rattle.tlsf_store.specs.Records.{blank, record_at, is_vacant, vacant_count, IsKept}
+use Rattle.tlsf_store.specs.Records.{most_records, blank, record_at, is_vacant, vacant_count, IsKept}
 use Rattle.tlsf_store.specs.VacantChain.{IsChain}
 
 -- a record as callers see it: a vacant one holds nothing
@@ -23,7 +23,7 @@ next_at records slot = (record_at records slot).next
 
 -- the records of a table, with the first vacant slot and how many records are vacant
 pub record IsTable (records : List Record) (first : Option ℕ) (vacant : ℕ) : Type 0 where
-  pub few : length records < 2 ^ 16
+  pub few : length records ≤ most_records
   pub kept : All (IsKept (length records)) records
   pub chained : IsChain (IsVacantAt records) (next_at records) vacant first
   pub counted : vacant_count records ≡ vacant

@@ -4,27 +4,27 @@ ghost use Rattle.std.specs.Prelude.{◌≡◌, ◌≢◌, ◌+◌, ◌<◌, ◌�
 ghost use Rattle.tlsf_class.specs.Classes.{levels};
 ghost use Rattle.tlsf_store.specs.declared.errors.StoreError.TheVariants.{BadCount};
 ghost use Rattle.tlsf_store.specs.declared.records.State.TheVariants.{Vacant};
-ghost use Rattle.tlsf_store.specs.Records.{blank, record_at, vacant_count, IsBelow, IsKept};
-ghost use Rattle.tlsf_store.specs.Cells.{touched, with_record, with_head, with_level_word, with_step_word, with_pool, with_taken, head_at, pool_at, pool_entries, empty_cells, IsPoolBelow};
+ghost use Rattle.tlsf_store.specs.Records.{most_records, blank, record_at, vacant_count, IsBelow, IsKept};
+ghost use Rattle.tlsf_store.specs.Cells.{touched, with_record, with_head, with_level_word, with_step_word, with_pool, with_taken, head_at, pool_at, most_pools, empty_cells, IsPoolBelow};
 
 use super::table::Table;
 use super::touches::Touches;
 use super::{Pool, Record, Slot, StoreError};
 use std::alloc::Global;
 use std::marker::Model;
-use tlsf_class::{CLASSES, Class};
+use tlsf_class::{CLASSES, Class, LEVELS};
 
-/// The greatest number of records.
-const MOST_RECORDS: u32 = 65_535;
+/// At most so many records.
+pub const MOST_RECORDS: u32 = 65_535;
+
+/// At most so many pools: there is an entry for each.
+pub const MOST_POOLS: usize = 8;
 
 /// How many class heads there are.
 const HEADS: usize = CLASSES as usize;
 
-/// How many first levels there are, each with a step word that has a bit for each of its classes.
-const LEVELS: usize = HEADS / u32::BITS as usize;
-
-/// How many pool entries there are.
-const POOLS: usize = 8;
+/// How many step words there are: one for each first level, with a bit for each of its classes.
+const STEP_WORDS: usize = LEVELS as usize;
 
 /// A table of records with the heads of the class lists, the bitmap words and the pool entries.
 #[derive(Drop)]
@@ -32,8 +32,8 @@ pub struct Store {
     table: Table,
     heads: [Option<Slot>; HEADS],
     level_word: u32,
-    step_words: [u32; LEVELS],
-    pools: [Option<Pool>; POOLS],
+    step_words: [u32; STEP_WORDS],
+    pools: [Option<Pool>; MOST_POOLS],
     touches: Touches,
 }
 
@@ -60,7 +60,7 @@ impl Store {
     /// for the table; where that is refused the answer is `OutOfMemory`.
     pub fn create(alloc: Global, records: u32) -> Result<Store, StoreError>
         ensures made { IfOk result (λ store. store ≡ empty_cells records) }
-        ensures bad_count { (result ≡ Err BadCount) ↔ ((records ≡ 0) ⊎ (2 ^ 16 ≤ records)) }
+        ensures bad_count { (result ≡ Err BadCount) ↔ ((records ≡ 0) ⊎ (most_records < records)) }
     {
         if records == 0 || records > MOST_RECORDS {
             return Err(StoreError::BadCount);
@@ -72,8 +72,8 @@ impl Store {
             table,
             heads: [None; HEADS],
             level_word: 0,
-            step_words: [0; LEVELS],
-            pools: [None; POOLS],
+            step_words: [0; STEP_WORDS],
+            pools: [None; MOST_POOLS],
             touches: Touches::new(),
         })
     }
@@ -82,7 +82,7 @@ impl Store {
     pub fn records(&self) -> u32
         ensures value { result ≡ length self.now.records }
         ensures some { 0 < result }
-        ensures few { result < 2 ^ 16 }
+        ensures few { result ≤ most_records }
     {
         self.table.len()
     }
@@ -173,9 +173,9 @@ impl Store {
         self.step_words[level as usize] = word;
     }
 
-    /// The pool of an entry, from 0 to 7. One touch.
+    /// The pool of an entry, a number below `MOST_POOLS`. One touch.
     pub fn pool(&mut self, number: u32) -> Option<Pool>
-        requires { number < pool_entries }
+        requires { number < most_pools }
         ensures within { number < length self.old.pools }
         ensures value { result ≡ pool_at self.old.pools number }
         ensures below { IsPoolBelow (length self.old.records) result }
@@ -185,9 +185,9 @@ impl Store {
         self.pools[number as usize]
     }
 
-    /// Writes the pool of an entry, from 0 to 7. One touch.
+    /// Writes the pool of an entry, a number below `MOST_POOLS`. One touch.
     pub fn set_pool(&mut self, number: u32, pool: Option<Pool>)
-        requires within { number < pool_entries }
+        requires within { number < most_pools }
         requires below { IsPoolBelow (length self.old.records) pool }
         ensures within { number < length self.old.pools }
         ensures written { self.new ≡ touched 1 (with_pool self.old number pool) }
@@ -206,7 +206,8 @@ impl Store {
     }
 
     /// Takes a vacant record for a free block, with no place, size or links yet; `None` exactly where
-    /// no record is vacant. Which vacant record it is, is open. Two touches.
+    /// no record is vacant. Which vacant record it is, is open. Two touches: the vacant mark and the
+    /// record.
     pub fn take_vacant(&mut self) -> Option<Slot>
         ensures none { IfNone result (vacant_count self.old.records ≡ 0) }
         ensures within { IfSome result (λ slot. slot < length self.old.records) }
@@ -218,8 +219,8 @@ impl Store {
         self.table.take()
     }
 
-    /// Makes a record vacant that isn't. Three touches: the first vacant slot is read and written, and
-    /// the record is written.
+    /// Makes a record vacant that isn't. Three touches: the vacant mark is read and written, and the record
+    /// is written.
     pub fn give_vacant(&mut self, slot: Slot)
         requires within { slot < length self.old.records }
         requires used { (record_at self.old.records slot).state ≢ Vacant }

@@ -1,14 +1,10 @@
 //! Why there is no store.
 
-use thiserror::Error;
-
 /// Why a store isn't made.
-#[derive(Clone, Copy, Debug, PartialEq, Eq, Error)]
+#[derive(Clone, Copy, Debug, PartialEq, Eq)]
 pub enum StoreError {
-    /// The number of records isn't from 1 to 65,535.
-    #[error("bad number of records")]
+    /// The number of records isn't from 1 to `MOST_RECORDS`.
     BadCount = 1,
     /// Memory for the table was refused.
-    #[error("out of memory")]
     OutOfMemory = 2,
 }

@@ -12,7 +12,7 @@ mod table;
 mod tests;
 mod touches;
 
-pub use counted::Store;
+pub use counted::{MOST_POOLS, MOST_RECORDS, Store};
 pub use errors::StoreError;
 pub use pools::Pool;
 pub use records::{Record, State};

@@ -1,8 +1,8 @@
 //! The table of records, and the chain of those that are vacant.
 
-ghost use Rattle.std.specs.Prelude.{◌≡◌, ◌<◌, ◌≢◌, ◌^◌, IfOk, MatchOption, length, replicate, slice_set, Some};
+ghost use Rattle.std.specs.Prelude.{◌≡◌, ◌<◌, ◌≤◌, ◌≢◌, IfOk, MatchOption, length, replicate, slice_set, Some};
 ghost use Rattle.tlsf_store.specs.declared.records.State.TheVariants.{Vacant, Free};
-ghost use Rattle.tlsf_store.specs.Records.{blank, blank_in, record_at, vacant_count, IsKept};
+ghost use Rattle.tlsf_store.specs.Records.{most_records, blank, blank_in, record_at, vacant_count, IsKept};
 
 use super::{Record, Slot, State};
 use std::alloc::{AllocError, Global};
@@ -31,7 +31,7 @@ impl Model for Table {
 impl Table {
     /// A table of `count` vacant records. It takes memory once.
     pub(crate) fn new(alloc: Global, count: u32) -> Result<Table, AllocError>
-        requires { count < 2 ^ 16 }
+        requires { count ≤ most_records }
         ensures { IfOk result (λ t. t ≡ replicate count blank) }
     {
         let mut items = Vec::with_capacity(alloc, count as usize)?;
@@ -50,7 +50,7 @@ impl Table {
     /// How many records there are.
     pub(crate) fn len(&self) -> u32
         ensures value { result ≡ length self.now }
-        ensures few { result < 2 ^ 16 }
+        ensures few { result ≤ most_records }
     {
         self.items.len() as u32
     }

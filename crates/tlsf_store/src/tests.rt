@@ -2,7 +2,7 @@
 
 use super::*;
 use std::process::Abort;
-use tlsf_class::Class;
+use tlsf_class::{Class, UNIT};
 
 /// Makes a record vacant of which the caller knows that it isn't.
 fn give(rt: &impl Abort, store: &mut Store, slot: Slot) {
@@ -29,7 +29,7 @@ fn write(
 ) {
     assert!(rt; u32::from(slot.0) < store.records());
     assert!(rt; store.read(slot).state != State::Vacant);
-    assert!(rt; place % 8 == 0 && size % 8 == 0 && state != State::Vacant);
+    assert!(rt; place % UNIT == 0 && size % UNIT == 0 && state != State::Vacant);
     if let Some(other) = link {
         assert!(rt; u32::from(other.0) < store.records());
     }
@@ -52,7 +52,7 @@ fn bad_counts(rt: HostRuntime) {
         Some(StoreError::BadCount)
     );
     assert_eq!(rt;
-        Store::create(rt.alloc(), 65_536).err(),
+        Store::create(rt.alloc(), MOST_RECORDS + 1).err(),
         Some(StoreError::BadCount)
     );
 }
@@ -68,13 +68,40 @@ fn refused_memory(rt: HostRuntime) {
     }
 }
 
+/// A new store of this many records has them all vacant, and each can be taken.
+fn takes_each(rt: &impl Abort, store: &mut Store, count: u32) {
+    assert_eq!(rt; store.records(), count);
+    assert_eq!(rt; store.vacant(), count);
+    for _record in 0..count {
+        assert!(rt; store.take_vacant().is_some());
+    }
+    assert_eq!(rt; store.vacant(), 0);
+    assert_eq!(rt; store.take_vacant(), None);
+}
+
+#[test]
+fn one_record(rt: HostRuntime) {
+    let Ok(mut store) = Store::create(rt.alloc(), 1) else {
+        panic!(rt; "no store");
+    };
+    takes_each(&rt, &mut store, 1);
+}
+
+#[test]
+fn thousand_records(rt: HostRuntime) {
+    let Ok(mut store) = Store::create(rt.alloc(), 1_000) else {
+        panic!(rt; "no store");
+    };
+    takes_each(&rt, &mut store, 1_000);
+}
+
 #[test]
 fn greatest_count(rt: HostRuntime) {
+    assert_eq!(rt; MOST_RECORDS, 65_535);
     let Ok(mut store) = Store::create(rt.alloc(), 65_535) else {
         panic!(rt; "no store");
     };
-    assert_eq!(rt; store.records(), 65_535);
-    assert_eq!(rt; store.vacant(), 65_535);
+    takes_each(&rt, &mut store, 65_535);
 }
 
 #[test]

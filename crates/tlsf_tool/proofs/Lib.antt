@@ -1,6 +1,7 @@
 mod LogRows
 mod Writing
 mod HeapSteps
+mod HeldEntries
 mod HistoryLemmas
 mod TextLemmas
 mod RunLemmas

@@ -4,7 +4,8 @@ use Rattle.std.specs.Prelude.{Result, Err, IsErrOf}
 use Rattle.std.specs.Io.KnownBytes.{prepend_known, IsAtEnd}
 use Rattle.std.proofs.lemmas.Grind.{flat_map-append}
 use Rattle.std.proofs.lemmas.List.{reverse-append, length-reverse}
-use Rattle.mtrace_log.specs.Progress.{Progress, Status, Reading, Ended, Faulted, to_come, TakesLine, GivesLine, FindsEnd, StopsReading, GivesFault}
+use Rattle.mtrace_log.specs.Progress.{Progress, Status, Reading, Ended, Faulted, to_come, TakesLine, GivesLine, FindsEnd, StopsReading, GivesFault, CallsFor}
+use Rattle.mtrace_log.specs.declared.call.Call.{Call}
 use Rattle.mtrace_log.specs.HasRead.{HasRead, HasReadAll, HasReadBefore, HasReadSo}
 use Rattle.mtrace_log.specs.declared.event.Event.{Event}
 use Rattle.mtrace_log.specs.declared.event.LineFault.{LineFault}
@@ -114,13 +115,12 @@ line_read Ended start before after lines answer taken read = inr read
 line_read (Faulted fault) start before after lines answer taken read = absurd taken
 
 -- the writer failed at a line's diagnostics
-pub underway_write : (settings : Settings) (old new : Progress) (replay_old replay_new : Replayed) (noted_old : Bool) (start before after taken_start taken_old taken_new : Bytes) (failures_old failures_new : ℕ) (line : Line)
+pub underway_write : (settings : Settings) (old new : Progress) (replay_old replay_new : Replayed) (noted_old : Bool) (start before after taken_start taken_old taken_new : Bytes) (line : Line)
     → (under : IsUnderWay settings old replay_old noted_old start before taken_start taken_old)
     → GivesLine old new (to_come old before) (to_come new after) line
     → LineBegins replay_old replay_new taken_old taken_new (history settings under.lines) (moment line.number line.event (history settings under.lines) replay_old.content)
-    → failures_new ≡ failures_old + 1
-    → StopsAtWrite settings start after taken_start taken_new failures_old failures_new
-underway_write settings old new replay_old replay_new noted_old start before after taken_start taken_old taken_new failures_old failures_new line under given begins failed =
+    → StopsAtWrite settings start after taken_start taken_new
+underway_write settings old new replay_old replay_new noted_old start before after taken_start taken_old taken_new line under given begins =
     let lines = under.lines ++ line.event ∷ [] in
     let is = moment_is settings old replay_old noted_old start before taken_start taken_old under line given.number in
     let now = next_moment settings under.lines line.event in
@@ -134,7 +134,6 @@ underway_write settings old new replay_old replay_new noted_old start before aft
     let R : List Moment → Type 0 = λ past. AreHeld replay_new.entries past in
     let held : AreHeld replay_new.entries (history settings lines) = subst R (sym whole) b.held in
     record {
-      failed = failed;
       lines = lines;
       unused = new.held;
       begun = elim (line_read new.status start (to_come old before) (to_come new after) lines line.event given.taken read) [
@@ -187,24 +186,24 @@ underway_end left settings old new replay noted start reader_old reader_new take
     }
 
 -- why the reading stopped
-stop_reason : (fault : ReadFault) (count : ℕ) (start before : Bytes) (held : List ℕ) (left : Bytes) (failures_old failures_new : ℕ) (lines : List (Result Event LineFault)) → count ≡ length lines
+stop_reason : (fault : ReadFault) (count : ℕ) (start before : Bytes) (held : List ℕ) (left : Bytes) (calls_start calls : List Call) (lines : List (Result Event LineFault)) → count ≡ length lines
     → HasRead start before lines → HasReadBefore start (prepend_known held left) lines → (fault ≡ ReaderFailed → held ≡ [])
-    → StopsReading fault count before (prepend_known held left) failures_old failures_new
-    → FailedInPiece start left lines failures_old failures_new ⊎ ((unused : List ℕ) × IsPastLastNumber start (prepend_known unused left) lines)
-stop_reason ReaderFailed count start before held left failures_old failures_new lines same read lost nothing stop =
+    → StopsReading fault count before (prepend_known held left) → CallsFor (Faulted fault) calls_start calls
+    → FailedInPiece start left calls_start calls lines ⊎ ((unused : List ℕ) × IsPastLastNumber start (prepend_known unused left) calls_start calls lines)
+stop_reason ReaderFailed count start before held left calls_start calls lines same read lost nothing stop came =
     let P : Bytes → Type 0 = λ text. HasReadBefore start text lines in
-    inl (subst P (ap (λ bytes. prepend_known bytes left) (nothing refl) ∙ prepend_nothing left) lost, stop.3)
-stop_reason TooManyLines count start before held left failures_old failures_new lines same read lost nothing stop =
+    inl (subst P (ap (λ bytes. prepend_known bytes left) (nothing refl) ∙ prepend_nothing left) lost, came)
+stop_reason TooManyLines count start before held left calls_start calls lines same read lost nothing stop came =
     let P : Bytes → Type 0 = λ text. HasRead start text lines in
-    inr (held, record { count = sym same ∙ stop.0; read = subst P stop.1 read; more = stop.2 })
+    inr (held, record { count = sym same ∙ stop.0; read = subst P stop.1 read; more = stop.2; given = came })
 
 -- the reader failed, or there are no numbers left
-pub underway_fault : {R : Type 0} (left : R → Bytes) (settings : Settings) (old new : Progress) (replay : Replayed) (noted : Bool) (start : Bytes) (reader_old reader_new : R) (taken_start taken : Bytes) (failures_old failures_new : ℕ) (fault : ReadFault)
+pub underway_fault : {R : Type 0} (left : R → Bytes) (settings : Settings) (old new : Progress) (replay : Replayed) (noted : Bool) (start : Bytes) (reader_old reader_new : R) (taken_start taken : Bytes) (calls_start calls : List Call) (fault : ReadFault)
     → IsUnderWay settings old replay noted start (left reader_old) taken_start taken
-    → GivesFault old.status fault old new reader_old reader_new (to_come old (left reader_old)) (to_come new (left reader_new)) failures_old failures_new
-    → (fault ≡ ReaderFailed → new.held ≡ [])
-    → StopsAtRead settings start (left reader_new) taken_start taken failures_old failures_new
-underway_fault {R} left settings old new replay noted start reader_old reader_new taken_start taken failures_old failures_new fault under given nothing =
+    → GivesFault old.status fault old new reader_old reader_new (to_come old (left reader_old)) (to_come new (left reader_new))
+    → (fault ≡ ReaderFailed → new.held ≡ []) → CallsFor (Faulted fault) calls_start calls
+    → StopsAtRead settings start (left reader_new) calls_start calls taken_start taken
+underway_fault {R} left settings old new replay noted start reader_old reader_new taken_start taken calls_start calls fault under given nothing came =
     record {
       lines = under.lines;
       reason = reason_by old.status refl under.read given;
@@ -212,13 +211,13 @@ underway_fault {R} left settings old new replay noted start reader_old reader_ne
     }
   where
     lost : HasReadBefore start (to_come new (left reader_new)) under.lines
-    lost = HasReadSo-fault left start old new reader_old reader_new failures_old failures_new fault under.lines under.read given
+    lost = HasReadSo-fault left start old new reader_old reader_new fault under.lines under.read given
 
     reason_by : (status : Status) → old.status ≡ status → HasReadSo status start (to_come old (left reader_old)) under.lines
-        → GivesFault status fault old new reader_old reader_new (to_come old (left reader_old)) (to_come new (left reader_new)) failures_old failures_new
-        → FailedInPiece start (left reader_new) under.lines failures_old failures_new ⊎ ((unused : List ℕ) × IsPastLastNumber start (prepend_known unused (left reader_new)) under.lines)
+        → GivesFault status fault old new reader_old reader_new (to_come old (left reader_old)) (to_come new (left reader_new))
+        → FailedInPiece start (left reader_new) calls_start calls under.lines ⊎ ((unused : List ℕ) × IsPastLastNumber start (prepend_known unused (left reader_new)) calls_start calls under.lines)
     reason_by Reading is read stop =
-        stop_reason fault old.count start (to_come old (left reader_old)) new.held (left reader_new) failures_old failures_new under.lines under.count read lost nothing stop.2
+        stop_reason fault old.count start (to_come old (left reader_old)) new.held (left reader_new) calls_start calls under.lines under.count read lost nothing stop.2 came
     reason_by Ended is read stop = absurd stop
     reason_by (Faulted first) is read stop = absurd (under.no_fault first is)
 
@@ -227,14 +226,13 @@ pub same_error : {E : Type 0} (T U : Type 0) (first second : E) → IsErrOf {T =
 same_error T U first second is = let same : first ≡ second = cc in ap Err same
 
 -- the writer failed at the report
-pub report_write : (settings : Settings) (replay : Replayed) (noted : Bool) (left_old left_new taken_old taken_middle taken_new : Bytes) (failures_old failures_middle failures_new : ℕ)
-    → HasReplayed settings replay noted left_old left_new taken_old taken_middle → failures_middle ≡ failures_old
-    → Begins taken_middle taken_new (leaks_report replay.entries) → failures_new ≡ failures_middle + 1
-    → StopsAtWrite settings left_old left_new taken_old taken_new failures_old failures_new
-report_write settings replay noted left_old left_new taken_old taken_middle taken_new failures_old failures_middle failures_new done same begins failed =
+pub report_write : (settings : Settings) (replay : Replayed) (noted : Bool) (left_old left_new taken_old taken_middle taken_new : Bytes)
+    → HasReplayed settings replay noted left_old left_new taken_old taken_middle
+    → Begins taken_middle taken_new (leaks_report replay.entries)
+    → StopsAtWrite settings left_old left_new taken_old taken_new
+report_write settings replay noted left_old left_new taken_old taken_middle taken_new done begins =
     let P : Bytes → Type 0 = λ after. HasReadAll left_old after done.lines in
     record {
-      failed = failed ∙ ap (λ n. n + 1) same;
       lines = done.lines;
       unused = [];
       begun = inr (record {

@@ -10,6 +10,7 @@ use Rattle.std.proofs.lemmas.Bool.Decides.{nat_tests}
 use Rattle.std.proofs.lemmas.Map.Keys.{sorted_head, sorted_tail}
 use Rattle.tlsf_tool.specs.declared.entry.Entry.{Entry}
 use Rattle.tlsf_tool.specs.History.{Moment, AreHeld}
+use Rattle.tlsf_tool.proofs.HeldEntries.{held_are_found}
 
 abbrev Held : Type 0
 Held = ℕ × Entry
@@ -76,4 +77,7 @@ same_entries (e ∷ es) (f ∷ fs) s t h = elim (cases_order e.0 f.0) [
 
 -- what is held is one list
 pub one_list : (past : List Moment) (one other : List Held) → AreHeld one past → AreHeld other past → one ≡ other
-one_list past one other is as_well = same_entries one other is.in_order as_well.in_order (λ q. is.each q ∙ sym (as_well.each q))
+one_list past one other is as_well =
+    let first = held_are_found one past is in
+    let second = held_are_found other past as_well in
+    same_entries one other first.in_order second.in_order (λ q. first.each q ∙ sym (second.each q))

@@ -1,9 +1,7 @@
 -- What the lines of a log come to, one after the other.
-use Rattle.std.specs.Prelude.{◌≡◌, ℕ, zero, suc, ◌*◌, List, [], ◌∷◌, ◌++◌, length, reverse, Option, Some, None, Result, Ok, Err, if◌then◌else◌, ◌==◌}
-use Rattle.std.specs.Map.{lookup, keys_of}
-use Rattle.std.specs.Ordering.{nat_cmp}
-use Rattle.std.specs.BTreeMap.{is_at}
-use Rattle.std.specs.List.Sorted.{IsStrictlySortedBy}
+use Rattle.std.specs.Prelude.{◌≡◌, ℕ, zero, suc, ◌*◌, List, [], ◌∷◌, ◌++◌, length, map, reverse, ◌↔◌, Option, Some, None, Result, Ok, Err, if◌then◌else◌, ◌==◌}
+use Rattle.std.specs.List.{Contains}
+use Rattle.std.specs.List.Sorted.{IsStrictlyIncreasing}
 use Rattle.mtrace_log.specs.declared.event.Event.{Event}
 use Rattle.mtrace_log.specs.declared.event.Event.TheVariants.{Start, End, Alloc}
 use Rattle.mtrace_log.specs.declared.event.LineFault.{LineFault}
@@ -100,7 +98,8 @@ abbrev pub notes : List Moment → List Diagnostic
 notes [] = []
 notes (moment ∷ past) = notes past ++ moment.notes
 
--- the entries of what is held, each once, in order of address
+-- the entries of what is held: the addresses rise, and an address and an entry stand in the list exactly
+-- where that is held
 pub record AreHeld (entries : List (ℕ × Entry)) (past : List Moment) : Type 0 where
-  pub in_order : IsStrictlySortedBy nat_cmp (keys_of entries)
-  pub each : (address : ℕ) → lookup (is_at (nat_cmp address)) entries ≡ held past address
+  pub in_order : IsStrictlyIncreasing (map (λ entry. entry.0) entries)
+  pub each : (address : ℕ) (entry : Entry) → Contains entries (address, entry) ↔ (held past address ≡ Some entry)

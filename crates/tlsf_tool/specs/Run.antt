@@ -1,8 +1,10 @@
 -- What a run read and wrote, by its answer.
-use Rattle.std.specs.Prelude.{◌≡◌, ◌⊎◌, ℕ, ◌+◌, Bool, true, false, List, [], ◌∷◌, ◌++◌, length, Option, Result}
+use Rattle.std.specs.Prelude.{◌≡◌, ◌⊎◌, ℕ, Bool, true, false, List, [], ◌∷◌, ◌++◌, length, Option, Result}
 use Rattle.std.specs.Io.KnownBytes.{prepend_known}
 use Rattle.mtrace_log.specs.HasRead.{HasRead, HasReadAll, HasReadBefore}
 use Rattle.mtrace_log.specs.Progress.{HasMore, greatest_number}
+use Rattle.mtrace_log.specs.Trace.{HasGiven, HasGivenAndFailed, HasNotFailed, HasFailedToWrite, FlushWasAsked}
+use Rattle.mtrace_log.specs.declared.call.Call.{Call}
 use Rattle.mtrace_log.specs.declared.event.Event.{Event}
 use Rattle.mtrace_log.specs.declared.event.LineFault.{LineFault}
 use Rattle.tlsf_tool.specs.declared.entry.Entry.{Entry}
@@ -30,11 +32,12 @@ pub record Reports (settings : Settings) (status : Status) (left_old left_new ta
   pub wrote : Wrote taken_old taken_new (leaks_text (history settings lines) entries)
   pub status_is : status ≡ status_of (notes (history settings lines)) entries
 
--- as many lines were read as there are numbers, and more is to come
-pub record IsPastLastNumber (left_old left_new : Bytes) (lines : List (Result Event LineFault)) : Type 0 where
+-- as many lines were read as there are numbers, more is to come, and the reader has not failed
+pub record IsPastLastNumber (left_old left_new : Bytes) (calls_old calls_new : List Call) (lines : List (Result Event LineFault)) : Type 0 where
   pub count : length lines ≡ greatest_number
   pub read : HasRead left_old left_new lines
   pub more : HasMore left_new
+  pub given : HasGiven calls_old calls_new
 
 -- all of the log was read, and a beginning of the leaks text was written
 pub record BeginsWhole (settings : Settings) (left_old left_new taken_old taken_new : Bytes) (lines : List (Result Event LineFault)) : Type 0 where
@@ -43,17 +46,17 @@ pub record BeginsWhole (settings : Settings) (left_old left_new taken_old taken_
   pub held : AreHeld entries (history settings lines)
   pub begun : Begins taken_old taken_new (leaks_text (history settings lines) entries)
 
--- the reader failed: whole lines were read, and perhaps a piece of the next one, which is lost
-abbrev pub FailedInPiece : (left_old left_new : Bytes) → List (Result Event LineFault) → (failures_old failures_new : ℕ) → Type 0
-FailedInPiece left_old left_new lines failures_old failures_new = HasReadBefore left_old left_new lines × (failures_new ≡ failures_old + 1)
+-- the reader failed, once and last: whole lines were read, and perhaps a piece of the next one, which is lost
+abbrev pub FailedInPiece : (left_old left_new : Bytes) (calls_old calls_new : List Call) → List (Result Event LineFault) → Type 0
+FailedInPiece left_old left_new calls_old calls_new lines = HasReadBefore left_old left_new lines × HasGivenAndFailed calls_old calls_new
 
 -- The reader failed, or a line past the last number would come; then unused are the bytes that were asked
 -- of the reader and belong to no line that was read. The diagnostics of the lines read were written, and
 -- no report.
-pub record StopsAtRead (settings : Settings) (left_old left_new taken_old taken_new : Bytes) (failures_old failures_new : ℕ) : Type 0 where
+pub record StopsAtRead (settings : Settings) (left_old left_new : Bytes) (calls_old calls_new : List Call) (taken_old taken_new : Bytes) : Type 0 where
   pub lines : List (Result Event LineFault)
-  pub reason : FailedInPiece left_old left_new lines failures_old failures_new
-      ⊎ ((unused : List ℕ) × IsPastLastNumber left_old (prepend_known unused left_new) lines)
+  pub reason : FailedInPiece left_old left_new calls_old calls_new lines
+      ⊎ ((unused : List ℕ) × IsPastLastNumber left_old (prepend_known unused left_new) calls_old calls_new lines)
   pub wrote : Wrote taken_old taken_new (text_of_notes settings lines)
 
 -- a beginning of the diagnostics of the lines read, or of the whole text where the log had ended
@@ -64,8 +67,7 @@ BeginsText settings left_old left_new taken_old taken_new lines =
 
 -- The writer failed, after a beginning of what was to be written. Unused are the bytes that were asked of
 -- the reader and belong to no line that was read.
-pub record StopsAtWrite (settings : Settings) (left_old left_new taken_old taken_new : Bytes) (failures_old failures_new : ℕ) : Type 0 where
-  pub failed : failures_new ≡ failures_old + 1
+pub record StopsAtWrite (settings : Settings) (left_old left_new taken_old taken_new : Bytes) : Type 0 where
   pub lines : List (Result Event LineFault)
   pub unused : List ℕ
   pub begun : BeginsText settings left_old (prepend_known unused left_new) taken_old taken_new lines
@@ -78,10 +80,23 @@ pub record StopsAtLine (settings : Settings) (left_old left_new taken_old taken_
   pub read : HasRead left_old (prepend_known unused left_new) (lines ++ last ∷ []) ⊎ HasReadAll left_old (prepend_known unused left_new) (lines ++ last ∷ [])
   pub wrote : Wrote taken_old taken_new (text_of_notes settings lines)
 
--- memory was refused at the start, and nothing was read or written, or at a line
-abbrev pub StopsForMemory : {R W : Type 0} → (left : R → Bytes) (taken : W → Bytes) → Settings → (reader_old reader_new : R) (writer_old writer_new : W) → Type 0
-StopsForMemory left taken settings reader_old reader_new writer_old writer_new =
-    ((reader_new ≡ reader_old) × (writer_new ≡ writer_old)) ⊎ StopsAtLine settings (left reader_old) (left reader_new) (taken writer_old) (taken writer_new)
+-- memory was refused at the start, and nothing was read or written, or at a line, and then one flush was asked
+abbrev pub StopsForMemory : {R W : Type 0} → (left : R → Bytes) (taken : W → Bytes) (puts : W → List Call) → Settings → (reader_old reader_new : R) (writer_old writer_new : W) → Type 0
+StopsForMemory left taken puts settings reader_old reader_new writer_old writer_new =
+    ((reader_new ≡ reader_old) × (writer_new ≡ writer_old))
+    ⊎ (StopsAtLine settings (left reader_old) (left reader_new) (taken writer_old) (taken writer_new) × FlushWasAsked (puts writer_old) (puts writer_new))
+
+-- what a run that answers a read fault leaves
+abbrev pub FailsToRead : {R W : Type 0} → (left : R → Bytes) (pulls : R → List Call) (taken : W → Bytes) (puts : W → List Call) → Settings → (reader_old reader_new : R) (writer_old writer_new : W) → Type 0
+FailsToRead left pulls taken puts settings reader_old reader_new writer_old writer_new =
+    StopsAtRead settings (left reader_old) (left reader_new) (pulls reader_old) (pulls reader_new) (taken writer_old) (taken writer_new)
+    × FlushWasAsked (puts writer_old) (puts writer_new)
+
+-- what a run that answers a write fault leaves
+abbrev pub FailsToWrite : {R W : Type 0} → (left : R → Bytes) (pulls : R → List Call) (taken : W → Bytes) (puts : W → List Call) → Settings → (reader_old reader_new : R) (writer_old writer_new : W) → Type 0
+FailsToWrite left pulls taken puts settings reader_old reader_new writer_old writer_new =
+    StopsAtWrite settings (left reader_old) (left reader_new) (taken writer_old) (taken writer_new)
+    × HasNotFailed (pulls reader_old) (pulls reader_new) × HasFailedToWrite (puts writer_old) (puts writer_new)
 
 -- whether there is a diagnostic
 abbrev pub is_some_note : List Diagnostic → Bool

@@ -2,11 +2,7 @@
 use Rattle.std.specs.Prelude.{ℕ, ◌*◌, ◌%◌, Bool, not, ◌||◌, ◌==◌, nat_lt}
 use Rattle.tlsf_class.specs.Classes.{unit, greatest_size}
 use Rattle.tlsf_tool.specs.declared.settings.Settings.{Settings}
-use Rattle.tlsf_heap.specs.Pools.{most_pools, end_of_places}
-
--- at most so many records
-abbrev pub most_records : ℕ
-most_records = 65535
+use Rattle.tlsf_heap.specs.Pools.{most_pools, most_records, end_of_places}
 
 -- pool isn't a whole number of units from one to the greatest size, pools isn't 1 to 8, records isn't 1
 -- to 65535 or is below pools, or the pools end above the last place

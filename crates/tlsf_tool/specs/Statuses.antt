@@ -23,9 +23,19 @@ status_of_run_fault OutOfMemory = 4
 status_of_run_fault BadSettings = 2
 
 abbrev pub status_of_fault : ToolFault → ℕ
-status_of_fault Usage = 2
+status_of_fault (Usage text) = 2
 status_of_fault (CannotOpen log) = 3
 status_of_fault (Run fault) = status_of_run_fault fault
+
+-- what may be asked for
+abbrev pub usage_text : List ℕ
+usage_text = codes "tlsf: usage: tlsf leaks LOG"
+
+-- the words ask for nothing that there is, and the fault says what may be asked for
+abbrev pub IsUsage : ToolFault → Type 0
+IsUsage (Usage text) = string_bytes text ≡ usage_text
+IsUsage (CannotOpen log) = ⊥
+IsUsage (Run fault) = ⊥
 
 -- the settings where none are given
 abbrev pub default_settings : Settings

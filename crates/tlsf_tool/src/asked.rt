@@ -1,8 +1,9 @@
-ghost use Rattle.std.specs.Prelude.{◌≡◌};
-ghost use Rattle.tlsf_tool.specs.Statuses.{status_of_fault};
+ghost use Rattle.std.specs.Prelude.{◌≡◌, ◌⊎◌};
+ghost use Rattle.tlsf_tool.specs.Statuses.{status_of_fault, IsUsage};
 
 use crate::settings::Settings;
 use crate::status::RunFault;
+use std::alloc::Global;
 use thiserror::Error;
 
 /// The reports.
@@ -29,9 +30,9 @@ pub enum Command {
 /// Why the program doesn't end with a report.
 #[derive(Debug, Drop, Error)]
 pub enum ToolFault {
-    /// The words ask for nothing that there is.
-    #[error("tlsf: usage: tlsf leaks LOG")]
-    Usage,
+    /// The words ask for nothing that there is; the text says what may be asked for.
+    #[error("{0}")]
+    Usage(String),
     /// The log of this name can't be opened.
     #[error("tlsf: cannot open {0}")]
     CannotOpen(String),
@@ -40,13 +41,27 @@ pub enum ToolFault {
     Run(RunFault),
 }
 
+/// What may be asked for.
+const USAGE: &str = "tlsf: usage: tlsf leaks LOG";
+
 impl ToolFault {
+    /// The fault of words that ask for nothing that there is, or `Run` of `OutOfMemory` where memory is
+    /// refused for its text.
+    pub fn usage(alloc: Global) -> ToolFault
+        ensures { IsUsage result ⊎ (result ≡ ToolFault.Run RunFault.OutOfMemory) }
+    {
+        match String::from_str(alloc, USAGE) {
+            Ok(text) => ToolFault::Usage(text),
+            Err(_) => ToolFault::Run(RunFault::OutOfMemory),
+        }
+    }
+
     /// The status that the program ends with: 2 for words or settings, 3 for files, 4 for memory.
     pub fn status(&self) -> u8
         ensures { result ≡ status_of_fault self.now }
     {
         match self {
-            ToolFault::Usage => 2,
+            ToolFault::Usage(_) => 2,
             ToolFault::CannotOpen(_) => 3,
             ToolFault::Run(fault) => fault.status(),
         }

@@ -10,7 +10,7 @@ use crate::diagnostic::{Diagnostic, Kind};
 use crate::entry::Entry;
 use arrayvec::ArrayVec;
 use itoa::Buffer;
-use mtrace_log::{Addr, Location};
+use mtrace_log::{Addr, LONGEST_ADDRESS, LONGEST_LOCATION, Location};
 use tlsf_heap::Refusal;
 
 /// No line of the output is longer, in bytes with its newline.
@@ -39,9 +39,9 @@ fn push_number(text: &mut LineText, number: u128)
 }
 
 fn push_address(text: &mut LineText, address: Addr)
-    requires { array_vec_len text.old + 18 ≤ LONGEST_TEXT }
+    requires { array_vec_len text.old + LONGEST_ADDRESS ≤ LONGEST_TEXT }
     ensures bytes { text.new.items ≡ text.old.items ++ address_text address }
-    ensures len { array_vec_len text.new ≤ array_vec_len text.old + 18 }
+    ensures len { array_vec_len text.new ≤ array_vec_len text.old + LONGEST_ADDRESS }
 {
     let spelled = address.text();
     push_bytes(text, spelled.as_slice());
@@ -104,7 +104,7 @@ pub fn note_text(note: &Diagnostic) -> LineText
 fn push_location(text: &mut LineText, at: &Option<Location>)
     requires { array_vec_len text.old ≤ 130 }
     ensures bytes { text.new.items ≡ text.old.items ++ text_of_location at.now }
-    ensures len { array_vec_len text.new ≤ array_vec_len text.old + 259 }
+    ensures len { array_vec_len text.new ≤ array_vec_len text.old + 4 + LONGEST_LOCATION }
 {
     if let Some(location) = at {
         push_bytes(text, b" at ");

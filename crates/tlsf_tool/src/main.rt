@@ -36,7 +36,7 @@ fn asked_words(rt: &HostRuntime) -> Result<Vec<String>, ToolFault> {
         Err(fault) if fault.kind() == io::ErrorKind::OutOfMemory => {
             Err(ToolFault::Run(RunFault::OutOfMemory))
         }
-        Err(_) => Err(ToolFault::Usage),
+        Err(_) => Err(ToolFault::usage(rt.alloc())),
     }
 }
 

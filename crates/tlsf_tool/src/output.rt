@@ -1,6 +1,7 @@
 //! Bytes are put to a writer.
 
-ghost use Rattle.std.specs.Prelude.{◌≡◌, ◌+◌, OnOk, OnErr};
+ghost use Rattle.std.specs.Prelude.{OnOk, OnErr};
+ghost use Rattle.mtrace_log.specs.Trace.{HasTaken, HasTakenAndFailed};
 ghost use Rattle.tlsf_tool.specs.Output.{Wrote, Begins};
 
 use mtrace_log::{Failed, Sink};
@@ -12,9 +13,9 @@ use mtrace_log::{Failed, Sink};
 /// `Failed` where the writer failed, or took no byte of some: then a beginning of the bytes is put.
 pub fn put_all<W: Sink>(writer: &mut W, bytes: &[u8]) -> Result<(), Failed>
     ensures all { OnOk result (Wrote (W.taken writer.old) (W.taken writer.new) bytes.now) }
-    ensures no_failure { OnOk result (W.failures writer.new ≡ W.failures writer.old) }
+    ensures took { OnOk result (HasTaken (W.trace writer.old) (W.trace writer.new)) }
     ensures beginning { OnErr result (Begins (W.taken writer.old) (W.taken writer.new) bytes.now) }
-    ensures failure { OnErr result (W.failures writer.new ≡ W.failures writer.old + 1) }
+    ensures failed { OnErr result (HasTakenAndFailed (W.trace writer.old) (W.trace writer.new)) }
 {
     let mut rest = bytes;
     while !rest.is_empty() {

@@ -1,6 +1,7 @@
 //! The report of leaks.
 
 ghost use Rattle.std.specs.Prelude.{◌≡◌, ◌+◌, ◌<◌, ◌^◌, OnOk, OnErr, flat_map, ◌≢◌, []};
+ghost use Rattle.mtrace_log.specs.Trace.{HasTaken, HasTakenAndFailed};
 ghost use Rattle.tlsf_tool.specs.Output.{Wrote, Begins};
 ghost use Rattle.tlsf_tool.specs.Texts.{entry_text as text_of_entry, total_size as size_of_all, leaks_report};
 
@@ -25,9 +26,9 @@ fn total_size(held: &BTreeMap<Addr, Entry>) -> u128
 /// Puts a line for each block that is held, in order of address.
 fn put_entries<W: Sink>(writer: &mut W, held: &BTreeMap<Addr, Entry>) -> Result<(), Failed>
     ensures all { OnOk result (Wrote (W.taken writer.old) (W.taken writer.new) (flat_map text_of_entry held.now.entries)) }
-    ensures no_failure { OnOk result (W.failures writer.new ≡ W.failures writer.old) }
+    ensures took { OnOk result (HasTaken (W.trace writer.old) (W.trace writer.new)) }
     ensures beginning { OnErr result (Begins (W.taken writer.old) (W.taken writer.new) (flat_map text_of_entry held.now.entries)) }
-    ensures failure { OnErr result (W.failures writer.new ≡ W.failures writer.old + 1) }
+    ensures failed { OnErr result (HasTakenAndFailed (W.trace writer.old) (W.trace writer.new)) }
 {
     for (address, entry) in held {
         put_all(writer, entry_text(*address, entry).as_slice())?;
@@ -39,9 +40,9 @@ fn put_entries<W: Sink>(writer: &mut W, held: &BTreeMap<Addr, Entry>) -> Result<
 fn put_held<W: Sink>(writer: &mut W, held: &BTreeMap<Addr, Entry>) -> Result<(), Failed>
     requires { held.now.entries ≢ [] }
     ensures all { OnOk result (Wrote (W.taken writer.old) (W.taken writer.new) (leaks_report held.now.entries)) }
-    ensures no_failure { OnOk result (W.failures writer.new ≡ W.failures writer.old) }
+    ensures took { OnOk result (HasTaken (W.trace writer.old) (W.trace writer.new)) }
     ensures beginning { OnErr result (Begins (W.taken writer.old) (W.taken writer.new) (leaks_report held.now.entries)) }
-    ensures failure { OnErr result (W.failures writer.new ≡ W.failures writer.old + 1) }
+    ensures failed { OnErr result (HasTakenAndFailed (W.trace writer.old) (W.trace writer.new)) }
 {
     put_all(writer, b"Memory not freed:\n")?;
     put_entries(writer, held)?;
@@ -57,9 +58,9 @@ fn put_held<W: Sink>(writer: &mut W, held: &BTreeMap<Addr, Entry>) -> Result<(),
 /// `Failed` where the writer failed, or took no byte of some: then a beginning of the report is put.
 pub fn put_report<W: Sink>(writer: &mut W, held: &BTreeMap<Addr, Entry>) -> Result<(), Failed>
     ensures all { OnOk result (Wrote (W.taken writer.old) (W.taken writer.new) (leaks_report held.now.entries)) }
-    ensures no_failure { OnOk result (W.failures writer.new ≡ W.failures writer.old) }
+    ensures took { OnOk result (HasTaken (W.trace writer.old) (W.trace writer.new)) }
     ensures beginning { OnErr result (Begins (W.taken writer.old) (W.taken writer.new) (leaks_report held.now.entries)) }
-    ensures failure { OnErr result (W.failures writer.new ≡ W.failures writer.old + 1) }
+    ensures failed { OnErr result (HasTakenAndFailed (W.trace writer.old) (W.trace writer.new)) }
 {
     if held.is_empty() {
         put_all(writer, b"No memory leaks.\n")

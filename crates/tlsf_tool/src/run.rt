@@ -1,6 +1,7 @@
 //! The run that writes the leaks of a log.
 
-ghost use Rattle.std.specs.Prelude.{◌≡◌, ◌≢◌, ◌+◌, ◌↔◌, List, IsTrue, IfOk, IfErr, OnOk, OnErr, IsErrOf, Ok, Err, [], ◌||◌, if◌then◌else◌, option_to_list};
+ghost use Rattle.std.specs.Prelude.{◌≡◌, ◌≢◌, ◌↔◌, List, IsTrue, IfOk, IfErr, OnOk, OnErr, IsErrOf, Ok, Err, [], ◌||◌, if◌then◌else◌, option_to_list};
+ghost use Rattle.mtrace_log.specs.Trace.{HasGivenAll, HasNotFailed, HasTaken, HasTakenAndFlushed, HasTakenAndFailed, HasFailedToWrite, FlushWasAsked};
 ghost use Rattle.tlsf_tool.specs.Settings.{are_bad};
 ghost use Rattle.tlsf_tool.specs.Output.{Wrote, Begins};
 ghost use Rattle.tlsf_tool.specs.Texts.{notes_text, leaks_report};
@@ -22,9 +23,9 @@ use tlsf_heap::{Heap, Heaped};
 /// Puts the line of a diagnostic, where there is one.
 fn put_note<W: Sink>(writer: &mut W, note: &Option<Diagnostic>) -> Result<(), Failed>
     ensures all { OnOk result (Wrote (W.taken writer.old) (W.taken writer.new) (notes_text (option_to_list note.now))) }
-    ensures no_failure { OnOk result (W.failures writer.new ≡ W.failures writer.old) }
+    ensures took { OnOk result (HasTaken (W.trace writer.old) (W.trace writer.new)) }
     ensures beginning { OnErr result (Begins (W.taken writer.old) (W.taken writer.new) (notes_text (option_to_list note.now))) }
-    ensures failure { OnErr result (W.failures writer.new ≡ W.failures writer.old + 1) }
+    ensures failed { OnErr result (HasTakenAndFailed (W.trace writer.old) (W.trace writer.new)) }
 {
     match note {
         Some(diagnostic) => put_all(writer, note_text(diagnostic).as_slice()),
@@ -41,11 +42,11 @@ fn replay_line<H: Heaped, W: Sink>(
 ) -> Result<bool, RunFault>
     ensures done { IfOk result (λ noted. (before : List Moment) → AreHeld replay.old.entries before
         → LineGives replay.old replay.new (W.taken writer.old) (W.taken writer.new) noted before (moment line.number line.event before replay.old.content)) }
-    ensures no_failure { OnOk result (W.failures writer.new ≡ W.failures writer.old) }
-    ensures write { IsErrOf result RunFault.Write → (W.failures writer.new ≡ W.failures writer.old + 1)
-        × ((before : List Moment) → AreHeld replay.old.entries before
-        → LineBegins replay.old replay.new (W.taken writer.old) (W.taken writer.new) before (moment line.number line.event before replay.old.content)) }
-    ensures memory { IsErrOf result RunFault.OutOfMemory → W.taken writer.new ≡ W.taken writer.old }
+    ensures took { result ≢ Err RunFault.Write → HasTaken (W.trace writer.old) (W.trace writer.new) }
+    ensures write { IsErrOf result RunFault.Write → (before : List Moment) → AreHeld replay.old.entries before
+        → LineBegins replay.old replay.new (W.taken writer.old) (W.taken writer.new) before (moment line.number line.event before replay.old.content) }
+    ensures failed { IsErrOf result RunFault.Write → HasTakenAndFailed (W.trace writer.old) (W.trace writer.new) }
+    ensures memory { IsErrOf result RunFault.OutOfMemory → writer.new ≡ writer.old }
     ensures no_read { result ≢ Err RunFault.Read }
     ensures no_settings { result ≢ Err RunFault.BadSettings }
 {
@@ -68,12 +69,14 @@ fn replay_lines<H: Heaped, R: Source, W: Sink>(
 ) -> Result<bool, RunFault>
     ensures done { IfOk result (λ noted. (settings : Settings) → StandsFor replay.old (started settings) []
         → HasReplayed settings replay.new noted (R.left reader.old) (R.left reader.new) (W.taken writer.old) (W.taken writer.new)) }
-    ensures reader_no_failure { result ≢ Err RunFault.Read → R.failures reader.new ≡ R.failures reader.old }
-    ensures writer_no_failure { OnOk result (W.failures writer.new ≡ W.failures writer.old) }
+    ensures reader_ended { OnOk result (HasGivenAll (R.trace reader.old) (R.trace reader.new)) }
+    ensures reader_not_failed { result ≢ Err RunFault.Read → HasNotFailed (R.trace reader.old) (R.trace reader.new) }
+    ensures writer_took { result ≢ Err RunFault.Write → HasTaken (W.trace writer.old) (W.trace writer.new) }
+    ensures writer_failed { IsErrOf result RunFault.Write → HasTakenAndFailed (W.trace writer.old) (W.trace writer.new) }
     ensures read { IsErrOf result RunFault.Read → (settings : Settings) → StandsFor replay.old (started settings) []
-        → StopsAtRead settings (R.left reader.old) (R.left reader.new) (W.taken writer.old) (W.taken writer.new) (R.failures reader.old) (R.failures reader.new) }
+        → StopsAtRead settings (R.left reader.old) (R.left reader.new) (R.trace reader.old) (R.trace reader.new) (W.taken writer.old) (W.taken writer.new) }
     ensures write { IsErrOf result RunFault.Write → (settings : Settings) → StandsFor replay.old (started settings) []
-        → StopsAtWrite settings (R.left reader.old) (R.left reader.new) (W.taken writer.old) (W.taken writer.new) (W.failures writer.old) (W.failures writer.new) }
+        → StopsAtWrite settings (R.left reader.old) (R.left reader.new) (W.taken writer.old) (W.taken writer.new) }
     ensures memory { IsErrOf result RunFault.OutOfMemory → (settings : Settings) → StandsFor replay.old (started settings) []
         → StopsAtLine settings (R.left reader.old) (R.left reader.new) (W.taken writer.old) (W.taken writer.new) }
     ensures no_settings { result ≢ Err RunFault.BadSettings }
@@ -101,9 +104,9 @@ fn finish<H: Heaped, W: Sink>(
 ) -> Result<Status, RunFault>
     ensures all { OnOk result (Wrote (W.taken writer.old) (W.taken writer.new) (leaks_report replay.now.entries)) }
     ensures status { IfOk result (λ status. status ≡ (if noted || is_some_entry replay.now.entries then Status.Found else Status.Clean)) }
-    ensures no_failure { OnOk result (W.failures writer.new ≡ W.failures writer.old) }
+    ensures flushed { OnOk result (HasTakenAndFlushed (W.trace writer.old) (W.trace writer.new)) }
     ensures beginning { OnErr result (Begins (W.taken writer.old) (W.taken writer.new) (leaks_report replay.now.entries)) }
-    ensures failure { OnErr result (W.failures writer.new ≡ W.failures writer.old + 1) }
+    ensures failed { OnErr result (HasFailedToWrite (W.trace writer.old) (W.trace writer.new)) }
     ensures only_write { IfErr result (λ fault. fault ≡ RunFault.Write) }
 {
     if put_report(writer, replay.held()).is_err() {
@@ -117,6 +120,14 @@ fn finish<H: Heaped, W: Sink>(
     } else {
         Ok(Status::Clean)
     }
+}
+
+/// Asks the writer to flush; it doesn't matter what comes of it.
+fn ask_flush<W: Sink>(writer: &mut W)
+    ensures kept { W.taken writer.new ≡ W.taken writer.old }
+    ensures asked { FlushWasAsked (W.trace writer.old) (W.trace writer.new) }
+{
+    let _ = writer.flush();
 }
 
 /// Reads a log of mtrace(3), replays it on a heap by the settings, and writes what is wrong with its
@@ -140,16 +151,19 @@ pub fn run_leaks<R: Source, W: Sink>(
 ) -> Result<Status, RunFault>
     // All of the log was read, what was written is its leaks text, and the status is that text's.
     ensures finished { IfOk result (λ status. Reports settings status (R.left reader.old) (R.left reader.new) (W.taken writer.old) (W.taken writer.new)) }
-    ensures reader_no_failure { result ≢ Err RunFault.Read → R.failures reader.new ≡ R.failures reader.old }
-    ensures writer_no_failure { OnOk result (W.failures writer.new ≡ W.failures writer.old) }
+    ensures reader_ended { OnOk result (HasGivenAll (R.trace reader.old) (R.trace reader.new)) }
+    ensures writer_flushed { OnOk result (HasTakenAndFlushed (W.trace writer.old) (W.trace writer.new)) }
 
     // What a fault leaves.
     ensures read_fault { IsErrOf result RunFault.Read
-        → StopsAtRead settings (R.left reader.old) (R.left reader.new) (W.taken writer.old) (W.taken writer.new) (R.failures reader.old) (R.failures reader.new) }
+        → StopsAtRead settings (R.left reader.old) (R.left reader.new) (R.trace reader.old) (R.trace reader.new) (W.taken writer.old) (W.taken writer.new) }
+    ensures flush_asked { IsErrOf result RunFault.Read → FlushWasAsked (W.trace writer.old) (W.trace writer.new) }
     ensures write_fault { IsErrOf result RunFault.Write
-        → StopsAtWrite settings (R.left reader.old) (R.left reader.new) (W.taken writer.old) (W.taken writer.new) (W.failures writer.old) (W.failures writer.new) }
+        → StopsAtWrite settings (R.left reader.old) (R.left reader.new) (W.taken writer.old) (W.taken writer.new) }
+    ensures writer_failed { IsErrOf result RunFault.Write → HasFailedToWrite (W.trace writer.old) (W.trace writer.new) }
     ensures no_memory { IsErrOf result RunFault.OutOfMemory
-        → StopsForMemory R.left W.taken settings reader.old reader.new writer.old writer.new }
+        → StopsForMemory R.left W.taken W.trace settings reader.old reader.new writer.old writer.new }
+    ensures reader_not_failed { result ≢ Err RunFault.Read → HasNotFailed (R.trace reader.old) (R.trace reader.new) }
 
     // Bad settings come exactly where they are bad, and then nothing is done.
     ensures bad_settings { IsErrOf result RunFault.BadSettings ↔ IsTrue (are_bad settings) }
@@ -165,7 +179,7 @@ pub fn run_leaks<R: Source, W: Sink>(
         Ok(noted) => finish(writer, &replay, noted),
         Err(RunFault::Write) => Err(RunFault::Write),
         Err(fault) => {
-            let _ = writer.flush();
+            ask_flush(writer);
             Err(fault)
         }
     }

@@ -2,7 +2,8 @@
 
 ghost use Rattle.std.specs.Prelude.{◌≡◌, ◌⊎◌, ◌↔◌, ◌≤◌, IsTrue};
 ghost use Rattle.tlsf_tool.specs.Settings.{are_bad};
-ghost use Rattle.tlsf_tool.specs.Run.{Reports, StopsAtRead, StopsAtWrite, StopsForMemory};
+ghost use Rattle.mtrace_log.specs.Trace.{HasGivenAll, HasNotFailed, HasTakenAndFlushed};
+ghost use Rattle.tlsf_tool.specs.Run.{Reports, FailsToRead, FailsToWrite, StopsForMemory};
 ghost use Rattle.tlsf_tool.specs.declared.status.Status.TheVariants.{Clean, Found};
 
 use crate::asked::{Name, ToolFault};
@@ -39,14 +40,16 @@ pub fn serve<R: Source, W: Sink, E: Sink>(
 ) -> u8
     ensures clean { result ≡ 0 → Reports settings Clean (R.left reader.old) (R.left reader.new) (W.taken writer.old) (W.taken writer.new) }
     ensures found { result ≡ 1 → Reports settings Found (R.left reader.old) (R.left reader.new) (W.taken writer.old) (W.taken writer.new) }
-    ensures no_failure { result ≤ 1 → (R.failures reader.new ≡ R.failures reader.old) × (W.failures writer.new ≡ W.failures writer.old) }
+    ensures reader_ended { result ≤ 1 → HasGivenAll (R.trace reader.old) (R.trace reader.new) }
+    ensures writer_flushed { result ≤ 1 → HasTakenAndFlushed (W.trace writer.old) (W.trace writer.new) }
     ensures no_errors { result ≤ 1 → errors.new ≡ errors.old }
     ensures bad_settings { result ≡ 2 ↔ IsTrue (are_bad settings) }
     ensures nothing_done { result ≡ 2 → (reader.new ≡ reader.old) × (writer.new ≡ writer.old) }
     ensures failed { result ≡ 3
-        → StopsAtRead settings (R.left reader.old) (R.left reader.new) (W.taken writer.old) (W.taken writer.new) (R.failures reader.old) (R.failures reader.new)
-        ⊎ StopsAtWrite settings (R.left reader.old) (R.left reader.new) (W.taken writer.old) (W.taken writer.new) (W.failures writer.old) (W.failures writer.new) }
-    ensures memory { result ≡ 4 → StopsForMemory R.left W.taken settings reader.old reader.new writer.old writer.new }
+        → FailsToRead R.left R.trace W.taken W.trace settings reader.old reader.new writer.old writer.new
+        ⊎ FailsToWrite R.left R.trace W.taken W.trace settings reader.old reader.new writer.old writer.new }
+    ensures memory { result ≡ 4 → StopsForMemory R.left W.taken W.trace settings reader.old reader.new writer.old writer.new }
+    ensures reader_not_failed { result ≡ 4 → HasNotFailed (R.trace reader.old) (R.trace reader.new) }
     ensures known { result ≤ 4 }
 {
     let answer = match name {

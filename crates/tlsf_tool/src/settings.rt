@@ -1,20 +1,13 @@
 ghost use Rattle.std.specs.Prelude.{◌≡◌};
 ghost use Rattle.tlsf_tool.specs.Settings.{are_bad};
 
-/// The greatest number of bytes of a pool.
-const GREATEST_POOL: u64 = (1 << 30) - UNIT;
+use tlsf_class::GREATEST_SIZE;
+use tlsf_heap::{END_OF_PLACES, MOST_POOLS, MOST_RECORDS};
 
-/// Places and sizes are multiples of it, in bytes.
-const UNIT: u64 = 8;
+/// The unit, and the greatest size of a pool, in bytes.
+const UNIT: u64 = tlsf_class::UNIT as u64;
 
-/// Where the last place ends, in bytes.
-const END_OF_PLACES: u64 = 1 << 32;
-
-/// At most so many pools.
-const MOST_POOLS: u32 = 8;
-
-/// At most so many records.
-const MOST_RECORDS: u32 = 65_535;
+const GREATEST_POOL: u64 = GREATEST_SIZE as u64;
 
 /// The heap that a log is replayed on: so many pools of `pool` bytes each, one behind the other from
 /// place 0 on, and so many records, one for each block.
@@ -46,7 +39,7 @@ impl Settings {
             || self.pool < UNIT
             || self.pool > GREATEST_POOL
             || self.pools < 1
-            || self.pools > MOST_POOLS
+            || self.pools as usize > MOST_POOLS
             || self.records < 1
             || self.records > MOST_RECORDS
             || self.records < self.pools

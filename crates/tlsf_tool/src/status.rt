@@ -29,16 +29,16 @@ impl Status {
 pub enum RunFault {
     /// The reader failed, or the log has more lines than there are numbers.
     #[error("read failed")]
-    Read,
+    Read = 1,
     /// The writer failed.
     #[error("write failed")]
-    Write,
+    Write = 2,
     /// Memory was refused.
     #[error("out of memory")]
-    OutOfMemory,
+    OutOfMemory = 3,
     /// No heap can be made by the settings.
     #[error("bad settings")]
-    BadSettings,
+    BadSettings = 4,
 }
 
 impl RunFault {

@@ -1,7 +1,7 @@
 //! The words of the command line.
 
-ghost use Rattle.std.specs.Prelude.{◌≡◌, ◌≢◌, ◌↔◌, ℕ, List, IfOk, IfErr, IsErrOf};
-ghost use Rattle.tlsf_tool.specs.Statuses.{AskFor, AskLeaks};
+ghost use Rattle.std.specs.Prelude.{◌≡◌, ◌⊎◌, ℕ, List, IfOk, IfErr};
+ghost use Rattle.tlsf_tool.specs.Statuses.{AskFor, AskLeaks, IsUsage};
 
 use crate::asked::{Command, Name, ToolFault};
 use crate::settings::Settings;
@@ -13,17 +13,17 @@ use std::alloc::Global;
 ///
 /// # Errors
 ///
-/// `Usage` for any other words; `Run` of `OutOfMemory` where memory is refused.
+/// `Usage` with its text for any other words; `Run` of `OutOfMemory` where memory is refused.
 pub fn command(alloc: Global, words: &[String]) -> Result<Command, ToolFault>
     ensures asked { IfOk result (λ command. AskFor words.now command) }
-    ensures usage { IsErrOf result ToolFault.Usage → (log : List ℕ) → AskLeaks words.now log → ⊥ }
-    ensures memory { IfErr result (λ fault. fault ≢ ToolFault.Usage → fault ≡ ToolFault.Run RunFault.OutOfMemory) }
+    ensures faults { IfErr result (λ fault. IsUsage fault ⊎ (fault ≡ ToolFault.Run RunFault.OutOfMemory)) }
+    ensures usage { IfErr result (λ fault. IsUsage fault → (log : List ℕ) → AskLeaks words.now log → ⊥) }
 {
     let [_, name, log] = words else {
-        return Err(ToolFault::Usage);
+        return Err(ToolFault::usage(alloc));
     };
     if name.as_str() != "leaks" {
-        return Err(ToolFault::Usage);
+        return Err(ToolFault::usage(alloc));
     }
     match log.clone() {
         Ok(log) => Ok(Command::Report {

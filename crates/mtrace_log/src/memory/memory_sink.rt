@@ -1,10 +1,12 @@
-ghost use Rattle.std.specs.Prelude.{◌≡◌, [], ℕ, ◌+◌, ◌<◌, ◌≤◌, ◌↔◌, ◌++◌, List, length, take, true, false, Some, IfOk, OnOk, OnErr, IsErr, IsTrue};
-ghost use Rattle.mtrace_log.specs.Memory.{sink_taken, sink_piece, sink_room, sink_full, sink_count, flush_fails, failed_puts};
+ghost use Rattle.std.specs.Prelude.{◌≡◌, [], ℕ, ◌+◌, ◌<◌, ◌≤◌, ◌↔◌, ◌++◌, ◌∷◌, List, length, take, true, false, Some, IfOk, OnErr, IsErr, IsTrue};
+ghost use Rattle.mtrace_log.specs.Memory.{sink_taken, sink_piece, sink_room, sink_full, sink_count, flush_fails, sink_trace};
+ghost use Rattle.mtrace_log.specs.Trace.{offered, flushed};
 ghost use Rattle.mtrace_log.specs.declared.memory.memory_sink.Full.TheVariants.{Fails};
 
+use crate::call::Call;
 use crate::failed::Failed;
-use crate::failures::Failures;
 use crate::sink::Sink;
+use crate::trace::Trace;
 use std::alloc::Global;
 
 /// What a full writer answers.
@@ -24,7 +26,7 @@ pub struct MemorySink {
     room: usize,
     full: Full,
     flush_fails: bool,
-    failures: Failures,
+    trace: Trace,
 }
 
 impl MemorySink {
@@ -35,7 +37,7 @@ impl MemorySink {
         ensures piece { sink_piece result ≡ piece }
         ensures room { sink_room result ≡ usize.MAX }
         ensures flush { flush_fails result ≡ false }
-        ensures failures { failed_puts result ≡ 0 }
+        ensures trace { sink_trace result ≡ [] }
     {
         MemorySink::with_room(alloc, piece, usize::MAX, Full::Fails)
     }
@@ -47,7 +49,7 @@ impl MemorySink {
         ensures room { sink_room result ≡ room }
         ensures full { sink_full result ≡ full }
         ensures flush { flush_fails result ≡ false }
-        ensures failures { failed_puts result ≡ 0 }
+        ensures trace { sink_trace result ≡ [] }
     {
         MemorySink {
             bytes: Vec::new(alloc),
@@ -55,7 +57,7 @@ impl MemorySink {
             room,
             full,
             flush_fails: false,
-            failures: Failures::new(),
+            trace: Trace::new(),
         }
     }
 
@@ -66,7 +68,7 @@ impl MemorySink {
         ensures room { sink_room result ≡ sink_room self }
         ensures full { sink_full result ≡ sink_full self }
         ensures flush { flush_fails result ≡ true }
-        ensures failures { failed_puts result ≡ failed_puts self }
+        ensures trace { sink_trace result ≡ sink_trace self }
     {
         let MemorySink {
             bytes,
@@ -74,7 +76,7 @@ impl MemorySink {
             room,
             full,
             flush_fails: _,
-            failures,
+            trace,
         } = self;
         MemorySink {
             bytes,
@@ -82,7 +84,7 @@ impl MemorySink {
             room,
             full,
             flush_fails: true,
-            failures,
+            trace,
         }
     }
 
@@ -97,7 +99,7 @@ impl MemorySink {
 impl Sink for MemorySink {
     ghost taken = { λ sink. Some (sink_taken sink) };
 
-    ghost failures = { failed_puts };
+    ghost trace = { sink_trace };
 
     /// Takes as many bytes as a piece has and as there is room for.
     ///
@@ -116,15 +118,11 @@ impl Sink for MemorySink {
         ensures piece { sink_piece self.new ≡ sink_piece self.old }
         ensures kept_full { sink_full self.new ≡ sink_full self.old }
         ensures flush { flush_fails self.new ≡ flush_fails self.old }
-        ensures some_taken { IfOk result (λ n. 0 < n → failed_puts self.new ≡ failed_puts self.old) }
-        ensures none_asked { IfOk result (λ n. length bytes.now ≡ 0 → failed_puts self.new ≡ failed_puts self.old) }
-        ensures none_taken { IfOk result (λ n. n ≡ 0 → 0 < length bytes.now
-            → failed_puts self.new ≡ failed_puts self.old + 1) }
-        ensures failure { OnErr result (failed_puts self.new ≡ failed_puts self.old + 1) }
+        ensures told { sink_trace self.new ≡ offered (length bytes.now) result ∷ sink_trace self.old }
     {
         let count = bytes.len().min(self.room).min(self.piece);
         if count == 0 && !bytes.is_empty() {
-            self.failures.rise();
+            self.trace.add(Call::Failed);
             return match self.full {
                 Full::Fails => Err(Failed),
                 Full::TakesNone => Ok(0),
@@ -133,10 +131,11 @@ impl Sink for MemorySink {
         match self.bytes.extend_from_slice(&bytes[..count]) {
             Ok(()) => {
                 self.room -= count;
+                self.trace.add(Call::Took(count));
                 Ok(count)
             }
             Err(_) => {
-                self.failures.rise();
+                self.trace.add(Call::Failed);
                 Err(Failed)
             }
         }
@@ -154,13 +153,13 @@ impl Sink for MemorySink {
         ensures piece { sink_piece self.new ≡ sink_piece self.old }
         ensures kept_full { sink_full self.new ≡ sink_full self.old }
         ensures flush { flush_fails self.new ≡ flush_fails self.old }
-        ensures no_failure { OnOk result (failed_puts self.new ≡ failed_puts self.old) }
-        ensures failure { OnErr result (failed_puts self.new ≡ failed_puts self.old + 1) }
+        ensures told { sink_trace self.new ≡ flushed result ∷ sink_trace self.old }
     {
         if self.flush_fails {
-            self.failures.rise();
+            self.trace.add(Call::FlushFailed);
             return Err(Failed);
         }
+        self.trace.add(Call::Flushed);
         Ok(())
     }
 }

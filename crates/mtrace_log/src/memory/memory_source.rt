@@ -1,9 +1,11 @@
-ghost use Rattle.std.specs.Prelude.{◌≡◌, ℕ, ◌+◌, ◌<◌, ◌≤◌, ◌↔◌, List, length, take, Some, None, IfOk, OnOk, OnErr, IsErr};
+ghost use Rattle.std.specs.Prelude.{◌≡◌, ℕ, ◌<◌, ◌≤◌, ◌↔◌, List, [], ◌∷◌, length, take, Some, None, IfOk, OnErr, IsErr};
 ghost use Rattle.std.specs.Io.KnownBytes.{prepend_known, IsAtEnd};
+ghost use Rattle.mtrace_log.specs.Trace.{pulled};
 
+use crate::call::Call;
 use crate::failed::Failed;
-use crate::failures::Failures;
 use crate::source::Source;
+use crate::trace::Trace;
 
 /// A reader over bytes in memory.
 #[derive(Drop)]
@@ -11,12 +13,12 @@ pub struct MemorySource<'a> {
     rest: &'a [u8],
     piece: usize,
     calls_before_failure: Option<u64>,
-    failures: Failures,
+    trace: Trace,
     ghost some_piece: { 0 < piece },
 }
 
 impl<'a> MemorySource<'a> {
-    ghost use Rattle.mtrace_log.specs.Memory.{source_left, source_piece, calls_before_failure, failed_pulls};
+    ghost use Rattle.mtrace_log.specs.Memory.{source_left, source_piece, calls_before_failure, source_trace};
 
     /// A reader that gives these bytes in pieces of at most `piece` bytes, and doesn't fail.
     pub fn in_pieces(bytes: &'a [u8], piece: usize) -> Self
@@ -24,13 +26,13 @@ impl<'a> MemorySource<'a> {
         ensures left { source_left result ≡ bytes.now }
         ensures piece { source_piece result ≡ piece }
         ensures calls { calls_before_failure result ≡ None }
-        ensures failures { failed_pulls result ≡ 0 }
+        ensures trace { source_trace result ≡ [] }
     {
         MemorySource {
             rest: bytes,
             piece,
             calls_before_failure: None,
-            failures: Failures::new(),
+            trace: Trace::new(),
         }
     }
 
@@ -41,7 +43,7 @@ impl<'a> MemorySource<'a> {
         ensures left { source_left result ≡ bytes.now }
         ensures piece { source_piece result ≡ piece }
         ensures calls { calls_before_failure result ≡ Some calls }
-        ensures failures { failed_pulls result ≡ 0 }
+        ensures trace { source_trace result ≡ [] }
     {
         let mut source = MemorySource::in_pieces(bytes, piece);
         source.calls_before_failure = Some(calls);
@@ -50,11 +52,11 @@ impl<'a> MemorySource<'a> {
 }
 
 impl Source for MemorySource<'_> {
-    ghost use Rattle.mtrace_log.specs.Memory.{source_left, known_left, source_piece, source_count, calls_before_failure, one_call_less, failed_pulls};
+    ghost use Rattle.mtrace_log.specs.Memory.{source_left, known_left, source_piece, source_count, calls_before_failure, one_call_less, source_trace};
 
     ghost left = { known_left };
 
-    ghost failures = { failed_pulls };
+    ghost trace = { source_trace };
 
     ghost budget = { λ source. length (source_left source) };
 
@@ -75,13 +77,12 @@ impl Source for MemorySource<'_> {
         ensures fails { IsErr result ↔ (calls_before_failure self.old ≡ Some 0) }
         ensures calls { calls_before_failure self.new ≡ one_call_less (calls_before_failure self.old) }
         ensures piece { source_piece self.new ≡ source_piece self.old }
-        ensures no_failure { OnOk result (failed_pulls self.new ≡ failed_pulls self.old) }
-        ensures failure { OnErr result (failed_pulls self.new ≡ failed_pulls self.old + 1) }
+        ensures told { source_trace self.new ≡ pulled result ∷ source_trace self.old }
     {
         if let Some(calls) = self.calls_before_failure {
             if calls == 0 {
                 self.calls_before_failure = None;
-                self.failures.rise();
+                self.trace.add(Call::Failed);
                 return Err(Failed);
             }
             self.calls_before_failure = Some(calls - 1);
@@ -90,6 +91,8 @@ impl Source for MemorySource<'_> {
         let (front, back) = self.rest.split_at(count);
         buf[..count].copy_from_slice(front);
         self.rest = back;
-        Ok(count)
+        let answer = Ok(count);
+        self.trace.add(Call::pulled(&answer));
+        answer
     }
 }

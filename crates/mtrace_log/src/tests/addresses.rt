@@ -1,4 +1,4 @@
-use crate::{Addr, Location};
+use crate::{Addr, LONGEST_LOCATION, Location};
 
 #[test]
 fn spells_addresses(rt: HostRuntime) {
@@ -19,13 +19,13 @@ fn spells_addresses(rt: HostRuntime) {
 
 #[test]
 fn bounds_locations(rt: HostRuntime) {
-    let bytes = [b'a'; 256];
+    let bytes = [b'a'; LONGEST_LOCATION + 1];
     assert!(rt; Location::new(&bytes).is_none());
     assert!(rt; Location::new(b"").is_none());
     assert!(rt; Location::new(b"a b").is_none());
     assert!(rt; Location::new(b"a\x7F").is_none());
-    let place = Location::new(&bytes[..255]).expect(&rt, "a location");
-    assert!(rt; place.bytes() == &bytes[..255]);
+    let place = Location::new(&bytes[..LONGEST_LOCATION]).expect(&rt, "a location");
+    assert!(rt; place.bytes() == &bytes[..LONGEST_LOCATION]);
     let high = Location::new(b"\xC3\xA9!").expect(&rt, "a location");
     assert!(rt; high.bytes() == b"\xC3\xA9!".as_slice());
 }

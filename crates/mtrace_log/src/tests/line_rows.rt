@@ -1,4 +1,4 @@
-use crate::{Event, LineFault, read_line};
+use crate::{Event, LONGEST_LINE, LONGEST_LOCATION, LineFault, read_line};
 use std::process::Abort;
 
 // What a line says of an allocation: its place, its address and its size.
@@ -94,12 +94,12 @@ fn long_line(line: &mut Vec<u8>, count: usize, rt: &impl Abort) {
 #[test]
 fn reads_the_longest_line(rt: HostRuntime) {
     let mut longest = Vec::new(rt.alloc());
-    long_line(&mut longest, 255, &rt);
+    long_line(&mut longest, LONGEST_LOCATION, &rt);
     let mut place = Vec::new(rt.alloc());
-    for _ in 0..255 {
+    for _ in 0..LONGEST_LOCATION {
         place.push(b'a').expect(&rt, "memory");
     }
-    assert_eq!(rt; longest.len(), 297);
+    assert_eq!(rt; longest.len(), LONGEST_LINE);
     expect_alloc(
         &rt,
         longest.as_slice(),
@@ -109,7 +109,7 @@ fn reads_the_longest_line(rt: HostRuntime) {
     );
 
     let mut longer = Vec::new(rt.alloc());
-    long_line(&mut longer, 256, &rt);
-    assert_eq!(rt; longer.len(), 298);
+    long_line(&mut longer, LONGEST_LOCATION + 1, &rt);
+    assert_eq!(rt; longer.len(), LONGEST_LINE + 1);
     assert!(rt; read_line(longer.as_slice()) == Err(LineFault::TooLong));
 }

@@ -2,6 +2,7 @@
 
 ghost use Rattle.std.specs.Prelude.{◌≡◌, ◌+◌, ◌<◌, ◌≤◌, ◌^◌, ◌==◌, length, map, find};
 ghost use Rattle.std.specs.List.{list_all, list_any};
+ghost use Rattle.tlsf_store.specs.Cells.{most_pools};
 ghost use Rattle.tlsf_heap.specs.Content.{blocks_of, is_at, size_at as size_of_block_at};
 ghost use Rattle.tlsf_heap.specs.Pools.{end_of_places, is_apart as apart};
 ghost use Rattle.tlsf_heap.specs.Counted.{range_of};
@@ -9,8 +10,8 @@ ghost use Rattle.tlsf_heap.specs.PlainHeap.{pool_place};
 
 use super::block::Block;
 use super::pool::Pool;
-use crate::entries::MOST_POOLS;
 use arrayvec::ArrayVec;
+use tlsf_store::MOST_POOLS;
 
 /// How many blocks the pools have.
 pub fn block_count(pools: &[Pool]) -> usize
@@ -48,7 +49,7 @@ pub fn size_at(pools: &[Pool], place: u32) -> u32
 
 /// Where the pools begin and how many bytes they have.
 pub fn ranges(pools: &[Pool]) -> ArrayVec<(u64, u64), MOST_POOLS>
-    requires { length pools.now ≤ 8 }
+    requires { length pools.now ≤ most_pools }
     ensures { result.items ≡ map range_of pools.now }
 {
     let mut ranges = ArrayVec::new();

@@ -4,7 +4,7 @@ ghost use Rattle.std.specs.Prelude.{IfSome};
 ghost use Rattle.tlsf_heap.specs.PlainHeap.{stands};
 
 use super::PlainHeap;
-use crate::{Cursor, Ptr, Refusal, Row};
+use crate::{Cursor, Heaped, Ptr, Refusal, Row};
 use std::process::Abort;
 use tlsf_store::StoreError;
 
@@ -50,12 +50,6 @@ fn has_rows(heap: &mut PlainHeap, live: u32, size: u32, free: u32, left: u32) ->
 }
 
 #[test]
-fn bad_counts(rt: HostRuntime) {
-    assert!(rt; PlainHeap::create(rt.alloc(), 0).err() == Some(StoreError::BadCount));
-    assert!(rt; PlainHeap::create(rt.alloc(), 65_536).err() == Some(StoreError::BadCount));
-}
-
-#[test]
 fn first_split(rt: HostRuntime) {
     let mut heap = PlainHeap::create(rt.alloc(), 4).expect(&rt, "a heap");
     assert_eq!(rt; heap.add_pool(0, 1024), Ok(()));
@@ -66,14 +60,18 @@ fn first_split(rt: HostRuntime) {
 }
 
 #[test]
-fn least_slots(rt: HostRuntime) {
+fn slots_of_live_blocks(rt: HostRuntime) {
     let mut heap = PlainHeap::create(rt.alloc(), 4).expect(&rt, "a heap");
     assert_eq!(rt; heap.add_pool(0, 1024), Ok(()));
-    assert_eq!(rt; heap.malloc(8), Ok(Ptr::new(0, 0)));
-    assert_eq!(rt; heap.malloc(8), Ok(Ptr::new(8, 1)));
-    assert_eq!(rt; heap.free(Ptr::new(0, 1)), Err(Refusal::BadPointer));
-    assert_eq!(rt; heap.free(Ptr::new(0, 0)), Ok(()));
-    assert_eq!(rt; heap.malloc(8), Ok(Ptr::new(0, 0)));
+    let first = heap.malloc(8).expect(&rt, "a block");
+    let second = heap.malloc(8).expect(&rt, "a block");
+    assert_eq!(rt; (first.place(), second.place()), (0, 8));
+    assert_ne!(rt; first.slot(), second.slot());
+    let stale = Ptr::new(first.place(), second.slot());
+    assert_eq!(rt; heap.free(stale), Err(Refusal::BadPointer));
+    assert_eq!(rt; heap.free(first), Ok(()));
+    assert_eq!(rt; heap.free(first), Err(Refusal::BadPointer));
+    assert_eq!(rt; heap.malloc(8).map(|ptr| ptr.place()), Ok(0));
 }
 
 /// Each call is made again where memory was refused. With one refusal the second call is served, on the
@@ -91,14 +89,16 @@ fn refused_memory(rt: HostRuntime) {
         assert!(rt; has_pools(&mut heap, &[]));
         assert_eq!(rt; heap.add_pool(0, 1024), Ok(()));
     }
-    if heap.malloc(100) == Err(Refusal::OutOfMemory) {
+    let mut given = heap.malloc(100);
+    if given == Err(Refusal::OutOfMemory) {
         assert!(rt; has_row(&mut heap, 0, 1024, false));
-        assert_eq!(rt; heap.malloc(100), Ok(Ptr::new(0, 0)));
+        given = heap.malloc(100);
     }
+    let ptr = given.expect(&rt, "a block");
     assert!(rt; has_rows(&mut heap, 0, 104, 104, 920));
-    if heap.free(Ptr::new(0, 0)) == Err(Refusal::OutOfMemory) {
+    if heap.free(ptr) == Err(Refusal::OutOfMemory) {
         assert!(rt; has_rows(&mut heap, 0, 104, 104, 920));
-        assert_eq!(rt; heap.free(Ptr::new(0, 0)), Ok(()));
+        assert_eq!(rt; heap.free(ptr), Ok(()));
     }
     assert!(rt; has_row(&mut heap, 0, 1024, false));
 }

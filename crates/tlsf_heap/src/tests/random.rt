@@ -4,11 +4,24 @@ use crate::*;
 use std::alloc::{AllocError, Global};
 use tlsf_class::{CLASSES, Class, low};
 
-/// Where the pools begin and how many bytes they have. Two of them touch.
-const POOLS: [(u64, u64); 3] = [(0, 4096), (4096, 1024), (8192, 520)];
+/// A heap of so many records, and where its pools begin and how many bytes they have.
+#[derive(Clone, Copy)]
+struct Setup {
+    records: u32,
+    pools: [(u64, u64); 3],
+}
 
-/// So few records that the table is often full.
-const RECORDS: u32 = 24;
+/// So few records that the table is often full. Two of the pools touch.
+const SMALL: Setup = Setup {
+    records: 24,
+    pools: [(0, 4096), (4096, 1024), (8192, 520)],
+};
+
+/// More records than a byte has numbers.
+const LARGE: Setup = Setup {
+    records: 400,
+    pools: [(0, 131_072), (131_072, 32_768), (163_840, 8_200)],
+};
 
 /// How many runs there are, and how many requests each has.
 const RUNS: u32 = 200;
@@ -40,42 +53,58 @@ struct Given {
     plain: Ptr,
 }
 
-/// How often each kind of answer came.
+/// How often each kind of answer came, and the highest slot that each heap gave.
 #[derive(Clone, Copy)]
 struct Tally {
     done: u32,
     given: u32,
     no_fit: u32,
     table_full: u32,
+    tlsf_slot: u16,
+    plain_slot: u16,
 }
 
 impl Tally {
     /// The tally with this answer counted.
-    fn with(self, answer: &Answer) -> Tally {
+    fn with(&self, answer: &Answer) -> Tally {
         match answer {
             Answer::Done => Tally {
                 done: self.done.saturating_add(1),
-                ..self
+                ..*self
             },
             Answer::Given(_) => Tally {
                 given: self.given.saturating_add(1),
-                ..self
+                ..*self
             },
             Answer::Refused(Refusal::NoFit) => Tally {
                 no_fit: self.no_fit.saturating_add(1),
-                ..self
+                ..*self
             },
             Answer::Refused(Refusal::TableFull) => Tally {
                 table_full: self.table_full.saturating_add(1),
-                ..self
+                ..*self
             },
-            _ => self,
+            _ => *self,
+        }
+    }
+
+    /// The tally with the slots of what both heaps gave.
+    fn with_slots(&self, given: &Given) -> Tally {
+        Tally {
+            tlsf_slot: self.tlsf_slot.max(given.tlsf.slot()),
+            plain_slot: self.plain_slot.max(given.plain.slot()),
+            ..*self
         }
     }
 
     /// Whether each kind came often.
     fn is_varied(self) -> bool {
         self.done >= 500 && self.given >= 500 && self.no_fit >= 100 && self.table_full >= 100
+    }
+
+    /// Whether blocks were given and freed often, and both heaps gave slots above the numbers of a byte.
+    fn has_high_slots(self) -> bool {
+        self.done >= 500 && self.given >= 500 && self.tlsf_slot > 255 && self.plain_slot > 255
     }
 }
 
@@ -138,6 +167,7 @@ fn same_answers(
     for (one, other) in tlsf.iter().zip(plain.iter()) {
         *tally = tally.with(one);
         if let Some(given) = given_by_both(one, other) {
+            *tally = tally.with_slots(&given);
             live.push(given)?;
         } else if *one != *other {
             return Ok(false);
@@ -147,14 +177,14 @@ fn same_answers(
 }
 
 /// Whether the pool at a base has the same rows in both heaps.
-fn same_rows<A: Heaped, B: Heaped>(tlsf: &mut A, plain: &mut B, base: u64) -> bool {
+fn same_rows<A: Heaped, B: Heaped>(tlsf: &mut A, plain: &mut B, base: u64, records: u32) -> bool {
     let Ok(mut one) = tlsf.first(base) else {
         return false;
     };
     let Ok(mut other) = plain.first(base) else {
         return false;
     };
-    for _row in 0..=RECORDS {
+    for _row in 0..=records {
         match (tlsf.row(one), plain.row(other)) {
             (Some((row, next)), Some((same, behind))) => {
                 if row != same {
@@ -171,9 +201,9 @@ fn same_rows<A: Heaped, B: Heaped>(tlsf: &mut A, plain: &mut B, base: u64) -> bo
 }
 
 /// Whether all pools have the same rows in both heaps.
-fn same_pools(tlsf: &mut Heap, plain: &mut PlainHeap) -> bool {
-    for (base, _bytes) in POOLS {
-        if !same_rows(tlsf, plain, base) {
+fn same_pools(setup: Setup, tlsf: &mut Heap, plain: &mut PlainHeap) -> bool {
+    for (base, _bytes) in setup.pools {
+        if !same_rows(tlsf, plain, base, setup.records) {
             return false;
         }
     }
@@ -199,6 +229,7 @@ fn requests(
 /// Makes one run over both heaps. Whether they answered the same, and the number after the run.
 fn same_run(
     alloc: Global,
+    setup: Setup,
     from: u64,
     live: &mut Vec<Given>,
     tally: &mut Tally,
@@ -213,42 +244,58 @@ fn same_run(
         return Err(AllocError);
     };
     let same = same_answers(&answers, &others, live, tally)?;
-    Ok((same && same_pools(tlsf, plain), number))
+    Ok((same && same_pools(setup, tlsf, plain), number))
 }
 
-/// Makes all runs over both heaps, from a fixed number. Whether all of them were the same, and each kind
-/// of answer came often.
-fn same_runs(alloc: Global) -> Result<bool, AllocError> {
-    let Ok(mut tlsf) = Heap::create(alloc, RECORDS) else {
+/// Both heaps of a setup, if they take its pools.
+fn both_heaps(alloc: Global, setup: Setup) -> Result<(Heap, PlainHeap), AllocError> {
+    let Ok(mut tlsf) = Heap::create(alloc, setup.records) else {
         return Err(AllocError);
     };
-    let Ok(mut plain) = PlainHeap::create(alloc, RECORDS) else {
+    let Ok(mut plain) = PlainHeap::create(alloc, setup.records) else {
         return Err(AllocError);
     };
-    for (base, bytes) in POOLS {
+    for (base, bytes) in setup.pools {
         if tlsf.add_pool(base, bytes) != Ok(()) || plain.add_pool(base, bytes) != Ok(()) {
-            return Ok(false);
+            return Err(AllocError);
         }
     }
+    Ok((tlsf, plain))
+}
+
+/// Makes all runs over both heaps, from a fixed number. The tally, where all of them were the same.
+fn same_runs(alloc: Global, setup: Setup) -> Result<Option<Tally>, AllocError> {
+    let (mut tlsf, mut plain) = both_heaps(alloc, setup)?;
     let mut live = Vec::new(alloc);
     let mut tally = Tally {
         done: 0,
         given: 0,
         no_fit: 0,
         table_full: 0,
+        tlsf_slot: 0,
+        plain_slot: 0,
     };
     let mut number = 88_172_645_463_325_252;
     for _run in 0..RUNS {
-        let (same, next) = same_run(alloc, number, &mut live, &mut tally, &mut tlsf, &mut plain)?;
+        let (same, next) = same_run(
+            alloc, setup, number, &mut live, &mut tally, &mut tlsf, &mut plain,
+        )?;
         if !same {
-            return Ok(false);
+            return Ok(None);
         }
         number = next;
     }
-    Ok(tally.is_varied())
+    Ok(Some(tally))
 }
 
 #[test]
 fn random_runs_over_both(rt: HostRuntime) {
-    assert_eq!(rt; same_runs(rt.alloc()), Ok(true));
+    let tally = same_runs(rt.alloc(), SMALL).expect(&rt, "memory");
+    assert!(rt; tally.is_some_and(|tally| tally.is_varied()));
+}
+
+#[test]
+fn random_runs_to_high_slots(rt: HostRuntime) {
+    let tally = same_runs(rt.alloc(), LARGE).expect(&rt, "memory");
+    assert!(rt; tally.is_some_and(|tally| tally.has_high_slots()));
 }

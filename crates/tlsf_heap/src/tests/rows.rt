@@ -36,13 +36,16 @@ impl Seen {
     }
 }
 
-/// A heap of so many records, what is asked of it with what it answers, and the rows of the pool at 0
-/// in the end: place, size, and whether it is live.
+/// A block of a pool: its place, its size, and whether it is live.
+type Block = (u32, u32, bool);
+
+/// A heap of so many records, what is asked of it with what it answers, and the rows of its pools in the
+/// end, each under its base.
 #[derive(Clone, Copy)]
 struct Case<'a> {
     records: u32,
     steps: &'a [(Ask, Seen)],
-    rows: &'a [(u32, u32, bool)],
+    pools: &'a [(u64, &'a [Block])],
 }
 
 /// The pointer that was given last at a place.
@@ -59,7 +62,7 @@ fn given_at(given: &Vec<Ptr>, place: u32) -> Ptr {
 /// The request, where these pointers were given.
 fn request(ask: Ask, given: &Vec<Ptr>) -> Request {
     match ask {
-        Ask::Pool(base, bytes) => Request::AddPool { base, bytes },
+        Ask::Pool(base, bytes) => Request::AddPool(base, bytes),
         Ask::Malloc(n) => Request::Malloc(n),
         Ask::Free(place) => Request::Free(given_at(given, place)),
         Ask::FreeOf(ptr) => Request::Free(ptr),
@@ -67,7 +70,7 @@ fn request(ask: Ask, given: &Vec<Ptr>) -> Request {
 }
 
 /// Whether these are the rows of the pool at a base.
-fn has_rows<H: Heaped>(heap: &mut H, base: u64, wanted: &[(u32, u32, bool)]) -> bool {
+fn has_rows<H: Heaped>(heap: &mut H, base: u64, wanted: &[Block]) -> bool {
     let Ok(mut cursor) = heap.first(base) else {
         return false;
     };
@@ -114,7 +117,12 @@ fn holds<H: Heaped>(alloc: Global, case: &Case) -> Result<bool, StoreError> {
             return Ok(false);
         }
     }
-    Ok(has_rows(&mut heap, 0, case.rows))
+    for (base, rows) in case.pools {
+        if !has_rows(&mut heap, *base, rows) {
+            return Ok(false);
+        }
+    }
+    Ok(heap.pools().len() == case.pools.len())
 }
 
 /// Whether both heaps do.
@@ -130,7 +138,7 @@ fn first_split_and_reuse(rt: HostRuntime) {
             (Ask::Pool(0, 1024), Seen::Done),
             (Ask::Malloc(100), Seen::At(0)),
         ],
-        rows: &[(0, 104, true), (104, 920, false)],
+        pools: &[(0, &[(0, 104, true), (104, 920, false)])],
     };
     let reuse_without_split = Case {
         records: 4,
@@ -141,7 +149,7 @@ fn first_split_and_reuse(rt: HostRuntime) {
             (Ask::Free(0), Seen::Done),
             (Ask::Malloc(100), Seen::At(0)),
         ],
-        rows: &[(0, 104, true), (104, 8, true), (112, 912, false)],
+        pools: &[(0, &[(0, 104, true), (104, 8, true), (112, 912, false)])],
     };
     let merge_both_sides = Case {
         records: 4,
@@ -152,7 +160,7 @@ fn first_split_and_reuse(rt: HostRuntime) {
             (Ask::Free(0), Seen::Done),
             (Ask::Free(104), Seen::Done),
         ],
-        rows: &[(0, 1024, false)],
+        pools: &[(0, &[(0, 1024, false)])],
     };
     let double_free = Case {
         records: 4,
@@ -162,7 +170,7 @@ fn first_split_and_reuse(rt: HostRuntime) {
             (Ask::Free(0), Seen::Done),
             (Ask::Free(0), Seen::Refused(Refusal::BadPointer)),
         ],
-        rows: &[(0, 1024, false)],
+        pools: &[(0, &[(0, 1024, false)])],
     };
     assert!(rt; both_hold(rt.alloc(), &first_split));
     assert!(rt; both_hold(rt.alloc(), &reuse_without_split));
@@ -179,7 +187,7 @@ fn blocks_chosen(rt: HostRuntime) {
             (Ask::Malloc(520), Seen::Refused(Refusal::NoFit)),
             (Ask::Malloc(512), Seen::At(0)),
         ],
-        rows: &[(0, 512, true), (512, 8, false)],
+        pools: &[(0, &[(0, 512, true), (512, 8, false)])],
     };
     let greatest_class = Case {
         records: 2,
@@ -188,7 +196,10 @@ fn blocks_chosen(rt: HostRuntime) {
             (Ask::Malloc(1_056_964_609), Seen::Refused(Refusal::NoFit)),
             (Ask::Malloc(1_056_964_608), Seen::At(0)),
         ],
-        rows: &[(0, 1_056_964_608, true), (1_056_964_608, 16_777_208, false)],
+        pools: &[(
+            0,
+            &[(0, 1_056_964_608, true), (1_056_964_608, 16_777_208, false)],
+        )],
     };
     assert!(rt; both_hold(rt.alloc(), &lower_class_not_taken));
     assert!(rt; both_hold(rt.alloc(), &greatest_class));
@@ -214,16 +225,19 @@ fn newest_freed_first(rt: HostRuntime) {
             (Ask::Malloc(8), Seen::At(0)),
             (Ask::Malloc(8), Seen::Refused(Refusal::NoFit)),
         ],
-        rows: &[
-            (0, 8, true),
-            (8, 8, true),
-            (16, 8, true),
-            (24, 8, true),
-            (32, 8, true),
-            (40, 8, true),
-            (48, 8, true),
-            (56, 8, true),
-        ],
+        pools: &[(
+            0,
+            &[
+                (0, 8, true),
+                (8, 8, true),
+                (16, 8, true),
+                (24, 8, true),
+                (32, 8, true),
+                (40, 8, true),
+                (48, 8, true),
+                (56, 8, true),
+            ],
+        )],
     };
     assert!(rt; both_hold(rt.alloc(), &newest_freed_first));
 }
@@ -236,7 +250,7 @@ fn full_table(rt: HostRuntime) {
             (Ask::Pool(0, 64), Seen::Done),
             (Ask::Malloc(8), Seen::Refused(Refusal::TableFull)),
         ],
-        rows: &[(0, 64, false)],
+        pools: &[(0, &[(0, 64, false)])],
     };
     let whole = Case {
         records: 1,
@@ -245,7 +259,7 @@ fn full_table(rt: HostRuntime) {
             (Ask::Malloc(8), Seen::Refused(Refusal::TableFull)),
             (Ask::Malloc(64), Seen::At(0)),
         ],
-        rows: &[(0, 64, true)],
+        pools: &[(0, &[(0, 64, true)])],
     };
     assert!(rt; both_hold(rt.alloc(), &full));
     assert!(rt; both_hold(rt.alloc(), &whole));
@@ -263,7 +277,7 @@ fn pools_never_merged(rt: HostRuntime) {
             (Ask::Malloc(128), Seen::Refused(Refusal::NoFit)),
             (Ask::Malloc(0), Seen::Refused(Refusal::ZeroSize)),
         ],
-        rows: &[(0, 64, false)],
+        pools: &[(0, &[(0, 64, false)]), (64, &[(64, 64, false)])],
     };
     assert!(rt; both_hold(rt.alloc(), &pools_never_merged));
 }
@@ -284,7 +298,7 @@ fn run_of_requests(rt: HostRuntime) {
             (Ask::Malloc(2000), Seen::Refused(Refusal::NoFit)),
             (Ask::Malloc(912), Seen::At(112)),
         ],
-        rows: &[(0, 104, true), (104, 8, true), (112, 912, true)],
+        pools: &[(0, &[(0, 104, true), (104, 8, true), (112, 912, true)])],
     };
     assert!(rt; both_hold(rt.alloc(), &run_of_requests));
 }
@@ -296,10 +310,7 @@ fn runs_at_once<H: Heaped>(alloc: Global) -> Result<bool, StoreError> {
         alloc,
         &mut heap,
         &[
-            Request::AddPool {
-                base: 0,
-                bytes: 1024,
-            },
+            Request::AddPool(0, 1024),
             Request::Malloc(100),
             Request::Malloc(0),
             Request::Malloc(1),

@@ -1,8 +1,7 @@
 //! A log that glibc 2.36 wrote for a C program that only allocates.
 
-use super::rows::expect_run;
+use super::rows::{WHOLE, expect_report};
 use crate::settings::Settings;
-use crate::status::Status;
 
 /// What glibc's tracer wrote.
 const LOG: &[u8] = b"\
@@ -100,8 +99,8 @@ Total: 42 blocks, 4074 bytes.\n";
 
 #[test]
 fn log_of_glibc(rt: HostRuntime) {
-    for piece in [4096, 1] {
-        expect_run(
+    for piece in [WHOLE, 1] {
+        expect_report(
             &rt,
             rt.alloc(),
             "a log of glibc",
@@ -109,7 +108,7 @@ fn log_of_glibc(rt: HostRuntime) {
             LOG,
             piece,
             TEXT,
-            Status::Found,
+            1,
         );
     }
 }

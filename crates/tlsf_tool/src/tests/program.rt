@@ -80,72 +80,9 @@ fn first_leak_through_command_and_serve(rt: HostRuntime) -> Result<(), Fail> {
 }
 
 #[test]
-fn clean_log_has_status_0(rt: HostRuntime) {
+fn full_standard_error_changes_nothing_else(rt: HostRuntime) {
     let alloc = rt.alloc();
-    let mut reader = MemorySource::in_pieces(b"= Start\n= End\n", 4096);
-    let mut writer = MemorySink::in_pieces(alloc, 4096);
-    let mut errors = MemorySink::in_pieces(alloc, 4096);
-    let status = serve(
-        alloc,
-        Name::Leaks,
-        SMALL,
-        &mut reader,
-        &mut writer,
-        &mut errors,
-    );
-    assert_eq!(rt; status, 0);
-    assert_eq!(rt; writer.bytes(), b"No memory leaks.\n".as_slice());
-    assert_eq!(rt; errors.bytes(), b"".as_slice());
-}
-
-#[test]
-fn faults_have_a_line_and_a_status(rt: HostRuntime) {
-    let alloc = rt.alloc();
-
-    let mut reader = MemorySource::failing_after(b"= Start\n", 4096, 0);
-    let mut writer = MemorySink::in_pieces(alloc, 4096);
-    let mut errors = MemorySink::in_pieces(alloc, 1);
-    let status = serve(
-        alloc,
-        Name::Leaks,
-        SMALL,
-        &mut reader,
-        &mut writer,
-        &mut errors,
-    );
-    assert_eq!(rt; status, 3);
-    assert_eq!(rt; errors.bytes(), b"tlsf: read failed\n".as_slice());
-
-    let mut reader = MemorySource::in_pieces(b"= Start\n", 4096);
-    let mut writer = MemorySink::with_room(alloc, 4096, 0, Full::Fails);
-    let mut errors = MemorySink::in_pieces(alloc, 4096);
-    let status = serve(
-        alloc,
-        Name::Leaks,
-        SMALL,
-        &mut reader,
-        &mut writer,
-        &mut errors,
-    );
-    assert_eq!(rt; status, 3);
-    assert_eq!(rt; errors.bytes(), b"tlsf: write failed\n".as_slice());
-
-    let mut reader = MemorySource::in_pieces(b"= Start\n", 4096);
-    let mut writer = MemorySink::in_pieces(alloc, 4096);
-    let mut errors = MemorySink::in_pieces(alloc, 4096);
     let bad = Settings { pool: 12, ..SMALL };
-    let status = serve(
-        alloc,
-        Name::Leaks,
-        bad,
-        &mut reader,
-        &mut writer,
-        &mut errors,
-    );
-    assert_eq!(rt; status, 2);
-    assert_eq!(rt; errors.bytes(), b"tlsf: bad settings\n".as_slice());
-
-    // A writer of errors that is full changes nothing else.
     let mut reader = MemorySource::in_pieces(b"= Start\n", 4096);
     let mut writer = MemorySink::in_pieces(alloc, 4096);
     let mut errors = MemorySink::with_room(alloc, 4096, 5, Full::Fails);
@@ -159,6 +96,7 @@ fn faults_have_a_line_and_a_status(rt: HostRuntime) {
     );
     assert_eq!(rt; status, 2);
     assert_eq!(rt; errors.bytes(), b"tlsf:".as_slice());
+    assert_eq!(rt; writer.bytes(), b"".as_slice());
 }
 
 #[test]

@@ -1,9 +1,11 @@
-//! Logs with the text and the status that they come to, in one piece and in pieces of one byte.
+//! Logs with the text, the status and the line on standard error that they come to, in one piece and in
+//! pieces of one byte and of seven.
 
-use crate::run::run_leaks;
+use crate::asked::Name;
+use crate::service::serve;
 use crate::settings::Settings;
-use crate::status::{RunFault, Status};
 use mtrace_log::memory::{Full, MemorySink, MemorySource};
+use mtrace_log::{LONGEST_LINE, LONGEST_LOCATION, Sink, Source};
 use std::alloc::{AllocError, Global};
 use std::process::Abort;
 use std::test::Fail;
@@ -28,7 +30,7 @@ struct Row {
     settings: Settings,
     log: &'static str,
     text: &'static str,
-    status: Status,
+    status: u8,
 }
 
 const ROWS: [Row; 8] = [
@@ -37,64 +39,82 @@ const ROWS: [Row; 8] = [
         settings: Settings::DEFAULT,
         log: "= Start\n@ a + 0x10 0x64\n= End\n",
         text: "Memory not freed:\n0x10 100 line 2 at a\nTotal: 1 blocks, 100 bytes.\n",
-        status: Status::Found,
+        status: 1,
     },
     Row {
         name: "first-path-diagnostics",
         settings: SMALL,
         log: "= Start\n+ 0x10 0x64\n+ 0x10 0x1\n- 0x10\n+ 0x20 0x400\n",
         text: "line 3: 0x10 is already held\nline 4: not a line\nline 5: 0x20 refused: no fit\nMemory not freed:\n0x10 100 line 2\nTotal: 1 blocks, 100 bytes.\n",
-        status: Status::Found,
+        status: 1,
     },
     Row {
         name: "first-path-table-full",
         settings: ONE_RECORD,
         log: "+ 0x10 0x8\n",
         text: "line 1: 0x10 refused: table full\nNo memory leaks.\n",
-        status: Status::Found,
+        status: 1,
     },
     Row {
         name: "empty-log",
         settings: SMALL,
         log: "",
         text: "No memory leaks.\n",
-        status: Status::Clean,
+        status: 0,
     },
     Row {
         name: "lines that ask for nothing",
         settings: SMALL,
         log: "= Start\n+ (nil) 0x8\n= End\n",
         text: "No memory leaks.\n",
-        status: Status::Clean,
+        status: 0,
     },
     Row {
         name: "a last line without newline",
         settings: SMALL,
         log: "+ 0x10 0",
         text: "Memory not freed:\n0x10 0 line 1\nTotal: 1 blocks, 0 bytes.\n",
-        status: Status::Found,
+        status: 1,
     },
     Row {
         name: "an empty line, leading zeros, capital digits, a carriage return",
         settings: SMALL,
         log: "\n+ 0x01000 0x10\n+ 0xA 0x1\n= Start\r\n",
         text: "line 1: not a line\nline 2: not a line\nline 3: not a line\nline 4: not a line\nNo memory leaks.\n",
-        status: Status::Found,
+        status: 1,
     },
     Row {
         name: "entries in order of address",
         settings: SMALL,
         log: "+ 0x30 0x1\n@ b + 0x10 0x2\n+ 0x20 0x3\n",
         text: "Memory not freed:\n0x10 2 line 2 at b\n0x20 3 line 3\n0x30 1 line 1\nTotal: 3 blocks, 6 bytes.\n",
-        status: Status::Found,
+        status: 1,
     },
 ];
 
 /// The longest piece that a reader is asked to give.
-const WHOLE: usize = 1 << 20;
+pub const WHOLE: usize = 1 << 20;
 
-/// Runs a log in pieces of at most `piece` bytes, and compares text and status.
-pub fn expect_run(
+/// The report of leaks of what the reader gives; compares the status and the line on standard error.
+pub fn expect_status<R: Source, W: Sink>(
+    rt: &impl Abort,
+    alloc: Global,
+    name: &str,
+    settings: Settings,
+    reader: &mut R,
+    writer: &mut W,
+    status: u8,
+    error: &[u8],
+) {
+    let mut errors = MemorySink::in_pieces(alloc, WHOLE);
+    let answer = serve(alloc, Name::Leaks, settings, reader, writer, &mut errors);
+    assert_eq!(rt; answer, status, "{name}");
+    assert_eq!(rt; errors.bytes(), error, "{name}");
+}
+
+/// Serves a log in pieces of at most `piece` bytes, and compares text and status. Nothing goes to standard
+/// error.
+pub fn expect_report(
     rt: &impl Abort,
     alloc: Global,
     name: &str,
@@ -102,20 +122,28 @@ pub fn expect_run(
     log: &[u8],
     piece: usize,
     text: &[u8],
-    status: Status,
+    status: u8,
 ) {
     let mut reader = MemorySource::in_pieces(log, piece.max(1));
     let mut writer = MemorySink::in_pieces(alloc, piece.max(1));
-    let answer = run_leaks(alloc, &mut reader, &mut writer, settings);
-    assert_eq!(rt; answer, Ok(status), "{name}");
+    expect_status(
+        rt,
+        alloc,
+        name,
+        settings,
+        &mut reader,
+        &mut writer,
+        status,
+        b"",
+    );
     assert_eq!(rt; writer.bytes(), text, "{name}");
 }
 
 #[test]
-fn rows_in_one_piece_and_in_pieces_of_one_byte(rt: HostRuntime) {
+fn rows_in_one_piece_and_in_pieces(rt: HostRuntime) {
     for row in &ROWS {
         for piece in [WHOLE, 1, 7] {
-            expect_run(
+            expect_report(
                 &rt,
                 rt.alloc(),
                 row.name,
@@ -141,11 +169,11 @@ fn long_line(alloc: Global, location: usize) -> Result<Vec<u8>, AllocError> {
 
 #[test]
 fn longest_line(rt: HostRuntime) -> Result<(), Fail> {
-    let longest = long_line(rt.alloc(), 255)?;
-    assert_eq!(rt; longest.len(), 297);
-    let longer = long_line(rt.alloc(), 256)?;
+    let longest = long_line(rt.alloc(), LONGEST_LOCATION)?;
+    assert_eq!(rt; longest.len(), LONGEST_LINE);
+    let longer = long_line(rt.alloc(), LONGEST_LOCATION + 1)?;
     for piece in [WHOLE, 1] {
-        expect_run(
+        expect_report(
             &rt,
             rt.alloc(),
             "longest-line",
@@ -153,9 +181,9 @@ fn longest_line(rt: HostRuntime) -> Result<(), Fail> {
             longest.as_slice(),
             piece,
             b"line 1: 0xffffffffffffffff refused: no fit\nNo memory leaks.\n",
-            Status::Found,
+            1,
         );
-        expect_run(
+        expect_report(
             &rt,
             rt.alloc(),
             "one byte longer",
@@ -163,50 +191,116 @@ fn longest_line(rt: HostRuntime) -> Result<(), Fail> {
             longer.as_slice(),
             piece,
             b"line 1: too long\nNo memory leaks.\n",
-            Status::Found,
+            1,
         );
     }
     Ok(())
 }
 
 #[test]
-fn writer_fails(rt: HostRuntime) {
-    for (full, piece) in [
-        (Full::Fails, WHOLE),
-        (Full::TakesNone, WHOLE),
-        (Full::Fails, 1),
-        (Full::TakesNone, 1),
-    ] {
-        let alloc = rt.alloc();
-        let mut reader = MemorySource::in_pieces(b"", WHOLE);
-        let mut writer = MemorySink::with_room(alloc, piece, 5, full);
-        let answer = run_leaks(alloc, &mut reader, &mut writer, SMALL);
-        assert_eq!(rt; answer, Err(RunFault::Write));
-        assert_eq!(rt; writer.bytes(), b"No me".as_slice());
+fn greatest_pools(rt: HostRuntime) {
+    let settings = Settings {
+        pool: 1_073_741_816,
+        pools: 4,
+        records: 5,
+    };
+    expect_report(
+        &rt,
+        rt.alloc(),
+        "four of the greatest pools",
+        settings,
+        b"+ 0x10 0x3f000000\n+ 0x20 0x3f000001\n",
+        WHOLE,
+        b"line 2: 0x20 refused: no fit\nMemory not freed:\n0x10 1056964608 line 1\nTotal: 1 blocks, 1056964608 bytes.\n",
+        1,
+    );
+}
+
+/// A log with a line that is none and a block that is not freed.
+const NOTED_AND_HELD: &[u8] = b"- 0x1\n+ 0x10 0x8\n";
+
+/// What it comes to.
+const TEXT_OF_BOTH: &[u8] =
+    b"line 1: not a line\nMemory not freed:\n0x10 8 line 2\nTotal: 1 blocks, 8 bytes.\n";
+
+/// A log, with what it comes to, to be served to a writer that fails.
+const TO_WRITE: [(&[u8], &[u8]); 2] = [
+    (b"", b"No memory leaks.\n"),
+    (NOTED_AND_HELD, TEXT_OF_BOTH),
+];
+
+#[test]
+fn writer_fails_at_each_byte(rt: HostRuntime) {
+    for (log, text) in TO_WRITE {
+        for room in 0..text.len() {
+            for (full, piece) in [
+                (Full::Fails, WHOLE),
+                (Full::TakesNone, WHOLE),
+                (Full::Fails, 1),
+                (Full::TakesNone, 1),
+            ] {
+                let mut reader = MemorySource::in_pieces(log, WHOLE);
+                let mut writer = MemorySink::with_room(rt.alloc(), piece, room, full);
+                expect_status(
+                    &rt,
+                    rt.alloc(),
+                    "a writer that fails",
+                    SMALL,
+                    &mut reader,
+                    &mut writer,
+                    3,
+                    b"tlsf: write failed\n",
+                );
+                assert_eq!(rt; writer.bytes(), &text[..room], "{room}");
+            }
+        }
     }
 }
 
 #[test]
 fn flush_fails(rt: HostRuntime) {
-    let alloc = rt.alloc();
-    let mut reader = MemorySource::in_pieces(b"", WHOLE);
-    let mut writer = MemorySink::in_pieces(alloc, WHOLE).failing_flush();
-    let answer = run_leaks(alloc, &mut reader, &mut writer, SMALL);
-    assert_eq!(rt; answer, Err(RunFault::Write));
-    assert_eq!(rt; writer.bytes(), b"No memory leaks.\n".as_slice());
+    for (log, text) in TO_WRITE {
+        let mut reader = MemorySource::in_pieces(log, WHOLE);
+        let mut writer = MemorySink::in_pieces(rt.alloc(), WHOLE).failing_flush();
+        expect_status(
+            &rt,
+            rt.alloc(),
+            "a flush that fails",
+            SMALL,
+            &mut reader,
+            &mut writer,
+            3,
+            b"tlsf: write failed\n",
+        );
+        assert_eq!(rt; writer.bytes(), text);
+    }
 }
 
 #[test]
 fn reader_fails(rt: HostRuntime) {
-    let alloc = rt.alloc();
-    // The text of the lines before, whatever the pieces; the unfinished line is lost. A flush that fails
-    // too changes nothing.
-    let log = b"- 0x1\n- 0x2";
-    let mut reader = MemorySource::failing_after(log, 1, 11);
-    let mut writer = MemorySink::in_pieces(alloc, WHOLE).failing_flush();
-    let answer = run_leaks(alloc, &mut reader, &mut writer, SMALL);
-    assert_eq!(rt; answer, Err(RunFault::Read));
-    assert_eq!(rt; writer.bytes(), b"line 1: not a line\n".as_slice());
+    // The text of the lines before, whatever the pieces; the unfinished line is lost, and what the reader
+    // has behind its failure is not read. A flush that fails too changes nothing.
+    let log = b"- 0x1\n- 0x2\n= Start\n+ 0x10 0x8\n";
+    for calls in [11u64, 12, 13] {
+        let mut reader = MemorySource::failing_after(log, 1, calls);
+        let mut writer = MemorySink::in_pieces(rt.alloc(), WHOLE).failing_flush();
+        expect_status(
+            &rt,
+            rt.alloc(),
+            "a reader that fails",
+            SMALL,
+            &mut reader,
+            &mut writer,
+            3,
+            b"tlsf: read failed\n",
+        );
+        let text: &[u8] = if calls < 12 {
+            b"line 1: not a line\n"
+        } else {
+            b"line 1: not a line\nline 2: not a line\n"
+        };
+        assert_eq!(rt; writer.bytes(), text, "{calls}");
+    }
 }
 
 #[test]
@@ -240,30 +334,103 @@ fn bad_settings(rt: HostRuntime) {
         },
     ];
     for settings in bad {
-        let alloc = rt.alloc();
         let mut reader = MemorySource::in_pieces(b"\n", WHOLE);
-        let mut writer = MemorySink::in_pieces(alloc, WHOLE);
-        let answer = run_leaks(alloc, &mut reader, &mut writer, settings);
-        assert_eq!(rt; answer, Err(RunFault::BadSettings), "{settings:?}");
-        assert_eq!(rt; writer.bytes(), b"".as_slice());
+        let mut writer = MemorySink::in_pieces(rt.alloc(), WHOLE);
+        expect_status(
+            &rt,
+            rt.alloc(),
+            "bad settings",
+            settings,
+            &mut reader,
+            &mut writer,
+            2,
+            b"tlsf: bad settings\n",
+        );
+        assert_eq!(rt; writer.bytes(), b"".as_slice(), "{settings:?}");
     }
 }
 
+/// Appends `+ ADDR SIZE`, a line for each number from `first` to `last`, its address 16 times the number.
+fn push_lines(
+    log: &mut Vec<u8>,
+    alloc: Global,
+    first: u64,
+    last: u64,
+    size: u64,
+) -> Result<(), Fail> {
+    for number in first..=last {
+        let line = format!(in alloc; "+ 0x{number:x}0 0x{size:x}\n")?;
+        log.extend_from_slice(line.as_str().as_bytes())?;
+    }
+    Ok(())
+}
+
+/// Appends what the report says of these lines, where each is served.
+fn push_entries(
+    text: &mut Vec<u8>,
+    alloc: Global,
+    first: u64,
+    last: u64,
+    size: u64,
+) -> Result<(), Fail> {
+    for number in first..=last {
+        let line = format!(in alloc; "0x{number:x}0 {size} line {number}\n")?;
+        text.extend_from_slice(line.as_str().as_bytes())?;
+    }
+    Ok(())
+}
+
 #[test]
-fn greatest_pools(rt: HostRuntime) {
-    let settings = Settings {
-        pool: 1_073_741_816,
-        pools: 4,
-        records: 5,
-    };
-    expect_run(
+fn each_record_in_use(rt: HostRuntime) -> Result<(), Fail> {
+    let alloc = rt.alloc();
+    // 8,191 live blocks and the free one behind them use 8,192 records.
+    let mut log = Vec::new(alloc);
+    push_lines(&mut log, alloc, 1, 8_192, 8)?;
+    let mut text = Vec::from_slice(
+        alloc,
+        b"line 8192: 0x20000 refused: table full\nMemory not freed:\n",
+    )?;
+    push_entries(&mut text, alloc, 1, 8_191, 8)?;
+    text.extend_from_slice(b"Total: 8191 blocks, 65528 bytes.\n")?;
+    expect_report(
         &rt,
-        rt.alloc(),
-        "four of the greatest pools",
-        settings,
-        b"+ 0x10 0x3f000000\n+ 0x20 0x3f000001\n",
+        alloc,
+        "a rest that finds no record",
+        Settings::DEFAULT,
+        log.as_slice(),
         WHOLE,
-        b"line 2: 0x20 refused: no fit\nMemory not freed:\n0x10 1056964608 line 1\nTotal: 1 blocks, 1056964608 bytes.\n",
-        Status::Found,
+        text.as_slice(),
+        1,
     );
+    Ok(())
+}
+
+#[test]
+fn each_record_held(rt: HostRuntime) -> Result<(), Fail> {
+    let alloc = rt.alloc();
+    // 8,190 blocks of 1 KiB, one of 2 KiB and one of 8 MiB fill the pool of 16 MiB.
+    let mut log = Vec::new(alloc);
+    push_lines(&mut log, alloc, 1, 8_190, 1 << 10)?;
+    push_lines(&mut log, alloc, 8_191, 8_191, 1 << 11)?;
+    push_lines(&mut log, alloc, 8_192, 8_192, 1 << 23)?;
+    push_lines(&mut log, alloc, 8_193, 8_193, 8)?;
+    let mut text = Vec::from_slice(
+        alloc,
+        b"line 8193: 0x20010 refused: no fit\nMemory not freed:\n",
+    )?;
+    push_entries(&mut text, alloc, 1, 8_190, 1 << 10)?;
+    push_entries(&mut text, alloc, 8_191, 8_191, 1 << 11)?;
+    push_entries(&mut text, alloc, 8_192, 8_192, 1 << 23)?;
+    text.extend_from_slice(b"Total: 8192 blocks, 16777216 bytes.\n")?;
+    expect_report(
+        &rt,
+        alloc,
+        "a block for each record",
+        Settings::DEFAULT,
+        log.as_slice(),
+        WHOLE,
+        text.as_slice(),
+        1,
+    );
+    Ok(())
 }

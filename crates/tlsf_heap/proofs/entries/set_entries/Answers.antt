@@ -1,7 +1,7 @@
 use Rattle.std.proofs.Common.{◌≡◌, ◌+◌, length, List, Option, sym, ap, ◌∙◌, subst, arith}
 use Rattle.tlsf_store.specs.declared.records.Record.{Record}
 use Rattle.tlsf_store.specs.declared.pools.Pool.{Pool as StoredPool}
-use Rattle.tlsf_store.specs.Cells.{Cells, IsPoolBelow}
+use Rattle.tlsf_store.specs.Cells.{Cells, IsPoolBelow, most_pools}
 use Rattle.tlsf_heap.specs.Layout.{padded}
 use Rattle.tlsf_heap.proofs.EntryLists.{padded_at-below, written_is_padded}
 use Rattle.tlsf_heap.proofs.entries.set_entries.Goals as goal
@@ -16,7 +16,7 @@ set_pool-requires-clause-below c =
 
 pub returns : goal.returns
 returns c =
-    let end : c.loop-number.number ≡ 8 = omega (arith, c.loop-number-test.false, c.loop-number.auto.number-end) in
+    let end : c.loop-number.number ≡ most_pools = omega (arith, c.loop-number-test.false, c.loop-number.auto.number-end) in
     c.loop-number.invariant.rest
     ∙ ap (λ pools. record c.args.store.now { pools = pools; touches = c.args.store.now.touches + c.loop-number.number })
     (written_is_padded c.loop-number.store.pools c.args.entries.now c.loop-number.invariant.count c.requires.few

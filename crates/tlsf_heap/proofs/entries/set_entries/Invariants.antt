@@ -1,12 +1,12 @@
 use Rattle.std.proofs.Common.{◌≡◌, ◌<◌, ◌+◌, ℕ, length}
-use Rattle.tlsf_store.specs.Cells.{pool_at, pool_entries}
+use Rattle.tlsf_store.specs.Cells.{pool_at, most_pools}
 use Rattle.tlsf_heap.specs.Layout.{padded_at}
 use Rattle.tlsf_heap.proofs.entries.set_entries.Given as goal
 
 -- the entries so far are written, and nothing else
 abbrev pub invariant-loop-number : goal.invariant-loop-number
 invariant-loop-number l = record {
-  count : length l.store.pools ≡ pool_entries;
+  count : length l.store.pools ≡ most_pools;
   written : (k : ℕ) → k < l.number → pool_at l.store.pools k ≡ padded_at l.entries k;
   rest : l.store ≡ record l.initial.store { pools = l.store.pools; touches = l.initial.store.touches + l.number };
 }

@@ -5,8 +5,8 @@ use Rattle.std.proofs.lemmas.Bool.{eqb-true, eqb-false, and_left, and_right}
 use Rattle.tlsf_class.specs.Classes.{class}
 use Rattle.tlsf_class.proofs.ClassLaws.{class-lt}
 use Rattle.tlsf_store.specs.Records.{blank, record_at, vacant_count}
-use Rattle.tlsf_store.specs.Cells.{Cells, touched, with_taken}
-use Rattle.tlsf_heap.specs.Pools.{can_be_pool, most_pools}
+use Rattle.tlsf_store.specs.Cells.{Cells, touched, with_taken, most_pools}
+use Rattle.tlsf_heap.specs.Pools.{can_be_pool}
 use Rattle.tlsf_heap.specs.Layout.{Stands, content_of, entries_of}
 use Rattle.tlsf_heap.specs.Entries.{is_entry_apart, pool_entered}
 use Rattle.tlsf_heap.proofs.NewPool.{Stands-touches, content_of-touches}
@@ -15,7 +15,7 @@ use Rattle.tlsf_heap.proofs.pools.add_pool.Goals.{then-not-can_be_pool-via-then-
 use Rattle.tlsf_heap.proofs.pools.add_pool.Goals as goal
 
 pub returns-then-not-can_be_pool-clause-stands : goal.returns-then-not-can_be_pool-clause-stands
-returns-then-not-can_be_pool-clause-stands c = touched_stands 8 c.args.store.now c.entries-entries.new.store c.entries-entries.ensures.touches c.requires
+returns-then-not-can_be_pool-clause-stands c = touched_stands most_pools c.args.store.now c.entries-entries.new.store c.entries-entries.ensures.touches c.requires
 
 pub returns-then-not-can_be_pool-clause-refused : goal.returns-then-not-can_be_pool-clause-refused
 returns-then-not-can_be_pool-clause-refused c =
@@ -28,10 +28,10 @@ returns-then-not-can_be_pool-clause-refused c =
     ])
 
 pub returns-then-not-can_be_pool-clause-unchanged : goal.returns-then-not-can_be_pool-clause-unchanged
-returns-then-not-can_be_pool-clause-unchanged c = touched_content 8 c.args.store.now c.entries-entries.new.store c.entries-entries.ensures.touches
+returns-then-not-can_be_pool-clause-unchanged c = touched_content most_pools c.args.store.now c.entries-entries.new.store c.entries-entries.ensures.touches
 
 pub returns-then-is_full-clause-stands : goal.returns-then-is_full-clause-stands
-returns-then-is_full-clause-stands c = touched_stands 8 c.args.store.now c.entries-entries.new.store c.entries-entries.ensures.touches c.requires
+returns-then-is_full-clause-stands c = touched_stands most_pools c.args.store.now c.entries-entries.new.store c.entries-entries.ensures.touches c.requires
 
 pub returns-then-is_full-clause-refused : goal.returns-then-is_full-clause-refused
 returns-then-is_full-clause-refused c =
@@ -39,21 +39,21 @@ returns-then-is_full-clause-refused c =
     let can : can_be_pool c.args.base c.args.bytes ≡ true = sym c.can_be_pool.ensures ∙ c.if-not-can_be_pool.false in
     let apart : list_all (is_entry_apart c.args.base c.args.bytes) (entries_of old.pools) ≡ true =
     ap (list_all (is_entry_apart c.args.base c.args.bytes)) (sym c.entries-entries.ensures.value ∙ sym c.as_slice.ensures.value) ∙ sym c.is_apart.ensures ∙ c.if-not-is_apart.false in
-    let full : length c.entries-entries.result.items ≡ 8 = eqb-true _ _ (sym c.is_full.ensures.value ∙ c.if-is_full.true) in
+    let full : length c.entries-entries.result.items ≡ most_pools = eqb-true _ _ (sym c.is_full.ensures.value ∙ c.if-is_full.true) in
     refused_pools old c.requires c.args.base c.args.bytes can apart (omega (arith, full, ap length c.entries-entries.ensures.value))
 
 pub returns-then-is_full-clause-unchanged : goal.returns-then-is_full-clause-unchanged
-returns-then-is_full-clause-unchanged c = touched_content 8 c.args.store.now c.entries-entries.new.store c.entries-entries.ensures.touches
+returns-then-is_full-clause-unchanged c = touched_content most_pools c.args.store.now c.entries-entries.new.store c.entries-entries.ensures.touches
 
 -- where no record was vacant, the cells are as before
-untaken : (old one two : Cells) (result : Option ℕ) → one ≡ touched 8 old → result ≡ None → two ≡ touched 2 (with_taken one result) → two ≡ touched 2 (touched 8 old)
+untaken : (old one two : Cells) (result : Option ℕ) → one ≡ touched most_pools old → result ≡ None → two ≡ touched 2 (with_taken one result) → two ≡ touched 2 (touched most_pools old)
 untaken old one two result first is second = second ∙ ap (λ o. touched 2 (with_taken one o)) is ∙ ap (touched 2) first
 
-twice_stands : (old two : Cells) → two ≡ touched 2 (touched 8 old) → Stands old → Stands two
-twice_stands old two is stands = touched_stands 2 (touched 8 old) two is (Stands-touches (old.touches + 8) old stands)
+twice_stands : (old two : Cells) → two ≡ touched 2 (touched most_pools old) → Stands old → Stands two
+twice_stands old two is stands = touched_stands 2 (touched most_pools old) two is (Stands-touches (old.touches + most_pools) old stands)
 
-twice_content : (old two : Cells) → two ≡ touched 2 (touched 8 old) → content_of two ≡ content_of old
-twice_content old two is = touched_content 2 (touched 8 old) two is ∙ content_of-touches (old.touches + 8) old
+twice_content : (old two : Cells) → two ≡ touched 2 (touched most_pools old) → content_of two ≡ content_of old
+twice_content old two is = touched_content 2 (touched most_pools old) two is ∙ content_of-touches (old.touches + most_pools) old
 
 pub returns-in_default-clause-stands : goal.returns-in_default-clause-stands
 returns-in_default-clause-stands c =
@@ -63,8 +63,8 @@ pub returns-in_default-clause-unchanged : goal.returns-in_default-clause-unchang
 returns-in_default-clause-unchanged c =
     twice_content c.args.store.now c.take_vacant.new.self (untaken c.args.store.now c.entries-entries.new.store c.take_vacant.new.self c.take_vacant.result c.entries-entries.ensures.touches c.in_default.is c.take_vacant.ensures.taken)
 
-few_entries : (full : Bool) (entries entries_old : ℕ) → full ≡ (entries == 8) → full ≡ false → entries ≤ 8 → entries ≡ entries_old → entries_old < most_pools
-few_entries full entries entries_old is not_full fits same = omega (arith, eqb-false entries 8 (sym is ∙ not_full), fits, same)
+few_entries : (full : Bool) (entries entries_old : ℕ) → full ≡ (entries == most_pools) → full ≡ false → entries ≤ most_pools → entries ≡ entries_old → entries_old < most_pools
+few_entries full entries entries_old is not_full fits same = omega (arith, eqb-false entries most_pools (sym is ∙ not_full), fits, same)
 
 pub returns-in_default-clause-refused : goal.returns-in_default-clause-refused
 returns-in_default-clause-refused c =

@@ -1,7 +1,7 @@
 use Rattle.std.proofs.Common.{◌≡◌, ℕ, ap, ◌∙◌}
 use Rattle.std.specs.Prelude.{insert}
 use Rattle.tlsf_class.specs.Classes.{class}
-use Rattle.tlsf_store.specs.Cells.{Cells, touched, with_record}
+use Rattle.tlsf_store.specs.Cells.{Cells, touched, with_record, most_pools}
 use Rattle.tlsf_heap.specs.Edits.{linked}
 use Rattle.tlsf_heap.specs.Layout.{entries_of}
 use Rattle.tlsf_heap.specs.Entries.{with_entries, with_entry, entry_place, free_record}
@@ -24,5 +24,5 @@ returns-clause-cells c =
     c.write.ensures ∙ ap (λ r. touched 1 (with_record old slot r)) c.free_block.ensures in
     c.link.ensures.cells
     ∙ ap (λ n. after n c.set_entries.new.store) c.class_of.ensures
-    ∙ ap (after (class entry.bytes)) (c.set_entries.ensures ∙ ap (λ es. touched 8 (with_entries es c.write.new.self)) (c.as_slice-2.ensures.value ∙ items))
+    ∙ ap (after (class entry.bytes)) (c.set_entries.ensures ∙ ap (λ es. touched most_pools (with_entries es c.write.new.self)) (c.as_slice-2.ensures.value ∙ items))
     ∙ ap (λ s. after (class entry.bytes) (with_entries (with_entry entry (entries_of old.pools)) s)) written

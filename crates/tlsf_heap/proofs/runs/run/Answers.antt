@@ -1,6 +1,6 @@
 use Rattle.std.proofs.Common.{◌∷◌, [], ◌++◌, ◌∙◌, sym, ap, arith, take}
 use Rattle.std.proofs.lemmas.List.{take_more}
-use Rattle.tlsf_heap.proofs.RunSteps.{run-more}
+use Rattle.tlsf_heap.proofs.RunSteps.{run-more, run_lacks_none}
 use Rattle.tlsf_heap.proofs.runs.run.Goals as goal
 
 pub loop-request-preserved : goal.loop-request-preserved
@@ -12,6 +12,9 @@ loop-request-preserved g c =
       count = omega (arith, c.push_reserved.ensures.len, c.loop-request.invariant.count);
       room = c.push_reserved.ensures.capacity ∙ c.loop-request.invariant.room;
       answered = rw (longer, c.push_reserved.ensures.items)
-          (run-more _ c.loop-request.answers.items asked c.answer-given.result _ _ _ _ _ _ c.loop-request.invariant.answered
+          (run-more _ _ c.loop-request.answers.items asked c.answer-given.result _ _ _ _ _ _ c.loop-request.invariant.answered
           c.answer-given.ensures.step c.answer-given.ensures.floor c.answer-given.ensures.bound);
     }
+
+pub returns-clause-memory : goal.returns-clause-memory
+returns-clause-memory g c = λ none. run_lacks_none _ none _ c.loop-request.answers.items _ _ _ _ c.loop-request.invariant.answered

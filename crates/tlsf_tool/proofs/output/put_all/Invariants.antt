@@ -1,10 +1,14 @@
-use Rattle.std.proofs.Common.{◌≡◌, length}
+use Rattle.std.proofs.Common.{length}
+use Rattle.mtrace_log.specs.Trace.{HasTaken}
 use Rattle.tlsf_tool.proofs.output.put_all.Given as goal
 use Rattle.tlsf_tool.proofs.Writing.{HasPut}
 
--- a beginning is put, the rest is left, and the writer didn't fail
+-- a beginning is put, the rest is left, and the writer only took
 abbrev pub invariant-loop-rest : goal.invariant-loop-rest
-invariant-loop-rest g l = HasPut (g.W.Sink.taken l.initial.writer) (g.W.Sink.taken l.writer) l.bytes l.rest × (g.W.Sink.failures l.writer ≡ g.W.Sink.failures l.initial.writer)
+invariant-loop-rest g l = record {
+  put : HasPut (g.W.Sink.taken l.initial.writer) (g.W.Sink.taken l.writer) l.bytes l.rest;
+  took : HasTaken (g.W.Sink.trace l.initial.writer) (g.W.Sink.trace l.writer);
+}
 
 abbrev pub decreases-loop-rest : goal.decreases-loop-rest
 decreases-loop-rest g l = length l.rest

@@ -1,5 +1,7 @@
 use Rattle.std.proofs.Common.{ℕ, List, ◌++◌, sym, subst, ◌∙◌, flat_map}
 use Rattle.std.proofs.lemmas.Result.{on_ok_weaker, on_err_weaker}
+use Rattle.mtrace_log.specs.declared.call.Call.TheVariants.{Took, Failed}
+use Rattle.mtrace_log.proofs.TraceLemmas.{moved_append, moved_then_append}
 use Rattle.tlsf_tool.specs.Output.{Wrote, Begins}
 use Rattle.tlsf_tool.specs.Texts.{entry_text, total_text}
 use Rattle.tlsf_tool.proofs.TextLemmas.{heading, leaks_report-some, total_text-is}
@@ -51,3 +53,17 @@ returns-clause-beginning g c =
     (Wrote-append (taken c.args.writer.now) (taken c.put_all.new.writer) (taken c.put_entries.new.writer) heading (flat_map entry_text entries) c.in_ok-put_all.ensures.all c.in_ok-put_entries.ensures.all)
     (subst Q last begun)))
     c.put_all-2.ensures.beginning
+
+pub returns-in_err-put_entries-clause-failed : goal.returns-in_err-put_entries-clause-failed
+returns-in_err-put_entries-clause-failed g c =
+    on_err _ c.from_residual-in_err-put_entries.result (moved_then_append Took Failed _ _ _ c.in_ok-put_all.ensures.took c.in_err-put_entries.ensures.failed)
+
+pub returns-clause-took : goal.returns-clause-took
+returns-clause-took g c =
+    let before = moved_append Took _ _ _ c.in_ok-put_all.ensures.took c.in_ok-put_entries.ensures.took in
+    on_ok_weaker c.put_all-2.result (λ took. moved_append Took _ _ _ before took) c.put_all-2.ensures.took
+
+pub returns-clause-failed : goal.returns-clause-failed
+returns-clause-failed g c =
+    let before = moved_append Took _ _ _ c.in_ok-put_all.ensures.took c.in_ok-put_entries.ensures.took in
+    on_err_weaker c.put_all-2.result (λ failed. moved_then_append Took Failed _ _ _ before failed) c.put_all-2.ensures.failed

@@ -1,18 +1,23 @@
 use Rattle.std.proofs.Common.{◌≡◌, ◌-◌, ◌^◌, []}
+use Rattle.mtrace_log.specs.Trace.{HasTaken}
+use Rattle.mtrace_log.specs.Progress.{CallsFor}
 use Rattle.tlsf_tool.specs.declared.settings.Settings.{Settings}
 use Rattle.tlsf_tool.specs.History.{started}
 use Rattle.tlsf_tool.specs.Replay.{StandsFor}
 use Rattle.tlsf_tool.proofs.RunLemmas.{IsUnderWay}
 use Rattle.tlsf_tool.proofs.run.replay_lines.Given as goal
 
--- the run is under way, and neither reader nor writer failed
+-- the run is under way; the reader gave pieces, and perhaps told its end; the writer took pieces
 abbrev pub invariant-loop-line : goal.invariant-loop-line
 invariant-loop-line g l =
     let left = g.R.Source.left in
     let taken = g.W.Sink.taken in
-    ((settings : Settings) → StandsFor l.initial.replay (started settings) [] → IsUnderWay settings l.lines l.replay l.noted (left l.initial.reader) (left l.reader) (taken l.initial.writer) (taken l.writer))
-    × (g.R.Source.failures l.reader ≡ g.R.Source.failures l.initial.reader)
-    × (g.W.Sink.failures l.writer ≡ g.W.Sink.failures l.initial.writer)
+    record {
+      under_way : (settings : Settings) → StandsFor l.initial.replay (started settings) []
+          → IsUnderWay settings l.lines l.replay l.noted (left l.initial.reader) (left l.reader) (taken l.initial.writer) (taken l.writer);
+      gave : CallsFor l.lines.status (g.R.Source.trace l.initial.reader) (g.R.Source.trace l.reader);
+      took : HasTaken (g.W.Sink.trace l.initial.writer) (g.W.Sink.trace l.writer);
+    }
 
 -- how many numbers of lines are left
 abbrev pub decreases-loop-line : goal.decreases-loop-line

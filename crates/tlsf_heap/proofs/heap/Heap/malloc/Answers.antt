@@ -1,13 +1,14 @@
 use Rattle.std.proofs.Common.{◌≡◌, ℕ, subst, Err}
 use Rattle.std.proofs.lemmas.Result.{IfErr-at_err}
 use Rattle.tlsf_heap.specs.declared.refusal.Refusal.{Refusal}
-use Rattle.tlsf_heap.specs.declared.refusal.Refusal.TheVariants.{NoFit, TableFull}
+use Rattle.tlsf_heap.specs.declared.refusal.Refusal.TheVariants.{NoFit, TableFull, OutOfMemory}
 use Rattle.tlsf_heap.specs.Counted.{Counted}
 use Rattle.tlsf_heap.specs.Implied.{NoneFits, HasFewRecords}
 use Rattle.tlsf_heap.specs.Layout.{content_of}
 use Rattle.tlsf_heap.specs.Malloc.{malloc}
 use Rattle.tlsf_heap.proofs.HeapStands.{content_is_good}
 use Rattle.tlsf_heap.proofs.Implied.{no_fit, malloc_full}
+use Rattle.tlsf_heap.proofs.MallocCases.{malloc_lacks_none}
 use Rattle.tlsf_heap.proofs.heap.Heap.malloc.Goals as goal
 
 -- where malloc is refused, so is it under slot 0
@@ -23,3 +24,6 @@ pub returns-clause-table_full : goal.returns-clause-table_full
 returns-clause-table_full c = λ is.
     let P : Counted → Type 0 = λ h. HasFewRecords h.content in
     subst P c.self.view_is (malloc_full 0 c.args.n (content_of c.self.inside.store) (content_is_good c.self.inside.store c.self.invariant) (refused c TableFull is))
+
+pub returns-clause-never_memory : goal.returns-clause-never_memory
+returns-clause-never_memory c = λ is. malloc_lacks_none 0 c.args.n (content_of c.self.inside.store) (refused c OutOfMemory is)

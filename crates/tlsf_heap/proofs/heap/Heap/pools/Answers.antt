@@ -1,4 +1,5 @@
 use Rattle.std.proofs.Common.{map, ap, ◌∙◌}
+use Rattle.tlsf_store.specs.Cells.{most_pools}
 use Rattle.tlsf_heap.specs.Entries.{entry_range}
 use Rattle.tlsf_heap.specs.Counted.{Counted, range_of}
 use Rattle.tlsf_heap.proofs.AddPool.{touched_stands, touched_content}
@@ -6,7 +7,7 @@ use Rattle.tlsf_heap.proofs.HeapStands.{ranges_are}
 use Rattle.tlsf_heap.proofs.heap.Heap.pools.Goals as goal
 
 pub invariant_of-self : goal.invariant_of-self
-invariant_of-self c = touched_stands 8 c.self.inside.store c.entries-entries.new.store c.entries-entries.ensures.touches c.self.invariant
+invariant_of-self c = touched_stands most_pools c.self.inside.store c.entries-entries.new.store c.entries-entries.ensures.touches c.self.invariant
 
 pub returns-clause-value : goal.returns-clause-value
 returns-clause-value c =
@@ -14,4 +15,4 @@ returns-clause-value c =
     ∙ ap (λ (h : Counted). map range_of h.content.pools) c.self.view_is
 
 pub returns-clause-unchanged : goal.returns-clause-unchanged
-returns-clause-unchanged c = touched_content 8 c.self.inside.store c.entries-entries.new.store c.entries-entries.ensures.touches ∙ ap (λ (h : Counted). h.content) c.self.view_is
+returns-clause-unchanged c = touched_content most_pools c.self.inside.store c.entries-entries.new.store c.entries-entries.ensures.touches ∙ ap (λ (h : Counted). h.content) c.self.view_is

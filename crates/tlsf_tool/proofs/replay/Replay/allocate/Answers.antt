@@ -1,10 +1,13 @@
-use Rattle.std.proofs.Common.{rules, ◌≡◌, refl, sym, ap, ◌∙◌, subst, Some, None}
+use Rattle.std.proofs.Common.{rules, ◌≡◌, refl, sym, ap, ◌∙◌, subst, Some, None, is_some}
+use Rattle.std.specs.Map.{lookup}
+use Rattle.std.specs.Ordering.{nat_cmp}
+use Rattle.std.specs.BTreeMap.{is_at}
 use Rattle.tlsf_heap.specs.Bare.{bare}
 use Rattle.tlsf_tool.specs.History.{AreHeld, held, allocation}
 use Rattle.tlsf_tool.specs.declared.diagnostic.Kind.TheVariants.{Refused}
 use Rattle.tlsf_tool.specs.Replay.{Replayed, Comes}
 use Rattle.tlsf_tool.proofs.HeapSteps.{bare_served, bare_refused}
-use Rattle.tlsf_tool.proofs.HistoryLemmas.{comes_served, comes_refused}
+use Rattle.tlsf_tool.proofs.HistoryLemmas.{comes_held, comes_served, comes_refused}
 use Rattle.tlsf_tool.proofs.replay.Replay.allocate.Goals as goal
 
 pub returns-in_ok-insert-in-Ok : goal.returns-in_ok-insert-in-Ok
@@ -30,3 +33,8 @@ returns-in-Err g c = λ before are.
     (bare_refused old_content new_content 0 c.asked_bytes.result refusal (c.in-Err.ensures.refused (search rules) 0))
     (ap bare c.in-Err.ensures.unchanged) refl)
     are
+
+pub returns-then-contains_key : goal.returns-then-contains_key
+returns-then-contains_key g c = λ before are.
+    let held_so = ap (λ (replay : Replayed). is_some (lookup (is_at (nat_cmp c.args.address)) replay.entries)) (sym c.self.view_is) ∙ sym c.contains_key.ensures ∙ c.if-contains_key.true in
+    comes_held c.args.self.now before c.args.number c.args.at c.args.address c.args.size are held_so

@@ -1,0 +1,39 @@
+ghost use Rattle.std.specs.Prelude.{◌≡◌, List, [], ◌∷◌};
+ghost use Rattle.std.specs.Borrow.{ftrue};
+ghost use Rattle.mtrace_log.specs.declared.call.Call.{Call};
+
+use crate::call::Call;
+use std::marker::Model;
+
+/// What each call of a reader or a writer came to, the latest first. Contracts alone see it, and it
+/// takes no bytes.
+#[derive(Drop)]
+pub struct Trace {
+    pub ghost calls: { List Call },
+}
+
+impl Model for Trace {
+    ghost also_owns = { λ _. ftrue };
+}
+
+impl Trace {
+    // No call yet.
+    pub(crate) fn new() -> Trace
+        ensures { result.calls ≡ [] }
+    {
+        Trace {}
+    }
+
+    // One call more.
+    pub(crate) fn after(_before: &Trace, _call: &Call) -> Trace
+        ensures { result.calls ≡ _call.now ∷ _before.now.calls }
+    {
+        Trace {}
+    }
+
+    pub(crate) fn add(&mut self, call: Call)
+        ensures { self.new.calls ≡ call ∷ self.old.calls }
+    {
+        *self = Trace::after(self, &call);
+    }
+}
