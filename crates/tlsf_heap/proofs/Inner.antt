@@ -20,4 +20,6 @@ pub mod Used
 pub mod Joinable
 pub mod Steps
 pub mod Live
+pub mod Empty
+pub mod Standing
 mod Rows
