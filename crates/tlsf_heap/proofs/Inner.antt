@@ -24,6 +24,7 @@ pub mod Allotted
 pub mod Served
 pub mod Picked
 pub mod Empty
+pub mod Standing
 pub mod PoolEntered
 pub mod RowsRead
 mod Rows

@@ -30,7 +30,7 @@ use Rattle.tlsf_heap.proofs.Inner.Taken.{slot_taken}
 use Rattle.tlsf_heap.proofs.Inner.PoolMoves.{pool_node, area_of_one, entries_in, pool_enters}
 use Rattle.tlsf_heap.proofs.Inner.Linked.{linked_laid}
 use Rattle.tlsf_heap.proofs.Inner.Followed.{content_is, stood_for}
-use Rattle.tlsf_heap.proofs.Inner.Empty.{content_is_good}
+use Rattle.tlsf_heap.proofs.Inner.Standing.{content_is_good}
 use Rattle.tlsf_heap.proofs.Meaning.Places.{by_places, places-entered}
 
 abbrev area_base : Area → ℕ
