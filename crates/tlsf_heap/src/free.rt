@@ -17,7 +17,7 @@ use crate::{Ptr, Refusal};
 use tlsf_class::class_of;
 use tlsf_store::{Slot, State, Store};
 
-/// The block becomes free, and one free block with its free neighbours in the pool. At most 46 touches.
+/// The block becomes free, and one free block with its free neighbours in the pool. At most 50 touches.
 ///
 /// # Errors
 ///
@@ -28,8 +28,9 @@ pub(crate) fn free(store: &mut Store, ptr: Ptr) -> Result<(), Refusal>
     ensures ok { OnOk result (freed (λ slot. slot == ptr.1) ptr.0 (content_of store.old) ≡ Ok (content_of store.new)) }
     ensures refused { IfErr result (λ refusal. freed (λ slot. slot == ptr.1) ptr.0 (content_of store.old) ≡ Err refusal) }
     ensures unchanged { OnErr result (content_of store.new ≡ content_of store.old) }
+    ensures cells { OnErr result (store.new ≡ record store.old { touches = store.new.touches }) }
     ensures floor { store.old.touches ≤ store.new.touches }
-    ensures bound { store.new.touches ≤ store.old.touches + 75 }
+    ensures bound { store.new.touches ≤ store.old.touches + 50 }
 {
     if !is_live(store, ptr) {
         return Err(Refusal::BadPointer);
@@ -56,12 +57,12 @@ fn is_live(store: &mut Store, ptr: Ptr) -> bool
     }
 }
 
-/// The block becomes free, and one free block with its free neighbours in the pool. At most 45 touches.
+/// The block becomes free, and one free block with its free neighbours in the pool. At most 49 touches.
 fn release(store: &mut Store, slot: Slot)
     requires { (at : At) × StandsAt slot InUse store.old at }
     ensures leads { (at : At) → StandsAt slot InUse store.old at → StandsAt (at_freed at).node.slot Listed store.new (at_freed at) }
     ensures floor { store.old.touches ≤ store.new.touches }
-    ensures bound { store.new.touches ≤ store.old.touches + 74 }
+    ensures bound { store.new.touches ≤ store.old.touches + 49 }
 {
     set_state(store, slot, State::Free);
     let start = join_front(store, slot);
@@ -80,12 +81,12 @@ fn is_free(state: State) -> bool
 }
 
 /// A free block in front takes in the block, which is free and in no list. The answer is where the block
-/// that is left begins. At most 16 touches.
+/// that is left begins. At most 18 touches.
 fn join_front(store: &mut Store, slot: Slot) -> Slot
     requires { (at : At) × StandsAt slot Loose store.old at }
     ensures leads { (at : At) → StandsAt slot Loose store.old at → StandsAt result Loose store.new (front_joined at) }
     ensures floor { store.old.touches ≤ store.new.touches }
-    ensures bound { store.new.touches ≤ store.old.touches + 26 }
+    ensures bound { store.new.touches ≤ store.old.touches + 18 }
 {
     let block = store.read(slot);
     let Some(prev) = block.prev else {
@@ -99,12 +100,12 @@ fn join_front(store: &mut Store, slot: Slot) -> Slot
     prev
 }
 
-/// The block, which is free and in no list, takes in a free one behind it. At most 16 touches.
+/// The block, which is free and in no list, takes in a free one behind it. At most 18 touches.
 fn join_back(store: &mut Store, slot: Slot)
     requires { (at : At) × StandsAt slot Loose store.old at }
     ensures leads { (at : At) → StandsAt slot Loose store.old at → StandsAt slot Loose store.new (back_joined at) }
     ensures floor { store.old.touches ≤ store.new.touches }
-    ensures bound { store.new.touches ≤ store.old.touches + 26 }
+    ensures bound { store.new.touches ≤ store.old.touches + 18 }
 {
     let block = store.read(slot);
     let Some(next) = block.next else {
@@ -117,13 +118,13 @@ fn join_back(store: &mut Store, slot: Slot)
     join(store, slot, next, next, back.size);
 }
 
-/// One of two neighbours, `listed`, leaves its class's list, and the first takes in the other. At most 14
+/// One of two neighbours, `listed`, leaves its class's list, and the first takes in the other. At most 16
 /// touches.
 fn join(store: &mut Store, front: Slot, behind: Slot, listed: Slot, size: u32)
     requires { IsJoinable front behind listed size store.old.records (unlinked (class size) listed store.old).records }
     ensures cells { store.new ≡ record (joined front behind listed size store.old) { touches = store.new.touches } }
     ensures floor { store.old.touches ≤ store.new.touches }
-    ensures bound { store.new.touches ≤ store.old.touches + 24 }
+    ensures bound { store.new.touches ≤ store.old.touches + 16 }
 {
     unlink(store, class_of(size), listed);
     absorb(store, front, behind);
@@ -134,7 +135,7 @@ fn enter(store: &mut Store, slot: Slot)
     requires { (at : At) × StandsAt slot Loose store.old at }
     ensures leads { (at : At) → StandsAt slot Loose store.old at → StandsAt slot Listed store.new (at_listed at) }
     ensures floor { store.old.touches ≤ store.new.touches }
-    ensures bound { store.new.touches ≤ store.old.touches + 13 }
+    ensures bound { store.new.touches ≤ store.old.touches + 11 }
 {
     let block = store.read(slot);
     link(store, class_of(block.size), slot);

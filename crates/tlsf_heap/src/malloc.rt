@@ -19,7 +19,7 @@ use crate::{Ptr, Refusal};
 use tlsf_class::{class_for, class_of, round};
 use tlsf_store::{Slot, State, Store};
 
-/// A live block of `n` bytes, rounded up to the unit. At most 30 touches.
+/// A live block of `n` bytes, rounded up to the unit. At most 32 touches.
 ///
 /// # Errors
 ///
@@ -32,8 +32,9 @@ pub(crate) fn malloc(store: &mut Store, n: u64) -> Result<Ptr, Refusal>
     ensures slot_new { IfOk result (λ ptr. slot_times ptr.1 (blocks_of (content_of store.old).pools) ≡ 0) }
     ensures refused { IfErr result (λ refusal. (slot : ℕ) → served slot n (content_of store.old) ≡ Err refusal) }
     ensures unchanged { OnErr result (content_of store.new ≡ content_of store.old) }
+    ensures cells { OnErr result (store.new ≡ record store.old { touches = store.new.touches }) }
     ensures floor { store.old.touches ≤ store.new.touches }
-    ensures bound { store.new.touches ≤ store.old.touches + 42 }
+    ensures bound { store.new.touches ≤ store.old.touches + 32 }
 {
     if n == 0 {
         return Err(Refusal::ZeroSize);
@@ -66,7 +67,7 @@ fn pick(store: &mut Store, asked: u32) -> Option<Slot>
     search(store, class)
 }
 
-/// The first `asked` bytes of the block picked are a live block. At most 26 touches.
+/// The first `asked` bytes of the block picked are a live block. At most 28 touches.
 ///
 /// # Errors
 ///
@@ -82,8 +83,9 @@ fn take(store: &mut Store, slot: Slot, asked: u32) -> Result<Ptr, Refusal>
     ensures slot { IfOk result (λ ptr. ptr.1 ≡ slot) }
     ensures refused { IfErr result (λ refusal. (owner : ℕ) → malloc_picked owner asked (Some (record_at store.old.records slot).place) (content_of store.old) ≡ Err refusal) }
     ensures unchanged { OnErr result (content_of store.new ≡ content_of store.old) }
+    ensures cells { OnErr result (store.new ≡ record store.old { touches = store.new.touches }) }
     ensures floor { store.old.touches ≤ store.new.touches }
-    ensures bound { store.new.touches ≤ store.old.touches + 38 }
+    ensures bound { store.new.touches ≤ store.old.touches + 28 }
 {
     let block = store.read(slot);
     if block.size == asked {
@@ -98,7 +100,7 @@ fn take(store: &mut Store, slot: Slot, asked: u32) -> Result<Ptr, Refusal>
 }
 
 /// The first bytes of a free block of `size` bytes, which leaves its class's list, are a live block. What
-/// is left is a free block of the slot `rest`, first in its class's list. At most 23 touches.
+/// is left is a free block of the slot `rest`, first in its class's list. At most 25 touches.
 fn take_part(store: &mut Store, slot: Slot, rest: Slot, bytes: u32, size: u32)
     requires stands { (at : At) × StandsAt slot Listed store.old (with_slot rest at) × (size ≡ at.node.size) }
     requires some { 0 < bytes }
@@ -106,18 +108,18 @@ fn take_part(store: &mut Store, slot: Slot, rest: Slot, bytes: u32, size: u32)
     requires whole { bytes % unit ≡ 0 }
     ensures leads { (at : At) → StandsAt slot Listed store.old (with_slot rest at) → size ≡ at.node.size → StandsAt rest Listed store.new (at_cut rest bytes (at_taken at)) }
     ensures floor { store.old.touches ≤ store.new.touches }
-    ensures bound { store.new.touches ≤ store.old.touches + 35 }
+    ensures bound { store.new.touches ≤ store.old.touches + 25 }
 {
     take_whole(store, slot, size);
     cut(store, slot, rest, bytes, size);
 }
 
-/// A free block of `size` bytes leaves its class's list and is live. At most eight touches.
+/// A free block of `size` bytes leaves its class's list and is live. At most ten touches.
 fn take_whole(store: &mut Store, slot: Slot, size: u32)
     requires { (at : At) × StandsAt slot Listed store.old at × (size ≡ at.node.size) }
     ensures leads { (at : At) → StandsAt slot Listed store.old at → size ≡ at.node.size → StandsAt slot InUse store.new (at_taken at) }
     ensures floor { store.old.touches ≤ store.new.touches }
-    ensures bound { store.new.touches ≤ store.old.touches + 18 }
+    ensures bound { store.new.touches ≤ store.old.touches + 10 }
 {
     unlink(store, class_of(size), slot);
     set_state(store, slot, State::Live);
@@ -132,7 +134,7 @@ fn cut(store: &mut Store, slot: Slot, rest: Slot, bytes: u32, size: u32)
     requires whole { bytes % unit ≡ 0 }
     ensures leads { (at : At) → StandsAt slot InUse store.old (with_slot rest at) → size ≡ at.node.size → StandsAt rest Listed store.new (at_cut rest bytes at) }
     ensures floor { store.old.touches ≤ store.new.touches }
-    ensures bound { store.new.touches ≤ store.old.touches + 17 }
+    ensures bound { store.new.touches ≤ store.old.touches + 15 }
 {
     split(store, slot, rest, bytes);
     link(store, class_of(size - bytes), rest);

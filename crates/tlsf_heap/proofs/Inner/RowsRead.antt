@@ -9,21 +9,21 @@ use Rattle.tlsf_store.specs.declared.records.Record.{Record}
 use Rattle.tlsf_store.specs.declared.records.State.{State}
 use Rattle.tlsf_store.specs.declared.records.State.TheVariants.{Vacant, Free, Live}
 use Rattle.tlsf_store.specs.Records.{blank, record_at, is_vacant}
-use Rattle.tlsf_store.specs.Cells.{Cells, pool_at, pool_entries}
+use Rattle.tlsf_store.specs.Cells.{Cells, pool_at, most_pools}
 use Rattle.tlsf_heap.specs.declared.pool_entry.PoolEntry.{PoolEntry}
 use Rattle.tlsf_heap.specs.declared.refusal.Refusal.TheVariants.{NoPool}
 use Rattle.tlsf_heap.specs.declared.row.Row.{Row}
-use Rattle.tlsf_heap.specs.Content.{Pool, Content}
+use Rattle.tlsf_heap.specs.Content.{Pool, Content, is_free}
 use Rattle.tlsf_heap.specs.Good.{times, AreGoodPools}
 use Rattle.tlsf_heap.specs.Edits.{IsUsed}
 use Rattle.tlsf_heap.specs.Rows.{row_of, rows_from}
-use Rattle.tlsf_heap.specs.Readings.{rows_at, rows_by, rest_of, stands_at, slot_for, begins_below, slot_if, AreInOrder, IsNarrowed}
+use Rattle.tlsf_heap.specs.Readings.{is_state_live, rows_at, rows_by, rest_of, stands_at, slot_for, begins_below, slot_if, AreInOrder, IsNarrowed}
 use Rattle.tlsf_heap.specs.Layout.{padded, padded_at, entries_of}
 use Rattle.tlsf_heap.proofs.EntryLists.{padded_at_is, length-padded, entries_of-padded}
 use Rattle.tlsf_heap.specs.Inner.Nodes.{Node, Area, Layout, block_of, pool_of, nodes_of, has_slot}
 use Rattle.tlsf_heap.specs.Inner.Spots.{Spot, filled}
 use Rattle.tlsf_heap.specs.Inner.Represents.{InPool, in_pool, pool_views, first_slot, AreLinked, IsChain, AreChains, uses_in, Represents}
-use Rattle.tlsf_heap.specs.Inner.Following.{follow, block_at, content_of, Stands}
+use Rattle.tlsf_heap.specs.Inner.Following.{owner_in, follow, block_at, content_of, Stands}
 use Rattle.tlsf_heap.proofs.Inner.Counts.{count-cons, count_all}
 use Rattle.tlsf_heap.proofs.Inner.Plugs.{count-nodes, count-filled}
 use Rattle.tlsf_heap.proofs.Inner.Links.{Some-same, Some≢None, first_stands}
@@ -130,31 +130,31 @@ module _ (cells : Cells) (stands : Stands cells) where
   ascending : Rises 0 entries
   ascending = rises 0 0 stands.layout.areas (omega arith) stands.good.pools_good
 
-  few_entries : length entries ≤ pool_entries
+  few_entries : length entries ≤ most_pools
   few_entries = omega (arith, length-map {A = Area} {B = PoolEntry} stands.layout.areas (λ a. a.entry), length-map {A = Area} {B = Pool ℕ} stands.layout.areas pool_of, stands.good.pools_few)
 
   pub entries_are : entries_of cells.pools ≡ entries
   entries_are = ap entries_of stands.represented.entries ∙ entries_of-padded entries
 
-  entry_at : (k : ℕ) → k < pool_entries → pool_at cells.pools k ≡ padded_at entries k
+  entry_at : (k : ℕ) → k < most_pools → pool_at cells.pools k ≡ padded_at entries k
   entry_at k within = ap (λ ps. pool_at ps k) stands.represented.entries ∙ sym (padded_at_is entries k within)
 
-  none_past : (k : ℕ) → pool_entries ≤ k → pool_at cells.pools k ≡ None
+  none_past : (k : ℕ) → most_pools ≤ k → pool_at cells.pools k ≡ None
   none_past k past = ap (λ ps. pool_at ps k) stands.represented.entries ∙ get_or_past (padded entries) k None (omega (arith, past, length-padded entries few_entries))
 
   pub in_order : (base : ℕ) → AreInOrder base cells.pools
-  in_order base j k le h = elim (cases_lt k pool_entries) [
+  in_order base j k le h = elim (cases_lt k most_pools) [
     | inl within ↦
         ap (begins_below base) (entry_at j (omega (arith, le, within)))
         ∙ in_order_entries base 0 j k entries ascending le (ap (begins_below base) (sym (entry_at k within)) ∙ h)
     | inr past ↦ absurd (true≢false (sym h ∙ ap (begins_below base) (none_past k past)))
   ]
 
-  pub narrowed_all : (base : ℕ) → IsNarrowed base cells.pools 0 7
+  pub narrowed_all : (base : ℕ) → IsNarrowed base cells.pools 0 (most_pools - 1)
   narrowed_all base = record { below = λ j h. absurd (omega (arith, h)); above = inr refl }
 
   -- what is left once only one pool can be it
-  pub narrowed_found : (base place : ℕ) → place < pool_entries → IsNarrowed base cells.pools place place → slot_if base (pool_at cells.pools place) ≡ slot_for base (entries_of cells.pools)
+  pub narrowed_found : (base place : ℕ) → place < most_pools → IsNarrowed base cells.pools place place → slot_if base (pool_at cells.pools place) ≡ slot_for base (entries_of cells.pools)
   narrowed_found base place within narrowed =
       ap (slot_if base) (entry_at place within)
       ∙ found_at base 0 place 7 entries ascending (omega (arith, few_entries))
@@ -287,3 +287,13 @@ module _ (cells : Cells) (stands : Stands cells) where
 
   pub first_stands_so : (base slot : ℕ) → slot_for base (entries_of cells.pools) ≡ Some slot → stands_at (rows_by cells.records) (Some slot)
   first_stands_so base slot is = used_stands (Some slot) (first_used base slot is)
+
+pub live_is_used : (s : State) (slot : ℕ) (place size : ℕ) → not (is_free (record { place = place; size = size; owner = owner_in s slot })) ≡ is_state_live s
+live_is_used Vacant slot place size = refl
+live_is_used Free slot place size = refl
+live_is_used Live slot place size = refl
+
+-- behind the table stands nothing
+pub past_rest : (records : List Record) (slot : ℕ) → length records ≤ slot → rest_of (rows_by records) (Some slot) ≡ []
+past_rest records slot past =
+    get_or_past (rows_by records) slot [] (omega (arith, past, length-map {A = ℕ} {B = List Row} (range_with_len 0 (length records)) (rows_at records), length-range_with_len 0 (length records)))

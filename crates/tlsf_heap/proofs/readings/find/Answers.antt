@@ -1,7 +1,7 @@
 use Rattle.std.proofs.Common.{◌≡◌, ℕ, ◌+◌, ◌-◌, sym, ap, ◌∙◌, subst, arith}
 use Rattle.tlsf_store.specs.Cells.{Cells, touched, pool_at}
 use Rattle.tlsf_heap.specs.Readings.{AreInOrder, IsNarrowed, slot_if}
-use Rattle.tlsf_heap.proofs.Reading.{in_order, narrowed_found}
+use Rattle.tlsf_heap.proofs.Inner.RowsRead.{in_order, narrowed_found}
 use Rattle.tlsf_heap.proofs.readings.find.Goals as goal
 
 pub skip-place-requires-clause-in_order : goal.skip-place-requires-clause-in_order

@@ -5,8 +5,8 @@ use Rattle.tlsf_store.specs.Cells.{Cells}
 use Rattle.tlsf_heap.specs.Edits.{IsUsed}
 use Rattle.tlsf_heap.specs.Rows.{row_of}
 use Rattle.tlsf_heap.specs.Readings.{is_state_live, rows_by, rest_of, stands_at}
-use Rattle.tlsf_heap.specs.Layout.{block_of}
-use Rattle.tlsf_heap.proofs.Reading.{stands_used, row_then_rest, rest_stands, live_is_used, past_rest}
+use Rattle.tlsf_heap.specs.Inner.Following.{block_at}
+use Rattle.tlsf_heap.proofs.Inner.RowsRead.{stands_used, row_then_rest, rest_stands, live_is_used, past_rest}
 use Rattle.tlsf_heap.proofs.readings.row.Goals as goal
 
 used : (c : goal.After-number_of) → IsUsed c.args.store.now.records (Some c.in-Some.next)
@@ -15,7 +15,7 @@ used c = let P : Option ℕ → Type 0 = λ o. stands_at (rows_by c.args.store.n
 next_is : (c : goal.After-number_of) → c.number_of.result ≡ (record_at c.args.store.now.records c.in-Some.next).next
 next_is c = c.number_of.ensures ∙ ap (λ (r : Record). r.next) c.read-block.ensures.value
 
-row_is : (c : goal.After-number_of) → row_of (block_of c.args.store.now.records c.in-Some.next) ≡ record { place = c.read-block.result.place; size = c.read-block.result.size; used = c.is_used.result }
+row_is : (c : goal.After-number_of) → row_of (block_at c.args.store.now.records c.in-Some.next) ≡ record { place = c.read-block.result.place; size = c.read-block.result.size; used = c.is_used.result }
 row_is c =
     let r : Record = record_at c.args.store.now.records c.in-Some.next in
     ap (λ b. record { place = r.place; size = r.size; used = b }) (live_is_used r.state c.in-Some.next r.place r.size)

@@ -2,9 +2,9 @@ use Rattle.std.proofs.Common.{◌≡◌, subst, Err}
 use Rattle.std.proofs.lemmas.Result.{IfErr-at_err}
 use Rattle.tlsf_heap.specs.Counted.{Counted}
 use Rattle.tlsf_heap.specs.Implied.{HasFewRecords}
-use Rattle.tlsf_heap.specs.Layout.{content_of}
+use Rattle.tlsf_heap.specs.Inner.Following.{content_of}
 use Rattle.tlsf_heap.specs.Pools.{add_pool}
-use Rattle.tlsf_heap.proofs.HeapStands.{content_is_good}
+use Rattle.tlsf_heap.proofs.Inner.Standing.{content_is_good}
 use Rattle.tlsf_heap.proofs.Implied.{add_pool_full}
 use Rattle.tlsf_heap.proofs.heap.Heap.add_pool.Goals as goal
 

@@ -1,7 +1,7 @@
 use Rattle.std.proofs.Common.{sym, ap, ◌∙◌, subst}
 use Rattle.tlsf_store.specs.Cells.{Cells}
-use Rattle.tlsf_heap.specs.Layout.{Stands, content_of}
-use Rattle.tlsf_heap.proofs.HeapStands.{empty_stands, empty_is_created}
+use Rattle.tlsf_heap.specs.Inner.Following.{Stands, content_of}
+use Rattle.tlsf_heap.proofs.Inner.Empty.{empty_stands, empty_is_created}
 use Rattle.tlsf_heap.proofs.heap.Heap.create.Goals as goal
 
 pub invariant_of-result : goal.invariant_of-result

@@ -1,6 +1,6 @@
 use Rattle.std.proofs.Common.{ap, ◌∙◌}
 use Rattle.tlsf_heap.specs.Counted.{Counted}
-use Rattle.tlsf_heap.proofs.AddPool.{touched_stands, touched_content}
+use Rattle.tlsf_heap.proofs.Inner.Followed.{touched_stands, touched_content}
 use Rattle.tlsf_heap.proofs.heap.Heap.first.Goals as goal
 
 pub invariant_of-self : goal.invariant_of-self

@@ -4,9 +4,9 @@ use Rattle.tlsf_heap.specs.declared.refusal.Refusal.{Refusal}
 use Rattle.tlsf_heap.specs.declared.refusal.Refusal.TheVariants.{NoFit, TableFull, OutOfMemory}
 use Rattle.tlsf_heap.specs.Counted.{Counted}
 use Rattle.tlsf_heap.specs.Implied.{NoneFits, HasFewRecords}
-use Rattle.tlsf_heap.specs.Layout.{content_of}
+use Rattle.tlsf_heap.specs.Inner.Following.{content_of}
 use Rattle.tlsf_heap.specs.Malloc.{malloc}
-use Rattle.tlsf_heap.proofs.HeapStands.{content_is_good}
+use Rattle.tlsf_heap.proofs.Inner.Standing.{content_is_good}
 use Rattle.tlsf_heap.proofs.Implied.{no_fit, malloc_full}
 use Rattle.tlsf_heap.proofs.MallocCases.{malloc_lacks_none}
 use Rattle.tlsf_heap.proofs.heap.Heap.malloc.Goals as goal

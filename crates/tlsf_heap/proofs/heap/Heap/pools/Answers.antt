@@ -2,8 +2,8 @@ use Rattle.std.proofs.Common.{map, ap, ◌∙◌}
 use Rattle.tlsf_store.specs.Cells.{most_pools}
 use Rattle.tlsf_heap.specs.Entries.{entry_range}
 use Rattle.tlsf_heap.specs.Counted.{Counted, range_of}
-use Rattle.tlsf_heap.proofs.AddPool.{touched_stands, touched_content}
-use Rattle.tlsf_heap.proofs.HeapStands.{ranges_are}
+use Rattle.tlsf_heap.proofs.Inner.Followed.{touched_stands, touched_content}
+use Rattle.tlsf_heap.proofs.Inner.Standing.{ranges_are}
 use Rattle.tlsf_heap.proofs.heap.Heap.pools.Goals as goal
 
 pub invariant_of-self : goal.invariant_of-self

@@ -1,4 +1,4 @@
-use Rattle.std.proofs.Common.{◌≡◌, ℕ, ◌+◌, true, List, [], ◌∷◌, sym, ap, ◌∙◌, subst, map}
+use Rattle.std.proofs.Common.{◌≡◌, ℕ, ◌+◌, true, [], ◌∷◌, sym, ap, ◌∙◌, subst, map}
 use Rattle.tlsf_heap.specs.Content.{Content, blocks_of, size_at}
 use Rattle.tlsf_heap.specs.Free.{is_live, unlink_block, if_free, first_in_pools, in_front_of, behind, size_of}
 use Rattle.tlsf_heap.specs.Free.{free_block, without_block, after_free}
