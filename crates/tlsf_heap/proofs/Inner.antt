@@ -22,4 +22,6 @@ pub mod Steps
 pub mod Live
 pub mod Empty
 pub mod Standing
+pub mod Entered
+pub mod Added
 mod Rows

@@ -6,3 +6,4 @@ pub mod Allocated
 pub mod Freed
 pub mod Covered
 pub mod FreedIsGood
+pub mod Entered

@@ -2,6 +2,7 @@
 //! found by bitmaps.
 #![tactic(auto)]
 
+mod add_pool;
 mod allocation;
 mod answer;
 mod calls;
