@@ -25,6 +25,7 @@ pub mod Served
 pub mod Picked
 pub mod Empty
 pub mod Standing
-pub mod PoolEntered
 pub mod RowsRead
+pub mod Entered
+pub mod Added
 mod Rows

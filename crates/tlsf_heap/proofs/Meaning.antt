@@ -7,3 +7,4 @@ pub mod Freed
 pub mod Covered
 pub mod FreedIsGood
 pub mod FreedSlots
+pub mod Entered

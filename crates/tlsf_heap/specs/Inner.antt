@@ -6,3 +6,4 @@ pub mod Joined
 pub mod CellEdits
 pub mod Following
 pub mod At
+pub mod Entering

@@ -7,7 +7,6 @@ pub mod Good
 pub mod Free
 pub mod Edits
 pub mod Chains
-pub mod Allocation
 pub mod Release
 pub mod Readings
 pub mod Bitmaps

@@ -1,9 +1,9 @@
 //! The heap.
 
+use crate::add_pool::add_pool;
 use crate::entries::{entries, pool_ranges};
 use crate::free::free;
 use crate::malloc::malloc;
-use crate::pools::add_pool;
 use crate::readings::{first, row};
 use crate::{Cursor, Heaped, Ptr, Refusal, Row};
 use arrayvec::ArrayVec;

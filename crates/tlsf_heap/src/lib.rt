@@ -2,6 +2,7 @@
 //! found by bitmaps.
 #![tactic(auto)]
 
+mod add_pool;
 mod answer;
 mod calls;
 mod chains;

@@ -1,23 +1,9 @@
-//! A pool enters a store.
+//! What a pool can be.
 
-ghost use Rattle.std.specs.Prelude.{◌≡◌, ◌≢◌, ◌+◌, ◌%◌, ◌<◌, ◌≤◌, length, All, Some, Ok, Err, OnOk, OnErr, IfErr};
-ghost use Rattle.arrayvec.specs.ArrayVec.{array_vec_len};
-ghost use Rattle.tlsf_class.specs.Classes.{unit, greatest_size, class};
-ghost use Rattle.tlsf_store.specs.declared.records.State.TheVariants.{Vacant};
-ghost use Rattle.tlsf_store.specs.Records.{record_at};
-ghost use Rattle.tlsf_store.specs.Cells.{head_at, most_pools};
-ghost use Rattle.tlsf_heap.specs.Edits.{IsUsed};
-ghost use Rattle.tlsf_heap.specs.Layout.{Stands, content_of, entries_of};
-ghost use Rattle.tlsf_heap.specs.Pools.{can_be_pool as can_be, add_pool as added};
-ghost use Rattle.tlsf_heap.specs.Entries.{free_record, pool_entered};
+ghost use Rattle.std.specs.Prelude.{◌≡◌};
+ghost use Rattle.tlsf_heap.specs.Pools.{can_be_pool as can_be};
 
-use crate::Refusal;
-use crate::entries::{entries, is_apart, place_for, set_entries};
-use crate::free_lists::link;
-use crate::pool_entry::PoolEntry;
-use arrayvec::ArrayVec;
-use tlsf_class::{GREATEST_SIZE, class_of};
-use tlsf_store::{MOST_POOLS, Record, Slot, State, Store};
+use tlsf_class::GREATEST_SIZE;
 
 /// Where the last place ends, in bytes: no pool ends above it.
 pub const END_OF_PLACES: u64 = 1 << 32;
@@ -36,79 +22,4 @@ pub(crate) fn can_be_pool(base: u64, bytes: u64) -> bool
         && UNIT <= bytes
         && bytes <= GREATEST_POOL
         && base <= END_OF_PLACES - bytes
-}
-
-/// A pool of `bytes` bytes from the place `base` on enters the store, as one free block. At most 29
-/// touches.
-///
-/// # Errors
-///
-/// As `Heap::add_pool`.
-pub(crate) fn add_pool(store: &mut Store, base: u64, bytes: u64) -> Result<(), Refusal>
-    requires { Stands store.old }
-    ensures stands { Stands store.new }
-    ensures ok { OnOk result (added base bytes (content_of store.old) ≡ Ok (content_of store.new)) }
-    ensures refused { IfErr result (λ refusal. added base bytes (content_of store.old) ≡ Err refusal) }
-    ensures unchanged { OnErr result (content_of store.new ≡ content_of store.old) }
-    ensures cells { OnErr result (store.new ≡ record store.old { touches = store.new.touches }) }
-    ensures floor { store.old.touches ≤ store.new.touches }
-    ensures bound { store.new.touches ≤ store.old.touches + 29 }
-{
-    let entries = entries(store);
-    if !can_be_pool(base, bytes) || !is_apart(entries.as_slice(), base, bytes) {
-        return Err(Refusal::BadPool);
-    }
-    if entries.is_full() {
-        return Err(Refusal::PoolsFull);
-    }
-    let Some(slot) = store.take_vacant() else {
-        return Err(Refusal::TableFull);
-    };
-    let entry = PoolEntry {
-        base: base as u32,
-        bytes: bytes as u32,
-        first: slot.0,
-    };
-    put_pool(store, entries, entry);
-    Ok(())
-}
-
-/// Makes a pool one free block, the first of its class's list, and puts its entry among the others. At
-/// most 19 touches.
-fn put_pool(store: &mut Store, mut entries: ArrayVec<PoolEntry, MOST_POOLS>, entry: PoolEntry)
-    requires base_in_units { entry.base % unit ≡ 0 }
-    requires bytes_in_units { entry.bytes % unit ≡ 0 }
-    requires least { unit ≤ entry.bytes }
-    requires most { entry.bytes ≤ greatest_size }
-    requires room { array_vec_len entries < most_pools }
-    requires count { length store.old.pools ≡ most_pools }
-    requires entries { entries.items ≡ entries_of store.old.pools }
-    requires below { All (λ e. e.first < length store.old.records) entries.items }
-    requires slot_used { IsUsed store.old.records (Some entry.first) }
-    requires first_used { IsUsed store.old.records (head_at store.old.heads (class entry.bytes)) }
-    ensures cells { store.new ≡ record (pool_entered entry store.old) { touches = store.new.touches } }
-    ensures floor { store.old.touches ≤ store.new.touches }
-    ensures bound { store.new.touches ≤ store.old.touches + 19 }
-{
-    let slot = Slot(entry.first);
-    let place = place_for(entries.as_slice(), entry.base);
-    entries.insert(place, entry);
-    store.write(slot, free_block(entry.base, entry.bytes));
-    set_entries(store, entries.as_slice());
-    link(store, class_of(entry.bytes), slot);
-}
-
-/// The record of a free block without neighbours.
-fn free_block(place: u32, size: u32) -> Record
-    ensures { result ≡ free_record place size }
-{
-    Record {
-        place,
-        size,
-        state: State::Free,
-        prev: None,
-        next: None,
-        prev_free: None,
-        next_free: None,
-    }
 }

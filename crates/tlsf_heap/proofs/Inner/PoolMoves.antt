@@ -1,5 +1,5 @@
 -- A pool of one block, which is in no list, enters and leaves.
-use Rattle.std.proofs.Common.{◌≡◌, ℕ, ◌+◌, ◌≤◌, Bool, false, ◌&&◌, List, [], ◌∷◌, map, set, refl, sym, ap, ◌∙◌, subst, arith, count_by, inl, inr}
+use Rattle.std.proofs.Common.{◌≡◌, ℕ, ◌+◌, ◌≤◌, Bool, false, ◌&&◌, List, [], ◌∷◌, set, refl, sym, ap, ◌∙◌, subst, arith, count_by, inl, inr}
 use Rattle.std.proofs.lemmas.Bool.{cases_eq, eq-eqb, ne_eqb}
 use Rattle.std.proofs.lemmas.List.{length-set}
 use Rattle.tlsf_store.specs.declared.records.Record.{Record}
@@ -9,25 +9,15 @@ use Rattle.tlsf_store.proofs.RecordLaws.{record_at-set_same, record_at-set_other
 use Rattle.tlsf_heap.specs.declared.pool_entry.PoolEntry.{PoolEntry}
 use Rattle.tlsf_heap.specs.Entries.{free_record}
 use Rattle.tlsf_heap.specs.Good.{times}
-use Rattle.tlsf_heap.specs.Inner.Nodes.{Node, Area, Loose, has_slot, nodes_of, list_of, is_listed, is_listed_in}
+use Rattle.tlsf_heap.specs.Inner.Nodes.{Node, Area, has_slot, nodes_of, list_of, is_listed, is_listed_in}
 use Rattle.tlsf_heap.specs.Inner.Spots.{plug, Spot}
 use Rattle.tlsf_heap.specs.Inner.Represents.{pool_view, list_view, pool_views, list_views, IsChain, uses_in, Represents}
 use Rattle.tlsf_heap.specs.Inner.CellEdits.{pool_put, pool_dropped}
+use Rattle.tlsf_heap.specs.Inner.Entering.{pool_node, area_of_one, entries_in}
 use Rattle.tlsf_heap.proofs.Inner.Counts.{one_if, count-cons}
 use Rattle.tlsf_heap.proofs.Inner.Plugs.{all_parts, all_plugged, count-nodes, count-nodes-plug}
 use Rattle.tlsf_heap.proofs.Inner.Chains.{times-cons, uses_most, used_below, chains_same, unlisted, unlisted_nowhere, index_same, listed_within, AtNode, at_node}
 use Rattle.tlsf_heap.proofs.Inner.Taken.{counted_apart}
-
--- the one node of a pool that enters
-abbrev pub pool_node : PoolEntry → Node
-pool_node entry = record { slot = entry.first; place = entry.base; size = entry.bytes; status = Loose }
-
-abbrev pub area_of_one : PoolEntry → Node → Area
-area_of_one entry node = record { entry = entry; nodes = node ∷ [] }
-
--- the entries of areas
-abbrev pub entries_in : List Area → List PoolEntry
-entries_in areas = map (λ area. area.entry) areas
 
 module _ (cells : Cells) (count : ℕ) (front behind : List Area) (lists : List (List Node)) (entry : PoolEntry) (taken : List ℕ)
     (was : Represents cells (record { count = count; areas = plug front behind; lists = lists; taken = entry.first ∷ taken })) where

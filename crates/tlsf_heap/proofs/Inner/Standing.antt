@@ -14,11 +14,11 @@ use Rattle.tlsf_heap.specs.Entries.{is_entry_apart, entry_range}
 use Rattle.tlsf_heap.specs.Layout.{entries_of}
 use Rattle.tlsf_heap.specs.Inner.Nodes.{Status, InUse, Listed, Loose, Node, Area, owner_of, block_of, pool_of, nodes_of, has_slot}
 use Rattle.tlsf_heap.specs.Inner.Represents.{uses_in}
+use Rattle.tlsf_heap.specs.Inner.Entering.{entries_in}
 use Rattle.tlsf_heap.specs.Inner.Following.{content_of, Stands}
 use Rattle.tlsf_heap.proofs.EntryLists.{entries_of-padded}
 use Rattle.tlsf_heap.proofs.Inner.Counts.{one_if, count_apart, count-map}
 use Rattle.tlsf_heap.proofs.Inner.Chains.{uses_most}
-use Rattle.tlsf_heap.proofs.Inner.PoolMoves.{entries_in}
 use Rattle.tlsf_heap.proofs.Inner.Followed.{stood_for}
 use Rattle.tlsf_heap.proofs.Inner.Sums.{all_records}
 use Rattle.tlsf_heap.proofs.Meaning.Places.{blocks_of_areas}

@@ -1,0 +1,99 @@
+-- A pool whose slot was taken enters, and its one free block its class's list.
+use Rattle.std.proofs.Common.{◌≡◌, ◌≢◌, ℕ, List, [], ◌∷◌, map, refl, sym, ap, ◌∙◌, subst, arith, Some, inl, inr}
+use Rattle.std.specs.Prelude.{nat_lt}
+use Rattle.std.proofs.lemmas.Bool.{cases_Bool, eq-eqb}
+use Rattle.std.proofs.lemmas.List.{length-set}
+use Rattle.tlsf_store.specs.declared.records.Record.{Record}
+use Rattle.tlsf_store.specs.declared.records.State.TheVariants.{Vacant, Free}
+use Rattle.tlsf_store.proofs.RecordLaws.{record_at-set_same}
+use Rattle.tlsf_store.specs.Cells.{Cells, head_at}
+use Rattle.tlsf_class.specs.Classes.{class}
+use Rattle.tlsf_heap.specs.declared.pool_entry.PoolEntry.{PoolEntry}
+use Rattle.tlsf_heap.specs.Layout.{entries_of}
+use Rattle.tlsf_heap.specs.Edits.{IsUsed}
+use Rattle.tlsf_heap.specs.Entries.{inserted, with_entry, free_record, pool_entered}
+use Rattle.tlsf_heap.specs.Inner.Nodes.{Node, Area, Layout, Listed, turned, entered}
+use Rattle.tlsf_heap.specs.Inner.Spots.{plug, Spot}
+use Rattle.tlsf_heap.specs.Inner.Represents.{Represents}
+use Rattle.tlsf_heap.specs.Inner.CellEdits.{pool_put}
+use Rattle.tlsf_heap.specs.Inner.Entering.{pool_node, area_of_one, entries_in, with_area, pool_laid}
+use Rattle.tlsf_heap.proofs.EntryLists.{entries_of-padded}
+use Rattle.tlsf_heap.proofs.Inner.Counts.{one_if}
+use Rattle.tlsf_heap.proofs.Inner.Chains.{times-cons}
+use Rattle.tlsf_heap.proofs.Inner.Used.{stands_used, head_used}
+use Rattle.tlsf_heap.proofs.Inner.Linked.{linked_laid}
+use Rattle.tlsf_heap.proofs.Inner.PoolMoves.{pool_enters}
+
+-- an item in its place, seen through a function that keeps the keys
+pub map-inserted : {A B : Type 0} (f : A → B) (key : A → ℕ) (new_key : B → ℕ) → ((a : A) → new_key (f a) ≡ key a) → (item : A) (items : List A) → map f (inserted key item items) ≡ inserted new_key (f item) (map f items)
+map-inserted f key new_key same item [] = refl
+map-inserted f key new_key same item (other ∷ items) =
+    let tests : nat_lt (new_key (f item)) (new_key (f other)) ≡ nat_lt (key item) (key other) = ap (λ n. nat_lt n (new_key (f other))) (same item) ∙ ap (nat_lt (key item)) (same other) in
+    elim (cases_Bool (nat_lt (key item) (key other))) [
+      | inl before ↦ rw (before, tests, before) refl
+      | inr after ↦ rw (after, tests, after) (ap (λ xs. f other ∷ xs) (map-inserted f key new_key same item items))
+    ]
+
+-- where the entry's area comes to stand: the areas in front of it, nearest first, and those behind
+pub record Place (entry : PoolEntry) (passed areas : List Area) : Type 0 where
+  pub front : List Area
+  pub behind : List Area
+  pub whole : plug passed areas ≡ plug front behind
+  pub put : (node : Node) → plug passed (with_area (area_of_one entry node) areas) ≡ plug front (area_of_one entry node ∷ behind)
+
+pub place : (entry : PoolEntry) (passed areas : List Area) → Place entry passed areas
+place entry passed [] = record { front = passed; behind = []; whole = refl; put = λ node. refl }
+place entry passed (other ∷ areas) = elim (cases_Bool (nat_lt entry.base other.entry.base)) [
+  | inl before ↦ record { front = passed; behind = other ∷ areas; whole = refl; put = λ node. rw before refl }
+  | inr after ↦
+      let later : Place entry (other ∷ passed) areas = place entry (other ∷ passed) areas in
+      record { front = later.front; behind = later.behind; whole = later.whole; put = λ node. rw after (later.put node) }
+]
+
+module _ (cells : Cells) (entry : PoolEntry) (layout : Layout) (was : Represents cells (record layout { taken = entry.first ∷ layout.taken })) where
+  abbrev at : Place entry [] layout.areas
+  at = place entry [] layout.areas
+
+  -- the cells once the pool is there, its block in no list
+  abbrev put : Cells
+  put = pool_put entry (with_entry entry (entries_of cells.pools)) cells
+
+  taken_used : IsUsed cells.records (Some entry.first)
+  taken_used = stands_used cells (record layout { taken = entry.first ∷ layout.taken }) entry.first was (omega (arith, times-cons entry.first entry.first layout.taken, ap one_if (eq-eqb entry.first entry.first refl)))
+
+  entries_are : entries_in (plug at.front (area_of_one entry (pool_node entry) ∷ at.behind)) ≡ with_entry entry (entries_of cells.pools)
+  entries_are =
+      ap entries_in (sym (at.put (pool_node entry)))
+      ∙ map-inserted (λ (area : Area). area.entry) (λ (area : Area). area.entry.base) (λ (other : PoolEntry). other.base) (λ area. refl) (area_of_one entry (pool_node entry)) layout.areas
+      ∙ ap (with_entry entry) (sym (ap entries_of was.entries ∙ entries_of-padded (entries_in layout.areas)))
+
+  is_put : Represents put (record layout { areas = plug at.front (area_of_one entry (pool_node entry) ∷ at.behind) })
+  is_put =
+      let P : List Area → Type 0 = λ areas. Represents cells (record layout { areas = areas; taken = entry.first ∷ layout.taken }) in
+      let Q : List PoolEntry → Type 0 = λ entries. Represents (pool_put entry entries cells) (record layout { areas = plug at.front (area_of_one entry (pool_node entry) ∷ at.behind) }) in
+      subst Q entries_are (pool_enters cells layout.count at.front at.behind layout.lists entry layout.taken (subst P at.whole was))
+
+  -- what link needs then
+  slot_used : IsUsed put.records (Some entry.first)
+  slot_used = (omega (arith, taken_used.0, length-set cells.records entry.first (free_record entry.base entry.bytes)), λ e. absurd (free_isnt (sym (ap (λ (r : Record). r.state) (record_at-set_same cells.records entry.first (free_record entry.base entry.bytes) taken_used.0)) ∙ e)))
+    where
+      free_isnt : Free ≢ Vacant
+      free_isnt = λ e. cc
+
+  first_used : IsUsed put.records (head_at put.heads (class entry.bytes))
+  first_used = head_used put (record layout { areas = plug at.front (area_of_one entry (pool_node entry) ∷ at.behind) }) (pool_node entry) is_put
+
+  is_laid : Represents (pool_entered entry cells) (pool_laid entry layout)
+  is_laid =
+      let spot : Spot = record { areas_before = at.front; entry = entry; before = []; areas_behind = at.behind } in
+      let P : List Area → Type 0 = λ areas. Represents (pool_entered entry cells) (record layout { areas = areas; lists = entered (turned Listed (pool_node entry)) layout.lists }) in
+      subst P (sym (at.put (turned Listed (pool_node entry)))) (linked_laid put layout.count spot (pool_node entry) [] layout.lists layout.taken is_put)
+
+-- a pool that enters: once it is there its slot is in use, and so is the first of its list, and then it is laid
+pub record Enters (entry : PoolEntry) (layout : Layout) (cells : Cells) : Type 0 where
+  pub slot : IsUsed (pool_put entry (with_entry entry (entries_of cells.pools)) cells).records (Some entry.first)
+  pub first : IsUsed (pool_put entry (with_entry entry (entries_of cells.pools)) cells).records (head_at cells.heads (class entry.bytes))
+  pub laid : Represents (pool_entered entry cells) (pool_laid entry layout)
+
+pub pool_is_laid : (cells : Cells) (entry : PoolEntry) (layout : Layout) → Represents cells (record layout { taken = entry.first ∷ layout.taken }) → Enters entry layout cells
+pool_is_laid cells entry layout was = record { slot = slot_used cells entry layout was; first = first_used cells entry layout was; laid = is_laid cells entry layout was }
