@@ -1,12 +1,12 @@
 -- Where blocks stand, and which are beside a place.
 use Rattle.std.proofs.Common.{◌≡◌, ℕ, ◌+◌, ◌<◌, ◌≤◌, Bool, true, false, cond, ◌&&◌, List, [], ◌∷◌, ◌++◌, refl, sym, ap, ◌∙◌, subst, arith, Option, Some, None, inl, inr}
-use Rattle.std.specs.Prelude.{⊤, ◌||◌, ◌==◌, find, option_map, unwrap_or}
+use Rattle.std.specs.Prelude.{◌||◌, find, option_map, unwrap_or}
 use Rattle.std.specs.Option.{option_or}
-use Rattle.std.proofs.lemmas.Bool.{cases_Bool, ne_eqb, eqb-true, and_left, or_cases}
-use Rattle.tlsf_heap.specs.Content.{Block, Pool, blocks_of, is_at, size_at}
+use Rattle.std.proofs.lemmas.Bool.{cases_Bool, ne_eqb, eqb-true}
+use Rattle.tlsf_heap.specs.Content.{Block, Pool, is_at, size_at}
 use Rattle.tlsf_heap.specs.Free.{is_owned_by, is_live, in_front_of, behind, first_in_pools}
-use Rattle.tlsf_heap.specs.Good.{Covers, IsGoodPool, AreGoodPools}
-use Rattle.tlsf_heap.proofs.Blocks.{Ascends, Ascends-pools, NoneAt, NoneAt-below}
+use Rattle.tlsf_heap.specs.Good.{Covers, AreGoodPools}
+use Rattle.tlsf_heap.proofs.Blocks.{Ascends, NoneAt, NoneAt-below}
 
 pub option_or-None : {B : Type 0} (o : Option B) → option_or o None ≡ o
 option_or-None None = refl

@@ -8,8 +8,8 @@ use Rattle.std.proofs.lemmas.List.Sums.{prefix_len_is}
 use Rattle.tlsf_store.specs.declared.pools.Pool.{Pool as StoredPool}
 use Rattle.tlsf_store.specs.Cells.{pool_at, most_pools, IsPoolBelow}
 use Rattle.tlsf_heap.specs.declared.pool_entry.PoolEntry.{PoolEntry}
-use Rattle.tlsf_heap.specs.Layout.{pool_in, entry_in, padded, padded_at, entries_of}
-use Rattle.tlsf_heap.specs.Entries.{entry_place, with_entry}
+use Rattle.tlsf_heap.specs.Inner.Entries.{pool_in, entry_in, padded, padded_at, entries_of}
+use Rattle.tlsf_heap.specs.Inner.Entries.{entry_place, with_entry}
 
 -- the entry that fills no place
 abbrev pub no_entry : PoolEntry

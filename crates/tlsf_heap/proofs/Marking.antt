@@ -8,8 +8,8 @@ use Rattle.std.proofs.lemmas.List.{get_or-set_same, get_or-set_other}
 use Rattle.std.proofs.lemmas.Nat.Bits.{bit_at_or, bit_at-pow_same, bit_at-pow_other, bit_at-lt, bit_at-zero, bit_at_and, bit_at_not}
 use Rattle.tlsf_class.specs.Classes.{steps, levels, classes}
 use Rattle.tlsf_store.specs.Cells.{head_at}
-use Rattle.tlsf_heap.specs.Edits.{with_bit, without_bit}
-use Rattle.tlsf_heap.specs.Bitmaps.{head_bit, word_bit, AreMarked}
+use Rattle.tlsf_heap.specs.Inner.Edits.{with_bit, without_bit}
+use Rattle.tlsf_heap.specs.Inner.Bitmaps.{head_bit, word_bit, AreMarked}
 
 bit_set_same : (word bit : ℕ) → bit_at (with_bit word bit) bit ≡ 1
 bit_set_same word bit = bit_at_or word (2 ^ bit) bit ∙ omega (arith, bit_at-pow_same bit, bit_at-lt word bit)

@@ -7,3 +7,8 @@ pub mod CellEdits
 pub mod Following
 pub mod At
 pub mod Entering
+pub mod Bitmaps
+pub mod Chains
+pub mod Edits
+pub mod Entries
+pub mod States

@@ -5,13 +5,7 @@ pub mod Malloc
 pub mod Pools
 pub mod Good
 pub mod Free
-pub mod Edits
-pub mod Chains
-pub mod Release
 pub mod Readings
-pub mod Bitmaps
-pub mod Layout
-pub mod Entries
 pub mod Counted
 pub mod GoodSlots
 pub mod Rows

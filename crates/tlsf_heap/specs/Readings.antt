@@ -2,26 +2,18 @@
 use Rattle.std.specs.Prelude.{◌≡◌, ◌≢◌, ℕ, ◌-◌, ◌<◌, ◌≤◌, ◌==◌, nat_lt, Bool, true, false, List, [], ◌∷◌, map, length, Option, Some, None, if◌then◌else◌, slice_index_or, ◌⊎◌, ⊤}
 use Rattle.std.specs.List.{range_with_len}
 use Rattle.tlsf_store.specs.declared.records.Record.{Record}
-use Rattle.tlsf_store.specs.declared.records.State.{State}
-use Rattle.tlsf_store.specs.declared.records.State.TheVariants.{Vacant, Free, Live}
 use Rattle.tlsf_store.specs.declared.pools.Pool.{Pool as StoredPool}
 use Rattle.tlsf_store.specs.Records.{record_at, is_vacant}
 use Rattle.tlsf_store.specs.Cells.{pool_at, most_pools}
 use Rattle.tlsf_heap.specs.declared.pool_entry.PoolEntry.{PoolEntry}
 use Rattle.tlsf_heap.specs.declared.cursor.Cursor.{Cursor}
 use Rattle.tlsf_heap.specs.declared.row.Row.{Row}
-use Rattle.tlsf_heap.specs.Layout.{next_at, block_of, follow}
+use Rattle.tlsf_heap.specs.Inner.Following.{block_at, chain_from}
 use Rattle.tlsf_heap.specs.Rows.{row_of}
-
--- whether a record in this state is of a live block
-abbrev pub is_state_live : State → Bool
-is_state_live Vacant = false
-is_state_live Free = false
-is_state_live Live = true
 
 -- the rows from the slot's block on in its pool, none where the slot has no block
 abbrev pub rows_at : List Record → ℕ → List Row
-rows_at records slot = if is_vacant (record_at records slot).state then [] else map (λ q. row_of (block_of records q)) (follow (length records) (next_at records) (Some slot))
+rows_at records slot = if is_vacant (record_at records slot).state then [] else map (λ q. row_of (block_at records q)) (chain_from records (Some slot))
 
 -- the same for each slot
 abbrev pub rows_by : List Record → List (List Row)

@@ -4,10 +4,10 @@ ghost use Rattle.std.specs.Prelude.{◌≡◌, ◌+◌, ◌<◌, ◌≤◌, ◌&
 ghost use Rattle.std.specs.List.{list_all};
 ghost use Rattle.arrayvec.specs.ArrayVec.{array_vec_len};
 ghost use Rattle.tlsf_store.specs.Cells.{most_pools};
-ghost use Rattle.tlsf_heap.specs.Layout.{entries_of};
-ghost use Rattle.tlsf_heap.specs.Edits.{IsUsed};
+ghost use Rattle.tlsf_heap.specs.Inner.Entries.{entries_of};
+ghost use Rattle.tlsf_heap.specs.Inner.Edits.{IsUsed};
 ghost use Rattle.tlsf_heap.specs.Pools.{can_be_pool as can_be, add_pool as added};
-ghost use Rattle.tlsf_heap.specs.Entries.{is_entry_apart, free_record};
+ghost use Rattle.tlsf_heap.specs.Inner.Entries.{is_entry_apart, free_record};
 ghost use Rattle.tlsf_heap.specs.Inner.Nodes.{Layout};
 ghost use Rattle.tlsf_heap.specs.Inner.Represents.{Represents};
 ghost use Rattle.tlsf_heap.specs.Inner.Following.{Stands, content_of};

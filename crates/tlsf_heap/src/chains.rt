@@ -6,8 +6,8 @@ ghost use Rattle.tlsf_store.specs.declared.records.State.TheVariants.{Vacant};
 ghost use Rattle.tlsf_store.specs.Records.{record_at};
 ghost use Rattle.tlsf_store.specs.Cells.{touched};
 ghost use Rattle.tlsf_heap.specs.Pools.{end_of_places};
-ghost use Rattle.tlsf_heap.specs.Edits.{IsUsed};
-ghost use Rattle.tlsf_heap.specs.Chains.{with_prev, with_state, split as split_cells, absorbed};
+ghost use Rattle.tlsf_heap.specs.Inner.Edits.{IsUsed};
+ghost use Rattle.tlsf_heap.specs.Inner.Chains.{with_prev, with_state, split as split_cells, absorbed};
 
 use tlsf_store::{Record, Slot, State, Store};
 

@@ -5,7 +5,7 @@ ghost use Rattle.tlsf_class.specs.Classes.{classes};
 ghost use Rattle.tlsf_store.specs.declared.records.State.TheVariants.{Vacant};
 ghost use Rattle.tlsf_store.specs.Records.{record_at, IsBelow};
 ghost use Rattle.tlsf_store.specs.Cells.{touched, head_at};
-ghost use Rattle.tlsf_heap.specs.Edits.{IsUsed, with_prev_free, with_next_free, with_free_links, with_first, with_behind, linked, unlinked};
+ghost use Rattle.tlsf_heap.specs.Inner.Edits.{IsUsed, with_prev_free, with_next_free, with_free_links, with_first, with_behind, linked, unlinked};
 
 use crate::marks::{mark, unmark};
 use tlsf_class::Class;

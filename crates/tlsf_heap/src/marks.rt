@@ -4,7 +4,7 @@
 ghost use Rattle.std.specs.Prelude.{◌≡◌, ◌+◌, ◌<◌, ◌≤◌, ◌^◌};
 ghost use Rattle.tlsf_class.specs.Classes.{levels};
 ghost use Rattle.tlsf_store.specs.Cells.{touched};
-ghost use Rattle.tlsf_heap.specs.Edits.{with_bit, without_bit, marked, unmarked, with_level_cleared};
+ghost use Rattle.tlsf_heap.specs.Inner.Edits.{with_bit, without_bit, marked, unmarked, with_level_cleared};
 
 use tlsf_class::{Class, STEPS};
 use tlsf_store::Store;

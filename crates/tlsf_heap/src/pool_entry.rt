@@ -13,7 +13,7 @@ pub(crate) struct PoolEntry {
 }
 
 impl PoolEntry {
-    ghost use Rattle.tlsf_heap.specs.Layout.{entry_in, pool_in};
+    ghost use Rattle.tlsf_heap.specs.Inner.Entries.{entry_in, pool_in};
 
     /// The entry of a pool of the store.
     pub(crate) fn of(pool: Pool) -> PoolEntry

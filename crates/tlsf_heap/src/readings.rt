@@ -3,9 +3,10 @@
 ghost use Rattle.std.specs.Prelude.{◌≡◌, ◌+◌, ◌-◌, ◌*◌, ◌<◌, ◌≤◌, [], ◌∷◌, length, Ok, Err, IfOk, IfErr, IfSome, IfNone};
 ghost use Rattle.tlsf_store.specs.Cells.{touched, pool_at, most_pools};
 ghost use Rattle.tlsf_heap.specs.Inner.Following.{Stands, content_of};
-ghost use Rattle.tlsf_heap.specs.Layout.{entries_of};
+ghost use Rattle.tlsf_heap.specs.Inner.Entries.{entries_of};
 ghost use Rattle.tlsf_heap.specs.Rows.{rows_from};
-ghost use Rattle.tlsf_heap.specs.Readings.{is_state_live, rows_by, rest_of, stands_at, slot_for, begins_below, slot_if, AreInOrder, IsNarrowed};
+ghost use Rattle.tlsf_heap.specs.Readings.{rows_by, rest_of, stands_at, slot_for, begins_below, slot_if, AreInOrder, IsNarrowed};
+ghost use Rattle.tlsf_heap.specs.Inner.States.{is_state_live};
 
 use crate::{Cursor, Refusal, Row};
 use tlsf_store::{MOST_POOLS, Pool, Slot, State, Store};

@@ -2,7 +2,7 @@
 
 ghost use Rattle.std.specs.Prelude.{◌≡◌, ◌+◌, ◌*◌, ◌≤◌, length, drop, IfSome, IfNone};
 ghost use Rattle.tlsf_class.specs.Classes.{steps, levels, classes};
-ghost use Rattle.tlsf_heap.specs.Bitmaps.{AreMarked, HasNoBit, IsLowestFrom, first_head};
+ghost use Rattle.tlsf_heap.specs.Inner.Bitmaps.{AreMarked, HasNoBit, IsLowestFrom, first_head};
 
 use tlsf_class::{Class, STEPS};
 use tlsf_store::{Slot, Store};

@@ -6,8 +6,8 @@ use Rattle.tlsf_store.specs.declared.records.State.TheVariants.{Live}
 use Rattle.tlsf_store.specs.Records.{blank, record_at}
 use Rattle.tlsf_store.specs.Cells.{Cells, with_taken}
 use Rattle.tlsf_heap.specs.Good.{Covers}
-use Rattle.tlsf_heap.specs.Edits.{IsUsed, linked, unlinked}
-use Rattle.tlsf_heap.specs.Chains.{with_state, split}
+use Rattle.tlsf_heap.specs.Inner.Edits.{IsUsed, linked, unlinked}
+use Rattle.tlsf_heap.specs.Inner.Chains.{with_state, split}
 use Rattle.tlsf_heap.specs.Inner.Nodes.{Status, InUse, Listed, Loose, Node, turned, rest_node, block_of, is_listed}
 use Rattle.tlsf_heap.specs.Inner.Joined.{is_loose}
 use Rattle.tlsf_heap.specs.Inner.Represents.{Represents}

@@ -9,7 +9,7 @@ use Rattle.tlsf_store.specs.declared.records.State.TheVariants.{Vacant, Free, Li
 use Rattle.tlsf_store.specs.Records.{blank, record_at}
 use Rattle.tlsf_class.specs.Classes.{class}
 use Rattle.tlsf_store.specs.Cells.{Cells}
-use Rattle.tlsf_heap.specs.Layout.{padded}
+use Rattle.tlsf_heap.specs.Inner.Entries.{padded}
 use Rattle.tlsf_heap.specs.Good.{times}
 use Rattle.tlsf_heap.specs.Inner.Nodes.{Status, InUse, Listed, Loose, Node, Area, nodes_of, list_of, has_slot, is_listed, is_listed_in}
 use Rattle.tlsf_heap.specs.Inner.Spots.{plug, Spot, filled, laid}

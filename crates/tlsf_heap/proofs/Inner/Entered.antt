@@ -9,9 +9,9 @@ use Rattle.tlsf_store.proofs.RecordLaws.{record_at-set_same}
 use Rattle.tlsf_store.specs.Cells.{Cells, head_at}
 use Rattle.tlsf_class.specs.Classes.{class}
 use Rattle.tlsf_heap.specs.declared.pool_entry.PoolEntry.{PoolEntry}
-use Rattle.tlsf_heap.specs.Layout.{entries_of}
-use Rattle.tlsf_heap.specs.Edits.{IsUsed}
-use Rattle.tlsf_heap.specs.Entries.{inserted, with_entry, free_record, pool_entered}
+use Rattle.tlsf_heap.specs.Inner.Entries.{entries_of}
+use Rattle.tlsf_heap.specs.Inner.Edits.{IsUsed}
+use Rattle.tlsf_heap.specs.Inner.Entries.{inserted, with_entry, free_record, pool_entered}
 use Rattle.tlsf_heap.specs.Inner.Nodes.{Node, Area, Layout, Listed, turned, entered}
 use Rattle.tlsf_heap.specs.Inner.Spots.{plug, Spot}
 use Rattle.tlsf_heap.specs.Inner.Represents.{Represents}

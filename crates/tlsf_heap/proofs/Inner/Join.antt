@@ -6,8 +6,8 @@ use Rattle.tlsf_store.specs.declared.records.Record.{Record}
 use Rattle.tlsf_store.specs.Records.{blank, record_at}
 use Rattle.tlsf_store.specs.Cells.{Cells}
 use Rattle.tlsf_store.proofs.RecordLaws.{record_at-set_same, record_at-set_other}
-use Rattle.tlsf_heap.specs.Edits.{edited_in}
-use Rattle.tlsf_heap.specs.Chains.{absorbed}
+use Rattle.tlsf_heap.specs.Inner.Edits.{edited_in}
+use Rattle.tlsf_heap.specs.Inner.Chains.{absorbed}
 use Rattle.tlsf_heap.specs.Inner.Nodes.{Node, has_slot, list_of, is_listed, is_listed_in}
 use Rattle.tlsf_heap.specs.Inner.Spots.{Spot, laid}
 use Rattle.tlsf_heap.specs.Inner.Represents.{InPool, pool_view, list_view, pool_views, list_views, in_pool, first_slot, uses_in, Represented, Represents}

@@ -5,8 +5,10 @@ use Rattle.tlsf_class.specs.Classes.{class}
 use Rattle.tlsf_store.specs.declared.records.Record.{Record}
 use Rattle.tlsf_store.specs.Records.{record_at}
 use Rattle.tlsf_store.specs.Cells.{Cells}
-use Rattle.tlsf_heap.specs.Edits.{unlinked}
-use Rattle.tlsf_heap.specs.Release.{AreCovered, is_state_free, joined}
+use Rattle.tlsf_heap.specs.Inner.Edits.{unlinked}
+use Rattle.tlsf_heap.specs.Inner.At.{AreCovered}
+use Rattle.tlsf_heap.specs.Inner.States.{is_state_free}
+use Rattle.tlsf_heap.specs.Inner.Chains.{joined}
 use Rattle.tlsf_heap.specs.Inner.Nodes.{Status, InUse, Listed, Loose, Node, turned, block_of, pool_of, is_listed, left}
 use Rattle.tlsf_heap.specs.Inner.Spots.{Spot, laid, filled}
 use Rattle.tlsf_heap.specs.Inner.Joined.{is_loose, past, listed_first, left_by, grown_in_front, grown_behind}

@@ -6,8 +6,8 @@ use Rattle.tlsf_class.proofs.ClassLaws.{class-lt}
 use Rattle.tlsf_store.specs.declared.records.Record.{Record}
 use Rattle.tlsf_store.specs.Records.{record_at}
 use Rattle.tlsf_store.specs.Cells.{Cells, with_head, head_at}
-use Rattle.tlsf_heap.specs.Layout.{padded}
-use Rattle.tlsf_heap.specs.Edits.{edited_in, with_prev_free, with_free_links, marked, linked}
+use Rattle.tlsf_heap.specs.Inner.Entries.{padded}
+use Rattle.tlsf_heap.specs.Inner.Edits.{edited_in, with_prev_free, with_free_links, marked, linked}
 use Rattle.tlsf_heap.specs.Inner.Nodes.{Status, Node, Area, Listed, Loose, turned, nodes_of, has_slot, list_of, is_listed_in, entered}
 use Rattle.tlsf_heap.specs.Inner.Spots.{Spot, laid, filled}
 use Rattle.tlsf_heap.specs.Inner.Represents.{InPool, pool_view, list_view, pool_views, list_views, state_of, in_pool, in_list, first_slot, AreLinked, AreChains, Agree, Represents}

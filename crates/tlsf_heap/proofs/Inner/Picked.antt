@@ -12,8 +12,8 @@ use Rattle.tlsf_store.specs.Records.{record_at}
 use Rattle.tlsf_store.specs.Cells.{Cells}
 use Rattle.tlsf_heap.specs.Content.{Content}
 use Rattle.tlsf_heap.specs.Lists.{first_of_lists, pick}
-use Rattle.tlsf_heap.specs.Bitmaps.{first_head}
-use Rattle.tlsf_heap.specs.Release.{is_state_free}
+use Rattle.tlsf_heap.specs.Inner.Bitmaps.{first_head}
+use Rattle.tlsf_heap.specs.Inner.States.{is_state_free}
 use Rattle.tlsf_heap.specs.Inner.Nodes.{Status, InUse, Listed, Loose, Node, Area, nodes_of, list_of, is_listed, is_listed_in}
 use Rattle.tlsf_heap.specs.Inner.Represents.{InPool, in_pool, pool_views, state_of, first_slot, AreLinked, IsChain}
 use Rattle.tlsf_heap.specs.Inner.Following.{content_of, Stands}

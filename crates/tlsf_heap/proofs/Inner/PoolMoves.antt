@@ -7,7 +7,7 @@ use Rattle.tlsf_store.specs.Records.{blank, record_at}
 use Rattle.tlsf_store.specs.Cells.{Cells}
 use Rattle.tlsf_store.proofs.RecordLaws.{record_at-set_same, record_at-set_other}
 use Rattle.tlsf_heap.specs.declared.pool_entry.PoolEntry.{PoolEntry}
-use Rattle.tlsf_heap.specs.Entries.{free_record}
+use Rattle.tlsf_heap.specs.Inner.Entries.{free_record}
 use Rattle.tlsf_heap.specs.Good.{times}
 use Rattle.tlsf_heap.specs.Inner.Nodes.{Node, Area, has_slot, nodes_of, list_of, is_listed, is_listed_in}
 use Rattle.tlsf_heap.specs.Inner.Spots.{plug, Spot}

@@ -5,7 +5,7 @@ use Rattle.std.proofs.lemmas.List.{length-set, set_past}
 use Rattle.tlsf_store.specs.declared.records.Record.{Record}
 use Rattle.tlsf_store.specs.Records.{record_at}
 use Rattle.tlsf_store.proofs.RecordLaws.{record_at-set_same, record_at-set_other}
-use Rattle.tlsf_heap.specs.Edits.{edited_in}
+use Rattle.tlsf_heap.specs.Inner.Edits.{edited_in}
 
 pub length-edited : (edit : Record → Record) (slot : Option ℕ) (records : List Record) → length (edited_in edit slot records) ≡ length records
 length-edited edit None records = refl

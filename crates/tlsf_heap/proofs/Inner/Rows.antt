@@ -5,9 +5,9 @@ use Rattle.tlsf_store.specs.declared.records.State.TheVariants.{Live}
 use Rattle.tlsf_store.specs.Cells.{Cells, empty_cells, with_taken}
 use Rattle.tlsf_heap.specs.declared.pool_entry.PoolEntry.{PoolEntry}
 use Rattle.tlsf_heap.specs.Content.{Content}
-use Rattle.tlsf_heap.specs.Edits.{linked, unlinked}
-use Rattle.tlsf_heap.specs.Chains.{with_state, split}
-use Rattle.tlsf_heap.specs.Entries.{pool_entered}
+use Rattle.tlsf_heap.specs.Inner.Edits.{linked, unlinked}
+use Rattle.tlsf_heap.specs.Inner.Chains.{with_state, split}
+use Rattle.tlsf_heap.specs.Inner.Entries.{pool_entered}
 use Rattle.tlsf_heap.specs.Free.{after_free}
 use Rattle.tlsf_heap.specs.Malloc.{malloc}
 use Rattle.tlsf_heap.specs.Pools.{created, with_pool}

@@ -15,16 +15,17 @@ use Rattle.tlsf_heap.specs.declared.refusal.Refusal.TheVariants.{NoPool}
 use Rattle.tlsf_heap.specs.declared.row.Row.{Row}
 use Rattle.tlsf_heap.specs.Content.{Pool, Content, is_free}
 use Rattle.tlsf_heap.specs.Good.{times, AreGoodPools}
-use Rattle.tlsf_heap.specs.Edits.{IsUsed}
+use Rattle.tlsf_heap.specs.Inner.Edits.{IsUsed}
 use Rattle.tlsf_heap.specs.Rows.{row_of, rows_from}
-use Rattle.tlsf_heap.specs.Readings.{is_state_live, rows_at, rows_by, rest_of, stands_at, slot_for, begins_below, slot_if, AreInOrder, IsNarrowed}
-use Rattle.tlsf_heap.specs.Layout.{padded, padded_at, entries_of}
+use Rattle.tlsf_heap.specs.Readings.{rows_at, rows_by, rest_of, stands_at, slot_for, begins_below, slot_if, AreInOrder, IsNarrowed}
+use Rattle.tlsf_heap.specs.Inner.States.{is_state_live}
+use Rattle.tlsf_heap.specs.Inner.Entries.{padded, padded_at, entries_of}
 use Rattle.tlsf_heap.proofs.EntryLists.{padded_at_is, length-padded, entries_of-padded}
 use Rattle.tlsf_heap.specs.Inner.Nodes.{Node, Area, Layout, block_of, pool_of, nodes_of, has_slot}
 use Rattle.tlsf_heap.specs.Inner.Spots.{Spot, filled}
 use Rattle.tlsf_heap.specs.Inner.Represents.{InPool, in_pool, pool_views, first_slot, AreLinked, IsChain, AreChains, uses_in, Represents}
 use Rattle.tlsf_heap.specs.Inner.Following.{owner_in, follow, block_at, content_of, Stands}
-use Rattle.tlsf_heap.proofs.Inner.Counts.{count-cons, count_all}
+use Rattle.tlsf_heap.proofs.Inner.Counts.{count_all}
 use Rattle.tlsf_heap.proofs.Inner.Plugs.{count-nodes, count-filled}
 use Rattle.tlsf_heap.proofs.Inner.Links.{Some-same, Some≢None, first_stands}
 use Rattle.tlsf_heap.proofs.Inner.Chains.{AtNode, at_node, linked_at}

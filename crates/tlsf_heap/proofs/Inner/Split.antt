@@ -7,8 +7,8 @@ use Rattle.tlsf_store.specs.declared.records.State.TheVariants.{Free}
 use Rattle.tlsf_store.specs.Records.{record_at}
 use Rattle.tlsf_store.specs.Cells.{Cells}
 use Rattle.tlsf_store.proofs.RecordLaws.{record_at-set_same, record_at-set_other}
-use Rattle.tlsf_heap.specs.Edits.{edited_in}
-use Rattle.tlsf_heap.specs.Chains.{rest_of, split}
+use Rattle.tlsf_heap.specs.Inner.Edits.{edited_in}
+use Rattle.tlsf_heap.specs.Inner.Chains.{rest_of, split}
 use Rattle.tlsf_heap.specs.Good.{times}
 use Rattle.tlsf_heap.specs.Inner.Nodes.{Node, rest_node, has_slot, list_of, is_listed, is_listed_in}
 use Rattle.tlsf_heap.specs.Inner.Spots.{Spot, laid, filled}

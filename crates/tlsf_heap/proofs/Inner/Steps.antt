@@ -3,9 +3,9 @@ use Rattle.std.proofs.Common.{◌≡◌, ℕ, false, ◌∷◌, map, refl, sym, 
 use Rattle.tlsf_class.specs.Classes.{class}
 use Rattle.tlsf_store.specs.Records.{record_at}
 use Rattle.tlsf_store.specs.Cells.{Cells, head_at}
-use Rattle.tlsf_heap.specs.Edits.{IsUsed, linked}
-use Rattle.tlsf_heap.specs.Chains.{with_state}
-use Rattle.tlsf_heap.specs.Release.{AreCovered}
+use Rattle.tlsf_heap.specs.Inner.Edits.{IsUsed, linked}
+use Rattle.tlsf_heap.specs.Inner.Chains.{with_state}
+use Rattle.tlsf_heap.specs.Inner.At.{AreCovered}
 use Rattle.tlsf_heap.specs.Inner.Nodes.{Status, Listed, Loose, Node, turned, block_of, pool_of, is_listed}
 use Rattle.tlsf_heap.specs.Inner.Represents.{InPool, state_of, Represents}
 use Rattle.tlsf_heap.specs.Inner.At.{At, areas_at, layout_at, StandsAt, at_turned, at_listed}

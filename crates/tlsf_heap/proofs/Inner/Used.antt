@@ -7,7 +7,7 @@ use Rattle.tlsf_store.specs.declared.records.State.TheVariants.{Vacant, Free, Li
 use Rattle.tlsf_store.specs.Records.{record_at}
 use Rattle.tlsf_store.specs.Cells.{Cells, head_at}
 use Rattle.tlsf_heap.specs.Good.{times}
-use Rattle.tlsf_heap.specs.Edits.{IsUsed}
+use Rattle.tlsf_heap.specs.Inner.Edits.{IsUsed}
 use Rattle.tlsf_heap.specs.Inner.Nodes.{Node, Layout, nodes_of, has_slot, list_of}
 use Rattle.tlsf_heap.specs.Inner.Spots.{Spot}
 use Rattle.tlsf_heap.specs.Inner.Represents.{InPool, first_slot, uses_in, Represents}

@@ -3,7 +3,7 @@ use Rattle.std.proofs.Common.{◌≡◌, ℕ, ◌+◌, List, [], ◌∷◌, map,
 use Rattle.std.specs.List.{AllByRecursion}
 use Rattle.tlsf_heap.specs.Content.{Block, Pool}
 use Rattle.tlsf_heap.specs.Good.{Covers, AreGoodPools}
-use Rattle.tlsf_heap.specs.Release.{IsCovered, AreCovered}
+use Rattle.tlsf_heap.specs.Inner.At.{IsCovered, AreCovered}
 use Rattle.tlsf_heap.specs.Inner.Nodes.{Status, Node, Area, block_of, pool_of}
 use Rattle.tlsf_heap.specs.Inner.Spots.{plug, Spot, filled}
 use Rattle.tlsf_heap.proofs.GoodContent.{IsWhole, whole_in_pool}

@@ -1,5 +1,5 @@
 -- free gives back one slot, and changes no other.
-use Rattle.std.proofs.Common.{◌≡◌, ℕ, ◌+◌, ◌≤◌, Bool, true, false, cond, List, [], ◌∷◌, ◌++◌, map, sym, ap, subst, arith, Option, Some, None}
+use Rattle.std.proofs.Common.{◌≡◌, ℕ, ◌+◌, ◌≤◌, true, false, cond, List, [], ◌∷◌, ◌++◌, map, sym, subst, arith, Option, Some, None}
 use Rattle.tlsf_heap.specs.Content.{Block, Pool, Content, blocks_of, is_at, size_at}
 use Rattle.tlsf_heap.specs.Free.{free_in_front, free_behind, size_of, start_of}
 use Rattle.tlsf_heap.specs.Malloc.{replaced, replaced_in}

@@ -1,15 +1,28 @@
 -- A node at a spot of a layout, and the steps of free there.
-use Rattle.std.specs.Prelude.{◌≡◌, ℕ, ◌+◌, ◌%◌, ◌^◌, ◌<◌, ◌≤◌, List, ◌∷◌, length, map, count_by, Some}
+use Rattle.std.specs.Prelude.{◌≡◌, ℕ, ◌+◌, ◌%◌, ◌^◌, ◌<◌, ◌≤◌, List, [], ◌∷◌, length, map, count_by, Some, ⊤}
 use Rattle.tlsf_class.specs.Classes.{unit, greatest_size}
 use Rattle.tlsf_store.specs.declared.records.Record.{Record}
 use Rattle.tlsf_store.specs.Records.{record_at}
 use Rattle.tlsf_store.specs.Cells.{Cells}
-use Rattle.tlsf_heap.specs.Edits.{IsUsed}
-use Rattle.tlsf_heap.specs.Release.{AreCovered}
+use Rattle.tlsf_heap.specs.Inner.Edits.{IsUsed}
+use Rattle.tlsf_heap.specs.Content.{Pool}
+use Rattle.tlsf_heap.specs.Good.{Covers}
+use Rattle.tlsf_heap.specs.Pools.{end_of_places}
 use Rattle.tlsf_heap.specs.Inner.Nodes.{Status, InUse, Listed, Loose, Node, Area, Layout, turned, rest_node, pool_of, nodes_of, left, entered}
 use Rattle.tlsf_heap.specs.Inner.Spots.{Spot, filled, laid}
 use Rattle.tlsf_heap.specs.Inner.Joined.{is_loose, listed_first, past, left_by, grown_in_front, grown_behind, spot_past}
 use Rattle.tlsf_heap.specs.Inner.Represents.{Represents}
+
+-- the blocks of the pool cover it
+pub record IsCovered {A : Type 0} (pool : Pool A) : Type 0 where
+  pub most_bytes : pool.bytes ≤ greatest_size
+  pub ends : pool.base + pool.bytes ≤ end_of_places
+  pub covered : Covers pool.base (pool.base + pool.bytes) pool.blocks
+
+-- covered pools, each at or above the end of the one before
+abbrev pub AreCovered : {A : Type 0} → ℕ → List (Pool A) → Type 0
+AreCovered from [] = ⊤
+AreCovered from (pool ∷ pools) = (from ≤ pool.base) × IsCovered pool × AreCovered (pool.base + pool.bytes) pools
 
 pub record At : Type 0 where
   pub count : ℕ

@@ -3,7 +3,7 @@ use Rattle.std.specs.Prelude.{ℕ, ◌+◌, ◌-◌, List}
 use Rattle.tlsf_store.specs.Records.{blank, record_at}
 use Rattle.tlsf_store.specs.Cells.{Cells, with_record}
 use Rattle.tlsf_heap.specs.declared.pool_entry.PoolEntry.{PoolEntry}
-use Rattle.tlsf_heap.specs.Entries.{with_entries, free_record}
+use Rattle.tlsf_heap.specs.Inner.Entries.{with_entries, free_record}
 
 -- the bound between the slot's block and the one behind it is moved, so that the first has so many bytes
 abbrev pub bound_moved : ℕ → ℕ → ℕ → Cells → Cells

@@ -10,8 +10,8 @@ use Rattle.tlsf_store.specs.declared.pools.Pool.{Pool as StoredPool}
 use Rattle.tlsf_store.specs.Records.{record_at}
 use Rattle.tlsf_store.specs.Cells.{Cells}
 use Rattle.tlsf_heap.specs.Good.{times}
-use Rattle.tlsf_heap.specs.Bitmaps.{AreMarked}
-use Rattle.tlsf_heap.specs.Layout.{padded}
+use Rattle.tlsf_heap.specs.Inner.Bitmaps.{AreMarked}
+use Rattle.tlsf_heap.specs.Inner.Entries.{padded}
 use Rattle.tlsf_heap.specs.Inner.Nodes.{Status, InUse, Listed, Loose, Node, Area, Layout, nodes_of, list_of, has_slot, is_listed_in}
 
 -- what a record says of its block, and of the blocks in front and behind in its pool

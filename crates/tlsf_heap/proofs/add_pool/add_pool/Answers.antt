@@ -4,7 +4,7 @@ use Rattle.std.proofs.lemmas.Bool.{eqb-true, eqb-false}
 use Rattle.tlsf_store.specs.Records.{blank, record_at, vacant_count}
 use Rattle.tlsf_store.specs.Cells.{Cells, touched, with_taken, most_pools}
 use Rattle.tlsf_heap.specs.Pools.{add_pool}
-use Rattle.tlsf_heap.specs.Layout.{entries_of}
+use Rattle.tlsf_heap.specs.Inner.Entries.{entries_of}
 use Rattle.tlsf_heap.specs.Inner.Represents.{Represents}
 use Rattle.tlsf_heap.specs.Inner.Following.{Stands, content_of}
 use Rattle.tlsf_heap.specs.Inner.Entering.{pool_laid}

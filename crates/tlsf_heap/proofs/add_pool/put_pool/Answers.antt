@@ -5,9 +5,9 @@ use Rattle.std.proofs.lemmas.List.Elements.{All-append, All-take, All-cons, All-
 use Rattle.tlsf_heap.specs.declared.pool_entry.PoolEntry.{PoolEntry}
 use Rattle.tlsf_class.specs.Classes.{class}
 use Rattle.tlsf_store.specs.Cells.{Cells, touched, with_record, most_pools, head_at}
-use Rattle.tlsf_heap.specs.Edits.{IsUsed, linked}
-use Rattle.tlsf_heap.specs.Layout.{entries_of}
-use Rattle.tlsf_heap.specs.Entries.{with_entries, with_entry, entry_place}
+use Rattle.tlsf_heap.specs.Inner.Edits.{IsUsed, linked}
+use Rattle.tlsf_heap.specs.Inner.Entries.{entries_of}
+use Rattle.tlsf_heap.specs.Inner.Entries.{with_entries, with_entry, entry_place}
 use Rattle.tlsf_heap.specs.Inner.CellEdits.{pool_put}
 use Rattle.tlsf_heap.specs.Inner.Entering.{pool_laid}
 use Rattle.tlsf_heap.specs.Inner.Represents.{Represents}

@@ -1,7 +1,7 @@
 use Rattle.std.proofs.Common.{◌≡◌, ◌≤◌, ◌<◌, take, length}
 use Rattle.std.specs.Prelude.{All}
 use Rattle.tlsf_store.specs.Cells.{touched}
-use Rattle.tlsf_heap.specs.Layout.{entries_of}
+use Rattle.tlsf_heap.specs.Inner.Entries.{entries_of}
 use Rattle.tlsf_heap.proofs.entries.entries.Given as goal
 
 -- the entries so far

@@ -1,5 +1,5 @@
 use Rattle.std.proofs.Common.{◌≡◌, map, take}
-use Rattle.tlsf_heap.specs.Entries.{entry_range}
+use Rattle.tlsf_heap.specs.Inner.Entries.{entry_range}
 use Rattle.tlsf_heap.proofs.entries.pool_ranges.Given as goal
 
 -- the ranges so far

@@ -1,6 +1,6 @@
 use Rattle.std.proofs.Common.{◌≡◌, ◌<◌, ◌+◌, ℕ, length}
 use Rattle.tlsf_store.specs.Cells.{pool_at, most_pools}
-use Rattle.tlsf_heap.specs.Layout.{padded_at}
+use Rattle.tlsf_heap.specs.Inner.Entries.{padded_at}
 use Rattle.tlsf_heap.proofs.entries.set_entries.Given as goal
 
 -- the entries so far are written, and nothing else

@@ -1,7 +1,7 @@
 use Rattle.std.proofs.Common.{◌≡◌, ℕ, sym, ap, ◌∙◌, subst, arith}
 use Rattle.tlsf_class.specs.Classes.{class}
 use Rattle.tlsf_store.specs.Cells.{Cells, touched, head_at}
-use Rattle.tlsf_heap.specs.Edits.{IsUsed, linked}
+use Rattle.tlsf_heap.specs.Inner.Edits.{IsUsed, linked}
 use Rattle.tlsf_heap.specs.Inner.Nodes.{Listed, Loose}
 use Rattle.tlsf_heap.specs.Inner.At.{StandsAt, at_listed}
 use Rattle.tlsf_heap.proofs.Inner.Steps.{slot_used, size_read, whole_at, first_used, listed_stands}

@@ -3,8 +3,9 @@ use Rattle.tlsf_store.specs.declared.records.Record.{Record}
 use Rattle.tlsf_store.specs.Records.{record_at}
 use Rattle.tlsf_store.specs.Cells.{Cells, touched}
 use Rattle.tlsf_class.specs.Classes.{class}
-use Rattle.tlsf_heap.specs.Edits.{unlinked}
-use Rattle.tlsf_heap.specs.Release.{is_state_free, joined}
+use Rattle.tlsf_heap.specs.Inner.Edits.{unlinked}
+use Rattle.tlsf_heap.specs.Inner.States.{is_state_free}
+use Rattle.tlsf_heap.specs.Inner.Chains.{joined}
 use Rattle.tlsf_heap.specs.Inner.Nodes.{Loose}
 use Rattle.tlsf_heap.specs.Inner.At.{At, StandsAt, IsJoinable, front_joined}
 use Rattle.tlsf_heap.proofs.Inner.Joinable.{Joins, front_joins, front_stays, front_is_live}

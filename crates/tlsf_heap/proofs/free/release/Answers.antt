@@ -1,7 +1,7 @@
 use Rattle.std.proofs.Common.{◌≡◌, ℕ, refl, sym, subst}
 use Rattle.tlsf_store.specs.declared.records.State.TheVariants.{Free}
 use Rattle.tlsf_store.specs.Cells.{Cells, touched}
-use Rattle.tlsf_heap.specs.Chains.{with_state}
+use Rattle.tlsf_heap.specs.Inner.Chains.{with_state}
 use Rattle.tlsf_heap.specs.Inner.Nodes.{InUse, Loose}
 use Rattle.tlsf_heap.specs.Inner.At.{At, StandsAt, at_turned, front_joined, back_joined}
 use Rattle.tlsf_heap.proofs.Inner.Steps.{slot_used, turned_stands}

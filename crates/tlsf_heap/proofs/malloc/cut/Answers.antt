@@ -1,8 +1,8 @@
 use Rattle.std.proofs.Common.{◌≡◌, ℕ, ◌-◌, ◌%◌, ◌<◌, sym, ap, ◌∙◌, subst, arith}
 use Rattle.tlsf_class.specs.Classes.{class, unit}
 use Rattle.tlsf_store.specs.Cells.{Cells, head_at}
-use Rattle.tlsf_heap.specs.Edits.{IsUsed, linked}
-use Rattle.tlsf_heap.specs.Chains.{split}
+use Rattle.tlsf_heap.specs.Inner.Edits.{IsUsed, linked}
+use Rattle.tlsf_heap.specs.Inner.Chains.{split}
 use Rattle.tlsf_heap.specs.Inner.Nodes.{InUse, Listed, Loose}
 use Rattle.tlsf_heap.specs.Inner.At.{At, StandsAt, with_slot, at_split, at_cut}
 use Rattle.tlsf_heap.proofs.Inner.Steps.{slot_used, size_read, place_read, whole_at, first_used, listed_stands}

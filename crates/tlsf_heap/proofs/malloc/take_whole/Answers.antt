@@ -1,7 +1,7 @@
 use Rattle.std.proofs.Common.{◌≡◌, ℕ, ◌%◌, refl, sym, ap, ◌∙◌, subst, arith}
 use Rattle.tlsf_class.specs.Classes.{class, unit}
 use Rattle.tlsf_store.specs.Cells.{Cells}
-use Rattle.tlsf_heap.specs.Edits.{unlinked}
+use Rattle.tlsf_heap.specs.Inner.Edits.{unlinked}
 use Rattle.tlsf_heap.specs.Inner.Nodes.{InUse, Listed, Loose}
 use Rattle.tlsf_heap.specs.Inner.At.{At, StandsAt, at_unlisted, at_taken}
 use Rattle.tlsf_heap.proofs.Inner.Steps.{slot_used, whole_at, turned_stands}

@@ -2,9 +2,10 @@ use Rattle.std.proofs.Common.{◌≡◌, ℕ, ◌∷◌, sym, ap, ◌∙◌, sub
 use Rattle.tlsf_store.specs.declared.records.Record.{Record}
 use Rattle.tlsf_store.specs.Records.{record_at}
 use Rattle.tlsf_store.specs.Cells.{Cells}
-use Rattle.tlsf_heap.specs.Edits.{IsUsed}
+use Rattle.tlsf_heap.specs.Inner.Edits.{IsUsed}
 use Rattle.tlsf_heap.specs.Rows.{row_of}
-use Rattle.tlsf_heap.specs.Readings.{is_state_live, rows_by, rest_of, stands_at}
+use Rattle.tlsf_heap.specs.Readings.{rows_by, rest_of, stands_at}
+use Rattle.tlsf_heap.specs.Inner.States.{is_state_live}
 use Rattle.tlsf_heap.specs.Inner.Following.{block_at}
 use Rattle.tlsf_heap.proofs.Inner.RowsRead.{stands_used, row_then_rest, rest_stands, live_is_used, past_rest}
 use Rattle.tlsf_heap.proofs.readings.row.Goals as goal

@@ -2,7 +2,7 @@ use Rattle.std.proofs.Common.{◌≡◌, ◌+◌, ◌*◌, ◌/◌, ◌%◌, ◌
 use Rattle.std.specs.Prelude.{IfNone}
 use Rattle.tlsf_class.specs.Classes.{steps, classes}
 use Rattle.tlsf_store.specs.Cells.{Cells, head_at}
-use Rattle.tlsf_heap.specs.Bitmaps.{HasNoBit, IsLowestFrom, first_head}
+use Rattle.tlsf_heap.specs.Inner.Bitmaps.{HasNoBit, IsLowestFrom, first_head}
 use Rattle.tlsf_heap.proofs.Searching.{passes_level, found_in_level}
 use Rattle.tlsf_heap.proofs.search.search.Goals as goal
 

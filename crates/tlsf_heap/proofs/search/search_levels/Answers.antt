@@ -2,7 +2,7 @@ use Rattle.std.proofs.Common.{◌≡◌, ◌+◌, ◌^◌, ◌<◌, ℕ, Option,
 use Rattle.std.specs.Prelude.{IfNone}
 use Rattle.std.specs.Int.{bit_at}
 use Rattle.tlsf_store.specs.Cells.{Cells, head_at}
-use Rattle.tlsf_heap.specs.Bitmaps.{HasNoBit, IsLowestFrom}
+use Rattle.tlsf_heap.specs.Inner.Bitmaps.{HasNoBit, IsLowestFrom}
 use Rattle.tlsf_heap.proofs.Searching.{passes_all, found_above, has_step, level_within}
 use Rattle.tlsf_heap.proofs.search.search_levels.Goals as goal
 

@@ -1,6 +1,6 @@
 use Rattle.std.proofs.Common.{map, ap, ◌∙◌}
 use Rattle.tlsf_store.specs.Cells.{most_pools}
-use Rattle.tlsf_heap.specs.Entries.{entry_range}
+use Rattle.tlsf_heap.specs.Inner.Entries.{entry_range}
 use Rattle.tlsf_heap.specs.Counted.{Counted, range_of}
 use Rattle.tlsf_heap.proofs.Inner.Followed.{touched_stands, touched_content}
 use Rattle.tlsf_heap.proofs.Inner.Standing.{ranges_are}

@@ -5,7 +5,8 @@ use Rattle.tlsf_store.specs.declared.records.State.TheVariants.{Free}
 use Rattle.tlsf_store.specs.declared.records.Record.{Record}
 use Rattle.tlsf_store.specs.Records.{blank, record_at}
 use Rattle.tlsf_store.specs.Cells.{Cells, with_record}
-use Rattle.tlsf_heap.specs.Edits.{edited}
+use Rattle.tlsf_class.specs.Classes.{class}
+use Rattle.tlsf_heap.specs.Inner.Edits.{unlinked, edited}
 
 -- the block in front of the slot in its pool
 abbrev pub with_prev : Option ℕ → Option ℕ → Cells → Cells
@@ -31,3 +32,7 @@ absorbed slot behind cells =
     let old = record_at cells.records slot in
     let taken = record_at cells.records behind in
     with_record (with_prev taken.next (Some slot) (with_record cells slot (record old { size = old.size + taken.size; next = taken.next }))) behind blank
+
+-- one of two neighbours, of this size, left its list, and the first took in the other
+abbrev pub joined : ℕ → ℕ → ℕ → ℕ → Cells → Cells
+joined front behind listed size cells = absorbed front behind (unlinked (class size) listed cells)

@@ -1,13 +1,34 @@
 -- The pool entries of a store, and a pool that enters it.
-use Rattle.std.specs.Prelude.{ℕ, ◌+◌, ◌||◌, nat_le, Bool, List, [], ◌∷◌, None, if◌then◌else◌, nat_lt}
+use Rattle.std.specs.Prelude.{ℕ, ◌+◌, ◌-◌, ◌||◌, nat_le, Bool, List, [], ◌∷◌, ◌++◌, length, map, replicate, slice_index_or, Option, Some, None, if◌then◌else◌, nat_lt}
 use Rattle.std.specs.List.{position_or_len}
 use Rattle.tlsf_class.specs.Classes.{class}
 use Rattle.tlsf_store.specs.declared.records.State.TheVariants.{Free}
 use Rattle.tlsf_store.specs.declared.records.Record.{Record}
 use Rattle.tlsf_heap.specs.declared.pool_entry.PoolEntry.{PoolEntry}
-use Rattle.tlsf_store.specs.Cells.{Cells, with_record}
-use Rattle.tlsf_heap.specs.Edits.{linked}
-use Rattle.tlsf_heap.specs.Layout.{padded, entries_of}
+use Rattle.tlsf_store.specs.declared.pools.Pool.{Pool as StoredPool}
+use Rattle.tlsf_store.specs.Cells.{Cells, with_record, most_pools}
+use Rattle.tlsf_heap.specs.Inner.Edits.{linked}
+
+-- an entry as the store keeps it, and as the heap works on it
+abbrev pub pool_in : PoolEntry → StoredPool
+pool_in entry = record { base = entry.base; bytes = entry.bytes; first = entry.first }
+
+abbrev pub entry_in : StoredPool → PoolEntry
+entry_in pool = record { base = pool.base; bytes = pool.bytes; first = pool.first }
+
+-- the entries, and none behind them
+abbrev pub padded : List PoolEntry → List (Option StoredPool)
+padded entries = map (λ entry. Some (pool_in entry)) entries ++ replicate (most_pools - length entries) None
+
+-- the pool of this number, none behind the last entry
+abbrev pub padded_at : List PoolEntry → ℕ → Option StoredPool
+padded_at entries number = slice_index_or (map (λ entry. Some (pool_in entry)) entries) number None
+
+-- the entries that there are
+abbrev pub entries_of : List (Option StoredPool) → List PoolEntry
+entries_of [] = []
+entries_of (None ∷ pools) = entries_of pools
+entries_of (Some pool ∷ pools) = entry_in pool ∷ entries_of pools
 
 -- how many entries stand in front of the first that begins behind the base
 abbrev pub entry_place : ℕ → List PoolEntry → ℕ
