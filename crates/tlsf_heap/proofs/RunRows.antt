@@ -8,6 +8,7 @@ use Rattle.tlsf_heap.specs.declared.refusal.Refusal.{Refusal}
 use Rattle.tlsf_heap.specs.declared.refusal.Refusal.TheVariants.{ZeroSize, NoFit, BadPointer}
 use Rattle.tlsf_class.specs.Classes.{class, need, low}
 use Rattle.tlsf_class.specs.Rounding.{rounded}
+use Rattle.tlsf_heap.specs.Pointer.{Pointer}
 use Rattle.tlsf_heap.specs.Content.{Content}
 use Rattle.tlsf_heap.specs.Malloc.{malloc}
 use Rattle.tlsf_heap.specs.Pools.{created, with_pool}
@@ -31,11 +32,14 @@ two_blocks = served one_block (malloc 0 1 one_block)
 abbrev three_blocks : Content ℕ
 three_blocks = served two_blocks (malloc 3 912 two_blocks)
 
+abbrev at : ℕ → ℕ → Pointer
+at place slot = record { place = place; slot = slot }
+
 abbrev asked : List Request
-asked = AddPool 0 1024 ∷ Malloc 100 ∷ Malloc 0 ∷ Malloc 1 ∷ Free (0, 9) ∷ Malloc 2000 ∷ Malloc 912 ∷ []
+asked = AddPool 0 1024 ∷ Malloc 100 ∷ Malloc 0 ∷ Malloc 1 ∷ Free (at 0 9) ∷ Malloc 2000 ∷ Malloc 912 ∷ []
 
 abbrev answered : List Answer
-answered = Done ∷ Given (0, 2) ∷ Refused ZeroSize ∷ Given (104, 0) ∷ Refused BadPointer ∷ Refused NoFit ∷ Given (112, 3) ∷ []
+answered = Done ∷ Given (at 0 2) ∷ Refused ZeroSize ∷ Given (at 104 0) ∷ Refused BadPointer ∷ Refused NoFit ∷ Given (at 112 3) ∷ []
 
 -- run-of-requests, with slots that a heap may choose, and touches that it may need
 run_of_requests : Run ⊥ asked answered (created 4) three_blocks 0 5

@@ -1,5 +1,6 @@
 -- The definitions that the contracts cite.
 pub mod Content
+pub mod Pointer
 pub mod Lists
 pub mod Malloc
 pub mod Pools

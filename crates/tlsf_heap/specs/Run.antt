@@ -6,6 +6,7 @@ use Rattle.tlsf_heap.specs.declared.answer.Answer.{Answer}
 use Rattle.tlsf_heap.specs.declared.answer.Answer.TheVariants.{Done, Given, Moved, Size, Refused}
 use Rattle.tlsf_heap.specs.declared.refusal.Refusal.{Refusal}
 use Rattle.tlsf_heap.specs.declared.refusal.Refusal.TheVariants.{OutOfMemory}
+use Rattle.tlsf_heap.specs.Pointer.{Pointer}
 use Rattle.tlsf_heap.specs.Content.{Content, blocks_of}
 use Rattle.tlsf_heap.specs.GoodSlots.{slot_times}
 use Rattle.tlsf_heap.specs.Malloc.{malloc}
@@ -13,19 +14,19 @@ use Rattle.tlsf_heap.specs.Free.{free}
 use Rattle.tlsf_heap.specs.Pools.{add_pool}
 
 -- the pointer of a new live block of at least n bytes: its slot was of no live block
-pub record IsServed (n : ℕ) (pointer : ℕ × ℕ) (old new : Content ℕ) : Type 0 where
-  pub served : malloc pointer.1 n old ≡ Ok (pointer.0, new)
-  pub slot_below : pointer.1 < old.records
-  pub slot_new : slot_times pointer.1 (blocks_of old.pools) ≡ 0
+pub record IsServed (n : ℕ) (pointer : Pointer) (old new : Content ℕ) : Type 0 where
+  pub served : malloc pointer.slot n old ≡ Ok (pointer.place, new)
+  pub slot_below : pointer.slot < old.records
+  pub slot_new : slot_times pointer.slot (blocks_of old.pools) ≡ 0
 
 -- the request is done, and answers nothing more
 abbrev pub Does : Request → Content ℕ → Content ℕ → Type 0
 Does (AddPool base bytes) old new = add_pool base bytes old ≡ Ok new
 Does (Malloc n) old new = ⊥
-Does (Free pointer) old new = free (λ slot. slot == pointer.1) pointer.0 old ≡ Ok new
+Does (Free pointer) old new = free (λ slot. slot == pointer.slot) pointer.place old ≡ Ok new
 
 -- the request is given a block
-abbrev pub Gives : Request → ℕ × ℕ → Content ℕ → Content ℕ → Type 0
+abbrev pub Gives : Request → Pointer → Content ℕ → Content ℕ → Type 0
 Gives (AddPool base bytes) pointer old new = ⊥
 Gives (Malloc n) pointer old new = IsServed n pointer old new
 Gives (Free freed) pointer old new = ⊥
@@ -34,7 +35,7 @@ Gives (Free freed) pointer old new = ⊥
 abbrev pub IsRefused : Request → Refusal → Content ℕ → Type 0
 IsRefused (AddPool base bytes) refusal content = add_pool base bytes content ≡ Err refusal
 IsRefused (Malloc n) refusal content = (slot : ℕ) → malloc slot n content ≡ Err refusal
-IsRefused (Free pointer) refusal content = free (λ slot. slot == pointer.1) pointer.0 content ≡ Err refusal
+IsRefused (Free pointer) refusal content = free (λ slot. slot == pointer.slot) pointer.place content ≡ Err refusal
 
 -- some heap may lack memory
 abbrev pub MayLack : {H : Type 0} → (H → Type 0) → Type 0

@@ -26,8 +26,8 @@ use tlsf_store::{Slot, State, Store};
 pub(crate) fn free(store: &mut Store, ptr: Ptr) -> Result<(), Refusal>
     requires { Stands store.old }
     ensures stands { Stands store.new }
-    ensures ok { OnOk result (freed (λ slot. slot == ptr.1) ptr.0 (content_of store.old) ≡ Ok (content_of store.new)) }
-    ensures refused { IfErr result (λ refusal. freed (λ slot. slot == ptr.1) ptr.0 (content_of store.old) ≡ Err refusal) }
+    ensures ok { OnOk result (freed (λ slot. slot == ptr.slot) ptr.place (content_of store.old) ≡ Ok (content_of store.new)) }
+    ensures refused { IfErr result (λ refusal. freed (λ slot. slot == ptr.slot) ptr.place (content_of store.old) ≡ Err refusal) }
     ensures unchanged { OnErr result (content_of store.new ≡ content_of store.old) }
     ensures cells { OnErr result (store.new ≡ record store.old { touches = store.new.touches }) }
     ensures floor { store.old.touches ≤ store.new.touches }
@@ -43,7 +43,7 @@ pub(crate) fn free(store: &mut Store, ptr: Ptr) -> Result<(), Refusal>
 /// Whether a live block has the pointer's place and slot. At most one touch.
 fn is_live(store: &mut Store, ptr: Ptr) -> bool
     requires { Stands store.old }
-    ensures value { result ≡ is_live_in (λ slot. slot == ptr.1) ptr.0 (blocks_of (content_of store.old).pools) }
+    ensures value { result ≡ is_live_in (λ slot. slot == ptr.slot) ptr.place (blocks_of (content_of store.old).pools) }
     ensures cells { store.new ≡ record store.old { touches = store.new.touches } }
     ensures floor { store.old.touches ≤ store.new.touches }
     ensures bound { store.new.touches ≤ store.old.touches + 1 }

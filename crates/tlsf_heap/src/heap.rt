@@ -96,9 +96,9 @@ impl Heap {
     /// free block is smaller than that class then, if there is one; `TableFull` where a rest would be left
     /// and each record is in use: there are at most two records a live block and one a pool then.
     pub fn malloc(&mut self, n: u64) -> Result<Ptr, Refusal>
-        ensures ok { IfOk result (λ ptr. served ptr.1 n self.old.content ≡ Ok (ptr.0, self.new.content)) }
-        ensures slot_below { IfOk result (λ ptr. ptr.1 < self.old.content.records) }
-        ensures slot_new { IfOk result (λ ptr. slot_times ptr.1 (blocks_of self.old.content.pools) ≡ 0) }
+        ensures ok { IfOk result (λ ptr. served ptr.slot n self.old.content ≡ Ok (ptr.place, self.new.content)) }
+        ensures slot_below { IfOk result (λ ptr. ptr.slot < self.old.content.records) }
+        ensures slot_new { IfOk result (λ ptr. slot_times ptr.slot (blocks_of self.old.content.pools) ≡ 0) }
         ensures refused { IfErr result (λ refusal. (slot : ℕ) → served slot n self.old.content ≡ Err refusal) }
         ensures no_fit { result ≡ Err NoFit → NoneFits n self.old.content }
         ensures table_full { result ≡ Err TableFull → HasFewRecords self.old.content }
@@ -118,8 +118,8 @@ impl Heap {
     ///
     /// `BadPointer` unless a live block has both the pointer's place and its slot.
     pub fn free(&mut self, ptr: Ptr) -> Result<(), Refusal>
-        ensures ok { OnOk result (freed (λ slot. slot == ptr.1) ptr.0 self.old.content ≡ Ok self.new.content) }
-        ensures refused { IfErr result (λ refusal. freed (λ slot. slot == ptr.1) ptr.0 self.old.content ≡ Err refusal) }
+        ensures ok { OnOk result (freed (λ slot. slot == ptr.slot) ptr.place self.old.content ≡ Ok self.new.content) }
+        ensures refused { IfErr result (λ refusal. freed (λ slot. slot == ptr.slot) ptr.place self.old.content ≡ Err refusal) }
         ensures never_memory { result ≢ Err Refusal.OutOfMemory }
         ensures unchanged { OnErr result (self.new.content ≡ self.old.content) }
         ensures others { OnErr result (self.new.rows ≡ self.old.rows) }

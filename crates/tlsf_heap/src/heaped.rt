@@ -77,9 +77,9 @@ pub trait Heaped: Drop {
     /// the greatest size; `TableFull` where a rest would be left and each record is in use; `OutOfMemory`
     /// where memory is refused, which it may lack.
     fn malloc(&mut self, n: u64) -> Result<Ptr, Refusal>
-        ensures ok { IfOk result (λ ptr. served ptr.1 n (content self.old) ≡ Ok (ptr.0, content self.new)) }
-        ensures slot_below { IfOk result (λ ptr. ptr.1 < (content self.old).records) }
-        ensures slot_new { IfOk result (λ ptr. slot_times ptr.1 (blocks_of (content self.old).pools) ≡ 0) }
+        ensures ok { IfOk result (λ ptr. served ptr.slot n (content self.old) ≡ Ok (ptr.place, content self.new)) }
+        ensures slot_below { IfOk result (λ ptr. ptr.slot < (content self.old).records) }
+        ensures slot_new { IfOk result (λ ptr. slot_times ptr.slot (blocks_of (content self.old).pools) ≡ 0) }
         ensures refused { IfErr result (λ refusal. refusal ≢ Refusal.OutOfMemory → (slot : ℕ) → served slot n (content self.old) ≡ Err refusal) }
         ensures memory { IfErr result (λ refusal. refusal ≡ Refusal.OutOfMemory → lacks self.old) }
         ensures unchanged { OnErr result (content self.new ≡ content self.old) }
@@ -96,8 +96,8 @@ pub trait Heaped: Drop {
     /// `BadPointer` where no live block has both; `OutOfMemory` where memory is refused, which it
     /// may lack.
     fn free(&mut self, ptr: Ptr) -> Result<(), Refusal>
-        ensures ok { OnOk result (freed (λ slot. slot == ptr.1) ptr.0 (content self.old) ≡ Ok (content self.new)) }
-        ensures refused { IfErr result (λ refusal. refusal ≢ Refusal.OutOfMemory → freed (λ slot. slot == ptr.1) ptr.0 (content self.old) ≡ Err refusal) }
+        ensures ok { OnOk result (freed (λ slot. slot == ptr.slot) ptr.place (content self.old) ≡ Ok (content self.new)) }
+        ensures refused { IfErr result (λ refusal. refusal ≢ Refusal.OutOfMemory → freed (λ slot. slot == ptr.slot) ptr.place (content self.old) ≡ Err refusal) }
         ensures memory { IfErr result (λ refusal. refusal ≡ Refusal.OutOfMemory → lacks self.old) }
         ensures unchanged { OnErr result (content self.new ≡ content self.old) }
         ensures others_stand { OnErr result ((other : Cursor) → stands self.old other → stands self.new other) }

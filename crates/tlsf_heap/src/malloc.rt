@@ -27,9 +27,9 @@ use tlsf_store::{Slot, State, Store};
 pub(crate) fn malloc(store: &mut Store, n: u64) -> Result<Ptr, Refusal>
     requires { Stands store.old }
     ensures stands { Stands store.new }
-    ensures ok { IfOk result (λ ptr. served ptr.1 n (content_of store.old) ≡ Ok (ptr.0, content_of store.new)) }
-    ensures slot_below { IfOk result (λ ptr. ptr.1 < (content_of store.old).records) }
-    ensures slot_new { IfOk result (λ ptr. slot_times ptr.1 (blocks_of (content_of store.old).pools) ≡ 0) }
+    ensures ok { IfOk result (λ ptr. served ptr.slot n (content_of store.old) ≡ Ok (ptr.place, content_of store.new)) }
+    ensures slot_below { IfOk result (λ ptr. ptr.slot < (content_of store.old).records) }
+    ensures slot_new { IfOk result (λ ptr. slot_times ptr.slot (blocks_of (content_of store.old).pools) ≡ 0) }
     ensures refused { IfErr result (λ refusal. (slot : ℕ) → served slot n (content_of store.old) ≡ Err refusal) }
     ensures unchanged { OnErr result (content_of store.new ≡ content_of store.old) }
     ensures cells { OnErr result (store.new ≡ record store.old { touches = store.new.touches }) }
@@ -79,8 +79,8 @@ fn take(store: &mut Store, slot: Slot, asked: u32) -> Result<Ptr, Refusal>
     requires free { (record_at store.old.records slot).state ≡ Free }
     requires found { picked asked (content_of store.old).lists ≡ Some (record_at store.old.records slot).place }
     ensures stands { Stands store.new }
-    ensures ok { IfOk result (λ ptr. malloc_picked ptr.1 asked (Some (record_at store.old.records slot).place) (content_of store.old) ≡ Ok (ptr.0, content_of store.new)) }
-    ensures slot { IfOk result (λ ptr. ptr.1 ≡ slot) }
+    ensures ok { IfOk result (λ ptr. malloc_picked ptr.slot asked (Some (record_at store.old.records slot).place) (content_of store.old) ≡ Ok (ptr.place, content_of store.new)) }
+    ensures slot { IfOk result (λ ptr. ptr.slot ≡ slot) }
     ensures refused { IfErr result (λ refusal. (owner : ℕ) → malloc_picked owner asked (Some (record_at store.old.records slot).place) (content_of store.old) ≡ Err refusal) }
     ensures unchanged { OnErr result (content_of store.new ≡ content_of store.old) }
     ensures cells { OnErr result (store.new ≡ record store.old { touches = store.new.touches }) }

@@ -11,13 +11,13 @@ pub struct Ptr {
 }
 
 impl Model for Ptr {
-    ghost use Rattle.std.specs.Prelude.{ℕ};
+    ghost use Rattle.tlsf_heap.specs.Pointer.{Pointer};
 
-    ghost Value = { ℕ × ℕ };
+    ghost Value = { Pointer };
 
-    ghost view = { λ p. (p.place, p.slot) };
+    ghost view = { λ p. record { place = p.place; slot = p.slot } };
 
-    ghost inverse = { λ v. record { place = v.0; slot = v.1 } };
+    ghost inverse = { λ v. record { place = v.place; slot = v.slot } };
 }
 
 impl Ptr {
@@ -25,21 +25,21 @@ impl Ptr {
 
     /// The pointer with this place, in bytes, and this slot.
     pub fn new(place: u32, slot: u16) -> Ptr
-        ensures { result ≡ (place, slot) }
+        ensures { result ≡ record { place = place; slot = slot } }
     {
         Ptr { place, slot }
     }
 
     /// Where the block begins, in bytes.
     pub fn place(self) -> u32
-        ensures { result ≡ self.0 }
+        ensures { result ≡ self.place }
     {
         self.place
     }
 
     /// The block's slot.
     pub fn slot(self) -> u16
-        ensures { result ≡ self.1 }
+        ensures { result ≡ self.slot }
     {
         self.slot
     }

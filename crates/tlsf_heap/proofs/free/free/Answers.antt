@@ -29,19 +29,19 @@ found old new slot at place stands live same is =
 pub release-requires : goal.release-requires
 release-requires c =
     let live = sym c.is_live.ensures.value ∙ c.if-not-is_live.false in
-    ((live_at c.args.store.now c.requires c.args.ptr.0 c.args.ptr.1 live).at, found c.args.store.now c.is_live.new.store c.slot.result c.args.ptr.1 c.args.ptr.0 c.requires live c.is_live.ensures.cells c.slot.ensures)
+    ((live_at c.args.store.now c.requires c.args.ptr.place c.args.ptr.slot live).at, found c.args.store.now c.is_live.new.store c.slot.result c.args.ptr.slot c.args.ptr.place c.requires live c.is_live.ensures.cells c.slot.ensures)
 
-freed : (c : goal.After-release) → Stands c.release.new.store × (content_of c.release.new.store ≡ after_free c.args.ptr.0 (content_of c.args.store.now))
+freed : (c : goal.After-release) → Stands c.release.new.store × (content_of c.release.new.store ≡ after_free c.args.ptr.place (content_of c.args.store.now))
 freed c =
     let old : Cells = c.args.store.now in
     let live = sym c.is_live.ensures.value ∙ c.if-not-is_live.false in
-    let node : NodeAt c.args.ptr.0 c.args.ptr.1 InUse old c.requires.layout = live_at old c.requires c.args.ptr.0 c.args.ptr.1 live in
-    freed_stands old c.requires c.args.ptr.0 c.args.ptr.1 c.release.new.store node live
-    (c.release.ensures.leads node.at (found old c.is_live.new.store c.slot.result c.args.ptr.1 c.args.ptr.0 c.requires live c.is_live.ensures.cells c.slot.ensures))
+    let node : NodeAt c.args.ptr.place c.args.ptr.slot InUse old c.requires.layout = live_at old c.requires c.args.ptr.place c.args.ptr.slot live in
+    freed_stands old c.requires c.args.ptr.place c.args.ptr.slot c.release.new.store node live
+    (c.release.ensures.leads node.at (found old c.is_live.new.store c.slot.result c.args.ptr.slot c.args.ptr.place c.requires live c.is_live.ensures.cells c.slot.ensures))
 
 pub returns-clause-stands : goal.returns-clause-stands
 returns-clause-stands c = (freed c).0
 
 pub returns-clause-ok : goal.returns-clause-ok
 returns-clause-ok c =
-    ap (λ b. cond b (Ok (after_free c.args.ptr.0 (content_of c.args.store.now))) (Err BadPointer)) (sym c.is_live.ensures.value ∙ c.if-not-is_live.false) ∙ ap (λ x. Ok x) (sym (freed c).1)
+    ap (λ b. cond b (Ok (after_free c.args.ptr.place (content_of c.args.store.now))) (Err BadPointer)) (sym c.is_live.ensures.value ∙ c.if-not-is_live.false) ∙ ap (λ x. Ok x) (sym (freed c).1)

@@ -17,8 +17,8 @@ Free≢Live = λ e. cc
 pub returns-then-from-records-clause-value : goal.returns-then-from-records-clause-value
 returns-then-from-records-clause-value c =
     let old : Cells = c.args.store.now in
-    let past : record_at old.records c.args.ptr.1 ≡ blank = get_or_past old.records c.args.ptr.1 blank (omega (arith, c.if-from-records.true, c.records.ensures.value, c.from.ensures, c.slot.ensures)) in
-    sym (not_live old c.requires c.args.ptr.0 c.args.ptr.1 (λ live. absurd (Vacant≢Live (sym (ap (λ (r : Record). r.state) past) ∙ live))))
+    let past : record_at old.records c.args.ptr.slot ≡ blank = get_or_past old.records c.args.ptr.slot blank (omega (arith, c.if-from-records.true, c.records.ensures.value, c.from.ensures, c.slot.ensures)) in
+    sym (not_live old c.requires c.args.ptr.place c.args.ptr.slot (λ live. absurd (Vacant≢Live (sym (ap (λ (r : Record). r.state) past) ∙ live))))
 
 -- the record that was read
 read_is : (old : Cells) (read : Record) (slot at : ℕ) → read ≡ record_at old.records slot → slot ≡ at → read ≡ record_at old.records at
@@ -27,26 +27,26 @@ read_is old read slot at is same = is ∙ ap (record_at old.records) same
 pub returns-in-Live-clause-value : goal.returns-in-Live-clause-value
 returns-in-Live-clause-value c =
     let old : Cells = c.args.store.now in
-    let block : c.read-block.result ≡ record_at old.records c.args.ptr.1 = read_is old c.read-block.result c.slot-2.result c.args.ptr.1 c.read-block.ensures.value c.slot-2.ensures in
-    let live : (record_at old.records c.args.ptr.1).state ≡ Live = sym (ap (λ (r : Record). r.state) block) ∙ c.in-Live.is in
-    let place : c.read-block.result.place ≡ (record_at old.records c.args.ptr.1).place = ap (λ (r : Record). r.place) block in
+    let block : c.read-block.result ≡ record_at old.records c.args.ptr.slot = read_is old c.read-block.result c.slot-2.result c.args.ptr.slot c.read-block.ensures.value c.slot-2.ensures in
+    let live : (record_at old.records c.args.ptr.slot).state ≡ Live = sym (ap (λ (r : Record). r.state) block) ∙ c.in-Live.is in
+    let place : c.read-block.result.place ≡ (record_at old.records c.args.ptr.slot).place = ap (λ (r : Record). r.place) block in
     elim (cases_Bool (nat_eq c.read-block.result.place c.place.result)) [
-      | inl same ↦ same ∙ sym (has_live old c.requires c.args.ptr.0 c.args.ptr.1 live (sym place ∙ eqb-true c.read-block.result.place c.place.result same ∙ c.place.ensures))
-      | inr other ↦ other ∙ sym (not_live old c.requires c.args.ptr.0 c.args.ptr.1 (λ _ at. absurd (eqb-false c.read-block.result.place c.place.result other (place ∙ at ∙ sym c.place.ensures))))
+      | inl same ↦ same ∙ sym (has_live old c.requires c.args.ptr.place c.args.ptr.slot live (sym place ∙ eqb-true c.read-block.result.place c.place.result same ∙ c.place.ensures))
+      | inr other ↦ other ∙ sym (not_live old c.requires c.args.ptr.place c.args.ptr.slot (λ _ at. absurd (eqb-false c.read-block.result.place c.place.result other (place ∙ at ∙ sym c.place.ensures))))
     ]
 
 pub returns-in-Vacant : goal.returns-in-Vacant
 returns-in-Vacant c =
     let old : Cells = c.args.store.now in
-    let block : c.read-block.result ≡ record_at old.records c.args.ptr.1 = read_is old c.read-block.result c.slot-2.result c.args.ptr.1 c.read-block.ensures.value c.slot-2.ensures in
-    let not : (record_at old.records c.args.ptr.1).state ≢ Live = λ live. elim c.in-Vacant.is [
+    let block : c.read-block.result ≡ record_at old.records c.args.ptr.slot = read_is old c.read-block.result c.slot-2.result c.args.ptr.slot c.read-block.ensures.value c.slot-2.ensures in
+    let not : (record_at old.records c.args.ptr.slot).state ≢ Live = λ live. elim c.in-Vacant.is [
       | inl vacant ↦ absurd (Vacant≢Live (sym vacant ∙ ap (λ (r : Record). r.state) block ∙ live))
       | inr free ↦ absurd (Free≢Live (sym free ∙ ap (λ (r : Record). r.state) block ∙ live))
     ] in
     let touch : c.read-block.new.self ≡ touched 1 old = c.read-block.ensures.touch in
     let touches : c.read-block.new.self.touches ≡ old.touches + 1 = ap (λ (s : Cells). s.touches) touch in
     record {
-      value = sym (not_live old c.requires c.args.ptr.0 c.args.ptr.1 (λ live. absurd (not live)));
+      value = sym (not_live old c.requires c.args.ptr.place c.args.ptr.slot (λ live. absurd (not live)));
       cells = touch ∙ ap (λ n. record old { touches = n }) (sym touches);
       floor = omega (arith, touches);
       bound = omega (arith, touches);

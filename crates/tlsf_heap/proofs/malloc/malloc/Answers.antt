@@ -68,21 +68,21 @@ served c owner =
 pub returns-clause-ok : goal.returns-clause-ok
 returns-clause-ok c =
     if_ok c.take.result
-    (λ ptr. malloc_picked ptr.1 c.in-Some.asked (Some (record_at c.pick.new.store.records c.in-Some-pick.slot).place) (content_of c.pick.new.store) ≡ Ok (ptr.0, content_of c.take.new.store))
-    (λ ptr. malloc ptr.1 c.args.n (content_of c.args.store.now) ≡ Ok (ptr.0, content_of c.take.new.store))
-    (λ ptr is. served c ptr.1 ∙ is) c.take.ensures.ok
+    (λ ptr. malloc_picked ptr.slot c.in-Some.asked (Some (record_at c.pick.new.store.records c.in-Some-pick.slot).place) (content_of c.pick.new.store) ≡ Ok (ptr.place, content_of c.take.new.store))
+    (λ ptr. malloc ptr.slot c.args.n (content_of c.args.store.now) ≡ Ok (ptr.place, content_of c.take.new.store))
+    (λ ptr is. served c ptr.slot ∙ is) c.take.ensures.ok
 
 pub returns-clause-slot_below : goal.returns-clause-slot_below
 returns-clause-slot_below c =
     let slot : ℕ = c.in-Some-pick.slot in
     let P : ℕ → Type 0 = λ n. n < (content_of c.args.store.now).records in
-    if_ok c.take.result (λ ptr. ptr.1 ≡ slot) (λ ptr. ptr.1 < (content_of c.args.store.now).records) (λ ptr is. subst P (sym is) (slot_below c.args.store.now c.requires (record_at c.args.store.now.records slot).place slot (free_at c.args.store.now c.requires slot c.in-Some-pick.ensures.free))) c.take.ensures.slot
+    if_ok c.take.result (λ ptr. ptr.slot ≡ slot) (λ ptr. ptr.slot < (content_of c.args.store.now).records) (λ ptr is. subst P (sym is) (slot_below c.args.store.now c.requires (record_at c.args.store.now.records slot).place slot (free_at c.args.store.now c.requires slot c.in-Some-pick.ensures.free))) c.take.ensures.slot
 
 pub returns-clause-slot_new : goal.returns-clause-slot_new
 returns-clause-slot_new c =
     let slot : ℕ = c.in-Some-pick.slot in
     let P : ℕ → Type 0 = λ n. slot_times n (blocks_of (content_of c.args.store.now).pools) ≡ 0 in
-    if_ok c.take.result (λ ptr. ptr.1 ≡ slot) (λ ptr. slot_times ptr.1 (blocks_of (content_of c.args.store.now).pools) ≡ 0) (λ ptr is. subst P (sym is) (slot_new c.args.store.now c.requires (record_at c.args.store.now.records slot).place slot (free_at c.args.store.now c.requires slot c.in-Some-pick.ensures.free))) c.take.ensures.slot
+    if_ok c.take.result (λ ptr. ptr.slot ≡ slot) (λ ptr. slot_times ptr.slot (blocks_of (content_of c.args.store.now).pools) ≡ 0) (λ ptr is. subst P (sym is) (slot_new c.args.store.now c.requires (record_at c.args.store.now.records slot).place slot (free_at c.args.store.now c.requires slot c.in-Some-pick.ensures.free))) c.take.ensures.slot
 
 pub returns-clause-refused : goal.returns-clause-refused
 returns-clause-refused c =

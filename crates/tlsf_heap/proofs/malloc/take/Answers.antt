@@ -3,6 +3,7 @@ use Rattle.tlsf_store.specs.declared.records.Record.{Record}
 use Rattle.tlsf_store.specs.declared.records.State.TheVariants.{Free}
 use Rattle.tlsf_store.specs.Records.{blank, record_at, vacant_count}
 use Rattle.tlsf_store.specs.Cells.{Cells, touched, with_taken}
+use Rattle.tlsf_heap.specs.Pointer.{Pointer}
 use Rattle.tlsf_heap.specs.Malloc.{malloc_picked}
 use Rattle.tlsf_heap.specs.Inner.Nodes.{Listed}
 use Rattle.tlsf_heap.specs.Inner.Following.{Stands, content_of}
@@ -58,8 +59,9 @@ pub returns-then-block-asked-clause-ok : goal.returns-then-block-asked-clause-ok
 returns-then-block-asked-clause-ok c =
     let old : Cells = c.args.store.now in
     let place : ℕ = (record_at old.records c.args.slot).place in
-    let ptr : c.new.result ≡ (place, c.args.slot) = c.new.ensures ∙ ap (λ r. (r.place, c.slot.inside.0)) c.read-block.ensures.value ∙ ap (λ s. (place, s)) c.slot.view_is in
-    let P : ℕ × ℕ → Type 0 = λ p. malloc_picked p.1 c.args.asked (Some place) (content_of old) ≡ Ok (p.0, content_of c.take_whole.new.store) in
+    let made : ℕ → ℕ → Pointer = λ place slot. record { place = place; slot = slot } in
+    let ptr : c.new.result ≡ made place c.args.slot = c.new.ensures ∙ ap (λ r. made r.place c.slot.inside.0) c.read-block.ensures.value ∙ ap (made place) c.slot.view_is in
+    let P : Pointer → Type 0 = λ p. malloc_picked p.slot c.args.asked (Some place) (content_of old) ≡ Ok (p.place, content_of c.take_whole.new.store) in
     subst P (sym ptr) (whole c).1
 
 -- where no record was vacant, the cells are as before
@@ -120,6 +122,7 @@ pub returns-clause-ok : goal.returns-clause-ok
 returns-clause-ok c =
     let old : Cells = c.args.store.now in
     let place : ℕ = (record_at old.records c.args.slot).place in
-    let ptr : c.new-2.result ≡ (place, c.args.slot) = c.new-2.ensures ∙ ap (λ r. (r.place, c.slot-2.inside.0)) c.read-block.ensures.value ∙ ap (λ s. (place, s)) c.slot-2.view_is in
-    let P : ℕ × ℕ → Type 0 = λ p. malloc_picked p.1 c.args.asked (Some place) (content_of old) ≡ Ok (p.0, content_of c.take_part.new.store) in
+    let made : ℕ → ℕ → Pointer = λ place slot. record { place = place; slot = slot } in
+    let ptr : c.new-2.result ≡ made place c.args.slot = c.new-2.ensures ∙ ap (λ r. made r.place c.slot-2.inside.0) c.read-block.ensures.value ∙ ap (made place) c.slot-2.view_is in
+    let P : Pointer → Type 0 = λ p. malloc_picked p.slot c.args.asked (Some place) (content_of old) ≡ Ok (p.place, content_of c.take_part.new.store) in
     subst P (sym ptr) (part c).1

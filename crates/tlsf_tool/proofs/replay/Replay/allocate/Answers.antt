@@ -15,8 +15,8 @@ returns-in_ok-insert-in-Ok g c = λ before are.
     let new : Replayed = record { content = bare (g.H.Heaped.content c.malloc.new.self); entries = c.insert.new.self.entries } in
     let P : Replayed → Type 0 = λ old. AreHeld old.entries before → Comes old new None before (allocation c.args.number c.args.at c.args.address c.args.size (held before c.args.address) old.content) in
     subst P c.self.view_is
-    (λ is. comes_served _ new before c.args.number c.args.at c.args.address c.args.size c.asked_bytes.result c.in-Ok._ptr.0 is
-    (sym c.contains_key.ensures ∙ c.if-contains_key.false) c.asked_bytes.ensures (bare_served (g.H.Heaped.content c.self.inside.heap) (g.H.Heaped.content c.malloc.new.self) c.in-Ok._ptr.1 c.asked_bytes.result c.in-Ok._ptr.0 c.in-Ok.ensures.ok) c.in_ok-insert-in-Ok.ensures.ordered c.in_ok-insert-in-Ok.ensures.updates.0)
+    (λ is. comes_served _ new before c.args.number c.args.at c.args.address c.args.size c.asked_bytes.result c.in-Ok._ptr.place is
+    (sym c.contains_key.ensures ∙ c.if-contains_key.false) c.asked_bytes.ensures (bare_served (g.H.Heaped.content c.self.inside.heap) (g.H.Heaped.content c.malloc.new.self) c.in-Ok._ptr.slot c.asked_bytes.result c.in-Ok._ptr.place c.in-Ok.ensures.ok) c.in_ok-insert-in-Ok.ensures.ordered c.in_ok-insert-in-Ok.ensures.updates.0)
     are
 
 pub returns-in-Err : goal.returns-in-Err
