@@ -7,6 +7,7 @@ pub mod Pools
 pub mod Good
 pub mod Free
 pub mod Readings
+pub mod Touches
 pub mod Counted
 pub mod GoodSlots
 pub mod Rows

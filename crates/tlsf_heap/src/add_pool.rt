@@ -4,6 +4,7 @@ ghost use Rattle.std.specs.Prelude.{◌≡◌, ◌+◌, ◌<◌, ◌≤◌, ◌&
 ghost use Rattle.std.specs.List.{list_all};
 ghost use Rattle.arrayvec.specs.ArrayVec.{array_vec_len};
 ghost use Rattle.tlsf_store.specs.Cells.{most_pools};
+ghost use Rattle.tlsf_heap.specs.Touches.{AtMost};
 ghost use Rattle.tlsf_heap.specs.Inner.Entries.{entries_of};
 ghost use Rattle.tlsf_heap.specs.Inner.Edits.{IsUsed};
 ghost use Rattle.tlsf_heap.specs.Pools.{can_be_pool as can_be, add_pool as added};
@@ -35,8 +36,7 @@ pub(crate) fn add_pool(store: &mut Store, base: u64, bytes: u64) -> Result<(), R
     ensures refused { IfErr result (λ refusal. added base bytes (content_of store.old) ≡ Err refusal) }
     ensures unchanged { OnErr result (content_of store.new ≡ content_of store.old) }
     ensures cells { OnErr result (store.new ≡ record store.old { touches = store.new.touches }) }
-    ensures floor { store.old.touches ≤ store.new.touches }
-    ensures bound { store.new.touches ≤ store.old.touches + 29 }
+    ensures touches { AtMost 29 store.old.touches store.new.touches }
 {
     let entries = entries(store);
     if !can_enter(entries.as_slice(), base, bytes) {
@@ -75,8 +75,7 @@ fn put_pool(store: &mut Store, mut entries: ArrayVec<PoolEntry, MOST_POOLS>, ent
     requires slot_used { IsUsed store.old.records (Some entry.first) }
     requires taken { (layout : Layout) × Represents store.old (record layout { taken = entry.first ∷ layout.taken }) }
     ensures leads { (layout : Layout) → Represents store.old (record layout { taken = entry.first ∷ layout.taken }) → Represents store.new (pool_laid entry layout) }
-    ensures floor { store.old.touches ≤ store.new.touches }
-    ensures bound { store.new.touches ≤ store.old.touches + 19 }
+    ensures touches { AtMost 19 store.old.touches store.new.touches }
 {
     let slot = Slot(entry.first);
     let place = place_for(entries.as_slice(), entry.base);

@@ -5,6 +5,7 @@ ghost use Rattle.tlsf_class.specs.Classes.{unit};
 ghost use Rattle.tlsf_store.specs.declared.records.State.TheVariants.{Vacant};
 ghost use Rattle.tlsf_store.specs.Records.{record_at};
 ghost use Rattle.tlsf_store.specs.Cells.{touched};
+ghost use Rattle.tlsf_heap.specs.Touches.{AtMost};
 ghost use Rattle.tlsf_heap.specs.Pools.{end_of_places};
 ghost use Rattle.tlsf_heap.specs.Inner.Edits.{IsUsed};
 ghost use Rattle.tlsf_heap.specs.Inner.Chains.{with_prev, with_state, split as split_cells, absorbed};
@@ -26,8 +27,7 @@ fn set_prev(store: &mut Store, slot: Option<Slot>, prev: Slot)
     requires used { IsUsed store.old.records slot }
     requires below { prev < length store.old.records }
     ensures cells { store.new ≡ record (with_prev slot (Some prev) store.old) { touches = store.new.touches } }
-    ensures floor { store.old.touches ≤ store.new.touches }
-    ensures bound { store.new.touches ≤ store.old.touches + 2 }
+    ensures touches { AtMost 2 store.old.touches store.new.touches }
 {
     if let Some(slot) = slot {
         let block = store.read(slot);
@@ -51,8 +51,7 @@ pub(crate) fn split(store: &mut Store, slot: Slot, rest: Slot, bytes: u32)
     requires in_units { bytes % unit ≡ 0 }
     requires ends { (record_at store.old.records slot).place + (record_at store.old.records slot).size ≤ end_of_places }
     ensures cells { store.new ≡ record (split_cells slot rest bytes store.old) { touches = store.new.touches } }
-    ensures floor { store.old.touches ≤ store.new.touches }
-    ensures bound { store.new.touches ≤ store.old.touches + 5 }
+    ensures touches { AtMost 5 store.old.touches store.new.touches }
 {
     let block = store.read(slot);
     let left = Record {
@@ -81,8 +80,7 @@ pub(crate) fn absorb(store: &mut Store, slot: Slot, behind: Slot)
     requires next_used { IsUsed store.old.records (record_at store.old.records behind).next }
     requires fits { (record_at store.old.records slot).size + (record_at store.old.records behind).size < 2 ^ 32 }
     ensures cells { store.new ≡ record (absorbed slot behind store.old) { touches = store.new.touches } }
-    ensures floor { store.old.touches ≤ store.new.touches }
-    ensures bound { store.new.touches ≤ store.old.touches + 8 }
+    ensures touches { AtMost 8 store.old.touches store.new.touches }
 {
     let block = store.read(slot);
     let taken = store.read(behind);

@@ -2,6 +2,7 @@
 
 ghost use Rattle.std.specs.Prelude.{◌≡◌, ◌+◌, ◌≤◌, ◌==◌, Ok, Err, OnOk, IfErr, OnErr};
 ghost use Rattle.tlsf_class.specs.Classes.{class};
+ghost use Rattle.tlsf_heap.specs.Touches.{AtMost};
 ghost use Rattle.tlsf_heap.specs.Content.{blocks_of};
 ghost use Rattle.tlsf_heap.specs.Free.{is_live as is_live_in};
 ghost use Rattle.tlsf_heap.specs.Free.{free as freed};
@@ -30,8 +31,7 @@ pub(crate) fn free(store: &mut Store, ptr: Ptr) -> Result<(), Refusal>
     ensures refused { IfErr result (λ refusal. freed (λ slot. slot == ptr.slot) ptr.place (content_of store.old) ≡ Err refusal) }
     ensures unchanged { OnErr result (content_of store.new ≡ content_of store.old) }
     ensures cells { OnErr result (store.new ≡ record store.old { touches = store.new.touches }) }
-    ensures floor { store.old.touches ≤ store.new.touches }
-    ensures bound { store.new.touches ≤ store.old.touches + 50 }
+    ensures touches { AtMost 50 store.old.touches store.new.touches }
 {
     if !is_live(store, ptr) {
         return Err(Refusal::BadPointer);
@@ -45,8 +45,7 @@ fn is_live(store: &mut Store, ptr: Ptr) -> bool
     requires { Stands store.old }
     ensures value { result ≡ is_live_in (λ slot. slot == ptr.slot) ptr.place (blocks_of (content_of store.old).pools) }
     ensures cells { store.new ≡ record store.old { touches = store.new.touches } }
-    ensures floor { store.old.touches ≤ store.new.touches }
-    ensures bound { store.new.touches ≤ store.old.touches + 1 }
+    ensures touches { AtMost 1 store.old.touches store.new.touches }
 {
     if u32::from(ptr.slot()) >= store.records() {
         return false;
@@ -62,8 +61,7 @@ fn is_live(store: &mut Store, ptr: Ptr) -> bool
 fn release(store: &mut Store, slot: Slot)
     requires { (at : At) × StandsAt slot InUse store.old at }
     ensures leads { (at : At) → StandsAt slot InUse store.old at → StandsAt (at_freed at).node.slot Listed store.new (at_freed at) }
-    ensures floor { store.old.touches ≤ store.new.touches }
-    ensures bound { store.new.touches ≤ store.old.touches + 49 }
+    ensures touches { AtMost 49 store.old.touches store.new.touches }
 {
     set_state(store, slot, State::Free);
     let start = join_front(store, slot);
@@ -86,8 +84,7 @@ fn is_free(state: State) -> bool
 fn join_front(store: &mut Store, slot: Slot) -> Slot
     requires { (at : At) × StandsAt slot Loose store.old at }
     ensures leads { (at : At) → StandsAt slot Loose store.old at → StandsAt result Loose store.new (front_joined at) }
-    ensures floor { store.old.touches ≤ store.new.touches }
-    ensures bound { store.new.touches ≤ store.old.touches + 18 }
+    ensures touches { AtMost 18 store.old.touches store.new.touches }
 {
     let block = store.read(slot);
     let Some(prev) = block.prev else {
@@ -105,8 +102,7 @@ fn join_front(store: &mut Store, slot: Slot) -> Slot
 fn join_back(store: &mut Store, slot: Slot)
     requires { (at : At) × StandsAt slot Loose store.old at }
     ensures leads { (at : At) → StandsAt slot Loose store.old at → StandsAt slot Loose store.new (back_joined at) }
-    ensures floor { store.old.touches ≤ store.new.touches }
-    ensures bound { store.new.touches ≤ store.old.touches + 18 }
+    ensures touches { AtMost 18 store.old.touches store.new.touches }
 {
     let block = store.read(slot);
     let Some(next) = block.next else {
@@ -124,8 +120,7 @@ fn join_back(store: &mut Store, slot: Slot)
 fn join(store: &mut Store, front: Slot, behind: Slot, listed: Slot, size: u32)
     requires { IsJoinable front behind listed size store.old.records (unlinked (class size) listed store.old).records }
     ensures cells { store.new ≡ record (joined front behind listed size store.old) { touches = store.new.touches } }
-    ensures floor { store.old.touches ≤ store.new.touches }
-    ensures bound { store.new.touches ≤ store.old.touches + 16 }
+    ensures touches { AtMost 16 store.old.touches store.new.touches }
 {
     unlink(store, class_of(size), listed);
     absorb(store, front, behind);
@@ -135,8 +130,7 @@ fn join(store: &mut Store, front: Slot, behind: Slot, listed: Slot, size: u32)
 fn enter(store: &mut Store, slot: Slot)
     requires { (at : At) × StandsAt slot Loose store.old at }
     ensures leads { (at : At) → StandsAt slot Loose store.old at → StandsAt slot Listed store.new (at_listed at) }
-    ensures floor { store.old.touches ≤ store.new.touches }
-    ensures bound { store.new.touches ≤ store.old.touches + 11 }
+    ensures touches { AtMost 11 store.old.touches store.new.touches }
 {
     let block = store.read(slot);
     link(store, class_of(block.size), slot);

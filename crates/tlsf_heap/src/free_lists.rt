@@ -5,6 +5,7 @@ ghost use Rattle.tlsf_class.specs.Classes.{classes};
 ghost use Rattle.tlsf_store.specs.declared.records.State.TheVariants.{Vacant};
 ghost use Rattle.tlsf_store.specs.Records.{record_at, IsBelow};
 ghost use Rattle.tlsf_store.specs.Cells.{touched, head_at};
+ghost use Rattle.tlsf_heap.specs.Touches.{AtMost};
 ghost use Rattle.tlsf_heap.specs.Inner.Edits.{IsUsed, with_prev_free, with_next_free, with_free_links, with_first, with_behind, linked, unlinked};
 
 use crate::marks::{mark, unmark};
@@ -16,8 +17,7 @@ pub(crate) fn link(store: &mut Store, class: Class, slot: Slot)
     requires slot_used { IsUsed store.old.records (Some slot) }
     requires first_used { IsUsed store.old.records (head_at store.old.heads class) }
     ensures cells { store.new ≡ record (linked class slot store.old) { touches = store.new.touches } }
-    ensures floor { store.old.touches ≤ store.new.touches }
-    ensures bound { store.new.touches ≤ store.old.touches + 10 }
+    ensures touches { AtMost 10 store.old.touches store.new.touches }
 {
     let first = store.head(class);
     set_in_front(store, slot, first);
@@ -31,8 +31,7 @@ pub(crate) fn unlink(store: &mut Store, class: Class, slot: Slot)
     requires prev_used { IsUsed store.old.records (record_at store.old.records slot).prev_free }
     requires next_used { IsUsed store.old.records (record_at store.old.records slot).next_free }
     ensures cells { store.new ≡ record (unlinked class slot store.old) { touches = store.new.touches } }
-    ensures floor { store.old.touches ≤ store.new.touches }
-    ensures bound { store.new.touches ≤ store.old.touches + 8 }
+    ensures touches { AtMost 8 store.old.touches store.new.touches }
 {
     let block = store.read(slot);
     set_in_back(store, block.next_free, block.prev_free);
@@ -45,8 +44,7 @@ fn set_in_front(store: &mut Store, slot: Slot, first: Option<Slot>)
     requires slot_used { IsUsed store.old.records (Some slot) }
     requires first_used { IsUsed store.old.records first }
     ensures cells { store.new ≡ record (with_prev_free first (Some slot) (with_free_links slot None first store.old)) { touches = store.new.touches } }
-    ensures floor { store.old.touches ≤ store.new.touches }
-    ensures bound { store.new.touches ≤ store.old.touches + 4 }
+    ensures touches { AtMost 4 store.old.touches store.new.touches }
 {
     match first {
         Some(next) => {
@@ -96,8 +94,7 @@ fn set_in_back(store: &mut Store, next: Option<Slot>, prev: Option<Slot>)
     requires used { IsUsed store.old.records next }
     requires prev_below { IsBelow (length store.old.records) prev }
     ensures cells { store.new ≡ record (with_prev_free next prev store.old) { touches = store.new.touches } }
-    ensures floor { store.old.touches ≤ store.new.touches }
-    ensures bound { store.new.touches ≤ store.old.touches + 2 }
+    ensures touches { AtMost 2 store.old.touches store.new.touches }
 {
     if let Some(slot) = next {
         set_prev_free(store, slot, prev);
@@ -124,8 +121,7 @@ fn set_next_free(store: &mut Store, slot: Slot, next: Option<Slot>)
 fn set_first(store: &mut Store, class: Class, first: Option<Slot>)
     requires { IsBelow (length store.old.records) first }
     ensures cells { store.new ≡ record (with_first class first store.old) { touches = store.new.touches } }
-    ensures floor { store.old.touches ≤ store.new.touches }
-    ensures bound { store.new.touches ≤ store.old.touches + 5 }
+    ensures touches { AtMost 5 store.old.touches store.new.touches }
 {
     match first {
         Some(slot) => store.set_head(class, Some(slot)),
@@ -142,8 +138,7 @@ fn set_behind(store: &mut Store, class: Class, prev: Option<Slot>, next: Option<
     requires used { IsUsed store.old.records prev }
     requires next_below { IsBelow (length store.old.records) next }
     ensures cells { store.new ≡ record (with_behind class prev next store.old) { touches = store.new.touches } }
-    ensures floor { store.old.touches ≤ store.new.touches }
-    ensures bound { store.new.touches ≤ store.old.touches + 5 }
+    ensures touches { AtMost 5 store.old.touches store.new.touches }
 {
     match prev {
         Some(slot) => set_next_free(store, slot, next),

@@ -4,6 +4,7 @@ ghost use Rattle.std.specs.Prelude.{◌≡◌, ℕ, ◌+◌, ◌%◌, ◌<◌, �
 ghost use Rattle.tlsf_class.specs.Classes.{unit};
 ghost use Rattle.tlsf_store.specs.declared.records.State.TheVariants.{Free};
 ghost use Rattle.tlsf_store.specs.Records.{record_at};
+ghost use Rattle.tlsf_heap.specs.Touches.{AtMost};
 ghost use Rattle.tlsf_heap.specs.Content.{blocks_of};
 ghost use Rattle.tlsf_heap.specs.Lists.{pick as picked};
 ghost use Rattle.tlsf_heap.specs.Malloc.{malloc as served, malloc_picked};
@@ -33,8 +34,7 @@ pub(crate) fn malloc(store: &mut Store, n: u64) -> Result<Ptr, Refusal>
     ensures refused { IfErr result (λ refusal. (slot : ℕ) → served slot n (content_of store.old) ≡ Err refusal) }
     ensures unchanged { OnErr result (content_of store.new ≡ content_of store.old) }
     ensures cells { OnErr result (store.new ≡ record store.old { touches = store.new.touches }) }
-    ensures floor { store.old.touches ≤ store.new.touches }
-    ensures bound { store.new.touches ≤ store.old.touches + 32 }
+    ensures touches { AtMost 32 store.old.touches store.new.touches }
 {
     if n == 0 {
         return Err(Refusal::ZeroSize);
@@ -58,8 +58,7 @@ fn pick(store: &mut Store, asked: u32) -> Option<Slot>
     ensures found { IfSome result (λ slot. picked asked (content_of store.old).lists ≡ Some (record_at store.old.records slot).place) }
     ensures none { IfNone result (picked asked (content_of store.old).lists ≡ None) }
     ensures cells { store.new ≡ record store.old { touches = store.new.touches } }
-    ensures floor { store.old.touches ≤ store.new.touches }
-    ensures bound { store.new.touches ≤ store.old.touches + 4 }
+    ensures touches { AtMost 4 store.old.touches store.new.touches }
 {
     let Some(class) = class_for(asked) else {
         return None;
@@ -84,8 +83,7 @@ fn take(store: &mut Store, slot: Slot, asked: u32) -> Result<Ptr, Refusal>
     ensures refused { IfErr result (λ refusal. (owner : ℕ) → malloc_picked owner asked (Some (record_at store.old.records slot).place) (content_of store.old) ≡ Err refusal) }
     ensures unchanged { OnErr result (content_of store.new ≡ content_of store.old) }
     ensures cells { OnErr result (store.new ≡ record store.old { touches = store.new.touches }) }
-    ensures floor { store.old.touches ≤ store.new.touches }
-    ensures bound { store.new.touches ≤ store.old.touches + 28 }
+    ensures touches { AtMost 28 store.old.touches store.new.touches }
 {
     let block = store.read(slot);
     if block.size == asked {
@@ -107,8 +105,7 @@ fn take_part(store: &mut Store, slot: Slot, rest: Slot, bytes: u32, size: u32)
     requires less { bytes < size }
     requires whole { bytes % unit ≡ 0 }
     ensures leads { (at : At) → StandsAt slot Listed store.old (with_slot rest at) → size ≡ at.node.size → StandsAt rest Listed store.new (at_cut rest bytes (at_taken at)) }
-    ensures floor { store.old.touches ≤ store.new.touches }
-    ensures bound { store.new.touches ≤ store.old.touches + 25 }
+    ensures touches { AtMost 25 store.old.touches store.new.touches }
 {
     take_whole(store, slot, size);
     cut(store, slot, rest, bytes, size);
@@ -118,8 +115,7 @@ fn take_part(store: &mut Store, slot: Slot, rest: Slot, bytes: u32, size: u32)
 fn take_whole(store: &mut Store, slot: Slot, size: u32)
     requires { (at : At) × StandsAt slot Listed store.old at × (size ≡ at.node.size) }
     ensures leads { (at : At) → StandsAt slot Listed store.old at → size ≡ at.node.size → StandsAt slot InUse store.new (at_taken at) }
-    ensures floor { store.old.touches ≤ store.new.touches }
-    ensures bound { store.new.touches ≤ store.old.touches + 10 }
+    ensures touches { AtMost 10 store.old.touches store.new.touches }
 {
     unlink(store, class_of(size), slot);
     set_state(store, slot, State::Live);
@@ -133,8 +129,7 @@ fn cut(store: &mut Store, slot: Slot, rest: Slot, bytes: u32, size: u32)
     requires less { bytes < size }
     requires whole { bytes % unit ≡ 0 }
     ensures leads { (at : At) → StandsAt slot InUse store.old (with_slot rest at) → size ≡ at.node.size → StandsAt rest Listed store.new (at_cut rest bytes at) }
-    ensures floor { store.old.touches ≤ store.new.touches }
-    ensures bound { store.new.touches ≤ store.old.touches + 15 }
+    ensures touches { AtMost 15 store.old.touches store.new.touches }
 {
     split(store, slot, rest, bytes);
     link(store, class_of(size - bytes), rest);

@@ -4,6 +4,7 @@
 ghost use Rattle.std.specs.Prelude.{◌≡◌, ◌+◌, ◌<◌, ◌≤◌, ◌^◌};
 ghost use Rattle.tlsf_class.specs.Classes.{levels};
 ghost use Rattle.tlsf_store.specs.Cells.{touched};
+ghost use Rattle.tlsf_heap.specs.Touches.{AtMost};
 ghost use Rattle.tlsf_heap.specs.Inner.Edits.{with_bit, without_bit, marked, unmarked, with_level_cleared};
 
 use tlsf_class::{Class, STEPS};
@@ -42,8 +43,7 @@ pub(crate) fn mark(store: &mut Store, class: Class)
 /// four touches.
 pub(crate) fn unmark(store: &mut Store, class: Class)
     ensures cells { store.new ≡ record (unmarked class store.old) { touches = store.new.touches } }
-    ensures floor { store.old.touches ≤ store.new.touches }
-    ensures bound { store.new.touches ≤ store.old.touches + 4 }
+    ensures touches { AtMost 4 store.old.touches store.new.touches }
 {
     let level = class.number() / STEPS;
     let word = clear_bit(store.step_word(level), class.number() % STEPS);
@@ -55,8 +55,7 @@ pub(crate) fn unmark(store: &mut Store, class: Class)
 fn clear_level(store: &mut Store, level: u32, word: u32)
     requires { level < levels }
     ensures cells { store.new ≡ record (with_level_cleared level word store.old) { touches = store.new.touches } }
-    ensures floor { store.old.touches ≤ store.new.touches }
-    ensures bound { store.new.touches ≤ store.old.touches + 2 }
+    ensures touches { AtMost 2 store.old.touches store.new.touches }
 {
     if word == 0 {
         let levels = store.level_word();

@@ -2,6 +2,7 @@
 
 ghost use Rattle.std.specs.Prelude.{◌≡◌, ◌+◌, ◌*◌, ◌≤◌, length, drop, IfSome, IfNone};
 ghost use Rattle.tlsf_class.specs.Classes.{steps, levels, classes};
+ghost use Rattle.tlsf_heap.specs.Touches.{AtMost};
 ghost use Rattle.tlsf_heap.specs.Inner.Bitmaps.{AreMarked, HasNoBit, IsLowestFrom, first_head};
 
 use tlsf_class::{Class, STEPS};
@@ -28,8 +29,7 @@ pub(crate) fn search(store: &mut Store, class: Class) -> Option<Slot>
     requires count { length store.old.heads ≡ classes }
     ensures value { result ≡ first_head (drop class store.old.heads) }
     ensures cells { store.new ≡ record store.old { touches = store.new.touches } }
-    ensures floor { store.old.touches ≤ store.new.touches }
-    ensures bound { store.new.touches ≤ store.old.touches + 4 }
+    ensures touches { AtMost 4 store.old.touches store.new.touches }
 {
     let level = class.number() / STEPS;
     let word = store.step_word(level);
@@ -47,8 +47,7 @@ fn search_levels(store: &mut Store, from: u32) -> Option<Slot>
     requires count { length store.old.heads ≡ classes }
     ensures value { result ≡ first_head (drop (from * steps) store.old.heads) }
     ensures cells { store.new ≡ record store.old { touches = store.new.touches } }
-    ensures floor { store.old.touches ≤ store.new.touches }
-    ensures bound { store.new.touches ≤ store.old.touches + 3 }
+    ensures touches { AtMost 3 store.old.touches store.new.touches }
 {
     let word = store.level_word();
     let Some(level) = lowest_from(word, from) else {

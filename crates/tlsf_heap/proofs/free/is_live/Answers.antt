@@ -48,6 +48,5 @@ returns-in-Vacant c =
     record {
       value = sym (not_live old c.requires c.args.ptr.place c.args.ptr.slot (λ live. absurd (not live)));
       cells = touch ∙ ap (λ n. record old { touches = n }) (sym touches);
-      floor = omega (arith, touches);
-      bound = omega (arith, touches);
+      touches = record { floor = omega (arith, touches); bound = omega (arith, touches) };
     }
