@@ -1,5 +1,5 @@
 -- The settings of a replay.
-use Rattle.std.specs.Prelude.{ℕ, ◌*◌, ◌%◌, Bool, not, ◌||◌, ◌==◌, nat_lt}
+use Rattle.std.specs.Prelude.{◌*◌, ◌%◌, Bool, not, ◌||◌, ◌==◌, nat_lt}
 use Rattle.tlsf_class.specs.Classes.{unit, greatest_size}
 use Rattle.tlsf_tool.specs.declared.settings.Settings.{Settings}
 use Rattle.tlsf_heap.specs.Pools.{most_pools, most_records, end_of_places}

@@ -1,9 +1,9 @@
 use Rattle.std.proofs.Common.{ℕ, List, subst, ap, ◌∙◌, flat_map}
 use Rattle.mtrace_log.specs.declared.call.Call.TheVariants.{Took, Failed}
-use Rattle.mtrace_log.proofs.TraceLemmas.{moved_none, moved_append, moved_then_append}
+use Rattle.mtrace_log.proofs.TraceLemmas.{moved_append, moved_then_append}
 use Rattle.tlsf_tool.specs.Output.{Wrote, Begins}
 use Rattle.tlsf_tool.specs.Texts.{entry_text}
-use Rattle.tlsf_tool.proofs.Writing.{HasPut-none, HasPut-piece, HasPut-begun, on_err}
+use Rattle.tlsf_tool.proofs.Writing.{HasPut-piece, HasPut-begun, on_err}
 use Rattle.tlsf_tool.proofs.report.put_entries.Goals as goal
 
 pub loop-address-preserved : goal.loop-address-preserved

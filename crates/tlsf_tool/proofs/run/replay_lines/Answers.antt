@@ -1,6 +1,5 @@
 use Rattle.std.proofs.Common.{Bool, false, sym, subst, ap, inr}
 use Rattle.mtrace_log.specs.Progress.{Progress, CallsFor}
-use Rattle.mtrace_log.specs.Trace.{HasTaken, HasNotFailed}
 use Rattle.mtrace_log.specs.declared.call.Call.TheVariants.{Gave, Took, Failed}
 use Rattle.mtrace_log.proofs.TraceLemmas.{moved_none, moved_append, moved_then_append}
 use Rattle.mtrace_log.proofs.CallLemmas.{calls_more, calls_of_line, calls_to_end, calls_to_fault}

@@ -1,4 +1,4 @@
-use Rattle.std.proofs.Common.{◌≡◌, ◌-◌, ◌^◌, []}
+use Rattle.std.proofs.Common.{◌-◌, ◌^◌, []}
 use Rattle.mtrace_log.specs.Trace.{HasTaken}
 use Rattle.mtrace_log.specs.Progress.{CallsFor}
 use Rattle.tlsf_tool.specs.declared.settings.Settings.{Settings}
