@@ -1,7 +1,7 @@
 -- malloc by its cases, whatever live blocks are known by.
 use Rattle.std.proofs.Common.{◌≡◌, ◌≢◌, ℕ, Bool, true, false, cond, refl, ap, ◌∙◌, Option, Some, None, Result}
 use Rattle.std.specs.Prelude.{◌&&◌, ◌==◌, nat_lt, nat_le, Ok, Err}
-use Rattle.std.proofs.lemmas.Bool.{eq-eqb, ne_eqb}
+use Rattle.std.proofs.lemmas.Bool.{ne_eqb}
 use Rattle.tlsf_class.specs.Rounding.{round}
 use Rattle.tlsf_heap.specs.declared.refusal.Refusal.{Refusal}
 use Rattle.tlsf_heap.specs.declared.refusal.Refusal.TheVariants.{ZeroSize, NoFit, TableFull, OutOfMemory}
@@ -15,14 +15,8 @@ cond_lacks_none true refusal result named lacks_none is = named (cc)
 cond_lacks_none false refusal result named lacks_none is = lacks_none is
 
 module _ {A : Type 0} (owner : A) (n : ℕ) (content : Content A) where
-  pub refused_zero : n ≡ 0 → malloc owner n content ≡ Err ZeroSize
-  refused_zero h = rw (eq-eqb n 0 h) refl
-
   some_asked : n ≢ 0 → malloc owner n content ≡ malloc_rounded owner (round n) content
   some_asked h = rw (ne_eqb n 0 h) refl
-
-  pub refused_round : n ≢ 0 → round n ≡ None → malloc owner n content ≡ Err NoFit
-  refused_round some h = some_asked some ∙ ap (λ m. malloc_rounded owner m content) h
 
   pub refused_pick : n ≢ 0 → (asked : ℕ) → round n ≡ Some asked → pick asked content.lists ≡ None → malloc owner n content ≡ Err NoFit
   refused_pick some asked rounded none = some_asked some ∙ ap (λ m. malloc_rounded owner m content) rounded ∙ ap (λ place. malloc_picked owner asked place content) none

@@ -3,14 +3,14 @@ use Rattle.std.proofs.Common.{◌≡◌, ◌≢◌, ℕ, ◌+◌, ◌%◌, ◌<�
 use Rattle.std.specs.List.{insert}
 use Rattle.std.specs.Prelude.{nat_lt, nat_le, Ok, Err}
 use Rattle.std.specs.List.{list_all}
-use Rattle.std.proofs.lemmas.Bool.{lt-ltb, le-ltb, le-leb, lt-leb, cases_Bool, cases_lt, and_from, and_left, and_right}
+use Rattle.std.proofs.lemmas.Bool.{lt-ltb, le-leb, lt-leb, cases_Bool, and_from}
 use Rattle.tlsf_class.specs.Classes.{unit, greatest_size}
 use Rattle.tlsf_class.specs.Rounding.{round}
 use Rattle.tlsf_class.proofs.RoundingLaws.{round-Some}
 use Rattle.tlsf_heap.specs.declared.refusal.Refusal.TheVariants.{TableFull, BadPool, PoolsFull}
 use Rattle.tlsf_heap.specs.Content.{Pool, Content, blocks_of, size_at, used_records}
 use Rattle.tlsf_heap.specs.Lists.{pick}
-use Rattle.tlsf_heap.specs.Malloc.{allocated, allocate, malloc}
+use Rattle.tlsf_heap.specs.Malloc.{allocated, malloc}
 use Rattle.tlsf_heap.specs.Pools.{end_of_places, can_be_pool, is_apart, in_order_of_base, add_pool, with_pool, most_pools}
 use Rattle.tlsf_heap.specs.Good.{IsGood}
 use Rattle.tlsf_heap.specs.PlainHeap.{IsPlain, IsChosen, pool_place}
@@ -28,18 +28,6 @@ module _ (slot n : ℕ) (content : Plain) where
   refused_full some asked place rounded is larger full =
       picked_is_served slot n content some asked place rounded is
       ∙ ap (λ b. cond b (Err TableFull) (Ok (place, allocated slot place asked (size_at place (blocks_of content.pools)) content))) (and_from _ _ (lt-ltb asked _ larger) full)
-
-  -- the block chosen is what malloc takes
-  pub chosen_is_served : (place asked size : ℕ) → IsChosen n place asked size content → malloc slot n content ≡ Ok (place, allocated slot place asked size content)
-  chosen_is_served place asked size is =
-      let some : n ≢ 0 = λ e. absurd (omega (arith, (round-Some n asked is.rounded).some, e)) in
-      let room : (nat_lt asked size && nat_le content.records (used_records content)) ≡ false = elim (cases_lt asked size) [
-        | inl larger ↦ and_right (nat_lt asked size) _ (lt-leb content.records (used_records content) (is.room larger))
-        | inr whole ↦ and_left _ (nat_le content.records (used_records content)) (le-ltb asked size whole)
-      ] in
-      picked_is_served slot n content some asked place is.rounded is.is_picked
-      ∙ ap (λ s. allocate slot place asked s content) (sym is.size_is)
-      ∙ ap (λ b. cond b (Err TableFull) (Ok (place, allocated slot place asked size content))) room
 
 -- what the code has to know of the block that it cuts
 pub record IsCut (place asked size : ℕ) (content : Plain) : Type 0 where

@@ -2,16 +2,15 @@
 use Rattle.std.proofs.Common.{◌≡◌, ℕ, ◌+◌, ◌-◌, ◌%◌, ◌<◌, Bool, List, ◌∷◌, length, map, refl, ap, subst, arith, Some}
 use Rattle.std.proofs.lemmas.Bool.{eq-eqb}
 use Rattle.tlsf_class.specs.Classes.{unit, class}
-use Rattle.tlsf_store.specs.declared.records.State.TheVariants.{Live}
 use Rattle.tlsf_store.specs.Records.{blank, record_at}
 use Rattle.tlsf_store.specs.Cells.{Cells, with_taken}
 use Rattle.tlsf_heap.specs.Good.{Covers}
-use Rattle.tlsf_heap.specs.Inner.Edits.{IsUsed, linked, unlinked}
-use Rattle.tlsf_heap.specs.Inner.Chains.{with_state, split}
+use Rattle.tlsf_heap.specs.Inner.Edits.{IsUsed, unlinked}
+use Rattle.tlsf_heap.specs.Inner.Chains.{split}
 use Rattle.tlsf_heap.specs.Inner.Nodes.{Status, InUse, Listed, Loose, Node, turned, rest_node, block_of, is_listed}
 use Rattle.tlsf_heap.specs.Inner.Joined.{is_loose}
 use Rattle.tlsf_heap.specs.Inner.Represents.{Represents}
-use Rattle.tlsf_heap.specs.Inner.At.{At, layout_at, StandsAt, at_unlisted, at_taken, with_slot, at_split, at_cut}
+use Rattle.tlsf_heap.specs.Inner.At.{At, layout_at, StandsAt, at_unlisted, with_slot, at_split}
 use Rattle.tlsf_heap.proofs.Inner.Counts.{one_if, count-cons}
 use Rattle.tlsf_heap.proofs.Inner.Plugs.{count-filled}
 use Rattle.tlsf_heap.proofs.Inner.Chains.{times-cons, at_node}
@@ -19,7 +18,7 @@ use Rattle.tlsf_heap.proofs.Inner.Used.{stands_used, next_used}
 use Rattle.tlsf_heap.proofs.Inner.Unlinked.{unlinked_laid, prev_free_used, next_free_used}
 use Rattle.tlsf_heap.proofs.Inner.Split.{split_laid}
 use Rattle.tlsf_heap.proofs.Inner.Taken.{slot_taken}
-use Rattle.tlsf_heap.proofs.Inner.Steps.{covered_turned, turned_stands, listed_stands}
+use Rattle.tlsf_heap.proofs.Inner.Steps.{covered_turned}
 use Rattle.tlsf_heap.proofs.Meaning.Covered.{covered_refilled}
 
 module _ (cells : Cells) (slot : ℕ) (at : At) (stands : StandsAt slot Listed cells at) where
@@ -45,9 +44,6 @@ module _ (cells : Cells) (slot : ℕ) (at : At) (stands : StandsAt slot Listed c
         subst P stands.1.slot_is (unlinked_laid cells at.count at.spot (turned Listed at.node) at.nodes at.lists at.taken listed_was),
         record { slot_is = stands.1.slot_is; status_is = refl; others_settled = stands.1.others_settled; covered = covered_turned cells slot Listed at stands Loose },
       )
-
-  pub taken_stands : StandsAt slot InUse (with_state slot Live (unlinked (class at.node.size) slot cells)) (at_taken at)
-  taken_stands = turned_stands (unlinked (class at.node.size) slot cells) slot Loose (at_unlisted at) unlinked_stands InUse refl refl
 
 -- a vacant record was taken meanwhile
 pub slot_stands : (cells : Cells) (slot : ℕ) (status : Status) (at : At) (rest : ℕ) → StandsAt slot status cells at → rest < length cells.records → record_at cells.records rest ≡ blank → StandsAt slot status (with_taken cells (Some rest)) (with_slot rest at)
@@ -90,6 +86,3 @@ module _ (cells : Cells) (slot rest : ℕ) (at : At) (stands : StandsAt slot InU
             covered = covered_refilled at.spot (at.node ∷ at.nodes) (first ∷ rest_node rest bytes at.node ∷ at.nodes) (covers_cut rest bytes at.node at.nodes some less whole) stands.1.covered;
           },
         )
-
-    pub cut_stands : StandsAt rest Listed (linked (class (at.node.size - bytes)) rest (split slot rest bytes cells)) (at_cut rest bytes at)
-    cut_stands = listed_stands (split slot rest bytes cells) rest (at_split rest bytes at) split_stands

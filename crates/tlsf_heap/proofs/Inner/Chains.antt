@@ -21,13 +21,6 @@ use Rattle.tlsf_heap.proofs.Inner.Links.{first-plug, from_behind, linked_same, l
 pub times-cons : (q slot : ℕ) (slots : List ℕ) → times q (slot ∷ slots) ≡ one_if (eqb slot q) + times q slots
 times-cons q slot slots = count-cons (λ other. eqb other q) slot slots
 
--- a slot that no node has
-pub not_there : (q : ℕ) (node : Node) (nodes : List Node) → count_by (has_slot q) (node ∷ nodes) ≡ 0 → (q ≢ node.slot) × (count_by (has_slot q) nodes ≡ 0)
-not_there q node nodes none = (
-  λ e. omega (arith, none, count-cons (has_slot q) node nodes, ap one_if (eq-eqb node.slot q (sym e))),
-  omega (arith, none, count-cons (has_slot q) node nodes),
-)
-
 pub not_taken : (q slot : ℕ) (slots : List ℕ) → times q (slot ∷ slots) ≡ 0 → (q ≢ slot) × (times q slots ≡ 0)
 not_taken q slot slots none = (
   λ e. omega (arith, none, times-cons q slot slots, ap one_if (eq-eqb slot q (sym e))),
@@ -94,9 +87,6 @@ module _ (at : ℕ → InPool) (spot : Spot) (nodes : List Node) (taken : List �
 
   pub slots_most : (q : ℕ) → around (has_slot q) spot + count_by (has_slot q) nodes + times q taken ≤ 1
   slots_most q = omega (arith, slots_once q, uses_most (at q).state)
-
-  pub slots_outside : (q : ℕ) → 1 ≤ around (has_slot q) spot → (count_by (has_slot q) nodes ≡ 0) × (times q taken ≡ 0)
-  slots_outside q h = (omega (arith, h, slots_most q), omega (arith, h, slots_most q))
 
 -- the classes' lists where the nodes of the spot change
 pub agree_refilled : (spot : Spot) (olds news : List Node) (lists : List (List Node)) → Agree (filled spot olds) lists

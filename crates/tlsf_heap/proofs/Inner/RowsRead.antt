@@ -151,9 +151,6 @@ module _ (cells : Cells) (stands : Stands cells) where
     | inr past ↦ absurd (true≢false (sym h ∙ ap (begins_below base) (none_past k past)))
   ]
 
-  pub narrowed_all : (base : ℕ) → IsNarrowed base cells.pools 0 (most_pools - 1)
-  narrowed_all base = record { below = λ j h. absurd (omega (arith, h)); above = inr refl }
-
   -- what is left once only one pool can be it
   pub narrowed_found : (base place : ℕ) → place < most_pools → IsNarrowed base cells.pools place place → slot_if base (pool_at cells.pools place) ≡ slot_for base (entries_of cells.pools)
   narrowed_found base place within narrowed =
