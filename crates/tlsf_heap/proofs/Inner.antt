@@ -28,4 +28,5 @@ pub mod Standing
 pub mod RowsRead
 pub mod Entered
 pub mod Added
+pub mod EntryLists
 mod Rows

@@ -5,7 +5,7 @@ use Rattle.tlsf_heap.specs.Content.{Content}
 use Rattle.tlsf_heap.specs.Malloc.{malloc}
 use Rattle.tlsf_heap.specs.Pools.{add_pool}
 use Rattle.tlsf_heap.specs.Bare.{bare, renamed_result, renamed_given}
-use Rattle.tlsf_heap.proofs.BareSteps.{malloc-renamed, add_pool-renamed}
+use Rattle.tlsf_heap.proofs.Content.BareSteps.{malloc-renamed, add_pool-renamed}
 use Rattle.tlsf_tool.specs.History.{after_add}
 
 module _ (old new : Content ℕ) where

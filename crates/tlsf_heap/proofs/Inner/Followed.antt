@@ -9,7 +9,7 @@ use Rattle.tlsf_store.specs.declared.records.Record.{Record}
 use Rattle.tlsf_store.specs.Records.{record_at}
 use Rattle.tlsf_store.specs.Cells.{Cells, touched}
 use Rattle.tlsf_heap.specs.Inner.Entries.{entries_of}
-use Rattle.tlsf_heap.proofs.EntryLists.{entries_of-padded}
+use Rattle.tlsf_heap.proofs.Inner.EntryLists.{entries_of-padded}
 use Rattle.tlsf_heap.specs.Inner.Nodes.{Status, InUse, Listed, Loose, Node, Area, Layout, owner_of, block_of, pool_of, content_by, nodes_of, list_of, is_listed_in}
 use Rattle.tlsf_heap.specs.Inner.Represents.{InPool, in_pool, in_list, pool_views, list_views, state_of, first_slot, AreLinked, IsChain, Represents}
 use Rattle.tlsf_heap.specs.Inner.Following.{follow, owner_in, block_at, pool_from, list_from, content_of, Stands}

@@ -11,7 +11,7 @@ use Rattle.tlsf_heap.specs.Inner.Edits.{edited_in, with_prev_free, with_free_lin
 use Rattle.tlsf_heap.specs.Inner.Nodes.{Status, Node, Area, Listed, Loose, turned, nodes_of, has_slot, list_of, is_listed_in, entered}
 use Rattle.tlsf_heap.specs.Inner.Spots.{Spot, laid, filled}
 use Rattle.tlsf_heap.specs.Inner.Represents.{InPool, pool_view, list_view, pool_views, list_views, state_of, in_pool, in_list, first_slot, AreLinked, AreChains, Agree, Represents}
-use Rattle.tlsf_heap.proofs.Marking.{marks_set}
+use Rattle.tlsf_heap.proofs.Bitmaps.Bits.{marks_set}
 use Rattle.tlsf_heap.proofs.Inner.Counts.{count-cons}
 use Rattle.tlsf_heap.proofs.Inner.Plugs.{count-filled}
 use Rattle.tlsf_heap.proofs.Inner.Links.{linked_same, linked_moved, first_stands}

@@ -20,7 +20,7 @@ use Rattle.tlsf_heap.specs.Rows.{row_of, rows_from}
 use Rattle.tlsf_heap.specs.Readings.{rows_at, rows_by, rest_of, stands_at, slot_for, begins_below, slot_if, AreInOrder, IsNarrowed}
 use Rattle.tlsf_heap.specs.Inner.States.{is_state_live}
 use Rattle.tlsf_heap.specs.Inner.Entries.{padded, padded_at, entries_of}
-use Rattle.tlsf_heap.proofs.EntryLists.{padded_at_is, length-padded, entries_of-padded}
+use Rattle.tlsf_heap.proofs.Inner.EntryLists.{padded_at_is, length-padded, entries_of-padded}
 use Rattle.tlsf_heap.specs.Inner.Nodes.{Node, Area, Layout, block_of, pool_of, nodes_of, has_slot}
 use Rattle.tlsf_heap.specs.Inner.Spots.{Spot, filled}
 use Rattle.tlsf_heap.specs.Inner.Represents.{InPool, in_pool, pool_views, first_slot, AreLinked, IsChain, AreChains, uses_in, Represents}

@@ -20,7 +20,7 @@ use Rattle.tlsf_heap.specs.Inner.Joined.{is_loose}
 use Rattle.tlsf_heap.specs.Inner.Represents.{Represents}
 use Rattle.tlsf_heap.specs.Inner.Following.{content_of, Stands}
 use Rattle.tlsf_heap.specs.Inner.At.{At, areas_at, layout_at, StandsAt, at_taken, at_cut}
-use Rattle.tlsf_heap.proofs.GoodContent.{picked, allocated_is_good}
+use Rattle.tlsf_heap.proofs.Good.Calls.{picked, allocated_is_good}
 use Rattle.tlsf_heap.proofs.Inner.Counts.{one_if, count-cons, count-map}
 use Rattle.tlsf_heap.proofs.Inner.Plugs.{count-filled}
 use Rattle.tlsf_heap.proofs.Inner.Sums.{all_records}

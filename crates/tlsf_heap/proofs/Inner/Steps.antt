@@ -9,7 +9,7 @@ use Rattle.tlsf_heap.specs.Inner.At.{AreCovered}
 use Rattle.tlsf_heap.specs.Inner.Nodes.{Status, Listed, Loose, Node, turned, block_of, pool_of, is_listed}
 use Rattle.tlsf_heap.specs.Inner.Represents.{InPool, state_of, Represents}
 use Rattle.tlsf_heap.specs.Inner.At.{At, areas_at, layout_at, StandsAt, at_turned, at_listed}
-use Rattle.tlsf_heap.proofs.GoodContent.{IsWhole}
+use Rattle.tlsf_heap.proofs.Good.Calls.{IsWhole}
 use Rattle.tlsf_heap.proofs.Inner.Chains.{AtNode, at_node}
 use Rattle.tlsf_heap.proofs.Inner.Used.{node_is_used, head_used}
 use Rattle.tlsf_heap.proofs.Inner.StateSet.{state_set}

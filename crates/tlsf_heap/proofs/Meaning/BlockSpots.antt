@@ -6,7 +6,7 @@ use Rattle.tlsf_heap.specs.Content.{Block, Pool, blocks_of, is_at, size_at}
 use Rattle.tlsf_heap.specs.Malloc.{replaced, replaced_in}
 use Rattle.tlsf_heap.specs.Free.{in_front_of, behind, first_in_pools}
 use Rattle.tlsf_heap.specs.Inner.Spots.{plug}
-use Rattle.tlsf_heap.proofs.Blocks.{Ascends, NoneAt, NoneAt-below}
+use Rattle.tlsf_heap.proofs.Content.Blocks.{Ascends, NoneAt, NoneAt-below}
 use Rattle.tlsf_heap.proofs.Inner.Counts.{one_if, count-cons, count-append, count-plug, Split, split_at}
 use Rattle.tlsf_heap.proofs.Inner.Plugs.{map-plug}
 

@@ -6,7 +6,7 @@ use Rattle.tlsf_heap.specs.Good.{Covers, AreGoodPools}
 use Rattle.tlsf_heap.specs.Inner.At.{IsCovered, AreCovered}
 use Rattle.tlsf_heap.specs.Inner.Nodes.{Status, Node, Area, block_of, pool_of}
 use Rattle.tlsf_heap.specs.Inner.Spots.{plug, Spot, filled}
-use Rattle.tlsf_heap.proofs.GoodContent.{IsWhole, whole_in_pool}
+use Rattle.tlsf_heap.proofs.Good.Calls.{IsWhole, whole_in_pool}
 use Rattle.tlsf_heap.proofs.Inner.Plugs.{map-plug, all_parts}
 
 -- good pools are covered

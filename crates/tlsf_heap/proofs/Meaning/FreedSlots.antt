@@ -5,8 +5,8 @@ use Rattle.tlsf_heap.specs.Free.{free_in_front, free_behind, size_of, start_of}
 use Rattle.tlsf_heap.specs.Malloc.{replaced, replaced_in}
 use Rattle.tlsf_heap.specs.GoodSlots.{slot_times, HasGoodSlots}
 use Rattle.tlsf_heap.specs.Free.{free_block, without_block, after_free}
-use Rattle.tlsf_heap.proofs.Replacing.{blocks_of-replaced}
-use Rattle.tlsf_heap.proofs.GoodSlotsKept.{slot_times-cons, slot_times-append}
+use Rattle.tlsf_heap.proofs.Content.Replacing.{blocks_of-replaced}
+use Rattle.tlsf_heap.proofs.Good.Slots.{slot_times-cons, slot_times-append}
 
 module _ (slot : ℕ) where
   -- a block that gives way to others of no slot

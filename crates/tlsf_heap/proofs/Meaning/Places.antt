@@ -10,7 +10,7 @@ use Rattle.tlsf_heap.specs.Good.{IsGood}
 use Rattle.tlsf_heap.specs.Inner.Nodes.{Node, Area, Layout, block_of, pool_of, content_by, nodes_of, has_slot, has_place, list_of, is_listed_in, without_slot, left, entered}
 use Rattle.tlsf_heap.specs.Inner.Spots.{Spot, filled}
 use Rattle.tlsf_heap.specs.Inner.Represents.{Agree}
-use Rattle.tlsf_heap.proofs.Blocks.{Ascends-pools}
+use Rattle.tlsf_heap.proofs.Content.Blocks.{Ascends-pools}
 use Rattle.tlsf_heap.proofs.Meaning.BlockSpots.{at_most_one}
 use Rattle.tlsf_heap.proofs.Inner.Counts.{one_if, count-cons, count_either, count_and, count-map}
 use Rattle.tlsf_heap.proofs.Inner.Plugs.{around, count-filled}

@@ -11,7 +11,7 @@ use Rattle.tlsf_heap.specs.Inner.Entries.{with_entries, with_entry, entry_place}
 use Rattle.tlsf_heap.specs.Inner.CellEdits.{pool_put}
 use Rattle.tlsf_heap.specs.Inner.Entering.{pool_laid}
 use Rattle.tlsf_heap.specs.Inner.Represents.{Represents}
-use Rattle.tlsf_heap.proofs.EntryLists.{insert_is}
+use Rattle.tlsf_heap.proofs.Inner.EntryLists.{insert_is}
 use Rattle.tlsf_heap.proofs.Inner.Entered.{Enters, pool_is_laid}
 use Rattle.tlsf_heap.proofs.add_pool.put_pool.Goals as goal
 

@@ -5,7 +5,7 @@ use Rattle.tlsf_store.specs.Cells.{Cells, touched, pool_at, IsPoolBelow}
 use Rattle.tlsf_store.proofs.CellLaws.{touched-touched}
 use Rattle.tlsf_heap.specs.declared.pool_entry.PoolEntry.{PoolEntry}
 use Rattle.tlsf_heap.specs.Inner.Entries.{entries_of}
-use Rattle.tlsf_heap.proofs.EntryLists.{FirstBelow, entries_of_more, length-entries_more, entries_below_more}
+use Rattle.tlsf_heap.proofs.Inner.EntryLists.{FirstBelow, entries_of_more, length-entries_more, entries_below_more}
 use Rattle.tlsf_heap.proofs.entries.entries.Goals as goal
 
 pub loop-number-preserved : goal.loop-number-preserved

@@ -1,5 +1,5 @@
 use Rattle.std.proofs.Common.{arith, length}
-use Rattle.tlsf_heap.proofs.EntryLists.{no_entry, entry_place_is}
+use Rattle.tlsf_heap.proofs.Inner.EntryLists.{no_entry, entry_place_is}
 use Rattle.tlsf_heap.proofs.entries.place_for.Goals as goal
 
 pub returns-then-base-entry-clause-place : goal.returns-then-base-entry-clause-place

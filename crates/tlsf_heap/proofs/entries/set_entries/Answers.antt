@@ -3,7 +3,7 @@ use Rattle.tlsf_store.specs.declared.records.Record.{Record}
 use Rattle.tlsf_store.specs.declared.pools.Pool.{Pool as StoredPool}
 use Rattle.tlsf_store.specs.Cells.{Cells, IsPoolBelow, most_pools}
 use Rattle.tlsf_heap.specs.Inner.Entries.{padded}
-use Rattle.tlsf_heap.proofs.EntryLists.{padded_at-below, written_is_padded}
+use Rattle.tlsf_heap.proofs.Inner.EntryLists.{padded_at-below, written_is_padded}
 use Rattle.tlsf_heap.proofs.entries.set_entries.Goals as goal
 
 pub set_pool-requires-clause-below : goal.set_pool-requires-clause-below

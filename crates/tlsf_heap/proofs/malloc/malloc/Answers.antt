@@ -9,7 +9,7 @@ use Rattle.tlsf_heap.specs.Malloc.{malloc, malloc_picked}
 use Rattle.tlsf_heap.specs.GoodSlots.{slot_times}
 use Rattle.tlsf_heap.specs.Inner.Following.{Stands, content_of}
 use Rattle.tlsf_heap.proofs.Inner.Followed.{stands_touched, content_touched}
-use Rattle.tlsf_heap.proofs.MallocCases.{picked_is_served}
+use Rattle.tlsf_heap.proofs.Content.MallocCases.{picked_is_served}
 use Rattle.tlsf_heap.proofs.Inner.Live.{free_at}
 use Rattle.tlsf_heap.proofs.Inner.Served.{slot_below, slot_new}
 use Rattle.tlsf_heap.proofs.malloc.malloc.Goals as goal

@@ -3,7 +3,7 @@ use Rattle.std.specs.Prelude.{IfNone}
 use Rattle.tlsf_class.specs.Classes.{steps, classes}
 use Rattle.tlsf_store.specs.Cells.{Cells, head_at}
 use Rattle.tlsf_heap.specs.Inner.Bitmaps.{HasNoBit, IsLowestFrom, first_head}
-use Rattle.tlsf_heap.proofs.Searching.{passes_level, found_in_level}
+use Rattle.tlsf_heap.proofs.Bitmaps.Search.{passes_level, found_in_level}
 use Rattle.tlsf_heap.proofs.search.search.Goals as goal
 
 pub returns-in_default-clause-value : goal.returns-in_default-clause-value

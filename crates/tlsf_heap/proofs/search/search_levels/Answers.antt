@@ -3,7 +3,7 @@ use Rattle.std.specs.Prelude.{IfNone}
 use Rattle.std.specs.Int.{bit_at}
 use Rattle.tlsf_store.specs.Cells.{Cells, head_at}
 use Rattle.tlsf_heap.specs.Inner.Bitmaps.{HasNoBit, IsLowestFrom}
-use Rattle.tlsf_heap.proofs.Searching.{passes_all, found_above, has_step, level_within}
+use Rattle.tlsf_heap.proofs.Bitmaps.Search.{passes_all, found_above, has_step, level_within}
 use Rattle.tlsf_heap.proofs.search.search_levels.Goals as goal
 
 pub returns-in_default-clause-value : goal.returns-in_default-clause-value

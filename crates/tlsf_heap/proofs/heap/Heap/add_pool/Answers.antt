@@ -5,7 +5,7 @@ use Rattle.tlsf_heap.specs.Implied.{HasFewRecords}
 use Rattle.tlsf_heap.specs.Inner.Following.{content_of}
 use Rattle.tlsf_heap.specs.Pools.{add_pool}
 use Rattle.tlsf_heap.proofs.Inner.Standing.{content_is_good}
-use Rattle.tlsf_heap.proofs.Implied.{add_pool_full}
+use Rattle.tlsf_heap.proofs.Good.Implied.{add_pool_full}
 use Rattle.tlsf_heap.proofs.heap.Heap.add_pool.Goals as goal
 
 pub returns-clause-table_full : goal.returns-clause-table_full

@@ -4,7 +4,7 @@ use Rattle.tlsf_heap.specs.GoodSlots.{HasGoodSlots}
 use Rattle.tlsf_heap.specs.Counted.{Counted}
 use Rattle.tlsf_heap.specs.Implied.{HasAlignedBlocks, HasDisjointBlocks, ListsFreeBlocks, ListsNothingElse}
 use Rattle.tlsf_heap.proofs.Inner.Standing.{content_is_good, slots_are_good}
-use Rattle.tlsf_heap.proofs.Implied.{has_aligned_blocks, has_disjoint_blocks, lists_free_blocks, lists_nothing_else}
+use Rattle.tlsf_heap.proofs.Good.Implied.{has_aligned_blocks, has_disjoint_blocks, lists_free_blocks, lists_nothing_else}
 use Rattle.tlsf_heap.proofs.heap.Heap.keeps_good.Goals as goal
 
 pub returns-clause-good : goal.returns-clause-good

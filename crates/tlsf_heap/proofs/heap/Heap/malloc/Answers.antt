@@ -7,8 +7,8 @@ use Rattle.tlsf_heap.specs.Implied.{NoneFits, HasFewRecords}
 use Rattle.tlsf_heap.specs.Inner.Following.{content_of}
 use Rattle.tlsf_heap.specs.Malloc.{malloc}
 use Rattle.tlsf_heap.proofs.Inner.Standing.{content_is_good}
-use Rattle.tlsf_heap.proofs.Implied.{no_fit, malloc_full}
-use Rattle.tlsf_heap.proofs.MallocCases.{malloc_lacks_none}
+use Rattle.tlsf_heap.proofs.Good.Implied.{no_fit, malloc_full}
+use Rattle.tlsf_heap.proofs.Content.MallocCases.{malloc_lacks_none}
 use Rattle.tlsf_heap.proofs.heap.Heap.malloc.Goals as goal
 
 -- where malloc is refused, so is it under slot 0

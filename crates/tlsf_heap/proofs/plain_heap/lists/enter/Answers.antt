@@ -1,5 +1,5 @@
 use Rattle.std.proofs.Common.{◌∷◌, arith, ap, ◌∙◌}
-use Rattle.tlsf_heap.proofs.PlainLists.{link_is}
+use Rattle.tlsf_heap.proofs.Plain.Lists.{link_is}
 use Rattle.tlsf_heap.proofs.plain_heap.lists.enter.Goals as goal
 
 pub returns : goal.returns

@@ -3,7 +3,7 @@ use Rattle.tlsf_class.specs.Classes.{class}
 use Rattle.tlsf_heap.specs.Lists.{without}
 use Rattle.tlsf_heap.specs.Free.{unlink_block}
 use Rattle.tlsf_heap.specs.PlainHeap.{lists_of}
-use Rattle.tlsf_heap.proofs.PlainLists.{unlink_is}
+use Rattle.tlsf_heap.proofs.Plain.Lists.{unlink_is}
 use Rattle.tlsf_heap.proofs.plain_heap.lists.leave.Goals as goal
 
 pub returns-clause-ok : goal.returns-clause-ok

@@ -2,7 +2,7 @@ use Rattle.std.proofs.Common.{◌≡◌, slice_set, ℕ, ◌+◌, ◌-◌, ◌�
 use Rattle.tlsf_class.specs.Classes.{class}
 use Rattle.tlsf_heap.specs.Lists.{link, without, unlink, list_of}
 use Rattle.tlsf_heap.specs.PlainHeap.{lists_of}
-use Rattle.tlsf_heap.proofs.PlainLists.{unlink_is, link_gap-none, link_gap-some, link_after}
+use Rattle.tlsf_heap.proofs.Plain.Lists.{unlink_is, link_gap-none, link_gap-some, link_after}
 use Rattle.tlsf_heap.proofs.plain_heap.lists.relink.Goals as goal
 
 pub returns-then-choice-clause-ok : goal.returns-then-choice-clause-ok

@@ -2,8 +2,8 @@ use Rattle.std.proofs.Common.{arith, sym, ap, ◌∙◌, subst, Option}
 use Rattle.tlsf_heap.specs.Content.{Block, blocks_of}
 use Rattle.tlsf_heap.specs.Free.{in_front_of, behind, if_free, first_in_pools, size_of}
 use Rattle.tlsf_heap.specs.PlainHeap.{IsSized}
-use Rattle.tlsf_heap.proofs.GoodContent.{whole_in_pools}
-use Rattle.tlsf_heap.proofs.PlainFree.{front_sized, back_sized, in_units_of, live_sized, joined_size}
+use Rattle.tlsf_heap.proofs.Good.Calls.{whole_in_pools}
+use Rattle.tlsf_heap.proofs.Plain.Free.{front_sized, back_sized, in_units_of, live_sized, joined_size}
 use Rattle.tlsf_heap.proofs.plain_heap.neighbours.neighbours.Goals as goal
 
 pub overflow_add-size : goal.overflow_add-size

@@ -1,5 +1,5 @@
 use Rattle.std.proofs.Common.{sym, ◌∙◌}
-use Rattle.tlsf_heap.proofs.PlainPools.{block_found, block_passed}
+use Rattle.tlsf_heap.proofs.Plain.Pools.{block_found, block_passed}
 use Rattle.tlsf_heap.proofs.plain_heap.pools.block_at.Goals as goal
 
 pub returns-in-Some : goal.returns-in-Some

@@ -1,5 +1,5 @@
 use Rattle.std.proofs.Common.{arith}
-use Rattle.tlsf_heap.proofs.PlainPools.{blocks_so_far}
+use Rattle.tlsf_heap.proofs.Plain.Pools.{blocks_so_far}
 use Rattle.tlsf_heap.proofs.plain_heap.pools.block_count.Goals as goal
 
 pub overflow_add-count : goal.overflow_add-count

@@ -1,6 +1,6 @@
 use Rattle.std.proofs.Common.{ℕ, arith, ap, length, []}
 use Rattle.tlsf_heap.specs.Content.{Pool}
-use Rattle.tlsf_heap.proofs.PlainPools.{place_is}
+use Rattle.tlsf_heap.proofs.Plain.Pools.{place_is}
 use Rattle.tlsf_heap.proofs.plain_heap.pools.place_for.Goals as goal
 
 pub returns-then-base-clause-place : goal.returns-then-base-clause-place

@@ -2,7 +2,7 @@ use Rattle.std.proofs.Common.{◌≡◌, ℕ, ◌≤◌, arith, sym, ◌∙◌, 
 use Rattle.std.proofs.lemmas.Bool.{cases_lt}
 use Rattle.tlsf_heap.specs.Content.{blocks_of}
 use Rattle.tlsf_heap.specs.GoodSlots.{slot_times}
-use Rattle.tlsf_heap.proofs.SlotsLeft.{slot_new, slot_used, slots_in_use}
+use Rattle.tlsf_heap.proofs.Good.SlotsLeft.{slot_new, slot_used, slots_in_use}
 use Rattle.tlsf_heap.proofs.plain_heap.slots.least_slot.Goals as goal
 
 pub returns-then-not-has_slot-clause-new : goal.returns-then-not-has_slot-clause-new

@@ -5,10 +5,10 @@ use Rattle.tlsf_heap.specs.Content.{Content, blocks_of, is_free, size_at, used_r
 use Rattle.tlsf_heap.specs.Lists.{pick}
 use Rattle.tlsf_heap.specs.Malloc.{malloc}
 use Rattle.tlsf_heap.specs.PlainHeap.{lists_of}
-use Rattle.tlsf_heap.proofs.MallocCases.{refused_pick}
-use Rattle.tlsf_heap.proofs.PlainMalloc.{refused_full, is_cut}
-use Rattle.tlsf_heap.proofs.GoodContent.{picked}
-use Rattle.tlsf_heap.proofs.SlotsLeft.{free_found}
+use Rattle.tlsf_heap.proofs.Content.MallocCases.{refused_pick}
+use Rattle.tlsf_heap.proofs.Plain.Malloc.{refused_full, is_cut}
+use Rattle.tlsf_heap.proofs.Good.Calls.{picked}
+use Rattle.tlsf_heap.proofs.Good.SlotsLeft.{free_found}
 use Rattle.tlsf_heap.proofs.plain_heap.heap.PlainHeap.choose.Goals as goal
 
 pub pick-requires-clause-whole : goal.pick-requires-clause-whole

@@ -5,10 +5,10 @@ use Rattle.tlsf_heap.specs.Content.{Content, Pool, used_records}
 use Rattle.tlsf_heap.specs.Malloc.{gap}
 use Rattle.tlsf_heap.specs.Pools.{with_pool, in_order_of_base, is_apart}
 use Rattle.tlsf_heap.specs.PlainHeap.{IsPlain, content_of, pool_place}
-use Rattle.tlsf_heap.proofs.GoodContent.{with_pool_is_good}
-use Rattle.tlsf_heap.proofs.GoodSlotsKept.{with_pool_slots}
-use Rattle.tlsf_heap.proofs.PlainLists.{link_is}
-use Rattle.tlsf_heap.proofs.PlainMalloc.{insert_is}
+use Rattle.tlsf_heap.proofs.Good.Calls.{with_pool_is_good}
+use Rattle.tlsf_heap.proofs.Good.Slots.{with_pool_slots}
+use Rattle.tlsf_heap.proofs.Plain.Lists.{link_is}
+use Rattle.tlsf_heap.proofs.Plain.Malloc.{insert_is}
 use Rattle.tlsf_heap.proofs.plain_heap.heap.PlainHeap.put_pool.Goals as goal
 
 -- the new fields stand for the content with the pool

@@ -5,7 +5,7 @@ use Rattle.tlsf_heap.specs.Free.{free_block, without_block, after_free}
 use Rattle.tlsf_heap.specs.Malloc.{replaced_in}
 use Rattle.tlsf_heap.specs.Lists.{link}
 use Rattle.tlsf_heap.specs.PlainHeap.{IsPlain, content_of, lists_of}
-use Rattle.tlsf_heap.proofs.PlainFree.{after_free_is, freed_is_plain}
+use Rattle.tlsf_heap.proofs.Plain.Free.{after_free_is, freed_is_plain}
 use Rattle.tlsf_heap.proofs.plain_heap.heap.PlainHeap.release.Goals as goal
 
 -- the new fields stand for the content after free

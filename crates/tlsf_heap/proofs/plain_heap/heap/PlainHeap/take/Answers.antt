@@ -3,7 +3,7 @@ use Rattle.tlsf_heap.specs.Content.{Content, blocks_of}
 use Rattle.tlsf_heap.specs.GoodSlots.{slot_times}
 use Rattle.tlsf_heap.specs.Malloc.{allocated, replaced_in, cut}
 use Rattle.tlsf_heap.specs.PlainHeap.{IsPlain, content_of, IsChosen}
-use Rattle.tlsf_heap.proofs.PlainMalloc.{chosen_is_plain}
+use Rattle.tlsf_heap.proofs.Plain.Malloc.{chosen_is_plain}
 use Rattle.tlsf_heap.proofs.plain_heap.heap.PlainHeap.take.Goals as goal
 
 -- the new fields stand for the content with the block chosen cut

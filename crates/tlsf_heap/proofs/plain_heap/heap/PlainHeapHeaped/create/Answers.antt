@@ -2,8 +2,8 @@ use Rattle.std.proofs.Common.{◌≡◌, ℕ, sym, ap, ◌∙◌, subst, [], Lis
 use Rattle.tlsf_heap.specs.Content.{Content}
 use Rattle.tlsf_heap.specs.Pools.{created}
 use Rattle.tlsf_heap.specs.PlainHeap.{IsPlain, content_of}
-use Rattle.tlsf_heap.proofs.GoodContent.{created_is_good}
-use Rattle.tlsf_heap.proofs.GoodSlotsKept.{created_slots}
+use Rattle.tlsf_heap.proofs.Good.Calls.{created_is_good}
+use Rattle.tlsf_heap.proofs.Good.Slots.{created_slots}
 use Rattle.tlsf_heap.proofs.plain_heap.heap.PlainHeapHeaped.create.Goals as goal
 
 -- no pool, and all lists

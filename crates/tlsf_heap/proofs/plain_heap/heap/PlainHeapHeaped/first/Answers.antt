@@ -4,7 +4,7 @@ use Rattle.std.specs.List.{list_any}
 use Rattle.tlsf_heap.specs.Content.{Content, Pool, blocks_of, is_at}
 use Rattle.tlsf_heap.specs.Rows.{rows_from}
 use Rattle.tlsf_heap.specs.PlainHeap.{rest_at}
-use Rattle.tlsf_heap.proofs.PlainRows.{no_pool, first_is}
+use Rattle.tlsf_heap.proofs.Plain.Rows.{no_pool, first_is}
 use Rattle.tlsf_heap.proofs.plain_heap.heap.PlainHeapHeaped.first.Goals as goal
 
 pub returns-then-not-has_pool-clause-refused : goal.returns-then-not-has_pool-clause-refused

@@ -1,7 +1,7 @@
 use Rattle.std.proofs.Common.{sym, ap, ◌∙◌}
 use Rattle.std.specs.Prelude.{◌==◌, Ok}
 use Rattle.tlsf_heap.specs.Free.{after_free}
-use Rattle.tlsf_heap.proofs.PlainFree.{live_found, free_refused, free_served}
+use Rattle.tlsf_heap.proofs.Plain.Free.{live_found, free_refused, free_served}
 use Rattle.tlsf_heap.proofs.plain_heap.heap.PlainHeapHeaped.free.Goals as goal
 
 pub returns-then-not-is_live-clause-refused : goal.returns-then-not-is_live-clause-refused

@@ -4,7 +4,7 @@ use Rattle.tlsf_heap.specs.Content.{Content, Block, blocks_of, is_at}
 use Rattle.tlsf_heap.specs.Free.{behind, first_in_pools}
 use Rattle.tlsf_heap.specs.Good.{AreGoodPools}
 use Rattle.tlsf_heap.specs.PlainHeap.{rest_from, is_from}
-use Rattle.tlsf_heap.proofs.PlainRows.{find_none_any, rest_found, next_stands, next_rest, next_rest_is}
+use Rattle.tlsf_heap.proofs.Plain.Rows.{find_none_any, rest_found, next_stands, next_rest, next_rest_is}
 use Rattle.tlsf_heap.proofs.plain_heap.heap.PlainHeapHeaped.row.Goals as goal
 
 pub returns-in_default-block_at-clause-none : goal.returns-in_default-block_at-clause-none

@@ -1,14 +1,15 @@
 -- free does the same to a content, whatever its live blocks are known by.
-use Rattle.std.proofs.Common.{◌≡◌, ℕ, ◌+◌, cond, List, [], ◌∷◌, map, refl, sym, ap, ◌∙◌, Option, Some, None, option_map}
+use Rattle.std.proofs.Common.{◌≡◌, ℕ, ◌+◌, Bool, cond, List, [], ◌∷◌, map, refl, sym, ap, ◌∙◌, Option, Some, None, option_map, Ok, Err}
 use Rattle.std.specs.Prelude.{is_none}
 use Rattle.std.specs.Option.{option_or}
+use Rattle.tlsf_heap.specs.declared.refusal.Refusal.TheVariants.{BadPointer}
 use Rattle.tlsf_heap.specs.Content.{Block, Pool, Content, blocks_of, is_free, is_at, size_at}
 use Rattle.tlsf_heap.specs.Lists.{link}
 use Rattle.tlsf_heap.specs.Malloc.{replaced_in}
-use Rattle.tlsf_heap.specs.Free.{in_front_of, behind, if_free, first_in_pools, free_in_front, free_behind, unlink_block, size_of, start_of}
-use Rattle.tlsf_heap.specs.Free.{free_block, without_block, after_free}
-use Rattle.tlsf_heap.specs.Bare.{renamed_block, renamed_pool, renamed}
-use Rattle.tlsf_heap.proofs.BareSteps.{ap-cond, size_at-renamed, replaced_in-renamed}
+use Rattle.tlsf_heap.specs.Free.{is_live, in_front_of, behind, if_free, first_in_pools, free_in_front, free_behind, unlink_block, size_of, start_of}
+use Rattle.tlsf_heap.specs.Free.{free_block, without_block, after_free, free}
+use Rattle.tlsf_heap.specs.Bare.{renamed_block, renamed_pool, renamed, renamed_result}
+use Rattle.tlsf_heap.proofs.Content.BareSteps.{ap-cond, size_at-renamed, replaced_in-renamed}
 
 -- the pools and the lists once a block of this size is free, by its free neighbours
 module _ {A : Type 0} (place size : ℕ) (front back : Option (Block A)) where
@@ -115,3 +116,12 @@ module _ {A B : Type 0} (rename : A → B) where
       (pools_after-renamed place size (free_in_front place content) (free_behind place content) content.pools)
       ∙ ap (λ (ls : List (List ℕ)). record { records = content.records; pools = map (renamed_pool rename) (pools_after place size (free_in_front place content) (free_behind place content) content.pools); lists = ls })
       (lists_after-renamed place size (free_in_front place content) (free_behind place content) content.lists)
+
+  -- free leaves the same, or refuses, where the block that is meant is live in both
+  pub free-renamed : (is_meant : A → Bool) (is_meant_too : B → Bool) (place : ℕ) (content : Content A)
+      → is_live is_meant_too place (blocks_of (renamed rename content).pools) ≡ is_live is_meant place (blocks_of content.pools)
+      → free is_meant_too place (renamed rename content) ≡ renamed_result rename (free is_meant place content)
+  free-renamed is_meant is_meant_too place content same =
+      ap (λ live. cond live (Ok (after_free place (renamed rename content))) (Err BadPointer)) same
+      ∙ ap (λ after. cond (is_live is_meant place (blocks_of content.pools)) (Ok after) (Err BadPointer)) (after_free-renamed place content)
+      ∙ sym (ap-cond (renamed_result rename) (is_live is_meant place (blocks_of content.pools)) (Ok (after_free place content)) (Err BadPointer))

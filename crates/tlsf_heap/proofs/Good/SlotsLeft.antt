@@ -5,8 +5,8 @@ use Rattle.std.specs.List.{list_any}
 use Rattle.std.proofs.lemmas.Bool.{cases_Bool, eqb-true, ne_eqb, or_parts, or_cases}
 use Rattle.tlsf_heap.specs.Content.{Block, Pool, blocks_of, is_free}
 use Rattle.tlsf_heap.specs.GoodSlots.{is_slot, slot_times}
-use Rattle.tlsf_heap.proofs.Blocks.{Found, count_by-cons, count_by-append, one_if}
-use Rattle.tlsf_heap.proofs.GoodSlotsKept.{slot_times-cons, slot_times-append}
+use Rattle.tlsf_heap.proofs.Content.Blocks.{Found, count_by-cons, count_by-append, one_if}
+use Rattle.tlsf_heap.proofs.Good.Slots.{slot_times-cons, slot_times-append}
 
 -- how many live blocks have a slot below n
 abbrev total : ℕ → List (Block ℕ) → ℕ

@@ -7,7 +7,7 @@ use Rattle.tlsf_class.specs.Classes.{unit}
 use Rattle.tlsf_heap.specs.Content.{Block, Pool, blocks_of, is_free, is_at, size_at}
 use Rattle.tlsf_heap.specs.Good.{Covers, NoFreeNeighbours, AreGoodPools}
 use Rattle.tlsf_heap.specs.Malloc.{gap, cut, replaced, replaced_in}
-use Rattle.tlsf_heap.proofs.Blocks.{NoneAt, Found, count_by-cons, count_by-append, one_if}
+use Rattle.tlsf_heap.proofs.Content.Blocks.{NoneAt, Found, count_by-cons, count_by-append, one_if}
 
 module _ {A : Type 0} where
   pub replaced-append : (place : ℕ) (others blocks more : List (Block A)) → replaced place others (blocks ++ more) ≡ replaced place others blocks ++ replaced place others more

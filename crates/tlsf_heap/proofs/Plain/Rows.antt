@@ -12,11 +12,11 @@ use Rattle.tlsf_heap.specs.Free.{behind, first_in_pools}
 use Rattle.tlsf_heap.specs.Good.{Covers, IsGoodPool, AreGoodPools}
 use Rattle.tlsf_heap.specs.Rows.{row_of, rows_from}
 use Rattle.tlsf_heap.specs.PlainHeap.{rows_at, rest_at, rest_from, is_from}
-use Rattle.tlsf_heap.proofs.Blocks.{Ascends, Ascends-pools, NoneAt}
-use Rattle.tlsf_heap.proofs.GoodContent.{Covers-le}
-use Rattle.tlsf_heap.proofs.Replacing.{find-none}
-use Rattle.tlsf_heap.proofs.BlockPlaces.{option_or-None, NoneAt-above, none_behind, Ascends-covers, untouched}
-use Rattle.tlsf_heap.proofs.PlainFree.{OfSome, back_of_all, first_of_all}
+use Rattle.tlsf_heap.proofs.Content.Blocks.{Ascends, Ascends-pools, NoneAt}
+use Rattle.tlsf_heap.proofs.Good.Calls.{Covers-le}
+use Rattle.tlsf_heap.proofs.Content.Replacing.{find-none}
+use Rattle.tlsf_heap.proofs.Content.Beside.{option_or-None, NoneAt-above, none_behind, Ascends-covers, untouched}
+use Rattle.tlsf_heap.proofs.Plain.Free.{OfSome, back_of_all, first_of_all}
 
 -- what the pool's rows are from the block behind on
 abbrev next_in : Option (Block ℕ) → List (Block ℕ) → List Row

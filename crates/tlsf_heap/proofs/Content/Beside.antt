@@ -6,7 +6,7 @@ use Rattle.std.proofs.lemmas.Bool.{cases_Bool, ne_eqb, eqb-true}
 use Rattle.tlsf_heap.specs.Content.{Block, Pool, is_at, size_at}
 use Rattle.tlsf_heap.specs.Free.{is_owned_by, is_live, in_front_of, behind, first_in_pools}
 use Rattle.tlsf_heap.specs.Good.{Covers, AreGoodPools}
-use Rattle.tlsf_heap.proofs.Blocks.{Ascends, NoneAt, NoneAt-below}
+use Rattle.tlsf_heap.proofs.Content.Blocks.{Ascends, NoneAt, NoneAt-below}
 
 pub option_or-None : {B : Type 0} (o : Option B) → option_or o None ≡ o
 option_or-None None = refl

@@ -18,8 +18,8 @@ use Rattle.tlsf_heap.specs.Malloc.{allocated, malloc_picked, malloc_rounded, mal
 use Rattle.tlsf_heap.specs.Pools.{most_pools, add_pool, with_pool, can_be_pool, is_apart}
 use Rattle.tlsf_heap.specs.Good.{Covers, NoFreeNeighbours, AreGoodPools, IsGood, times, is_listed}
 use Rattle.tlsf_heap.specs.Implied.{IsAligned, AreDisjoint, HasAlignedBlocks, HasDisjointBlocks, ListsFreeBlocks, ListsNothingElse, AreFreeBelow, NoneFits, HasFewRecords}
-use Rattle.tlsf_heap.proofs.Blocks.{Ascends, Ascends-higher, Ascends-pools, found_listed, count_by-cons, count_by-append, one_if}
-use Rattle.tlsf_heap.proofs.GoodContent.{one_at_most as one_at_most_listed}
+use Rattle.tlsf_heap.proofs.Content.Blocks.{Ascends, Ascends-higher, Ascends-pools, found_listed, count_by-cons, count_by-append, one_if}
+use Rattle.tlsf_heap.proofs.Good.Calls.{one_at_most as one_at_most_listed}
 
 -- lists of which none is the first that isn't empty are empty
 no_first : (lists : List (List ℕ)) → first_of_lists lists ≡ None → (k : ℕ) → list_of k lists ≡ []

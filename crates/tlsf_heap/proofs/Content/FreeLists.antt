@@ -8,7 +8,7 @@ use Rattle.tlsf_class.proofs.ClassLaws.{class-lt}
 use Rattle.tlsf_heap.specs.Lists.{list_of, without, link, unlink, first_of_lists}
 use Rattle.tlsf_heap.specs.Good.{times, is_listed}
 use Rattle.tlsf_heap.specs.Malloc.{gap, link_gap}
-use Rattle.tlsf_heap.proofs.Blocks.{count_by-cons, one_if}
+use Rattle.tlsf_heap.proofs.Content.Blocks.{count_by-cons, one_if}
 
 -- 1 where a free block of this size at this place stands at p in the list of class q
 abbrev pub stands : ℕ → ℕ → ℕ → ℕ → ℕ

@@ -15,9 +15,9 @@ use Rattle.tlsf_heap.specs.Pools.{end_of_places, can_be_pool, is_apart, in_order
 use Rattle.tlsf_heap.specs.Good.{IsGood}
 use Rattle.tlsf_heap.specs.PlainHeap.{IsPlain, IsChosen, pool_place}
 use Rattle.tlsf_heap.specs.GoodSlots.{slot_times}
-use Rattle.tlsf_heap.proofs.MallocCases.{picked_is_served}
-use Rattle.tlsf_heap.proofs.GoodContent.{picked, allocated_is_good}
-use Rattle.tlsf_heap.proofs.GoodSlotsKept.{allocated_slots}
+use Rattle.tlsf_heap.proofs.Content.MallocCases.{picked_is_served}
+use Rattle.tlsf_heap.proofs.Good.Calls.{picked, allocated_is_good}
+use Rattle.tlsf_heap.proofs.Good.Slots.{allocated_slots}
 
 abbrev Plain : Type 0
 Plain = Content ℕ

@@ -12,9 +12,9 @@ use Rattle.tlsf_heap.specs.Lists.{list_of, unlink, first_of_lists, pick}
 use Rattle.tlsf_heap.specs.Malloc.{gap, cut, replaced_in, allocated, allocate}
 use Rattle.tlsf_heap.specs.Pools.{most_pools, end_of_places, created, add_pool, with_pool, can_be_pool, is_apart, in_order_of_base}
 use Rattle.tlsf_heap.specs.Good.{Covers, NoFreeNeighbours, IsGoodPool, AreGoodPools, AreLists, IsGood, times, is_listed}
-use Rattle.tlsf_heap.proofs.Blocks.{Found, found_listed, Ascends-pools, count_by-cons, count_by-append, count_listed-none, one_if}
-use Rattle.tlsf_heap.proofs.Replacing.{blocks_of-replaced, count_by-replaced, length-replaced, size_at-found, EachAt-found, IsCuttable, AreGoodPools-cut}
-use Rattle.tlsf_heap.proofs.FreeLists.{first_stands, times-link, times-unlink, times-link_gap, length-link, length-unlink, length-link_gap, count_listed-gap, stands}
+use Rattle.tlsf_heap.proofs.Content.Blocks.{Found, found_listed, Ascends-pools, count_by-cons, count_by-append, count_listed-none, one_if}
+use Rattle.tlsf_heap.proofs.Content.Replacing.{blocks_of-replaced, count_by-replaced, length-replaced, size_at-found, EachAt-found, IsCuttable, AreGoodPools-cut}
+use Rattle.tlsf_heap.proofs.Content.FreeLists.{first_stands, times-link, times-unlink, times-link_gap, length-link, length-unlink, length-link_gap, count_listed-gap, stands}
 
 and_then_some : {A B : Type 0} (f : A → Option B) (o : Option A) (b : B) → option_and_then f o ≡ Some b → (a : A) × (o ≡ Some a) × (f a ≡ Some b)
 and_then_some f None b h = absurd (cc)

@@ -8,9 +8,9 @@ use Rattle.tlsf_heap.specs.Malloc.{gap, cut, allocated}
 use Rattle.tlsf_heap.specs.Pools.{created, with_pool}
 use Rattle.tlsf_heap.specs.Good.{IsGood}
 use Rattle.tlsf_heap.specs.GoodSlots.{is_slot, slot_times, HasGoodSlots}
-use Rattle.tlsf_heap.proofs.Blocks.{count_by-cons, count_by-append, one_if}
-use Rattle.tlsf_heap.proofs.Replacing.{blocks_of-replaced, count_by-replaced}
-use Rattle.tlsf_heap.proofs.GoodContent.{picked, count_by-pools}
+use Rattle.tlsf_heap.proofs.Content.Blocks.{count_by-cons, count_by-append, one_if}
+use Rattle.tlsf_heap.proofs.Content.Replacing.{blocks_of-replaced, count_by-replaced}
+use Rattle.tlsf_heap.proofs.Good.Calls.{picked, count_by-pools}
 
 -- whether the block has the slot
 abbrev has : ℕ → Block ℕ → Bool

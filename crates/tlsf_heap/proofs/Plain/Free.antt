@@ -13,12 +13,12 @@ use Rattle.tlsf_heap.specs.Free.{free_block, without_block, after_free, free}
 use Rattle.tlsf_heap.specs.Malloc.{replaced_in}
 use Rattle.tlsf_heap.specs.Good.{Covers, AreGoodPools}
 use Rattle.tlsf_heap.specs.PlainHeap.{IsPlain, IsSized}
-use Rattle.tlsf_heap.proofs.Blocks.{NoneAt, NoneAt-below}
-use Rattle.tlsf_heap.proofs.GoodContent.{IsWhole, whole_in_pools, Covers-le}
-use Rattle.tlsf_heap.proofs.BlockPlaces.{in_front_none, size_at-here, size_at-elsewhere, live_later, option_or-None, NoneAt-above, none_in_front, none_behind, live_above, live_below, Ascends-covers, live-append, size_at-front, size_at-back, untouched}
+use Rattle.tlsf_heap.proofs.Content.Blocks.{NoneAt, NoneAt-below}
+use Rattle.tlsf_heap.proofs.Good.Calls.{IsWhole, whole_in_pools, Covers-le}
+use Rattle.tlsf_heap.proofs.Content.Beside.{in_front_none, size_at-here, size_at-elsewhere, live_later, option_or-None, NoneAt-above, none_in_front, none_behind, live_above, live_below, Ascends-covers, live-append, size_at-front, size_at-back, untouched}
 use Rattle.tlsf_heap.proofs.Meaning.FreedIsGood.{freed_is_good}
 use Rattle.tlsf_heap.proofs.Meaning.FreedSlots.{after_free_slots}
-use Rattle.tlsf_heap.proofs.Blocks.{Ascends-pools}
+use Rattle.tlsf_heap.proofs.Content.Blocks.{Ascends-pools}
 
 -- the fact holds of the block, where there is one
 abbrev pub OfSome : (Block ℕ → Type 0) → Option (Block ℕ) → Type 0

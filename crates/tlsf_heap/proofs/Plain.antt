@@ -1,0 +1,6 @@
+-- Lemmas for the plain heap.
+pub mod Free
+pub mod Lists
+pub mod Malloc
+pub mod Pools
+pub mod Rows

@@ -1,0 +1,3 @@
+-- Worked rows, computed by the definitions.
+mod Heap
+mod Run
