@@ -1,3 +1,4 @@
 -- Worked rows, computed by the definitions.
 mod Heap
 mod Run
+mod Pools

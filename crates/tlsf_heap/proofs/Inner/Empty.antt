@@ -29,7 +29,7 @@ map-replicate f zero a = refl
 map-replicate f (suc n) a = ap (λ xs. f a ∷ xs) (map-replicate f n a)
 
 -- the layout of so many records with no pool
-abbrev empty : ℕ → Layout
+abbrev pub empty : ℕ → Layout
 empty count = record { count = count; areas = []; lists = replicate classes []; taken = [] }
 
 empty_content : (count : ℕ) → content_by (empty count) ≡ created count

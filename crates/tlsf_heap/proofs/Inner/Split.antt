@@ -8,7 +8,7 @@ use Rattle.tlsf_store.specs.Records.{record_at}
 use Rattle.tlsf_store.specs.Cells.{Cells}
 use Rattle.tlsf_store.proofs.RecordLaws.{record_at-set_same, record_at-set_other}
 use Rattle.tlsf_heap.specs.Inner.Edits.{edited_in}
-use Rattle.tlsf_heap.specs.Inner.Chains.{rest_of, split}
+use Rattle.tlsf_heap.specs.Inner.Chains.{rest_record, split}
 use Rattle.tlsf_heap.specs.Good.{times}
 use Rattle.tlsf_heap.specs.Inner.Nodes.{Node, rest_node, has_slot, list_of, is_listed, is_listed_in}
 use Rattle.tlsf_heap.specs.Inner.Spots.{Spot, laid, filled}
@@ -31,7 +31,7 @@ module _ (cells : Cells) (count : ℕ) (spot : Spot) (node : Node) (nodes : List
   moved r = record r { prev = Some rest }
 
   abbrev two : List Record
-  two = set (set cells.records rest (rest_of node.slot bytes old)) node.slot kept
+  two = set (set cells.records rest (rest_record node.slot bytes old)) node.slot kept
 
   abbrev new : List Record
   new = edited_in moved (first_slot nodes) two
@@ -46,7 +46,7 @@ module _ (cells : Cells) (count : ℕ) (spot : Spot) (node : Node) (nodes : List
   apart = here.taken_apart rest rest_counts
 
   same_count : length two ≡ length cells.records
-  same_count = length-set (set cells.records rest (rest_of node.slot bytes old)) node.slot kept ∙ length-set cells.records rest (rest_of node.slot bytes old)
+  same_count = length-set (set cells.records rest (rest_record node.slot bytes old)) node.slot kept ∙ length-set cells.records rest (rest_record node.slot bytes old)
 
   rest_apart : (q : ℕ) → 1 ≤ around (has_slot q) spot + count_by (has_slot q) (node ∷ nodes) → q ≢ rest
   rest_apart q h = (not_taken q rest taken (omega (arith, h, here.most q))).0
@@ -55,7 +55,7 @@ module _ (cells : Cells) (count : ℕ) (spot : Spot) (node : Node) (nodes : List
   behind_rest_apart q h = rest_apart q (omega (arith, h, count-cons (has_slot q) node nodes))
 
   others : (q : ℕ) → q ≢ node.slot → q ≢ rest → record_at two q ≡ record_at cells.records q
-  others q a b = record_at-set_other (set cells.records rest (rest_of node.slot bytes old)) node.slot q kept a ∙ record_at-set_other cells.records rest q _ b
+  others q a b = record_at-set_other (set cells.records rest (rest_record node.slot bytes old)) node.slot q kept a ∙ record_at-set_other cells.records rest q _ b
 
   not_first : (q : ℕ) → count_by (has_slot q) nodes ≡ 0 → record_at new q ≡ record_at two q
   not_first q none = edited_apart moved (first_slot nodes) two q (λ e. omega (arith, none, first_stands nodes q e))
@@ -63,24 +63,24 @@ module _ (cells : Cells) (count : ℕ) (spot : Spot) (node : Node) (nodes : List
   at_slot : record_at new node.slot ≡ kept
   at_slot =
       not_first node.slot (omega (arith, here.most node.slot, count-cons (has_slot node.slot) node nodes, ap one_if (eq-eqb node.slot node.slot refl)))
-      ∙ record_at-set_same (set cells.records rest (rest_of node.slot bytes old)) node.slot kept (omega (arith, length-set cells.records rest (rest_of node.slot bytes old), here.below))
+      ∙ record_at-set_same (set cells.records rest (rest_record node.slot bytes old)) node.slot kept (omega (arith, length-set cells.records rest (rest_record node.slot bytes old), here.below))
 
-  at_rest : record_at new rest ≡ rest_of node.slot bytes old
+  at_rest : record_at new rest ≡ rest_record node.slot bytes old
   at_rest =
       not_first rest (omega (arith, here.most rest, rest_counts, count-cons (has_slot rest) node nodes))
-      ∙ record_at-set_other (set cells.records rest (rest_of node.slot bytes old)) node.slot rest kept apart ∙ record_at-set_same cells.records rest _ (here.taken_below rest rest_counts)
+      ∙ record_at-set_other (set cells.records rest (rest_record node.slot bytes old)) node.slot rest kept apart ∙ record_at-set_same cells.records rest _ (here.taken_below rest rest_counts)
 
   -- what is seen alike of the block and what it was, and of what is read at the others' slots
-  seen : {V : Type 0} (view : Record → V) → ((r : Record) → view (moved r) ≡ view r) → view kept ≡ view old → (q : ℕ) → view (record_at (set cells.records rest (rest_of node.slot bytes old)) q) ≡ view (record_at cells.records q) → view (record_at new q) ≡ view (record_at cells.records q)
+  seen : {V : Type 0} (view : Record → V) → ((r : Record) → view (moved r) ≡ view r) → view kept ≡ view old → (q : ℕ) → view (record_at (set cells.records rest (rest_record node.slot bytes old)) q) ≡ view (record_at cells.records q) → view (record_at new q) ≡ view (record_at cells.records q)
   seen view same_moved same_kept q same =
       edited_kept view moved same_moved (first_slot nodes) two q
-      ∙ set_kept view (set cells.records rest (rest_of node.slot bytes old)) node.slot kept (same_kept ∙ sym (ap view (record_at-set_other cells.records rest node.slot _ (λ e. apart (sym e))))) q ∙ same
+      ∙ set_kept view (set cells.records rest (rest_record node.slot bytes old)) node.slot kept (same_kept ∙ sym (ap view (record_at-set_other cells.records rest node.slot _ (λ e. apart (sym e))))) q ∙ same
 
   in_use : (q : ℕ) → uses_in (record_at new q).state ≡ uses_in (record_at cells.records q).state
   in_use q =
       let view : Record → ℕ = λ r. uses_in r.state in
       let rest_used : 1 ≡ uses_in (record_at cells.records rest).state = omega (arith, here.once rest, rest_counts, here.most rest) in
-      seen view (λ r. refl) refl q (set_kept view cells.records rest (rest_of node.slot bytes old) rest_used q)
+      seen view (λ r. refl) refl q (set_kept view cells.records rest (rest_record node.slot bytes old) rest_used q)
 
   listed_same : (number q : ℕ) → 1 ≤ count_by (has_slot q) (list_of number lists) → list_views new q ≡ list_views cells.records q
   listed_same number q h =

@@ -17,14 +17,14 @@ abbrev pub with_state : ℕ → State → Cells → Cells
 with_state slot state cells = edited (λ r. record r { state = state }) (Some slot) cells
 
 -- what is left of a block behind its first bytes: a free block
-abbrev pub rest_of : ℕ → ℕ → Record → Record
-rest_of slot bytes block = record { place = block.place + bytes; size = block.size - bytes; state = Free; prev = Some slot; next = block.next; prev_free = None; next_free = None }
+abbrev pub rest_record : ℕ → ℕ → Record → Record
+rest_record slot bytes block = record { place = block.place + bytes; size = block.size - bytes; state = Free; prev = Some slot; next = block.next; prev_free = None; next_free = None }
 
 -- the slot's block keeps its first bytes; the rest is a free block of the other slot, behind it
 abbrev pub split : ℕ → ℕ → ℕ → Cells → Cells
 split slot rest bytes cells =
     let old = record_at cells.records slot in
-    with_prev old.next (Some rest) (with_record (with_record cells rest (rest_of slot bytes old)) slot (record old { size = bytes; next = Some rest }))
+    with_prev old.next (Some rest) (with_record (with_record cells rest (rest_record slot bytes old)) slot (record old { size = bytes; next = Some rest }))
 
 -- the slot's block takes in the one behind it, whose slot becomes vacant
 abbrev pub absorbed : ℕ → ℕ → Cells → Cells
