@@ -1,7 +1,7 @@
 -- Lemmas that several proofs share.
 pub mod Content
 pub mod Good
-pub mod Bitmaps
+pub mod Bits
 pub mod Inner
 pub mod Meaning
 pub mod Plain

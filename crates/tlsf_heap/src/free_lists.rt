@@ -8,7 +8,7 @@ ghost use Rattle.tlsf_store.specs.Cells.{touched, head_at};
 ghost use Rattle.tlsf_heap.specs.Touches.{AtMost};
 ghost use Rattle.tlsf_heap.specs.Inner.Edits.{IsUsed, with_prev_free, with_next_free, with_free_links, with_first, with_behind, linked, unlinked};
 
-use crate::marks::{mark, unmark};
+use crate::bitmaps::{clear_class_bit, set_class_bit};
 use tlsf_class::Class;
 use tlsf_store::{Record, Slot, Store};
 
@@ -22,7 +22,7 @@ pub(crate) fn link(store: &mut Store, class: Class, slot: Slot)
     let first = store.head(class);
     set_in_front(store, slot, first);
     store.set_head(class, Some(slot));
-    mark(store, class);
+    set_class_bit(store, class);
 }
 
 /// Takes a free block out of its class's list, wherever it stands in it. At most eight touches.
@@ -127,7 +127,7 @@ fn set_first(store: &mut Store, class: Class, first: Option<Slot>)
         Some(slot) => store.set_head(class, Some(slot)),
         None => {
             store.set_head(class, None);
-            unmark(store, class);
+            clear_class_bit(store, class);
         }
     }
 }

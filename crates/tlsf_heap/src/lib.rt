@@ -4,6 +4,7 @@
 
 mod add_pool;
 mod answer;
+mod bitmaps;
 mod calls;
 mod chains;
 mod cursor;
@@ -13,7 +14,6 @@ mod free_lists;
 mod heap;
 mod heaped;
 mod malloc;
-mod marks;
 mod plain_heap;
 mod pointer;
 mod pool_entry;

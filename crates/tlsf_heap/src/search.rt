@@ -3,7 +3,7 @@
 ghost use Rattle.std.specs.Prelude.{◌≡◌, ◌+◌, ◌*◌, ◌≤◌, length, drop, IfSome, IfNone};
 ghost use Rattle.tlsf_class.specs.Classes.{steps, levels, classes};
 ghost use Rattle.tlsf_heap.specs.Touches.{AtMost};
-ghost use Rattle.tlsf_heap.specs.Inner.Bitmaps.{AreMarked, HasNoBit, IsLowestFrom, first_head};
+ghost use Rattle.tlsf_heap.specs.Inner.Bitmaps.{AreBitmapsOf, HasNoBit, IsLowestFrom, first_head};
 
 use tlsf_class::{Class, STEPS};
 use tlsf_store::{Slot, Store};
@@ -25,7 +25,7 @@ fn lowest_from(word: u32, from: u32) -> Option<u32>
 
 /// The first block of the first class, from this one on, whose list isn't empty. At most four touches.
 pub(crate) fn search(store: &mut Store, class: Class) -> Option<Slot>
-    requires marked { AreMarked store.old.heads store.old.step_words store.old.level_word }
+    requires bitmaps { AreBitmapsOf store.old.heads store.old.step_words store.old.level_word }
     requires count { length store.old.heads ≡ classes }
     ensures value { result ≡ first_head (drop class store.old.heads) }
     ensures cells { store.new ≡ record store.old { touches = store.new.touches } }
@@ -43,7 +43,7 @@ pub(crate) fn search(store: &mut Store, class: Class) -> Option<Slot>
 /// touches.
 fn search_levels(store: &mut Store, from: u32) -> Option<Slot>
     requires within { from ≤ levels }
-    requires marked { AreMarked store.old.heads store.old.step_words store.old.level_word }
+    requires bitmaps { AreBitmapsOf store.old.heads store.old.step_words store.old.level_word }
     requires count { length store.old.heads ≡ classes }
     ensures value { result ≡ first_head (drop (from * steps) store.old.heads) }
     ensures cells { store.new ≡ record store.old { touches = store.new.touches } }

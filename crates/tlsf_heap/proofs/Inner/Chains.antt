@@ -108,7 +108,7 @@ index_same at new heads step_words level_word lists same index = record {
   lists_count = index.lists_count;
   words_count = index.words_count;
   linked = λ number. linked_same in_list at new None (list_of number lists) (λ q h. same number q h) (index.linked number);
-  marked = index.marked;
+  bitmaps = index.bitmaps;
 }
 
 module _ (areas : List Area) (lists : List (List Node)) (agree : Agree areas lists) where

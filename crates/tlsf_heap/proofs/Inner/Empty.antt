@@ -49,7 +49,7 @@ empty_represents count =
         lists_count = length-replicate {A = List Node} classes [];
         words_count = length-replicate {A = ℕ} levels 0;
         linked = λ number. subst P (sym (none number)) tt;
-        marked = record {
+        bitmaps = record {
           by_class = λ k within. ap (λ w. bit_at w (k % steps)) (word (k / steps)) ∙ bit_at-zero (k % steps) ∙ sym (ap head_bit (get_or-same {A = Option ℕ} classes k None));
           by_level = λ l within. bit_at-zero l ∙ sym (ap word_bit (word l));
         };

@@ -7,11 +7,11 @@ use Rattle.tlsf_store.specs.declared.records.Record.{Record}
 use Rattle.tlsf_store.specs.Records.{record_at}
 use Rattle.tlsf_store.specs.Cells.{Cells, with_head, head_at}
 use Rattle.tlsf_heap.specs.Inner.Entries.{padded}
-use Rattle.tlsf_heap.specs.Inner.Edits.{edited_in, with_prev_free, with_free_links, marked, linked}
+use Rattle.tlsf_heap.specs.Inner.Edits.{edited_in, with_prev_free, with_free_links, with_class_bit, linked}
 use Rattle.tlsf_heap.specs.Inner.Nodes.{Status, Node, Area, Listed, Loose, turned, nodes_of, has_slot, list_of, is_listed_in, entered}
 use Rattle.tlsf_heap.specs.Inner.Spots.{Spot, laid, filled}
 use Rattle.tlsf_heap.specs.Inner.Represents.{InPool, pool_view, list_view, pool_views, list_views, state_of, in_pool, in_list, first_slot, AreLinked, AreChains, Agree, Represents}
-use Rattle.tlsf_heap.proofs.Bitmaps.Bits.{marks_set}
+use Rattle.tlsf_heap.proofs.Bits.Edits.{bits_set}
 use Rattle.tlsf_heap.proofs.Inner.Counts.{count-cons}
 use Rattle.tlsf_heap.proofs.Inner.Plugs.{count-filled}
 use Rattle.tlsf_heap.proofs.Inner.Links.{linked_same, linked_moved, first_stands}
@@ -112,7 +112,7 @@ module _ (cells : Cells) (count : ℕ) (spot : Spot) (node : Node) (nodes : List
 
   -- the cells, where this is the first of the list
   abbrev after : Option ℕ → Cells
-  after first = marked (class node.size) (with_head (with_prev_free first (Some node.slot) (with_free_links node.slot None first cells)) (class node.size) (Some node.slot))
+  after first = with_class_bit (class node.size) (with_head (with_prev_free first (Some node.slot) (with_free_links node.slot None first cells)) (class node.size) (Some node.slot))
 
   linked_before : Represents (after (first_slot list)) (laid count spot (turned Listed node ∷ nodes) (entered (turned Listed node) lists) taken)
   unfolding entered
@@ -125,7 +125,7 @@ module _ (cells : Cells) (count : ℕ) (spot : Spot) (node : Node) (nodes : List
       lists_count = length-set lists (class node.size) (turned Listed node ∷ list) ∙ was.index.lists_count;
       words_count = length-set cells.step_words _ _ ∙ was.index.words_count;
       linked = links;
-      marked = marks_set cells.heads cells.step_words cells.level_word (class node.size) (ap length was.index.heads_are ∙ length-map lists first_slot ∙ was.index.lists_count) was.index.words_count (class-lt node.size) was.index.marked node.slot;
+      bitmaps = bits_set cells.heads cells.step_words cells.level_word (class node.size) (ap length was.index.heads_are ∙ length-map lists first_slot ∙ was.index.lists_count) was.index.words_count (class-lt node.size) was.index.bitmaps node.slot;
     };
     agree = agrees;
   }

@@ -7,13 +7,13 @@ use Rattle.tlsf_class.proofs.ClassLaws.{class-lt}
 use Rattle.tlsf_store.specs.declared.records.Record.{Record}
 use Rattle.tlsf_store.specs.Records.{record_at}
 use Rattle.tlsf_store.specs.Cells.{Cells, with_head, with_level_word, with_step_word, head_at}
-use Rattle.tlsf_heap.specs.Inner.Bitmaps.{AreMarked, head_bit}
+use Rattle.tlsf_heap.specs.Inner.Bitmaps.{AreBitmapsOf, head_bit}
 use Rattle.tlsf_heap.specs.Inner.Entries.{padded}
 use Rattle.tlsf_heap.specs.Inner.Edits.{edited_in, without_bit, IsUsed, with_prev_free, with_behind, with_level_cleared, unlinked}
 use Rattle.tlsf_heap.specs.Inner.Nodes.{Node, Area, Listed, Loose, turned, nodes_of, has_slot, list_of, is_listed_in, without_slot, left}
 use Rattle.tlsf_heap.specs.Inner.Spots.{plug, Spot, laid, filled}
 use Rattle.tlsf_heap.specs.Inner.Represents.{InList, pool_view, list_view, pool_views, list_views, in_list, first_slot, AreLinked, AreChains, Agree, Represented, Represents}
-use Rattle.tlsf_heap.proofs.Bitmaps.Bits.{marks_kept, marks_cleared}
+use Rattle.tlsf_heap.proofs.Bits.Edits.{bits_kept, bits_cleared}
 use Rattle.tlsf_heap.proofs.Inner.Counts.{one_if, count-cons, count-plug, count_but, filter_one, Split, split_at}
 use Rattle.tlsf_heap.proofs.Inner.Plugs.{count-filled}
 use Rattle.tlsf_heap.proofs.Inner.Links.{first-plug, from_behind, linked_same, linked_parts, linked_plugged, linked_moved, first_stands}
@@ -155,10 +155,10 @@ module _ (cells : Cells) (count : ℕ) (spot : Spot) (node : Node) (nodes : List
         chains_turned (pool_views cells.records) (pool_views (new front behind)) spot node nodes Listed Loose taken refl same was.chains
 
     -- with these heads and bitmaps
-    after : (heads : List (Option ℕ)) (level_word : ℕ) (step_words : List ℕ) → heads ≡ set (map first_slot lists) (class node.size) (first_slot (plug front behind)) → length step_words ≡ length cells.step_words → AreMarked heads step_words level_word
+    after : (heads : List (Option ℕ)) (level_word : ℕ) (step_words : List ℕ) → heads ≡ set (map first_slot lists) (class node.size) (first_slot (plug front behind)) → length step_words ≡ length cells.step_words → AreBitmapsOf heads step_words level_word
         → Represented (new front behind) heads level_word step_words cells.pools (laid count spot (turned Loose node ∷ nodes) (left node lists) taken)
     unfolding left
-    after heads level_word step_words heads_are words_are marks =
+    after heads level_word step_words heads_are words_are bitmaps =
         let lists_are : set lists (class node.size) (plug front behind) ≡ left node lists = ap (set lists (class node.size)) (sym without_is) in
         let P : List (List Node) → Type 0 = λ ls. (other : ℕ) → AreLinked in_list (list_views (new front behind)) None (list_of other ls) in
         record {
@@ -170,7 +170,7 @@ module _ (cells : Cells) (count : ℕ) (spot : Spot) (node : Node) (nodes : List
             lists_count = length-set lists (class node.size) _ ∙ was.index.lists_count;
             words_count = words_are ∙ was.index.words_count;
             linked = subst P lists_are linked_after;
-            marked = marks;
+            bitmaps = bitmaps;
           };
           agree = agrees;
         }
@@ -187,17 +187,17 @@ module _ (cells : Cells) (count : ℕ) (spot : Spot) (node : Node) (nodes : List
   unlinked_between (f ∷ front) item behind whole own =
       let same : first_slot (plug (f ∷ front) behind) ≡ get_or (map first_slot lists) (class node.size) None = first-plug front (f ∷ behind) (f ∷ item ∷ behind) refl ∙ sym (head_of node lists was.index.lists_count ∙ ap first_slot whole) in
       after (f ∷ front) item behind whole own cells.heads cells.level_word cells.step_words
-      (was.index.heads_are ∙ sym (ap (set (map first_slot lists) (class node.size)) same ∙ set-get_or (map first_slot lists) (class node.size) None)) refl was.index.marked
+      (was.index.heads_are ∙ sym (ap (set (map first_slot lists) (class node.size)) same ∙ set-get_or (map first_slot lists) (class node.size) None)) refl was.index.bitmaps
   unlinked_between [] item (b ∷ behind) whole own =
       after [] item (b ∷ behind) whole own (set cells.heads (class node.size) (Some b.slot)) cells.level_word cells.step_words (ap (λ heads. set heads (class node.size) (Some b.slot)) was.index.heads_are) refl
-      (marks_kept cells.heads cells.step_words cells.level_word (class node.size) (heads_count [] item (b ∷ behind) whole own) was.index.words_count (class-lt node.size) was.index.marked b.slot (ap head_bit (head_is [] item (b ∷ behind) whole own)))
+      (bits_kept cells.heads cells.step_words cells.level_word (class node.size) (heads_count [] item (b ∷ behind) whole own) was.index.words_count (class-lt node.size) was.index.bitmaps b.slot (ap head_bit (head_is [] item (b ∷ behind) whole own)))
   unlinked_between [] item [] whole own =
       let word : ℕ = without_bit (get_or cells.step_words (class node.size / steps) 0) (class node.size % steps) in
       let P : Cells → Type 0 = λ c. Represents c (laid count spot (turned Loose node ∷ nodes) (left node lists) taken) in
       subst P (sym (cleared_is (class node.size / steps) word (with_step_word (with_head cells (class node.size) None) (class node.size / steps) word)))
       (after [] item [] whole own (set cells.heads (class node.size) None) (cond (eqb word 0) (without_bit cells.level_word (class node.size / steps)) cells.level_word) (set cells.step_words (class node.size / steps) word)
       (ap (λ heads. set heads (class node.size) None) was.index.heads_are) (length-set cells.step_words (class node.size / steps) word)
-      (marks_cleared cells.heads cells.step_words cells.level_word (class node.size) (heads_count [] item [] whole own) was.index.words_count (class-lt node.size) was.index.marked (ap head_bit (head_is [] item [] whole own))))
+      (bits_cleared cells.heads cells.step_words cells.level_word (class node.size) (heads_count [] item [] whole own) was.index.words_count (class-lt node.size) was.index.bitmaps (ap head_bit (head_is [] item [] whole own))))
 
   pub unlinked_laid : Represents (unlinked (class node.size) node.slot cells) (laid count spot (turned Loose node ∷ nodes) (left node lists) taken)
   unlinked_laid =

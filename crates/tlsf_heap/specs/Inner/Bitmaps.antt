@@ -14,7 +14,7 @@ abbrev pub word_bit : ℕ → ℕ
 word_bit word = if word == 0 then 0 else 1
 
 -- a class's bit is set exactly where its list has a first block, a first level's exactly where its step word isn't 0
-pub record AreMarked (heads : List (Option ℕ)) (step_words : List ℕ) (level_word : ℕ) : Type 0 where
+pub record AreBitmapsOf (heads : List (Option ℕ)) (step_words : List ℕ) (level_word : ℕ) : Type 0 where
   pub by_class : (class : ℕ) → class < classes → bit_at (slice_index step_words (class / steps)) (class % steps) ≡ head_bit (head_at heads class)
   pub by_level : (level : ℕ) → level < levels → bit_at level_word level ≡ word_bit (slice_index step_words level)
 

@@ -39,8 +39,8 @@ abbrev pub without_bit : ℕ → ℕ → ℕ
 without_bit word bit = bit_and word (bit_not w32 (2 ^ bit))
 
 -- the class's bit is set, and that of its first level
-abbrev pub marked : ℕ → Cells → Cells
-marked class cells =
+abbrev pub with_class_bit : ℕ → Cells → Cells
+with_class_bit class cells =
     with_level_word (with_step_word cells (class / steps) (with_bit (slice_index cells.step_words (class / steps)) (class % steps))) (with_bit cells.level_word (class / steps))
 
 -- the first level's bit is cleared where its step word is 0
@@ -48,8 +48,8 @@ abbrev pub with_level_cleared : ℕ → ℕ → Cells → Cells
 with_level_cleared level word cells = if word == 0 then with_level_word cells (without_bit cells.level_word level) else cells
 
 -- the class's bit is cleared, and that of its first level where no other class of it has a bit
-abbrev pub unmarked : ℕ → Cells → Cells
-unmarked class cells =
+abbrev pub without_class_bit : ℕ → Cells → Cells
+without_class_bit class cells =
     let word = without_bit (slice_index cells.step_words (class / steps)) (class % steps) in
     with_level_cleared (class / steps) word (with_step_word cells (class / steps) word)
 
@@ -57,7 +57,7 @@ unmarked class cells =
 abbrev pub linked : ℕ → ℕ → Cells → Cells
 linked class slot cells =
     let first = head_at cells.heads class in
-    marked class (with_head (with_prev_free first (Some slot) (with_free_links slot None first cells)) class (Some slot))
+    with_class_bit class (with_head (with_prev_free first (Some slot) (with_free_links slot None first cells)) class (Some slot))
 
 -- the slot, if there is one, is of a record that isn't vacant
 abbrev pub IsUsed : List Record → Option ℕ → Type 0
@@ -66,7 +66,7 @@ IsUsed records (Some slot) = (slot < length records) × ((record_at records slot
 
 -- the first of the class's list; where there is none the class's bit is cleared
 abbrev pub with_first : ℕ → Option ℕ → Cells → Cells
-with_first class None cells = unmarked class (with_head cells class None)
+with_first class None cells = without_class_bit class (with_head cells class None)
 with_first class (Some slot) cells = with_head cells class (Some slot)
 
 -- what stands behind the block in front, or first where none is in front

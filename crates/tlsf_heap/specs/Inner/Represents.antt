@@ -10,7 +10,7 @@ use Rattle.tlsf_store.specs.declared.pools.Pool.{Pool as StoredPool}
 use Rattle.tlsf_store.specs.Records.{record_at}
 use Rattle.tlsf_store.specs.Cells.{Cells}
 use Rattle.tlsf_heap.specs.Good.{times}
-use Rattle.tlsf_heap.specs.Inner.Bitmaps.{AreMarked}
+use Rattle.tlsf_heap.specs.Inner.Bitmaps.{AreBitmapsOf}
 use Rattle.tlsf_heap.specs.Inner.Entries.{padded}
 use Rattle.tlsf_heap.specs.Inner.Nodes.{Status, InUse, Listed, Loose, Node, Area, Layout, nodes_of, list_of, has_slot, is_listed_in}
 
@@ -86,7 +86,7 @@ pub record IsIndex (at : ℕ → InList) (heads : List (Option ℕ)) (step_words
   pub lists_count : length lists ≡ classes
   pub words_count : length step_words ≡ levels
   pub linked : (number : ℕ) → AreLinked in_list at None (list_of number lists)
-  pub marked : AreMarked heads step_words level_word
+  pub bitmaps : AreBitmapsOf heads step_words level_word
 
 -- each class's list has the nodes of the areas that are to stand in it, each as often, and no others
 abbrev pub Agree : List Area → List (List Node) → Type 0

@@ -1,5 +1,5 @@
 use Rattle.std.proofs.Common.{arith}
-use Rattle.tlsf_heap.proofs.Bitmaps.Search.{none_above, lowest_above}
+use Rattle.tlsf_heap.proofs.Bits.Search.{none_above, lowest_above}
 use Rattle.tlsf_heap.proofs.search.lowest_from.Goals as goal
 
 pub returns-then-rest-eq0-clause-none : goal.returns-then-rest-eq0-clause-none

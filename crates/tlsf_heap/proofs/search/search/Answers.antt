@@ -3,7 +3,7 @@ use Rattle.std.specs.Prelude.{IfNone}
 use Rattle.tlsf_class.specs.Classes.{steps, classes}
 use Rattle.tlsf_store.specs.Cells.{Cells, head_at}
 use Rattle.tlsf_heap.specs.Inner.Bitmaps.{HasNoBit, IsLowestFrom, first_head}
-use Rattle.tlsf_heap.proofs.Bitmaps.Search.{passes_level, found_in_level}
+use Rattle.tlsf_heap.proofs.Bits.Search.{passes_level, found_in_level}
 use Rattle.tlsf_heap.proofs.search.search.Goals as goal
 
 pub returns-in_default-clause-value : goal.returns-in_default-clause-value
@@ -21,7 +21,7 @@ returns-in_default-clause-value c =
     c.search_levels.ensures.value
     ∙ ap (λ (s : Cells). first_head (drop ((c.number-level.result / steps + 1) * steps) s.heads)) c.step_word-word.ensures.touch
     ∙ ap (λ n. first_head (drop ((n / steps + 1) * steps) old.heads)) first_number
-    ∙ sym (passes_level old.heads old.step_words old.level_word c.requires.marked c.requires.count class within none)
+    ∙ sym (passes_level old.heads old.step_words old.level_word c.requires.bitmaps c.requires.count class within none)
 
 pub returns-clause-value : goal.returns-clause-value
 returns-clause-value c =
@@ -37,4 +37,4 @@ returns-clause-value c =
     c.head.ensures.value
     ∙ ap (λ (s : Cells). head_at s.heads c.new.result) c.step_word-word.ensures.touch
     ∙ ap (head_at old.heads) (c.new.ensures ∙ ap (λ n. n / steps * steps + c.in-Some.step) first_number)
-    ∙ found_in_level old.heads old.step_words old.level_word c.requires.marked c.requires.count class c.in-Some.step within lowest
+    ∙ found_in_level old.heads old.step_words old.level_word c.requires.bitmaps c.requires.count class c.in-Some.step within lowest

@@ -7,7 +7,7 @@ use Rattle.std.proofs.lemmas.Nat.{shr-shr, shr_le}
 use Rattle.std.proofs.lemmas.Nat.Bits.{bit_at-zero, bit_at-trailing_zeros, bit_at_above, same_from_bits_below}
 use Rattle.tlsf_class.specs.Classes.{steps, levels, classes}
 use Rattle.tlsf_store.specs.Cells.{head_at}
-use Rattle.tlsf_heap.specs.Inner.Bitmaps.{head_bit, word_bit, AreMarked, HasNoBit, IsLowestFrom, first_head}
+use Rattle.tlsf_heap.specs.Inner.Bitmaps.{head_bit, word_bit, AreBitmapsOf, HasNoBit, IsLowestFrom, first_head}
 
 -- the bits from a place on are those of the number shifted
 shifted : (word from bit : ℕ) → from ≤ bit → bit_at word bit ≡ bit_at (word / 2 ^ from) (bit - from)
@@ -55,10 +55,10 @@ first_is : (head : Option ℕ) (heads : List (Option ℕ)) → head_bit head ≡
 first_is None heads is = absurd (omega (arith, is))
 first_is (Some slot) heads is = refl
 
-module _ (heads : List (Option ℕ)) (words : List ℕ) (level_word : ℕ) (marked : AreMarked heads words level_word) (count : length heads ≡ classes) where
+module _ (heads : List (Option ℕ)) (words : List ℕ) (level_word : ℕ) (bitmaps : AreBitmapsOf heads words level_word) (count : length heads ≡ classes) where
   -- no bit, no head
   no_bit_no_head : (k : ℕ) → k < classes → bit_at (get_or words (k / steps) 0) (k % steps) ≡ 0 → head_at heads k ≡ None
-  no_bit_no_head k within none = no_head (head_at heads k) (sym (marked.by_class k within) ∙ none)
+  no_bit_no_head k within none = no_head (head_at heads k) (sym (bitmaps.by_class k within) ∙ none)
 
   no_head_of_level : (level k : ℕ) → k < classes → k / steps ≡ level → get_or words level 0 ≡ 0 → head_at heads k ≡ None
   no_head_of_level level k within of none =
@@ -69,7 +69,7 @@ module _ (heads : List (Option ℕ)) (words : List ℕ) (level_word : ℕ) (mark
     | inl is ↦ is
     | inr some ↦
         let one : word_bit (get_or words level 0) ≡ 1 = ap (λ b. cond b 0 1) (ne_eqb _ 0 some) in
-        absurd (omega (arith, one, marked.by_level level within, none))
+        absurd (omega (arith, one, bitmaps.by_level level within, none))
   ]
 
   -- the first head at or above a class is that of the lowest bit set
@@ -77,7 +77,7 @@ module _ (heads : List (Option ℕ)) (words : List ℕ) (level_word : ℕ) (mark
       → head_at heads class ≡ first_head (drop from heads)
   found_is_first from class level step within of_level of_step above none set =
       let is : head_bit (head_at heads class) ≡ 1 =
-      sym (marked.by_class class within) ∙ ap (λ l. bit_at (get_or words l 0) (class % steps)) of_level ∙ ap (bit_at (get_or words level 0)) of_step ∙ set in
+      sym (bitmaps.by_class class within) ∙ ap (λ l. bit_at (get_or words l 0) (class % steps)) of_level ∙ ap (bit_at (get_or words level 0)) of_step ∙ set in
       let here : drop class heads ≡ head_at heads class ∷ drop (class + 1) heads = drop_more heads class None (omega (arith, within, count)) in
       let reached : from + (class - from) ≡ class = omega (arith, above) in
       sym (first_head_passes heads from (class - from) (omega (arith, above, within, count)) (λ k lower below. none k lower (omega (arith, below, reached)))
@@ -130,7 +130,7 @@ module _ (heads : List (Option ℕ)) (words : List ℕ) (level_word : ℕ) (mark
   has_step level within set fits none =
       let zero_word : get_or words level 0 ≡ 0 = no_bit_is_zero (get_or words level 0) fits none in
       let no_bit : word_bit (get_or words level 0) ≡ 0 = ap word_bit zero_word in
-      omega (arith, set, marked.by_level level within, no_bit)
+      omega (arith, set, bitmaps.by_level level within, no_bit)
 
 -- a level found is one of them
 pub level_within : (word level : ℕ) → word < 2 ^ levels → bit_at word level ≡ 1 → level < levels

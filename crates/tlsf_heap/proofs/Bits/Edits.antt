@@ -9,7 +9,7 @@ use Rattle.std.proofs.lemmas.Nat.Bits.{bit_at_or, bit_at-pow_same, bit_at-pow_ot
 use Rattle.tlsf_class.specs.Classes.{steps, levels, classes}
 use Rattle.tlsf_store.specs.Cells.{head_at}
 use Rattle.tlsf_heap.specs.Inner.Edits.{with_bit, without_bit}
-use Rattle.tlsf_heap.specs.Inner.Bitmaps.{head_bit, word_bit, AreMarked}
+use Rattle.tlsf_heap.specs.Inner.Bitmaps.{head_bit, word_bit, AreBitmapsOf}
 
 bit_set_same : (word bit : ℕ) → bit_at (with_bit word bit) bit ≡ 1
 bit_set_same word bit = bit_at_or word (2 ^ bit) bit ∙ omega (arith, bit_at-pow_same bit, bit_at-lt word bit)
@@ -23,10 +23,10 @@ word_bit-some word bit is =
     ap (λ b. cond b 0 1) (ne_eqb word 0 some)
 
 module _ (heads : List (Option ℕ)) (words : List ℕ) (level_word class : ℕ) (heads_count : length heads ≡ classes) (words_count : length words ≡ levels) (within : class < classes)
-    (were : AreMarked heads words level_word) where
+    (were : AreBitmapsOf heads words level_word) where
   -- the class's bit is set as it gets a first block
-  pub marks_set : (slot : ℕ) → AreMarked (set heads class (Some slot)) (set words (class / steps) (with_bit (get_or words (class / steps) 0) (class % steps))) (with_bit level_word (class / steps))
-  marks_set slot =
+  pub bits_set : (slot : ℕ) → AreBitmapsOf (set heads class (Some slot)) (set words (class / steps) (with_bit (get_or words (class / steps) 0) (class % steps))) (with_bit level_word (class / steps))
+  bits_set slot =
       let level_within : class / steps < length words = omega (arith, within, words_count) in
       let new : ℕ = with_bit (get_or words (class / steps) 0) (class % steps) in
       record {
@@ -72,10 +72,10 @@ bit_clear_other : (word bit other : ℕ) → bit < 32 → other < 32 → other �
 bit_clear_other word bit other bit_within within apart = clears word bit other bit_within within ∙ omega (arith, bit_at-pow_other bit other apart, bit_at-lt word other)
 
 module _ (heads : List (Option ℕ)) (words : List ℕ) (level_word class : ℕ) (heads_count : length heads ≡ classes) (words_count : length words ≡ levels) (within : class < classes)
-    (were : AreMarked heads words level_word) where
+    (were : AreBitmapsOf heads words level_word) where
   -- another first block leaves the bits
-  pub marks_kept : (slot : ℕ) → head_bit (head_at heads class) ≡ 1 → AreMarked (set heads class (Some slot)) words level_word
-  marks_kept slot some = record {
+  pub bits_kept : (slot : ℕ) → head_bit (head_at heads class) ≡ 1 → AreBitmapsOf (set heads class (Some slot)) words level_word
+  bits_kept slot some = record {
     by_class = λ k k_within. elim (cases_eq k class) [
       | inl same ↦
           let P : ℕ → Type 0 = λ n. bit_at (get_or words (n / steps) 0) (n % steps) ≡ head_bit (head_at (set heads class (Some slot)) n) in
@@ -86,10 +86,10 @@ module _ (heads : List (Option ℕ)) (words : List ℕ) (level_word class : ℕ)
   }
 
   -- the class's bit is cleared as its list has no block left, and its first level's where no other class has one
-  pub marks_cleared : head_bit (head_at heads class) ≡ 1
-      → AreMarked (set heads class None) (set words (class / steps) (without_bit (get_or words (class / steps) 0) (class % steps)))
+  pub bits_cleared : head_bit (head_at heads class) ≡ 1
+      → AreBitmapsOf (set heads class None) (set words (class / steps) (without_bit (get_or words (class / steps) 0) (class % steps)))
       (cond (eqb (without_bit (get_or words (class / steps) 0) (class % steps)) 0) (without_bit level_word (class / steps)) level_word)
-  marks_cleared some =
+  bits_cleared some =
       let level_within : class / steps < length words = omega (arith, within, words_count) in
       let level_below : class / steps < 32 = omega (arith, within) in
       let step_below : class % steps < 32 = omega arith in

@@ -1,3 +1,3 @@
 -- Lemmas on the words of the bitmaps.
-pub mod Bits
+pub mod Edits
 pub mod Search

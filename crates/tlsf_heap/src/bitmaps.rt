@@ -5,7 +5,7 @@ ghost use Rattle.std.specs.Prelude.{◌≡◌, ◌+◌, ◌<◌, ◌≤◌, ◌^
 ghost use Rattle.tlsf_class.specs.Classes.{levels};
 ghost use Rattle.tlsf_store.specs.Cells.{touched};
 ghost use Rattle.tlsf_heap.specs.Touches.{AtMost};
-ghost use Rattle.tlsf_heap.specs.Inner.Edits.{with_bit, without_bit, marked, unmarked, with_level_cleared};
+ghost use Rattle.tlsf_heap.specs.Inner.Edits.{with_bit, without_bit, with_class_bit, without_class_bit, with_level_cleared};
 
 use tlsf_class::{Class, STEPS};
 use tlsf_store::Store;
@@ -29,8 +29,8 @@ pub(crate) fn clear_bit(word: u32, bit: u32) -> u32
 }
 
 /// Sets the bit of a class, and that of its first level. Four touches.
-pub(crate) fn mark(store: &mut Store, class: Class)
-    ensures { store.new ≡ touched 4 (marked class store.old) }
+pub(crate) fn set_class_bit(store: &mut Store, class: Class)
+    ensures { store.new ≡ touched 4 (with_class_bit class store.old) }
 {
     let level = class.number() / STEPS;
     let word = store.step_word(level);
@@ -41,8 +41,8 @@ pub(crate) fn mark(store: &mut Store, class: Class)
 
 /// Clears the bit of a class, and that of its first level where no other class of it has one. At most
 /// four touches.
-pub(crate) fn unmark(store: &mut Store, class: Class)
-    ensures cells { store.new ≡ record (unmarked class store.old) { touches = store.new.touches } }
+pub(crate) fn clear_class_bit(store: &mut Store, class: Class)
+    ensures cells { store.new ≡ record (without_class_bit class store.old) { touches = store.new.touches } }
     ensures touches { AtMost 4 store.old.touches store.new.touches }
 {
     let level = class.number() / STEPS;
