@@ -18,16 +18,16 @@ module _ {A : Type 0} where
   abbrev pub is_live : (A → Bool) → ℕ → List (Block A) → Bool
   is_live is_meant place blocks = list_any (λ block. is_at place block && is_owned_by is_meant block.owner) blocks
 
-  -- the block in front of the one at the place, and the one behind it
-  abbrev pub in_front_of : ℕ → List (Block A) → Option (Block A)
-  in_front_of place [] = None
-  in_front_of place (block ∷ []) = None
-  in_front_of place (block ∷ next ∷ blocks) = if is_at place next then Some block else in_front_of place (next ∷ blocks)
+  -- the block before the one at the place, and the one after it
+  abbrev pub previous_of : ℕ → List (Block A) → Option (Block A)
+  previous_of place [] = None
+  previous_of place (block ∷ []) = None
+  previous_of place (block ∷ next ∷ blocks) = if is_at place next then Some block else previous_of place (next ∷ blocks)
 
-  abbrev pub behind : ℕ → List (Block A) → Option (Block A)
-  behind place [] = None
-  behind place (block ∷ []) = None
-  behind place (block ∷ next ∷ blocks) = if is_at place block then Some next else behind place (next ∷ blocks)
+  abbrev pub next_of : ℕ → List (Block A) → Option (Block A)
+  next_of place [] = None
+  next_of place (block ∷ []) = None
+  next_of place (block ∷ next ∷ blocks) = if is_at place block then Some next else next_of place (next ∷ blocks)
 
   -- the block, where it is free
   abbrev pub if_free : Option (Block A) → Option (Block A)
@@ -40,11 +40,11 @@ module _ {A : Type 0} where
   first_in_pools tell (pool ∷ pools) = option_or (tell pool.blocks) (first_in_pools tell pools)
 
   -- the free neighbours in the pool
-  abbrev pub free_in_front : ℕ → Content A → Option (Block A)
-  free_in_front place content = if_free (first_in_pools (in_front_of place) content.pools)
+  abbrev pub free_previous : ℕ → Content A → Option (Block A)
+  free_previous place content = if_free (first_in_pools (previous_of place) content.pools)
 
-  abbrev pub free_behind : ℕ → Content A → Option (Block A)
-  free_behind place content = if_free (first_in_pools (behind place) content.pools)
+  abbrev pub free_next : ℕ → Content A → Option (Block A)
+  free_next place content = if_free (first_in_pools (next_of place) content.pools)
 
   -- a neighbour leaves its list
   abbrev pub unlink_block : Option (Block A) → List (List ℕ) → List (List ℕ)
@@ -56,7 +56,7 @@ module _ {A : Type 0} where
   size_of None = 0
   size_of (Some block) = block.size
 
-  -- where the block that is left begins: with the neighbour in front, or at the place
+  -- where the block that is left begins: with the neighbour before it, or at the place
   abbrev pub start_of : Option (Block A) → ℕ → ℕ
   start_of None place = place
   start_of (Some block) place = block.place
@@ -74,13 +74,13 @@ module _ {A : Type 0} where
   -- of all their bytes, which enters its list in front
   abbrev pub after_free : ℕ → Content A → Content A
   after_free place content =
-      let front = free_in_front place content in
-      let back = free_behind place content in
-      let start = start_of front place in
-      let size = size_of front + size_at place (blocks_of content.pools) + size_of back in
+      let previous = free_previous place content in
+      let next = free_next place content in
+      let start = start_of previous place in
+      let size = size_of previous + size_at place (blocks_of content.pools) + size_of next in
       record content {
-        pools = map (replaced_in place (free_block start size ∷ [])) (without_block back (without_block front content.pools));
-        lists = link start size (unlink_block back (unlink_block front content.lists));
+        pools = map (replaced_in place (free_block start size ∷ [])) (without_block next (without_block previous content.pools));
+        lists = link start size (unlink_block next (unlink_block previous content.lists));
       }
 
   -- free of the block at the place whose owner is meant: the new content, or BadPointer

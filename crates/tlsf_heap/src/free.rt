@@ -11,7 +11,7 @@ ghost use Rattle.tlsf_heap.specs.Inner.States.{is_state_free};
 ghost use Rattle.tlsf_heap.specs.Inner.Chains.{joined};
 ghost use Rattle.tlsf_heap.specs.Inner.Nodes.{InUse, Listed, Loose};
 ghost use Rattle.tlsf_heap.specs.Inner.Following.{Stands, content_of};
-ghost use Rattle.tlsf_heap.specs.Inner.At.{At, StandsAt, IsJoinable, front_joined, back_joined, at_listed, at_freed};
+ghost use Rattle.tlsf_heap.specs.Inner.At.{At, StandsAt, IsJoinable, previous_joined, next_joined, at_listed, at_freed};
 
 use crate::chains::{absorb, set_state};
 use crate::free_lists::{link, unlink};
@@ -64,8 +64,8 @@ fn release(store: &mut Store, slot: Slot)
     ensures touches { AtMost 49 store.old.touches store.new.touches }
 {
     set_state(store, slot, State::Free);
-    let start = join_front(store, slot);
-    join_back(store, start);
+    let start = join_previous(store, slot);
+    join_next(store, start);
     enter(store, start);
 }
 
@@ -79,51 +79,51 @@ fn is_free(state: State) -> bool
     }
 }
 
-/// A free block in front takes in the block, which is free and in no list. The answer is where the block
+/// A free block before it takes in the block, which is free and in no list. The answer is where the block
 /// that is left begins. At most 18 touches.
-fn join_front(store: &mut Store, slot: Slot) -> Slot
+fn join_previous(store: &mut Store, slot: Slot) -> Slot
     requires { (at : At) × StandsAt slot Loose store.old at }
-    ensures leads { (at : At) → StandsAt slot Loose store.old at → StandsAt result Loose store.new (front_joined at) }
+    ensures leads { (at : At) → StandsAt slot Loose store.old at → StandsAt result Loose store.new (previous_joined at) }
     ensures touches { AtMost 18 store.old.touches store.new.touches }
 {
     let block = store.read(slot);
-    let Some(prev) = block.prev else {
+    let Some(previous_slot) = block.prev else {
         return slot;
     };
-    let front = store.read(prev);
-    if !is_free(front.state) {
+    let previous = store.read(previous_slot);
+    if !is_free(previous.state) {
         return slot;
     }
-    join(store, prev, slot, prev, front.size);
-    prev
+    join(store, previous_slot, slot, previous_slot, previous.size);
+    previous_slot
 }
 
-/// The block, which is free and in no list, takes in a free one behind it. At most 18 touches.
-fn join_back(store: &mut Store, slot: Slot)
+/// The block, which is free and in no list, takes in a free one after it. At most 18 touches.
+fn join_next(store: &mut Store, slot: Slot)
     requires { (at : At) × StandsAt slot Loose store.old at }
-    ensures leads { (at : At) → StandsAt slot Loose store.old at → StandsAt slot Loose store.new (back_joined at) }
+    ensures leads { (at : At) → StandsAt slot Loose store.old at → StandsAt slot Loose store.new (next_joined at) }
     ensures touches { AtMost 18 store.old.touches store.new.touches }
 {
     let block = store.read(slot);
-    let Some(next) = block.next else {
+    let Some(next_slot) = block.next else {
         return;
     };
-    let back = store.read(next);
-    if !is_free(back.state) {
+    let next = store.read(next_slot);
+    if !is_free(next.state) {
         return;
     }
-    join(store, slot, next, next, back.size);
+    join(store, slot, next_slot, next_slot, next.size);
 }
 
 /// One of two neighbours, `listed`, leaves its class's list, and the first takes in the other. At most 16
 /// touches.
-fn join(store: &mut Store, front: Slot, behind: Slot, listed: Slot, size: u32)
-    requires { IsJoinable front behind listed size store.old.records (unlinked (class size) listed store.old).records }
-    ensures cells { store.new ≡ record (joined front behind listed size store.old) { touches = store.new.touches } }
+fn join(store: &mut Store, first: Slot, second: Slot, listed: Slot, size: u32)
+    requires { IsJoinable first second listed size store.old.records (unlinked (class size) listed store.old).records }
+    ensures cells { store.new ≡ record (joined first second listed size store.old) { touches = store.new.touches } }
     ensures touches { AtMost 16 store.old.touches store.new.touches }
 {
     unlink(store, class_of(size), listed);
-    absorb(store, front, behind);
+    absorb(store, first, second);
 }
 
 /// The block, which is free and in no list, enters its class's list. At most 11 touches.

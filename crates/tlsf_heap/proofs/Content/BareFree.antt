@@ -6,7 +6,7 @@ use Rattle.tlsf_heap.specs.declared.refusal.Refusal.TheVariants.{BadPointer}
 use Rattle.tlsf_heap.specs.Content.{Block, Pool, Content, blocks_of, is_free, is_at, size_at}
 use Rattle.tlsf_heap.specs.Lists.{link}
 use Rattle.tlsf_heap.specs.Malloc.{replaced_in}
-use Rattle.tlsf_heap.specs.Free.{is_live, in_front_of, behind, if_free, first_in_pools, free_in_front, free_behind, unlink_block, size_of, start_of}
+use Rattle.tlsf_heap.specs.Free.{is_live, previous_of, next_of, if_free, first_in_pools, free_previous, free_next, unlink_block, size_of, start_of}
 use Rattle.tlsf_heap.specs.Free.{free_block, without_block, after_free, free}
 use Rattle.tlsf_heap.specs.Bare.{renamed_block, renamed_pool, renamed, renamed_result}
 use Rattle.tlsf_heap.proofs.Content.BareSteps.{ap-cond, size_at-renamed, replaced_in-renamed}
@@ -30,19 +30,19 @@ module _ {A B : Type 0} (rename : A → B) where
   is_free-renamed : (block : Block A) → is_free (renamed_block rename block) ≡ is_free block
   is_free-renamed block = is_none-renamed block.owner
 
-  in_front_of-renamed : (place : ℕ) (blocks : List (Block A)) → in_front_of place (map (renamed_block rename) blocks) ≡ option_map (renamed_block rename) (in_front_of place blocks)
-  in_front_of-renamed place [] = refl
-  in_front_of-renamed place (block ∷ []) = refl
-  in_front_of-renamed place (block ∷ next ∷ blocks) =
-      ap (cond (is_at place next) (Some (renamed_block rename block))) (in_front_of-renamed place (next ∷ blocks))
-      ∙ sym (ap-cond (option_map (renamed_block rename)) (is_at place next) (Some block) (in_front_of place (next ∷ blocks)))
+  previous_of-renamed : (place : ℕ) (blocks : List (Block A)) → previous_of place (map (renamed_block rename) blocks) ≡ option_map (renamed_block rename) (previous_of place blocks)
+  previous_of-renamed place [] = refl
+  previous_of-renamed place (block ∷ []) = refl
+  previous_of-renamed place (block ∷ next ∷ blocks) =
+      ap (cond (is_at place next) (Some (renamed_block rename block))) (previous_of-renamed place (next ∷ blocks))
+      ∙ sym (ap-cond (option_map (renamed_block rename)) (is_at place next) (Some block) (previous_of place (next ∷ blocks)))
 
-  behind-renamed : (place : ℕ) (blocks : List (Block A)) → behind place (map (renamed_block rename) blocks) ≡ option_map (renamed_block rename) (behind place blocks)
-  behind-renamed place [] = refl
-  behind-renamed place (block ∷ []) = refl
-  behind-renamed place (block ∷ next ∷ blocks) =
-      ap (cond (is_at place block) (Some (renamed_block rename next))) (behind-renamed place (next ∷ blocks))
-      ∙ sym (ap-cond (option_map (renamed_block rename)) (is_at place block) (Some next) (behind place (next ∷ blocks)))
+  next_of-renamed : (place : ℕ) (blocks : List (Block A)) → next_of place (map (renamed_block rename) blocks) ≡ option_map (renamed_block rename) (next_of place blocks)
+  next_of-renamed place [] = refl
+  next_of-renamed place (block ∷ []) = refl
+  next_of-renamed place (block ∷ next ∷ blocks) =
+      ap (cond (is_at place block) (Some (renamed_block rename next))) (next_of-renamed place (next ∷ blocks))
+      ∙ sym (ap-cond (option_map (renamed_block rename)) (is_at place block) (Some next) (next_of place (next ∷ blocks)))
 
   if_free-renamed : (block : Option (Block A)) → if_free (option_map (renamed_block rename) block) ≡ option_map (renamed_block rename) (if_free block)
   if_free-renamed None = refl
@@ -64,13 +64,13 @@ module _ {A B : Type 0} (rename : A → B) where
       ∙ ap (option_or (option_map (renamed_block rename) (told pool.blocks))) (first_in_pools-renamed tell told same pools)
       ∙ option_or-renamed (told pool.blocks) (first_in_pools told pools)
 
-  free_in_front-renamed : (place : ℕ) (content : Content A) → free_in_front place (renamed rename content) ≡ option_map (renamed_block rename) (free_in_front place content)
-  free_in_front-renamed place content =
-      ap if_free (first_in_pools-renamed (in_front_of place) (in_front_of place) (in_front_of-renamed place) content.pools) ∙ if_free-renamed (first_in_pools (in_front_of place) content.pools)
+  free_previous-renamed : (place : ℕ) (content : Content A) → free_previous place (renamed rename content) ≡ option_map (renamed_block rename) (free_previous place content)
+  free_previous-renamed place content =
+      ap if_free (first_in_pools-renamed (previous_of place) (previous_of place) (previous_of-renamed place) content.pools) ∙ if_free-renamed (first_in_pools (previous_of place) content.pools)
 
-  free_behind-renamed : (place : ℕ) (content : Content A) → free_behind place (renamed rename content) ≡ option_map (renamed_block rename) (free_behind place content)
-  free_behind-renamed place content =
-      ap if_free (first_in_pools-renamed (behind place) (behind place) (behind-renamed place) content.pools) ∙ if_free-renamed (first_in_pools (behind place) content.pools)
+  free_next-renamed : (place : ℕ) (content : Content A) → free_next place (renamed rename content) ≡ option_map (renamed_block rename) (free_next place content)
+  free_next-renamed place content =
+      ap if_free (first_in_pools-renamed (next_of place) (next_of place) (next_of-renamed place) content.pools) ∙ if_free-renamed (first_in_pools (next_of place) content.pools)
 
   lists_after-renamed : (place size : ℕ) (front back : Option (Block A)) (lists : List (List ℕ))
       → lists_after place size (option_map (renamed_block rename) front) (option_map (renamed_block rename) back) lists ≡ lists_after place size front back lists
@@ -109,13 +109,13 @@ module _ {A B : Type 0} (rename : A → B) where
       let size = size_at place (blocks_of content.pools) in
       let pools = map (renamed_pool rename) content.pools in
       let of : ℕ → Option (Block B) → Option (Block B) → Content B = λ s front back. record { records = content.records; pools = pools_after place s front back pools; lists = lists_after place s front back content.lists } in
-      ap (λ s. of s (free_in_front place (renamed rename content)) (free_behind place (renamed rename content))) (size_at-renamed rename place content.pools)
-      ∙ ap (λ front. of size front (free_behind place (renamed rename content))) (free_in_front-renamed place content)
-      ∙ ap (of size (option_map (renamed_block rename) (free_in_front place content))) (free_behind-renamed place content)
-      ∙ ap (λ ps. record { records = content.records; pools = ps; lists = lists_after place size (option_map (renamed_block rename) (free_in_front place content)) (option_map (renamed_block rename) (free_behind place content)) content.lists })
-      (pools_after-renamed place size (free_in_front place content) (free_behind place content) content.pools)
-      ∙ ap (λ (ls : List (List ℕ)). record { records = content.records; pools = map (renamed_pool rename) (pools_after place size (free_in_front place content) (free_behind place content) content.pools); lists = ls })
-      (lists_after-renamed place size (free_in_front place content) (free_behind place content) content.lists)
+      ap (λ s. of s (free_previous place (renamed rename content)) (free_next place (renamed rename content))) (size_at-renamed rename place content.pools)
+      ∙ ap (λ front. of size front (free_next place (renamed rename content))) (free_previous-renamed place content)
+      ∙ ap (of size (option_map (renamed_block rename) (free_previous place content))) (free_next-renamed place content)
+      ∙ ap (λ ps. record { records = content.records; pools = ps; lists = lists_after place size (option_map (renamed_block rename) (free_previous place content)) (option_map (renamed_block rename) (free_next place content)) content.lists })
+      (pools_after-renamed place size (free_previous place content) (free_next place content) content.pools)
+      ∙ ap (λ (ls : List (List ℕ)). record { records = content.records; pools = map (renamed_pool rename) (pools_after place size (free_previous place content) (free_next place content) content.pools); lists = ls })
+      (lists_after-renamed place size (free_previous place content) (free_next place content) content.lists)
 
   -- free leaves the same, or refuses, where the block that is meant is live in both
   pub free-renamed : (is_meant : A → Bool) (is_meant_too : B → Bool) (place : ℕ) (content : Content A)

@@ -4,7 +4,7 @@ use Rattle.std.specs.Prelude.{◌||◌, find, option_map, unwrap_or}
 use Rattle.std.specs.Option.{option_or}
 use Rattle.std.proofs.lemmas.Bool.{cases_Bool, ne_eqb, eqb-true}
 use Rattle.tlsf_heap.specs.Content.{Block, Pool, is_at, size_at}
-use Rattle.tlsf_heap.specs.Free.{is_owned_by, is_live, in_front_of, behind, first_in_pools}
+use Rattle.tlsf_heap.specs.Free.{is_owned_by, is_live, previous_of, next_of, first_in_pools}
 use Rattle.tlsf_heap.specs.Good.{Covers, AreGoodPools}
 use Rattle.tlsf_heap.proofs.Content.Blocks.{Ascends, NoneAt, NoneAt-below}
 
@@ -13,7 +13,7 @@ option_or-None None = refl
 option_or-None (Some b) = refl
 
 module _ {A : Type 0} where
-  pub in_front_none : (place : ℕ) (block : Block A) (blocks : List (Block A)) → NoneAt place blocks → in_front_of place (block ∷ blocks) ≡ None
+  pub in_front_none : (place : ℕ) (block : Block A) (blocks : List (Block A)) → NoneAt place blocks → previous_of place (block ∷ blocks) ≡ None
   in_front_none place block [] n = refl
   in_front_none place block (next ∷ blocks) n = rw n.0 (in_front_none place next blocks n.1)
 
@@ -32,11 +32,11 @@ module _ {A : Type 0} where
       let rest = NoneAt-above place (from + block.size) to blocks h c.3 in
       ((ne_eqb block.place place (λ e. absurd (omega (arith, c.0, c.1, rest.1))), rest.0), omega (arith, rest.1))
 
-  pub none_in_front : (place : ℕ) (blocks : List (Block A)) → NoneAt place blocks → in_front_of place blocks ≡ None
+  pub none_in_front : (place : ℕ) (blocks : List (Block A)) → NoneAt place blocks → previous_of place blocks ≡ None
   none_in_front place [] n = refl
   none_in_front place (block ∷ blocks) n = in_front_none place block blocks n.1
 
-  pub none_behind : (place : ℕ) (blocks : List (Block A)) → NoneAt place blocks → behind place blocks ≡ None
+  pub none_behind : (place : ℕ) (blocks : List (Block A)) → NoneAt place blocks → next_of place blocks ≡ None
   none_behind place [] n = refl
   none_behind place (block ∷ []) n = refl
   none_behind place (block ∷ next ∷ blocks) n = rw n.0 (none_behind place (next ∷ blocks) n.1)
@@ -88,8 +88,8 @@ module _ {A : Type 0} where
 
   -- pools without a block at the place tell no neighbours of it
   pub record Untouched (place : ℕ) (pools : List (Pool A)) : Type 0 where
-    pub front : first_in_pools (in_front_of place) pools ≡ None
-    pub back : first_in_pools (behind place) pools ≡ None
+    pub front : first_in_pools (previous_of place) pools ≡ None
+    pub back : first_in_pools (next_of place) pools ≡ None
 
   pub untouched : (place from : ℕ) (pools : List (Pool A)) → place < from → AreGoodPools from pools → Untouched place pools
   untouched place from [] h g = record { front = refl; back = refl }
@@ -97,6 +97,6 @@ module _ {A : Type 0} where
       let rest = untouched place (pool.base + pool.bytes) pools (omega (arith, h, g.0)) g.2 in
       let none : NoneAt place pool.blocks = NoneAt-below place pool.base pool.blocks (omega (arith, h, g.0)) (Ascends-covers pool.base (pool.base + pool.bytes) pool.blocks g.1.covered) in
       record {
-        front = ap (λ o. option_or o (first_in_pools (in_front_of place) pools)) (none_in_front place pool.blocks none) ∙ rest.front;
-        back = ap (λ o. option_or o (first_in_pools (behind place) pools)) (none_behind place pool.blocks none) ∙ rest.back;
+        front = ap (λ o. option_or o (first_in_pools (previous_of place) pools)) (none_in_front place pool.blocks none) ∙ rest.front;
+        back = ap (λ o. option_or o (first_in_pools (next_of place) pools)) (none_behind place pool.blocks none) ∙ rest.back;
       }

@@ -13,7 +13,7 @@ use Rattle.tlsf_heap.specs.Inner.Nodes.{Status, InUse, Listed, Loose, Node, turn
 use Rattle.tlsf_heap.specs.Inner.Spots.{Spot, laid, filled}
 use Rattle.tlsf_heap.specs.Inner.Joined.{is_loose, past, listed_first, left_by, grown_in_front, grown_behind}
 use Rattle.tlsf_heap.specs.Inner.Represents.{InPool, in_pool, pool_views, state_of, first_slot, AreChains, Represents}
-use Rattle.tlsf_heap.specs.Inner.At.{At, StandsAt, front_joined, back_joined, IsJoinable}
+use Rattle.tlsf_heap.specs.Inner.At.{At, StandsAt, previous_joined, next_joined, IsJoinable}
 use Rattle.tlsf_heap.proofs.Good.Calls.{IsWhole}
 use Rattle.tlsf_heap.proofs.Inner.Counts.{one_if, count-cons}
 use Rattle.tlsf_heap.proofs.Inner.Plugs.{count-filled}
@@ -110,7 +110,7 @@ module _ (cells : Cells) (at : At) (front : Node) (before : List Node) where
   abbrev seen : List Node → At
   seen nodes = record at { spot = record at.spot { before = nodes } }
 
-  joins_seen : (slot : ℕ) → StandsAt slot Loose cells (seen (turned Listed front ∷ before)) → Joins front.slot at.node.slot front.slot front.size front.slot cells (front_joined (seen (turned Listed front ∷ before)))
+  joins_seen : (slot : ℕ) → StandsAt slot Loose cells (seen (turned Listed front ∷ before)) → Joins front.slot at.node.slot front.slot front.size front.slot cells (previous_joined (seen (turned Listed front ∷ before)))
   joins_seen slot stands =
       let spot : Spot = record at.spot { before = before } in
       let loose : Node → Bool = λ node. is_loose node.status in
@@ -135,7 +135,7 @@ module _ (cells : Cells) (at : At) (front : Node) (before : List Node) where
 
 -- the node behind is free
 module _ (cells : Cells) (at : At) (behind : Node) (nodes : List Node) where
-  joins_behind : (slot : ℕ) → StandsAt slot Loose cells (record at { nodes = turned Listed behind ∷ nodes }) → Joins at.node.slot behind.slot behind.slot behind.size at.node.slot cells (back_joined (record at { nodes = turned Listed behind ∷ nodes }))
+  joins_behind : (slot : ℕ) → StandsAt slot Loose cells (record at { nodes = turned Listed behind ∷ nodes }) → Joins at.node.slot behind.slot behind.slot behind.size at.node.slot cells (next_joined (record at { nodes = turned Listed behind ∷ nodes }))
   joins_behind slot stands =
       let loose : Node → Bool = λ node. is_loose node.status in
       record {
@@ -233,43 +233,43 @@ past_none : (nodes : List Node) → first_slot nodes ≡ None → (past nodes �
 past_none [] none = (refl, refl)
 past_none (node ∷ nodes) none = absurd (Some≢None node.slot none)
 
-unjoined_front : (at : At) → (past at.spot.before ≡ at.spot.before) × (listed_first at.spot.before ≡ None) → front_joined at ≡ at
+unjoined_front : (at : At) → (past at.spot.before ≡ at.spot.before) × (listed_first at.spot.before ≡ None) → previous_joined at ≡ at
 unjoined_front at same = λ i. record at { spot = record at.spot { before = same.0 i }; node = grown_in_front (same.1 i) at.node; lists = left_by (same.1 i) at.lists }
 
-unjoined_back : (at : At) → (past at.nodes ≡ at.nodes) × (listed_first at.nodes ≡ None) → back_joined at ≡ at
+unjoined_back : (at : At) → (past at.nodes ≡ at.nodes) × (listed_first at.nodes ≡ None) → next_joined at ≡ at
 unjoined_back at same = λ i. record at { nodes = same.0 i; node = grown_behind (same.1 i) at.node; lists = left_by (same.1 i) at.lists }
 
 module _ (cells : Cells) (at : At) (slot : ℕ) (stands : StandsAt slot Loose cells at) where
   -- the free block in front takes it in
-  pub front_joins : (p size : ℕ) → (record_at cells.records slot).prev ≡ Some p → is_state_free (record_at cells.records p).state ≡ true → size ≡ (record_at cells.records p).size → Joins p slot p size p cells (front_joined at)
-  front_joins p size link free size_is =
+  pub previous_joins : (p size : ℕ) → (record_at cells.records slot).prev ≡ Some p → is_state_free (record_at cells.records p).state ≡ true → size ≡ (record_at cells.records p).size → Joins p slot p size p cells (previous_joined at)
+  previous_joins p size link free size_is =
       let by : Neighbour cells.records p at.spot.before = in_front cells at slot Loose stands p link in
-      let P : List Node → Type 0 = λ ns. StandsAt slot Loose cells (seen cells at by.node by.others ns) → Joins by.node.slot at.node.slot by.node.slot by.node.size by.node.slot cells (front_joined (seen cells at by.node by.others ns)) in
-      let base : Joins by.node.slot at.node.slot by.node.slot by.node.size by.node.slot cells (front_joined at) = subst P (sym (turned_listed cells.records p at.spot.before by free)) (joins_seen cells at by.node by.others slot) stands in
-      let Q : ℕ → Type 0 = λ n. Joins n slot n size n cells (front_joined at) in
-      let R : ℕ → Type 0 = λ n. Joins by.node.slot n by.node.slot size by.node.slot cells (front_joined at) in
-      let S : ℕ → Type 0 = λ n. Joins by.node.slot at.node.slot by.node.slot n by.node.slot cells (front_joined at) in
+      let P : List Node → Type 0 = λ ns. StandsAt slot Loose cells (seen cells at by.node by.others ns) → Joins by.node.slot at.node.slot by.node.slot by.node.size by.node.slot cells (previous_joined (seen cells at by.node by.others ns)) in
+      let base : Joins by.node.slot at.node.slot by.node.slot by.node.size by.node.slot cells (previous_joined at) = subst P (sym (turned_listed cells.records p at.spot.before by free)) (joins_seen cells at by.node by.others slot) stands in
+      let Q : ℕ → Type 0 = λ n. Joins n slot n size n cells (previous_joined at) in
+      let R : ℕ → Type 0 = λ n. Joins by.node.slot n by.node.slot size by.node.slot cells (previous_joined at) in
+      let S : ℕ → Type 0 = λ n. Joins by.node.slot at.node.slot by.node.slot n by.node.slot cells (previous_joined at) in
       subst Q by.slot_is (subst R stands.1.slot_is (subst S (sym (size_is ∙ by.size_is)) base))
 
-  pub front_stays : (record_at cells.records slot).prev ≡ None → front_joined at ≡ at
+  pub front_stays : (record_at cells.records slot).prev ≡ None → previous_joined at ≡ at
   front_stays none = unjoined_front at (past_none at.spot.before (sym (prev_is cells at slot Loose stands) ∙ none))
 
-  pub front_is_live : (p : ℕ) → (record_at cells.records slot).prev ≡ Some p → is_state_free (record_at cells.records p).state ≡ false → front_joined at ≡ at
+  pub front_is_live : (p : ℕ) → (record_at cells.records slot).prev ≡ Some p → is_state_free (record_at cells.records p).state ≡ false → previous_joined at ≡ at
   front_is_live p link live = unjoined_front at (past_live cells.records p at.spot.before (in_front cells at slot Loose stands p link) live)
 
   -- it takes in the free block behind
-  pub back_joins : (n size : ℕ) → (record_at cells.records slot).next ≡ Some n → is_state_free (record_at cells.records n).state ≡ true → size ≡ (record_at cells.records n).size → Joins slot n n size slot cells (back_joined at)
-  back_joins n size link free size_is =
+  pub next_joins : (n size : ℕ) → (record_at cells.records slot).next ≡ Some n → is_state_free (record_at cells.records n).state ≡ true → size ≡ (record_at cells.records n).size → Joins slot n n size slot cells (next_joined at)
+  next_joins n size link free size_is =
       let by : Neighbour cells.records n at.nodes = in_back cells at slot Loose stands n link in
-      let P : List Node → Type 0 = λ ns. StandsAt slot Loose cells (record at { nodes = ns }) → Joins at.node.slot by.node.slot by.node.slot by.node.size at.node.slot cells (back_joined (record at { nodes = ns })) in
-      let base : Joins at.node.slot by.node.slot by.node.slot by.node.size at.node.slot cells (back_joined at) = subst P (sym (turned_listed cells.records n at.nodes by free)) (joins_behind cells at by.node by.others slot) stands in
-      let Q : ℕ → Type 0 = λ m. Joins slot m m size slot cells (back_joined at) in
-      let R : ℕ → Type 0 = λ m. Joins m by.node.slot by.node.slot size m cells (back_joined at) in
-      let S : ℕ → Type 0 = λ m. Joins at.node.slot by.node.slot by.node.slot m at.node.slot cells (back_joined at) in
+      let P : List Node → Type 0 = λ ns. StandsAt slot Loose cells (record at { nodes = ns }) → Joins at.node.slot by.node.slot by.node.slot by.node.size at.node.slot cells (next_joined (record at { nodes = ns })) in
+      let base : Joins at.node.slot by.node.slot by.node.slot by.node.size at.node.slot cells (next_joined at) = subst P (sym (turned_listed cells.records n at.nodes by free)) (joins_behind cells at by.node by.others slot) stands in
+      let Q : ℕ → Type 0 = λ m. Joins slot m m size slot cells (next_joined at) in
+      let R : ℕ → Type 0 = λ m. Joins m by.node.slot by.node.slot size m cells (next_joined at) in
+      let S : ℕ → Type 0 = λ m. Joins at.node.slot by.node.slot by.node.slot m at.node.slot cells (next_joined at) in
       subst Q by.slot_is (subst R stands.1.slot_is (subst S (sym (size_is ∙ by.size_is)) base))
 
-  pub back_stays : (record_at cells.records slot).next ≡ None → back_joined at ≡ at
+  pub back_stays : (record_at cells.records slot).next ≡ None → next_joined at ≡ at
   back_stays none = unjoined_back at (past_none at.nodes (sym (next_is cells at slot Loose stands) ∙ none))
 
-  pub back_is_live : (n : ℕ) → (record_at cells.records slot).next ≡ Some n → is_state_free (record_at cells.records n).state ≡ false → back_joined at ≡ at
+  pub back_is_live : (n : ℕ) → (record_at cells.records slot).next ≡ Some n → is_state_free (record_at cells.records n).state ≡ false → next_joined at ≡ at
   back_is_live n link live = unjoined_back at (past_live cells.records n at.nodes (in_back cells at slot Loose stands n link) live)

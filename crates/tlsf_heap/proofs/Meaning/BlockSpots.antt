@@ -4,7 +4,7 @@ use Rattle.std.specs.Option.{option_or}
 use Rattle.std.proofs.lemmas.Bool.{cases_Bool, cases_lt, eq-eqb, eqb-true}
 use Rattle.tlsf_heap.specs.Content.{Block, Pool, blocks_of, is_at, size_at}
 use Rattle.tlsf_heap.specs.Malloc.{replaced, replaced_in}
-use Rattle.tlsf_heap.specs.Free.{in_front_of, behind, first_in_pools}
+use Rattle.tlsf_heap.specs.Free.{previous_of, next_of, first_in_pools}
 use Rattle.tlsf_heap.specs.Inner.Spots.{plug}
 use Rattle.tlsf_heap.proofs.Content.Blocks.{Ascends, NoneAt, NoneAt-below}
 use Rattle.tlsf_heap.proofs.Inner.Counts.{one_if, count-cons, count-append, count-plug, Split, split_at}
@@ -103,24 +103,24 @@ module _ {A : Type 0} where
         ap (λ blocks. record pool { blocks = blocks } ∷ map (replaced_in place others) pools) (replaced_none others pool.blocks (omega (arith, none, counts)))
         ∙ ap (λ others_too. pool ∷ others_too) (replaced_pools others pools (omega (arith, none, counts)))
 
-    none_in_front : (block : Block A) (blocks : List (Block A)) → count_by (is_at place) blocks ≡ 0 → in_front_of place (block ∷ blocks) ≡ None
+    none_in_front : (block : Block A) (blocks : List (Block A)) → count_by (is_at place) blocks ≡ 0 → previous_of place (block ∷ blocks) ≡ None
     none_in_front block [] none = refl
     none_in_front block (next ∷ blocks) none = rw (apart_first next blocks none) (none_in_front next blocks (later next blocks none))
 
-    none_at_all : (blocks : List (Block A)) → count_by (is_at place) blocks ≡ 0 → in_front_of place blocks ≡ None
+    none_at_all : (blocks : List (Block A)) → count_by (is_at place) blocks ≡ 0 → previous_of place blocks ≡ None
     none_at_all [] none = refl
     none_at_all (block ∷ blocks) none = none_in_front block blocks (later block blocks none)
 
-    none_behind : (blocks : List (Block A)) → count_by (is_at place) blocks ≡ 0 → behind place blocks ≡ None
+    none_behind : (blocks : List (Block A)) → count_by (is_at place) blocks ≡ 0 → next_of place blocks ≡ None
     none_behind [] none = refl
     none_behind (block ∷ []) none = refl
     none_behind (block ∷ next ∷ blocks) none = rw (apart_first block (next ∷ blocks) none) (none_behind (next ∷ blocks) (later block (next ∷ blocks) none))
 
-    in_front_plug : (front : List (Block A)) (block : Block A) (blocks : List (Block A)) → count_by (is_at place) front ≡ 0 → is_at place block ≡ false → in_front_of place (plug front (block ∷ blocks)) ≡ in_front_of place (block ∷ blocks)
+    in_front_plug : (front : List (Block A)) (block : Block A) (blocks : List (Block A)) → count_by (is_at place) front ≡ 0 → is_at place block ≡ false → previous_of place (plug front (block ∷ blocks)) ≡ previous_of place (block ∷ blocks)
     in_front_plug [] block blocks none apart = refl
     in_front_plug (f ∷ front) block blocks none apart = in_front_plug front f (block ∷ blocks) (later f front none) (apart_first f front none) ∙ rw apart refl
 
-    behind_plug : (front : List (Block A)) (block : Block A) (blocks : List (Block A)) → count_by (is_at place) front ≡ 0 → behind place (plug front (block ∷ blocks)) ≡ behind place (block ∷ blocks)
+    behind_plug : (front : List (Block A)) (block : Block A) (blocks : List (Block A)) → count_by (is_at place) front ≡ 0 → next_of place (plug front (block ∷ blocks)) ≡ next_of place (block ∷ blocks)
     behind_plug [] block blocks none = refl
     behind_plug (f ∷ front) block blocks none = behind_plug front f (block ∷ blocks) (later f front none) ∙ rw (apart_first f front none) refl
 
@@ -195,18 +195,18 @@ module _ {A : Type 0} where
         ∙ option_or-None (tell (plug spot.before (block ∷ blocks)))
 
     -- the block in front of it is the nearest
-    pub front_at : first_in_pools (in_front_of block.place) (filled_pools spot (block ∷ blocks)) ≡ first_of spot.before
-    front_at = told (in_front_of block.place) (none_at_all block.place) ∙ nearest spot.before (omega (arith, alone.outside))
+    pub front_at : first_in_pools (previous_of block.place) (filled_pools spot (block ∷ blocks)) ≡ first_of spot.before
+    front_at = told (previous_of block.place) (none_at_all block.place) ∙ nearest spot.before (omega (arith, alone.outside))
       where
-        nearest : (front : List (Block A)) → count_by (is_at block.place) front ≡ 0 → in_front_of block.place (plug front (block ∷ blocks)) ≡ first_of front
+        nearest : (front : List (Block A)) → count_by (is_at block.place) front ≡ 0 → previous_of block.place (plug front (block ∷ blocks)) ≡ first_of front
         nearest [] none = none_in_front block.place block blocks alone.behind
         nearest (f ∷ front) none = in_front_plug block.place front f (block ∷ blocks) (later block.place f front none) (apart_first block.place f front none) ∙ rw (eq-eqb block.place block.place refl) refl
 
     -- and the one behind it the next
-    pub back_at : first_in_pools (behind block.place) (filled_pools spot (block ∷ blocks)) ≡ first_of blocks
-    back_at = told (behind block.place) (none_behind block.place) ∙ behind_plug block.place spot.before block blocks (omega (arith, alone.outside)) ∙ next blocks
+    pub back_at : first_in_pools (next_of block.place) (filled_pools spot (block ∷ blocks)) ≡ first_of blocks
+    back_at = told (next_of block.place) (none_behind block.place) ∙ behind_plug block.place spot.before block blocks (omega (arith, alone.outside)) ∙ next blocks
       where
-        next : (others : List (Block A)) → behind block.place (block ∷ others) ≡ first_of others
+        next : (others : List (Block A)) → next_of block.place (block ∷ others) ≡ first_of others
         next [] = refl
         next (n ∷ others) = rw (eq-eqb block.place block.place refl) refl
 

@@ -6,7 +6,7 @@ use Rattle.tlsf_class.specs.Classes.{classes}
 use Rattle.tlsf_heap.specs.Content.{Block, Content, blocks_of, size_at}
 use Rattle.tlsf_heap.specs.Lists.{link}
 use Rattle.tlsf_heap.specs.Malloc.{replaced_in}
-use Rattle.tlsf_heap.specs.Free.{if_free, free_in_front, free_behind, unlink_block, size_of, start_of}
+use Rattle.tlsf_heap.specs.Free.{if_free, free_previous, free_next, unlink_block, size_of, start_of}
 use Rattle.tlsf_heap.specs.Free.{free_block, without_block, after_free}
 use Rattle.tlsf_heap.specs.Inner.Nodes.{Status, InUse, Listed, Loose, Node, turned, owner_of, block_of, pool_of, content_by, has_place, is_listed, entered}
 use Rattle.tlsf_heap.specs.Inner.Spots.{Spot, filled, laid}
@@ -146,8 +146,8 @@ module _ (spot : Spot) (node : Node) (nodes : List Node) (lists : List (List Nod
       let here = alone spot node nodes told.places in
       let f : Option (Block ℕ) = option_map block_of front in
       let b : Option (Block ℕ) = option_map block_of back in
-      let f_is : free_in_front node.place (content_by (laid count spot (node ∷ nodes) lists taken)) ≡ f = ap if_free (front_is spot node nodes here) ∙ free_first spot.before before_settled in
-      let b_is : free_behind node.place (content_by (laid count spot (node ∷ nodes) lists taken)) ≡ b = ap if_free (back_is spot node nodes here) ∙ free_first nodes behind_settled in
+      let f_is : free_previous node.place (content_by (laid count spot (node ∷ nodes) lists taken)) ≡ f = ap if_free (front_is spot node nodes here) ∙ free_first spot.before before_settled in
+      let b_is : free_next node.place (content_by (laid count spot (node ∷ nodes) lists taken)) ≡ b = ap if_free (back_is spot node nodes here) ∙ free_first nodes behind_settled in
       let size_is_so : size_at node.place (blocks_of (map pool_of (filled spot (node ∷ nodes)))) ≡ node.size = size_is spot node nodes here in
       let block_is = block_merged front back in
       let by_pools : map pool_of (filled (spot_past spot) (merged ∷ past nodes)) ≡ (after count taken f b node.size).pools =
@@ -160,6 +160,6 @@ module _ (spot : Spot) (node : Node) (nodes : List Node) (lists : List (List Nod
       ∙ ap (link (start_of f node.place) (size_of f + node.size + size_of b)) (lists_back front ∙ ap (unlink_block b) lists_front) in
       let both : content_by (freed count spot node nodes lists kept) ≡ after count taken f b node.size = λ i. record { records = count; pools = by_pools i; lists = by_lists i } in
       both
-      ∙ sym (ap (λ x. after count taken x (free_behind node.place (content_by (laid count spot (node ∷ nodes) lists taken))) (size_at node.place (blocks_of (map pool_of (filled spot (node ∷ nodes)))))) f_is
+      ∙ sym (ap (λ x. after count taken x (free_next node.place (content_by (laid count spot (node ∷ nodes) lists taken))) (size_at node.place (blocks_of (map pool_of (filled spot (node ∷ nodes)))))) f_is
       ∙ ap (λ y. after count taken f y (size_at node.place (blocks_of (map pool_of (filled spot (node ∷ nodes)))))) b_is
       ∙ ap (after count taken f b) size_is_so)

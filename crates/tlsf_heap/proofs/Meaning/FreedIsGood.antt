@@ -8,7 +8,7 @@ use Rattle.tlsf_heap.specs.Content.{Block, Pool, Content, blocks_of, is_free, is
 use Rattle.tlsf_heap.specs.Lists.{list_of, link}
 use Rattle.tlsf_heap.specs.Malloc.{replaced_in}
 use Rattle.tlsf_heap.specs.Good.{Covers, NoFreeNeighbours, IsGoodPool, AreGoodPools, times, is_listed, AreLists, IsGood}
-use Rattle.tlsf_heap.specs.Free.{is_owned_by, is_live, if_free, free_in_front, free_behind, unlink_block, size_of, start_of}
+use Rattle.tlsf_heap.specs.Free.{is_owned_by, is_live, if_free, free_previous, free_next, unlink_block, size_of, start_of}
 use Rattle.tlsf_heap.specs.Free.{free_block, without_block, after_free, free}
 use Rattle.tlsf_heap.specs.Inner.Spots.{plug}
 use Rattle.tlsf_heap.proofs.Content.Blocks.{Ascends-pools}
@@ -366,12 +366,12 @@ module _ {A : Type 0} where
     pub after_is : after_free block.place old ≡ new
     after_is =
         let alone : IsAlone spot block blocks = block_alone spot block blocks once in
-        let f_is : free_in_front block.place old ≡ front = ap if_free (front_at spot block blocks alone) in
-        let b_is : free_behind block.place old ≡ back = ap if_free (back_at spot block blocks alone) in
+        let f_is : free_previous block.place old ≡ front = ap if_free (front_at spot block blocks alone) in
+        let b_is : free_next block.place old ≡ back = ap if_free (back_at spot block blocks alone) in
         let by_pools : (after front back block.size).pools ≡ new.pools =
         ap (map (replaced_in block.place (merged ∷ []))) (ap (without_block back) without_front ∙ without_back)
         ∙ replaced_at past_spot block (past_free blocks) (block_alone past_spot block (past_free blocks) once_both) (merged ∷ []) in
-        ap (λ x. after x (free_behind block.place old) (size_at block.place (blocks_of old.pools))) f_is
+        ap (λ x. after x (free_next block.place old) (size_at block.place (blocks_of old.pools))) f_is
         ∙ ap (λ y. after front y (size_at block.place (blocks_of old.pools))) b_is
         ∙ ap (after front back) (size_here spot block blocks alone)
         ∙ ap (λ pools. record new { pools = pools }) by_pools

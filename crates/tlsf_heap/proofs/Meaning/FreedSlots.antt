@@ -1,7 +1,7 @@
 -- free gives back one slot, and changes no other.
 use Rattle.std.proofs.Common.{◌≡◌, ℕ, ◌+◌, ◌≤◌, true, false, cond, List, [], ◌∷◌, ◌++◌, map, sym, subst, arith, Option, Some, None}
 use Rattle.tlsf_heap.specs.Content.{Block, Pool, Content, blocks_of, is_at, size_at}
-use Rattle.tlsf_heap.specs.Free.{free_in_front, free_behind, size_of, start_of}
+use Rattle.tlsf_heap.specs.Free.{free_previous, free_next, size_of, start_of}
 use Rattle.tlsf_heap.specs.Malloc.{replaced, replaced_in}
 use Rattle.tlsf_heap.specs.GoodSlots.{slot_times, HasGoodSlots}
 use Rattle.tlsf_heap.specs.Free.{free_block, without_block, after_free}
@@ -41,8 +41,8 @@ module _ (slot : ℕ) where
 
 pub after_free_slots : (place : ℕ) (content : Content ℕ) → HasGoodSlots content → HasGoodSlots (after_free place content)
 after_free_slots place content slots =
-    let front = free_in_front place content in
-    let back = free_behind place content in
+    let front = free_previous place content in
+    let back = free_next place content in
     let size = size_of front + size_at place (blocks_of content.pools) + size_of back in
     let fewer : (slot : ℕ) → slot_times slot (blocks_of (after_free place content).pools) ≤ slot_times slot (blocks_of content.pools) = λ slot. free_slots slot place (start_of front place) size front back content.pools in
     record {

@@ -3,7 +3,7 @@ use Rattle.std.proofs.Common.{◌≡◌, ℕ, List, ◌∷◌, ◌++◌, map, sy
 use Rattle.std.proofs.lemmas.List.{map-append}
 use Rattle.tlsf_heap.specs.Content.{Block, blocks_of, is_at, size_at}
 use Rattle.tlsf_heap.specs.Malloc.{replaced_in}
-use Rattle.tlsf_heap.specs.Free.{in_front_of, behind, first_in_pools}
+use Rattle.tlsf_heap.specs.Free.{previous_of, next_of, first_in_pools}
 use Rattle.tlsf_heap.specs.Inner.Nodes.{Node, Area, block_of, pool_of, nodes_of, has_place}
 use Rattle.tlsf_heap.specs.Inner.Spots.{plug, Spot, filled}
 use Rattle.tlsf_heap.proofs.Inner.Counts.{count-map}
@@ -43,11 +43,11 @@ module _ (spot : Spot) (node : Node) (nodes : List Node) (alone : Alone spot nod
       ∙ sym (pools_are spot (news ++ nodes))
 
   -- the block in front of it is that of the nearest node, the one behind it that of the next
-  pub front_is : first_in_pools (in_front_of node.place) (map pool_of (filled spot (node ∷ nodes))) ≡ first_block spot.before
-  front_is = ap (first_in_pools (in_front_of node.place)) (pools_are spot (node ∷ nodes)) ∙ front_at (block_spot spot) (block_of node) (map block_of nodes) block_alone
+  pub front_is : first_in_pools (previous_of node.place) (map pool_of (filled spot (node ∷ nodes))) ≡ first_block spot.before
+  front_is = ap (first_in_pools (previous_of node.place)) (pools_are spot (node ∷ nodes)) ∙ front_at (block_spot spot) (block_of node) (map block_of nodes) block_alone
 
-  pub back_is : first_in_pools (behind node.place) (map pool_of (filled spot (node ∷ nodes))) ≡ first_block nodes
-  back_is = ap (first_in_pools (behind node.place)) (pools_are spot (node ∷ nodes)) ∙ back_at (block_spot spot) (block_of node) (map block_of nodes) block_alone
+  pub back_is : first_in_pools (next_of node.place) (map pool_of (filled spot (node ∷ nodes))) ≡ first_block nodes
+  back_is = ap (first_in_pools (next_of node.place)) (pools_are spot (node ∷ nodes)) ∙ back_at (block_spot spot) (block_of node) (map block_of nodes) block_alone
 
   pub size_is : size_at node.place (blocks_of (map pool_of (filled spot (node ∷ nodes)))) ≡ node.size
   size_is = ap (λ pools. size_at node.place (blocks_of pools)) (pools_are spot (node ∷ nodes)) ∙ size_here (block_spot spot) (block_of node) (map block_of nodes) block_alone

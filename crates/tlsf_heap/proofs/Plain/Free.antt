@@ -8,7 +8,7 @@ use Rattle.tlsf_class.specs.Classes.{unit, greatest_size}
 use Rattle.tlsf_heap.specs.declared.refusal.Refusal.TheVariants.{BadPointer}
 use Rattle.tlsf_heap.specs.Content.{Block, Pool, Content, blocks_of, is_free, is_at, size_at}
 use Rattle.tlsf_heap.specs.Lists.{link}
-use Rattle.tlsf_heap.specs.Free.{is_live, in_front_of, behind, if_free, first_in_pools, size_of, start_of, unlink_block}
+use Rattle.tlsf_heap.specs.Free.{is_live, previous_of, next_of, if_free, first_in_pools, size_of, start_of, unlink_block}
 use Rattle.tlsf_heap.specs.Free.{free_block, without_block, after_free, free}
 use Rattle.tlsf_heap.specs.Malloc.{replaced_in}
 use Rattle.tlsf_heap.specs.Good.{Covers, AreGoodPools}
@@ -25,18 +25,18 @@ abbrev pub OfSome : (Block ℕ → Type 0) → Option (Block ℕ) → Type 0
 OfSome Fact None = ⊤
 OfSome Fact (Some block) = Fact block
 
-front_of_all : (Fact : Block ℕ → Type 0) (place : ℕ) (blocks : List (Block ℕ)) → AllByRecursion Fact blocks → OfSome Fact (in_front_of place blocks)
+front_of_all : (Fact : Block ℕ → Type 0) (place : ℕ) (blocks : List (Block ℕ)) → AllByRecursion Fact blocks → OfSome Fact (previous_of place blocks)
 front_of_all Fact place [] a = tt
 front_of_all Fact place (block ∷ []) a = tt
-front_of_all Fact place (block ∷ next ∷ blocks) a = elim (is_at place next) as (λ b. OfSome Fact (cond b (Some block) (in_front_of place (next ∷ blocks)))) [
+front_of_all Fact place (block ∷ next ∷ blocks) a = elim (is_at place next) as (λ b. OfSome Fact (cond b (Some block) (previous_of place (next ∷ blocks)))) [
   | true ↦ a.0
   | false ↦ front_of_all Fact place (next ∷ blocks) a.1
 ]
 
-pub back_of_all : (Fact : Block ℕ → Type 0) (place : ℕ) (blocks : List (Block ℕ)) → AllByRecursion Fact blocks → OfSome Fact (behind place blocks)
+pub back_of_all : (Fact : Block ℕ → Type 0) (place : ℕ) (blocks : List (Block ℕ)) → AllByRecursion Fact blocks → OfSome Fact (next_of place blocks)
 back_of_all Fact place [] a = tt
 back_of_all Fact place (block ∷ []) a = tt
-back_of_all Fact place (block ∷ next ∷ blocks) a = elim (is_at place block) as (λ b. OfSome Fact (cond b (Some next) (behind place (next ∷ blocks)))) [
+back_of_all Fact place (block ∷ next ∷ blocks) a = elim (is_at place block) as (λ b. OfSome Fact (cond b (Some next) (next_of place (next ∷ blocks)))) [
   | true ↦ a.1.0
   | false ↦ back_of_all Fact place (next ∷ blocks) a.1
 ]
@@ -63,11 +63,11 @@ sized (Some block) a = elim (is_free block) as (λ b. IsSized (cond b (Some bloc
   | false ↦ tt
 ]
 
-pub front_sized : (place : ℕ) (pools : List (Pool ℕ)) → AreGoodPools 0 pools → IsSized (if_free (first_in_pools (in_front_of place) pools))
-front_sized place pools good = sized (first_in_pools (in_front_of place) pools) (first_of_all IsWhole (in_front_of place) pools (front_of_all IsWhole place) (whole_in_pools 0 pools good))
+pub previous_sized : (place : ℕ) (pools : List (Pool ℕ)) → AreGoodPools 0 pools → IsSized (if_free (first_in_pools (previous_of place) pools))
+previous_sized place pools good = sized (first_in_pools (previous_of place) pools) (first_of_all IsWhole (previous_of place) pools (front_of_all IsWhole place) (whole_in_pools 0 pools good))
 
-pub back_sized : (place : ℕ) (pools : List (Pool ℕ)) → AreGoodPools 0 pools → IsSized (if_free (first_in_pools (behind place) pools))
-back_sized place pools good = sized (first_in_pools (behind place) pools) (first_of_all IsWhole (behind place) pools (back_of_all IsWhole place) (whole_in_pools 0 pools good))
+pub next_sized : (place : ℕ) (pools : List (Pool ℕ)) → AreGoodPools 0 pools → IsSized (if_free (first_in_pools (next_of place) pools))
+next_sized place pools good = sized (first_in_pools (next_of place) pools) (first_of_all IsWhole (next_of place) pools (back_of_all IsWhole place) (whole_in_pools 0 pools good))
 
 -- a size of whole units
 pub in_units_of : (o : Option (Block ℕ)) → IsSized o → size_of o % unit ≡ 0
@@ -92,7 +92,7 @@ free_size block = elim (is_free block) as (λ b. size_of (cond b (Some block) No
 
 -- the bytes of the block at the place and of its free neighbours
 abbrev three : ℕ → List (Block ℕ) → ℕ
-three place blocks = size_of (if_free (in_front_of place blocks)) + size_at place blocks + size_of (if_free (behind place blocks))
+three place blocks = size_of (if_free (previous_of place blocks)) + size_at place blocks + size_of (if_free (next_of place blocks))
 
 -- they lie within what the blocks cover
 three_within : (place from to : ℕ) (blocks : List (Block ℕ)) → Covers from to blocks → from + three place blocks ≤ to
@@ -106,38 +106,38 @@ three_within place from to (block ∷ next ∷ blocks) c =
     elim (cases_Bool (is_at place block)) [
       | inl here ↦
           let none : NoneAt place (next ∷ blocks) = NoneAt-below place (from + block.size) (next ∷ blocks) (omega (arith, eqb-true block.place place here, c.0, c.1)) (Ascends-covers (from + block.size) to (next ∷ blocks) c.3) in
-          let front : size_of (if_free (in_front_of place (block ∷ next ∷ blocks))) ≡ 0 = ap (λ o. size_of (if_free o)) (in_front_none place block (next ∷ blocks) none) in
-          let back = ap (λ b. size_of (if_free (cond b (Some next) (behind place (next ∷ blocks))))) here in
+          let front : size_of (if_free (previous_of place (block ∷ next ∷ blocks))) ≡ 0 = ap (λ o. size_of (if_free o)) (in_front_none place block (next ∷ blocks) none) in
+          let back = ap (λ b. size_of (if_free (cond b (Some next) (next_of place (next ∷ blocks))))) here in
           omega (arith, front, back, free_size next, size_at-here place block (next ∷ blocks) here, Covers-le (from + block.size + next.size) to blocks c.3.3)
       | inr elsewhere ↦
-          let back = ap (λ b. size_of (if_free (cond b (Some next) (behind place (next ∷ blocks))))) elsewhere in
+          let back = ap (λ b. size_of (if_free (cond b (Some next) (next_of place (next ∷ blocks))))) elsewhere in
           let size = size_at-elsewhere place block (next ∷ blocks) elsewhere in
           elim (cases_Bool (is_at place next)) [
             | inl here ↦
-                let front = ap (λ b. size_of (if_free (cond b (Some block) (in_front_of place (next ∷ blocks))))) here in
+                let front = ap (λ b. size_of (if_free (cond b (Some block) (previous_of place (next ∷ blocks))))) here in
                 omega (arith, rest, back, size, front, free_size block)
             | inr later ↦
-                let front = ap (λ b. size_of (if_free (cond b (Some block) (in_front_of place (next ∷ blocks))))) later in
+                let front = ap (λ b. size_of (if_free (cond b (Some block) (previous_of place (next ∷ blocks))))) later in
                 omega (arith, rest, back, size, front)
           ]
     ]
 
 -- in good pools they are no more than the greatest size
 pub joined_size : (is_meant : ℕ → Bool) (place from : ℕ) (pools : List (Pool ℕ)) → AreGoodPools from pools → is_live is_meant place (blocks_of pools) ≡ true
-    → size_of (if_free (first_in_pools (in_front_of place) pools)) + size_at place (blocks_of pools) + size_of (if_free (first_in_pools (behind place) pools)) ≤ greatest_size
+    → size_of (if_free (first_in_pools (previous_of place) pools)) + size_at place (blocks_of pools) + size_of (if_free (first_in_pools (next_of place) pools)) ≤ greatest_size
 joined_size is_meant place from [] g h = absurd (cc)
 joined_size is_meant place from (pool ∷ pools) g h = elim (or_cases (is_live is_meant place pool.blocks) (is_live is_meant place (blocks_of pools)) (sym (live-append is_meant place pool.blocks (blocks_of pools)) ∙ h)) [
   | inl here ↦
       let below : place < pool.base + pool.bytes = live_below is_meant place pool.base (pool.base + pool.bytes) pool.blocks g.1.covered here in
       let others = untouched place (pool.base + pool.bytes) pools below g.2 in
-      let front = ap (λ o. size_of (if_free o)) (ap (option_or (in_front_of place pool.blocks)) others.front ∙ option_or-None (in_front_of place pool.blocks)) in
-      let back = ap (λ o. size_of (if_free o)) (ap (option_or (behind place pool.blocks)) others.back ∙ option_or-None (behind place pool.blocks)) in
+      let front = ap (λ o. size_of (if_free o)) (ap (option_or (previous_of place pool.blocks)) others.front ∙ option_or-None (previous_of place pool.blocks)) in
+      let back = ap (λ o. size_of (if_free o)) (ap (option_or (next_of place pool.blocks)) others.back ∙ option_or-None (next_of place pool.blocks)) in
       omega (arith, front, back, size_at-front is_meant place pool.blocks (blocks_of pools) here, three_within place pool.base (pool.base + pool.bytes) pool.blocks g.1.covered, g.1.most_bytes)
   | inr later ↦
       let above : pool.base + pool.bytes ≤ place = live_above is_meant place (pool.base + pool.bytes) (blocks_of pools) (Ascends-pools (pool.base + pool.bytes) pools g.2) later in
       let none = (NoneAt-above place pool.base (pool.base + pool.bytes) pool.blocks above g.1.covered).0 in
-      let front = ap (λ o. size_of (if_free (option_or o (first_in_pools (in_front_of place) pools)))) (none_in_front place pool.blocks none) in
-      let back = ap (λ o. size_of (if_free (option_or o (first_in_pools (behind place) pools)))) (none_behind place pool.blocks none) in
+      let front = ap (λ o. size_of (if_free (option_or o (first_in_pools (previous_of place) pools)))) (none_in_front place pool.blocks none) in
+      let back = ap (λ o. size_of (if_free (option_or o (first_in_pools (next_of place) pools)))) (none_behind place pool.blocks none) in
       omega (arith, front, back, size_at-back place pool.blocks (blocks_of pools) none, joined_size is_meant place (pool.base + pool.bytes) pools g.2 later)
 ]
 
@@ -148,7 +148,7 @@ live_in_pools is_meant place (pool ∷ pools) = ap (λ b. is_live is_meant place
 
 -- the parts that the code makes are those of the content after free
 pub after_free_is : (records place : ℕ) (pools : List (Pool ℕ)) (lists : List (List ℕ)) (front back : Option (Block ℕ)) (start size : ℕ)
-    → front ≡ if_free (first_in_pools (in_front_of place) pools) → back ≡ if_free (first_in_pools (behind place) pools)
+    → front ≡ if_free (first_in_pools (previous_of place) pools) → back ≡ if_free (first_in_pools (next_of place) pools)
     → start ≡ start_of front place → size ≡ size_of front + size_at place (blocks_of pools) + size_of back
     → (first second third : List (Pool ℕ)) (rejoined : List (List ℕ)) → first ≡ without_block front pools → second ≡ without_block back first
     → third ≡ map (replaced_in place (free_block start size ∷ [])) second → rejoined ≡ link start size (unlink_block back (unlink_block front lists))
@@ -164,7 +164,7 @@ after_free_is records place pools lists front back start size f b at all first s
     ∙ ap (λ n. of front back n size) at
     ∙ ap (of front back (start_of front place)) all
     ∙ ap (λ o. of o back (start_of o place) (size_of o + size_at place (blocks_of pools) + size_of back)) f
-    ∙ ap (λ o. let front = if_free (first_in_pools (in_front_of place) pools) in of front o (start_of front place) (size_of front + size_at place (blocks_of pools) + size_of o)) b
+    ∙ ap (λ o. let front = if_free (first_in_pools (previous_of place) pools) in of front o (start_of front place) (size_of front + size_at place (blocks_of pools) + size_of o)) b
 
 -- the plain heap keeps what it keeps where a live block is freed
 pub freed_is_plain : (is_meant : ℕ → Bool) (place : ℕ) (content : Content ℕ) → IsPlain content → is_live is_meant place (blocks_of content.pools) ≡ true → IsPlain (after_free place content)

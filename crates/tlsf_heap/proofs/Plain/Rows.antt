@@ -8,7 +8,7 @@ use Rattle.std.proofs.lemmas.List.Folds.{list_any-append}
 use Rattle.tlsf_heap.specs.declared.row.Row.{Row}
 use Rattle.tlsf_heap.specs.declared.refusal.Refusal.TheVariants.{NoPool}
 use Rattle.tlsf_heap.specs.Content.{Block, Pool, blocks_of, is_at}
-use Rattle.tlsf_heap.specs.Free.{behind, first_in_pools}
+use Rattle.tlsf_heap.specs.Free.{next_of, first_in_pools}
 use Rattle.tlsf_heap.specs.Good.{Covers, IsGoodPool, AreGoodPools}
 use Rattle.tlsf_heap.specs.Rows.{row_of, rows_from}
 use Rattle.tlsf_heap.specs.PlainHeap.{rows_at, rest_at, rest_from, is_from}
@@ -91,7 +91,7 @@ next_kept first blocks None h = refl
 next_kept first blocks (Some next) h = sym (rows_elsewhere next.place first blocks (ne_eqb first.place next.place (λ e. absurd (omega (arith, e, h)))))
 
 -- the rows from a block on are its own, and those from the block behind it on
-rows_found : (place from : ℕ) (blocks : List (Block ℕ)) (block : Block ℕ) → Ascends from blocks → find (is_at place) blocks ≡ Some block → rows_at place blocks ≡ row_of block ∷ next_in (behind place blocks) blocks
+rows_found : (place from : ℕ) (blocks : List (Block ℕ)) (block : Block ℕ) → Ascends from blocks → find (is_at place) blocks ≡ Some block → rows_at place blocks ≡ row_of block ∷ next_in (next_of place blocks) blocks
 rows_found place from [] block a f = absurd (cc)
 rows_found place from (first ∷ []) block a f = elim (cases_Bool (is_at place first)) [
   | inl here ↦ rows_here place first [] here ∙ ap (λ (b : Block ℕ). row_of b ∷ []) (some_is first block (sym (find_here place first [] here) ∙ f))
@@ -100,34 +100,34 @@ rows_found place from (first ∷ []) block a f = elim (cases_Bool (is_at place f
 rows_found place from (first ∷ next ∷ blocks) block a f = elim (cases_Bool (is_at place first)) [
   | inl here ↦
       let same = some_is first block (sym (find_here place first (next ∷ blocks) here) ∙ f) in
-      let back : behind place (first ∷ next ∷ blocks) ≡ Some next = ap (λ b. cond b (Some next) (behind place (next ∷ blocks))) here in
+      let back : next_of place (first ∷ next ∷ blocks) ≡ Some next = ap (λ b. cond b (Some next) (next_of place (next ∷ blocks))) here in
       let apart : is_at next.place first ≡ false = ne_eqb first.place next.place (λ e. absurd (omega (arith, e, a.1, a.2.0))) in
       let rows : rows_at next.place (first ∷ next ∷ blocks) ≡ map row_of (next ∷ blocks) = rows_elsewhere next.place first (next ∷ blocks) apart ∙ rows_here next.place next blocks (eq-eqb next.place next.place refl) in
       rows_here place first (next ∷ blocks) here
       ∙ ap (λ (b : Block ℕ). row_of b ∷ map row_of (next ∷ blocks)) same
       ∙ ap (λ xs. row_of block ∷ xs) (sym (ap (λ o. next_in o (first ∷ next ∷ blocks)) back ∙ rows))
   | inr elsewhere ↦
-      let back : behind place (first ∷ next ∷ blocks) ≡ behind place (next ∷ blocks) = ap (λ b. cond b (Some next) (behind place (next ∷ blocks))) elsewhere in
+      let back : next_of place (first ∷ next ∷ blocks) ≡ next_of place (next ∷ blocks) = ap (λ b. cond b (Some next) (next_of place (next ∷ blocks))) elsewhere in
       let above = back_of_all (λ b. first.place + 1 ≤ b.place) place (next ∷ blocks) (all_from (first.place + 1) (first.place + first.size) (next ∷ blocks) (omega (arith, a.1)) a.2) in
       rows_elsewhere place first (next ∷ blocks) elsewhere
       ∙ rows_found place (first.place + first.size) (next ∷ blocks) block a.2 (sym (find_elsewhere place first (next ∷ blocks) elsewhere) ∙ f)
-      ∙ ap (λ xs. row_of block ∷ xs) (next_kept first (next ∷ blocks) (behind place (next ∷ blocks)) above ∙ ap (λ o. next_in o (first ∷ next ∷ blocks)) (sym back))
+      ∙ ap (λ xs. row_of block ∷ xs) (next_kept first (next ∷ blocks) (next_of place (next ∷ blocks)) above ∙ ap (λ o. next_in o (first ∷ next ∷ blocks)) (sym back))
 ]
 
-behind_any : (place : ℕ) (blocks : List (Block ℕ)) (next : Block ℕ) → behind place blocks ≡ Some next → list_any (is_at next.place) blocks ≡ true
+behind_any : (place : ℕ) (blocks : List (Block ℕ)) (next : Block ℕ) → next_of place blocks ≡ Some next → list_any (is_at next.place) blocks ≡ true
 behind_any place [] next h = absurd (cc)
 behind_any place (block ∷ []) next h = absurd (cc)
 behind_any place (block ∷ other ∷ blocks) next h = elim (cases_Bool (is_at place block)) [
   | inl here ↦
-      let same = some_is other next (sym (ap (λ b. cond b (Some other) (behind place (other ∷ blocks))) here) ∙ h) in
+      let same = some_is other next (sym (ap (λ b. cond b (Some other) (next_of place (other ∷ blocks))) here) ∙ h) in
       or_right (is_at next.place block) (list_any (is_at next.place) (other ∷ blocks))
       (or_left (is_at next.place other) (list_any (is_at next.place) blocks) (eq-eqb other.place next.place (ap (λ (b : Block ℕ). b.place) same)))
   | inr elsewhere ↦
       or_right (is_at next.place block) (list_any (is_at next.place) (other ∷ blocks))
-      (behind_any place (other ∷ blocks) next (sym (ap (λ b. cond b (Some other) (behind place (other ∷ blocks))) elsewhere) ∙ h))
+      (behind_any place (other ∷ blocks) next (sym (ap (λ b. cond b (Some other) (next_of place (other ∷ blocks))) elsewhere) ∙ h))
 ]
 
-next_here : (place : ℕ) (pool : Pool ℕ) (pools : List (Pool ℕ)) (o : Option (Block ℕ)) → behind place pool.blocks ≡ o → next_in o pool.blocks ≡ next_rest o (pool ∷ pools)
+next_here : (place : ℕ) (pool : Pool ℕ) (pools : List (Pool ℕ)) (o : Option (Block ℕ)) → next_of place pool.blocks ≡ o → next_in o pool.blocks ≡ next_rest o (pool ∷ pools)
 next_here place pool pools None h = refl
 next_here place pool pools (Some next) h = sym (ap (λ b. cond b (rows_at next.place pool.blocks) (rest_at next.place pools)) (behind_any place pool.blocks next h))
 
@@ -139,25 +139,25 @@ next_later pool pools (Some next) g h =
 
 -- the same in good pools
 pub rest_found : (place from : ℕ) (pools : List (Pool ℕ)) (block : Block ℕ) → AreGoodPools from pools → find (is_at place) (blocks_of pools) ≡ Some block
-    → rest_at place pools ≡ row_of block ∷ next_rest (first_in_pools (behind place) pools) pools
+    → rest_at place pools ≡ row_of block ∷ next_rest (first_in_pools (next_of place) pools) pools
 rest_found place from [] block g f = absurd (cc)
 rest_found place from (pool ∷ pools) block g f = elim (cases_Bool (list_any (is_at place) pool.blocks)) [
   | inl here ↦
       let found : find (is_at place) pool.blocks ≡ Some block = sym (find_front place pool.blocks (blocks_of pools) here) ∙ f in
       let fact = found_fact (λ b. b.place < pool.base + pool.bytes) place pool.blocks block (all_below pool.base (pool.base + pool.bytes) pool.blocks g.1.covered) found in
       let others = untouched place (pool.base + pool.bytes) pools (omega (arith, fact.0, fact.1)) g.2 in
-      let back : first_in_pools (behind place) (pool ∷ pools) ≡ behind place pool.blocks = ap (option_or (behind place pool.blocks)) others.back ∙ option_or-None (behind place pool.blocks) in
+      let back : first_in_pools (next_of place) (pool ∷ pools) ≡ next_of place pool.blocks = ap (option_or (next_of place pool.blocks)) others.back ∙ option_or-None (next_of place pool.blocks) in
       ap (λ b. cond b (rows_at place pool.blocks) (rest_at place pools)) here
       ∙ rows_found place pool.base pool.blocks block (Ascends-covers pool.base (pool.base + pool.bytes) pool.blocks g.1.covered) found
-      ∙ ap (λ xs. row_of block ∷ xs) (next_here place pool pools (behind place pool.blocks) refl ∙ ap (λ o. next_rest o (pool ∷ pools)) (sym back))
+      ∙ ap (λ xs. row_of block ∷ xs) (next_here place pool pools (next_of place pool.blocks) refl ∙ ap (λ o. next_rest o (pool ∷ pools)) (sym back))
   | inr elsewhere ↦
       let none = any_none place pool.blocks elsewhere in
-      let back : first_in_pools (behind place) (pool ∷ pools) ≡ first_in_pools (behind place) pools = ap (λ o. option_or o (first_in_pools (behind place) pools)) (none_behind place pool.blocks none) in
-      let above = first_of_all (λ b. pool.base + pool.bytes ≤ b.place) (behind place) pools (back_of_all (λ b. pool.base + pool.bytes ≤ b.place) place)
+      let back : first_in_pools (next_of place) (pool ∷ pools) ≡ first_in_pools (next_of place) pools = ap (λ o. option_or o (first_in_pools (next_of place) pools)) (none_behind place pool.blocks none) in
+      let above = first_of_all (λ b. pool.base + pool.bytes ≤ b.place) (next_of place) pools (back_of_all (λ b. pool.base + pool.bytes ≤ b.place) place)
       (all_from (pool.base + pool.bytes) (pool.base + pool.bytes) (blocks_of pools) (omega arith) (Ascends-pools (pool.base + pool.bytes) pools g.2)) in
       ap (λ b. cond b (rows_at place pool.blocks) (rest_at place pools)) elsewhere
       ∙ rest_found place (pool.base + pool.bytes) pools block g.2 (sym (find-none place pool.blocks (blocks_of pools) none) ∙ f)
-      ∙ ap (λ xs. row_of block ∷ xs) (next_later pool pools (first_in_pools (behind place) pools) g.1 above ∙ ap (λ o. next_rest o (pool ∷ pools)) (sym back))
+      ∙ ap (λ xs. row_of block ∷ xs) (next_later pool pools (first_in_pools (next_of place) pools) g.1 above ∙ ap (λ o. next_rest o (pool ∷ pools)) (sym back))
 ]
 
 pub next_rest_is : (o : Option (Block ℕ)) (pools : List (Pool ℕ)) → next_rest o pools ≡ rest_from (option_map (λ (block : Block ℕ). block.place) o) pools
@@ -165,22 +165,22 @@ next_rest_is None pools = refl
 next_rest_is (Some next) pools = refl
 
 -- a block stands where the one behind begins
-first_behind_any : (place : ℕ) (pools : List (Pool ℕ)) (next : Block ℕ) → first_in_pools (behind place) pools ≡ Some next → list_any (is_at next.place) (blocks_of pools) ≡ true
+first_behind_any : (place : ℕ) (pools : List (Pool ℕ)) (next : Block ℕ) → first_in_pools (next_of place) pools ≡ Some next → list_any (is_at next.place) (blocks_of pools) ≡ true
 first_behind_any place [] next h = absurd (cc)
-first_behind_any place (pool ∷ pools) next h = go (behind place pool.blocks) refl h (first_behind_any place pools next)
+first_behind_any place (pool ∷ pools) next h = go (next_of place pool.blocks) refl h (first_behind_any place pools next)
   where
-    go : (o : Option (Block ℕ)) → behind place pool.blocks ≡ o → option_or o (first_in_pools (behind place) pools) ≡ Some next
-        → (first_in_pools (behind place) pools ≡ Some next → list_any (is_at next.place) (blocks_of pools) ≡ true) → list_any (is_at next.place) (blocks_of (pool ∷ pools)) ≡ true
+    go : (o : Option (Block ℕ)) → next_of place pool.blocks ≡ o → option_or o (first_in_pools (next_of place) pools) ≡ Some next
+        → (first_in_pools (next_of place) pools ≡ Some next → list_any (is_at next.place) (blocks_of pools) ≡ true) → list_any (is_at next.place) (blocks_of (pool ∷ pools)) ≡ true
     go None is later others =
         list_any-append (is_at next.place) pool.blocks (blocks_of pools) ∙ or_right (list_any (is_at next.place) pool.blocks) (list_any (is_at next.place) (blocks_of pools)) (others later)
     go (Some block) is here others =
         list_any-append (is_at next.place) pool.blocks (blocks_of pools)
         ∙ or_left (list_any (is_at next.place) pool.blocks) (list_any (is_at next.place) (blocks_of pools)) (behind_any place pool.blocks next (is ∙ here))
 
-pub next_stands : (pools : List (Pool ℕ)) (place : ℕ) → is_from (option_map (λ (block : Block ℕ). block.place) (first_in_pools (behind place) pools)) pools ≡ true
-next_stands pools place = go (first_in_pools (behind place) pools) refl
+pub next_stands : (pools : List (Pool ℕ)) (place : ℕ) → is_from (option_map (λ (block : Block ℕ). block.place) (first_in_pools (next_of place) pools)) pools ≡ true
+next_stands pools place = go (first_in_pools (next_of place) pools) refl
   where
-    go : (o : Option (Block ℕ)) → first_in_pools (behind place) pools ≡ o → is_from (option_map (λ (block : Block ℕ). block.place) o) pools ≡ true
+    go : (o : Option (Block ℕ)) → first_in_pools (next_of place) pools ≡ o → is_from (option_map (λ (block : Block ℕ). block.place) o) pools ≡ true
     go None is = refl
     go (Some next) is = first_behind_any place pools next is
 

@@ -50,12 +50,12 @@ abbrev pub at_turned : Status → At → At
 at_turned status at = record at { node = turned status at.node }
 
 -- a free node in front, if there is one, left its list and took in the node
-abbrev pub front_joined : At → At
-front_joined at = record at { spot = spot_past at.spot; node = grown_in_front (listed_first at.spot.before) at.node; lists = left_by (listed_first at.spot.before) at.lists }
+abbrev pub previous_joined : At → At
+previous_joined at = record at { spot = spot_past at.spot; node = grown_in_front (listed_first at.spot.before) at.node; lists = left_by (listed_first at.spot.before) at.lists }
 
 -- a free node behind, if there is one, left its list, and the node took it in
-abbrev pub back_joined : At → At
-back_joined at = record at { node = grown_behind (listed_first at.nodes) at.node; nodes = past at.nodes; lists = left_by (listed_first at.nodes) at.lists }
+abbrev pub next_joined : At → At
+next_joined at = record at { node = grown_behind (listed_first at.nodes) at.node; nodes = past at.nodes; lists = left_by (listed_first at.nodes) at.lists }
 
 -- the node entered its list
 abbrev pub at_listed : At → At
@@ -83,7 +83,7 @@ at_cut rest bytes at = at_listed (at_split rest bytes at)
 
 -- a node in use became free, one with the free ones beside it, and listed
 abbrev pub at_freed : At → At
-at_freed at = at_listed (back_joined (front_joined (at_turned Loose at)))
+at_freed at = at_listed (next_joined (previous_joined (at_turned Loose at)))
 
 -- the cells represent the layout, and the node has this slot and this status
 abbrev pub StandsAt : ℕ → Status → Cells → At → Type 0

@@ -1,7 +1,7 @@
 use super::block::Block;
 use super::choice::Choice;
 use super::lists::{in_front, list_number, no_places, pick, rejoined, relink};
-use super::neighbours::{behind, cursor_at, is_live, neighbours};
+use super::neighbours::{cursor_at, is_live, neighbours, next_of};
 use super::pool::Pool;
 use super::pools::{block_at, block_count, has_pool, is_apart, place_for, ranges, size_at};
 use super::replaced::{cut_in_pools, replaced_in_pools, without_block};
@@ -138,12 +138,12 @@ impl PlainHeap {
     {
         let alloc = *self.pools.allocator();
         let beside = neighbours(self.pools.as_slice(), place);
-        let front = beside.front;
-        let back = beside.back;
+        let previous = beside.previous;
+        let next = beside.next;
         let one = Block::free(beside.start, beside.size);
         let lists = rejoined(alloc, self.lists.as_slice(), beside)?;
-        let pools = without_block(alloc, self.pools.as_slice(), front)?;
-        let pools = without_block(alloc, pools.as_slice(), back)?;
+        let pools = without_block(alloc, self.pools.as_slice(), previous)?;
+        let pools = without_block(alloc, pools.as_slice(), next)?;
         let pools = replaced_in_pools(alloc, pools.as_slice(), place, &[one])?;
         self.pools = pools;
         self.lists = lists;
@@ -234,7 +234,7 @@ impl Heaped for PlainHeap {
         let Some(block) = block_at(self.pools.as_slice(), place) else {
             return None;
         };
-        let next = cursor_at(behind(self.pools.as_slice(), place));
+        let next = cursor_at(next_of(self.pools.as_slice(), place));
         Some((block.row(), next))
     }
 

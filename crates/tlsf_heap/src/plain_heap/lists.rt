@@ -184,14 +184,14 @@ pub fn rejoined(
     neighbours: FreeNeighbours,
 ) -> Result<Vec<Vec<u32>>, AllocError>
     requires full { length lists.now ≡ classes }
-    requires front_sized { IsSized neighbours.front }
-    requires back_sized { IsSized neighbours.back }
+    requires previous_sized { IsSized neighbours.previous }
+    requires next_sized { IsSized neighbours.next }
     ensures { IfOk result (λ v. lists_of v.items
-        ≡ link neighbours.start neighbours.size (unlink_block neighbours.back (unlink_block neighbours.front (lists_of lists.now)))) }
+        ≡ link neighbours.start neighbours.size (unlink_block neighbours.next (unlink_block neighbours.previous (lists_of lists.now)))) }
 {
     let mut all = all_copied(alloc, lists)?;
-    leave(alloc, &mut all, neighbours.front)?;
-    leave(alloc, &mut all, neighbours.back)?;
+    leave(alloc, &mut all, neighbours.previous)?;
+    leave(alloc, &mut all, neighbours.next)?;
     enter(alloc, &mut all, neighbours.start, neighbours.size)?;
     Ok(all)
 }

@@ -4,7 +4,7 @@ ghost use Rattle.std.specs.Prelude.{◌≡◌, ℕ, Bool, true, ◌+◌, ◌%◌
 ghost use Rattle.std.specs.List.{list_any};
 ghost use Rattle.tlsf_class.specs.Classes.{unit, greatest_size};
 ghost use Rattle.tlsf_heap.specs.Content.{blocks_of, size_at as size_of_block_at};
-ghost use Rattle.tlsf_heap.specs.Free.{is_live as is_live_in, in_front_of as front_of, behind as back_of, if_free as free_one, first_in_pools, size_of as option_size, start_of};
+ghost use Rattle.tlsf_heap.specs.Free.{is_live as is_live_in, previous_of as previous_in, next_of as next_in, if_free as free_one, first_in_pools, size_of as option_size, start_of};
 ghost use Rattle.tlsf_heap.specs.Good.{AreGoodPools};
 ghost use Rattle.tlsf_heap.specs.PlainHeap.{IsSized};
 
@@ -17,8 +17,8 @@ use crate::Cursor;
 /// size, in bytes.
 #[derive(Clone, Copy)]
 pub struct FreeNeighbours {
-    pub front: Option<Block>,
-    pub back: Option<Block>,
+    pub previous: Option<Block>,
+    pub next: Option<Block>,
     pub start: u32,
     pub size: u32,
     ghost some: { 0 < size },
@@ -33,24 +33,24 @@ pub fn is_live(pools: &[Pool], place: u32, slot: u16) -> bool
     pools.iter().any(|pool| pool.is_live(place, slot))
 }
 
-/// The block in front of the one at the place, in the first pool that has one.
-fn in_front_of(pools: &[Pool], place: u32) -> Option<Block>
-    ensures { result ≡ first_in_pools (front_of place) pools.now }
+/// The block before the one at the place, in the first pool that has one.
+fn previous_of(pools: &[Pool], place: u32) -> Option<Block>
+    ensures { result ≡ first_in_pools (previous_in place) pools.now }
 {
     for pool in pools {
-        if let Some(block) = pool.in_front_of(place) {
+        if let Some(block) = pool.previous_of(place) {
             return Some(block);
         }
     }
     None
 }
 
-/// The block behind the one at the place, in the first pool that has one.
-pub fn behind(pools: &[Pool], place: u32) -> Option<Block>
-    ensures { result ≡ first_in_pools (back_of place) pools.now }
+/// The block after the one at the place, in the first pool that has one.
+pub fn next_of(pools: &[Pool], place: u32) -> Option<Block>
+    ensures { result ≡ first_in_pools (next_in place) pools.now }
 {
     for pool in pools {
-        if let Some(block) = pool.behind(place) {
+        if let Some(block) = pool.next_of(place) {
             return Some(block);
         }
     }
@@ -93,23 +93,23 @@ pub fn cursor_at(block: Option<Block>) -> Cursor
 pub fn neighbours(pools: &[Pool], place: u32) -> FreeNeighbours
     requires good { AreGoodPools 0 pools.now }
     requires live { (is_meant : ℕ → Bool) × (is_live_in is_meant place (blocks_of pools.now) ≡ true) }
-    ensures front { result.front ≡ free_one (first_in_pools (front_of place) pools.now) }
-    ensures back { result.back ≡ free_one (first_in_pools (back_of place) pools.now) }
-    ensures front_sized { IsSized result.front }
-    ensures back_sized { IsSized result.back }
-    ensures start { result.start ≡ start_of result.front place }
-    ensures size { result.size ≡ option_size result.front + size_of_block_at place (blocks_of pools.now) + option_size result.back }
+    ensures previous { result.previous ≡ free_one (first_in_pools (previous_in place) pools.now) }
+    ensures next { result.next ≡ free_one (first_in_pools (next_in place) pools.now) }
+    ensures previous_sized { IsSized result.previous }
+    ensures next_sized { IsSized result.next }
+    ensures start { result.start ≡ start_of result.previous place }
+    ensures size { result.size ≡ option_size result.previous + size_of_block_at place (blocks_of pools.now) + option_size result.next }
 {
-    let front = if_free(in_front_of(pools, place));
-    let back = if_free(behind(pools, place));
-    let start = match &front {
+    let previous = if_free(previous_of(pools, place));
+    let next = if_free(next_of(pools, place));
+    let start = match &previous {
         Some(block) => block.place(),
         None => place,
     };
-    let size = size_of(&front) + size_at(pools, place) + size_of(&back);
+    let size = size_of(&previous) + size_at(pools, place) + size_of(&next);
     FreeNeighbours {
-        front,
-        back,
+        previous,
+        next,
         start,
         size,
     }

@@ -22,7 +22,7 @@ impl Model for Pool {
 
 impl Pool {
     ghost use Rattle.std.specs.Prelude.{◌≡◌, ◌<◌, ◌==◌, length, IfOk, find};
-    ghost use Rattle.tlsf_heap.specs.Free.{is_live, in_front_of, behind};
+    ghost use Rattle.tlsf_heap.specs.Free.{is_live, previous_of, next_of};
     ghost use Rattle.std.specs.List.{list_any};
     ghost use Rattle.tlsf_heap.specs.Content.{is_at};
     ghost use Rattle.tlsf_heap.specs.GoodSlots.{is_slot};
@@ -116,9 +116,9 @@ impl Pool {
             .any(|block| block.is_live_at(place, slot))
     }
 
-    /// The block in front of the one at the place.
-    pub fn in_front_of(&self, place: u32) -> Option<Block>
-        ensures { result ≡ in_front_of place self.now.blocks }
+    /// The block before the one at the place.
+    pub fn previous_of(&self, place: u32) -> Option<Block>
+        ensures { result ≡ previous_of place self.now.blocks }
     {
         for (number, block) in self.blocks.iter().enumerate() {
             if let Some(next) = self.blocks.get(number + 1) {
@@ -130,9 +130,9 @@ impl Pool {
         None
     }
 
-    /// The block behind the one at the place.
-    pub fn behind(&self, place: u32) -> Option<Block>
-        ensures { result ≡ behind place self.now.blocks }
+    /// The block after the one at the place.
+    pub fn next_of(&self, place: u32) -> Option<Block>
+        ensures { result ≡ next_of place self.now.blocks }
     {
         for (number, block) in self.blocks.iter().enumerate() {
             if let Some(next) = self.blocks.get(number + 1) {

@@ -1,6 +1,6 @@
 use Rattle.std.proofs.Common.{◌≡◌, ℕ, ◌+◌, true, [], ◌∷◌, sym, ap, ◌∙◌, subst, map}
 use Rattle.tlsf_heap.specs.Content.{Content, blocks_of, size_at}
-use Rattle.tlsf_heap.specs.Free.{is_live, unlink_block, if_free, first_in_pools, in_front_of, behind, size_of}
+use Rattle.tlsf_heap.specs.Free.{is_live, unlink_block, if_free, first_in_pools, previous_of, next_of, size_of}
 use Rattle.tlsf_heap.specs.Free.{free_block, without_block, after_free}
 use Rattle.tlsf_heap.specs.Malloc.{replaced_in}
 use Rattle.tlsf_heap.specs.Lists.{link}
@@ -17,16 +17,16 @@ fields c =
     let beside = c.neighbours-beside.result in
     let is = c.neighbours-beside.ensures in
     let same = c.as_slice.ensures.value in
-    after_free_is c.self.inside.records place pools (lists_of c.self.inside.lists.items) beside.front beside.back beside.start beside.size
-    (is.front ∙ ap (λ ps. if_free (first_in_pools (in_front_of place) ps)) same)
-    (is.back ∙ ap (λ ps. if_free (first_in_pools (behind place) ps)) same)
+    after_free_is c.self.inside.records place pools (lists_of c.self.inside.lists.items) beside.previous beside.next beside.start beside.size
+    (is.previous ∙ ap (λ ps. if_free (first_in_pools (previous_of place) ps)) same)
+    (is.next ∙ ap (λ ps. if_free (first_in_pools (next_of place) ps)) same)
     is.start
-    (is.size ∙ ap (λ ps. size_of beside.front + size_at place (blocks_of ps) + size_of beside.back) same)
+    (is.size ∙ ap (λ ps. size_of beside.previous + size_at place (blocks_of ps) + size_of beside.next) same)
     c.in_ok-pools.pools.items c.in_ok-pools-2.pools.items c.in_ok-pools-3.pools.items (lists_of c.in_ok-lists.lists.items)
-    (c.in_ok-pools.ensures ∙ ap (without_block beside.front) c.as_slice-3.ensures.value)
-    (c.in_ok-pools-2.ensures ∙ ap (without_block beside.back) c.as_slice-4.ensures.value)
+    (c.in_ok-pools.ensures ∙ ap (without_block beside.previous) c.as_slice-3.ensures.value)
+    (c.in_ok-pools-2.ensures ∙ ap (without_block beside.next) c.as_slice-4.ensures.value)
     (c.in_ok-pools-3.ensures ∙ ap (λ one. map (replaced_in place (one ∷ [])) c.as_slice-5.result.now) c.free-one.ensures ∙ ap (map (replaced_in place (free_block beside.start beside.size ∷ []))) c.as_slice-5.ensures.value)
-    (c.in_ok-lists.ensures ∙ ap (λ ls. link beside.start beside.size (unlink_block beside.back (unlink_block beside.front (lists_of ls)))) c.as_slice-2.ensures.value)
+    (c.in_ok-lists.ensures ∙ ap (λ ls. link beside.start beside.size (unlink_block beside.next (unlink_block beside.previous (lists_of ls)))) c.as_slice-2.ensures.value)
 
 pub invariant_of-self : goal.invariant_of-self
 invariant_of-self c =
