@@ -1,5 +1,4 @@
 -- Lemmas on what the linked records of a heap stand for.
-pub mod Counts
 pub mod Plugs
 pub mod Links
 pub mod Reads

@@ -1,4 +1,5 @@
 -- Lemmas that several proofs share.
+pub mod Counts
 pub mod Content
 pub mod Good
 pub mod Bits

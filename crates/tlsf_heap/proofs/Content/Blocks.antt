@@ -1,7 +1,7 @@
 -- Blocks in order of place: the one at a place, and how many there are of a kind once it gives way to others.
-use Rattle.std.proofs.Common.{◌≡◌, ℕ, ◌+◌, ◌<◌, ◌≤◌, Bool, true, false, cond, ◌&&◌, List, [], ◌∷◌, ◌++◌, refl, sym, ap, ◌∙◌, subst, arith, count_by}
+use Rattle.std.proofs.Common.{◌≡◌, ℕ, ◌+◌, ◌<◌, ◌≤◌, true, false, ◌&&◌, List, [], ◌∷◌, ◌++◌, refl, sym, ap, ◌∙◌, subst, arith, count_by}
 use Rattle.std.specs.Prelude.{⊤, ◌==◌}
-use Rattle.std.proofs.lemmas.List.Sums.{sum_by-cons, sum_by-append}
+use Rattle.tlsf_heap.proofs.Counts.{one_if, count-cons}
 use Rattle.std.proofs.lemmas.Bool.{cases_Bool, eqb-true, ne_eqb, and_parts, and_left}
 use Rattle.std.specs.List.{AllByRecursion}
 use Rattle.std.proofs.Common.{inl, inr}
@@ -38,16 +38,6 @@ NoneAt-below place from [] h a = tt
 NoneAt-below place from (block ∷ blocks) h a =
     (ne_eqb block.place place (λ e. absurd (omega (arith, a.0))), NoneAt-below place (block.place + block.size) blocks (omega (arith, a.0, a.1)) a.2)
 
--- 1 where it is true
-abbrev pub one_if : Bool → ℕ
-one_if b = cond b 1 0
-
-pub count_by-cons : {X : Type 0} (p : X → Bool) (x : X) (xs : List X) → count_by p (x ∷ xs) ≡ cond (p x) 1 0 + count_by p xs
-count_by-cons p x xs = sum_by-cons (λ y. cond (p y) 1 0) x xs
-
-pub count_by-append : {X : Type 0} (p : X → Bool) (xs ys : List X) → count_by p (xs ++ ys) ≡ count_by p xs + count_by p ys
-count_by-append p xs ys = sum_by-append (λ y. cond (p y) 1 0) xs ys
-
 -- what is listed at a place begins there
 pub is_listed-elsewhere : {A : Type 0} (number place : ℕ) (block : Block A) → is_at place block ≡ false → is_listed number place block ≡ false
 is_listed-elsewhere number place block h = elim (is_free block) as (λ free. (free && (is_at place block && (class block.size == number))) ≡ false) [
@@ -58,7 +48,7 @@ is_listed-elsewhere number place block h = elim (is_free block) as (λ free. (fr
 pub count_listed-none : {A : Type 0} (number place : ℕ) (blocks : List (Block A)) → NoneAt place blocks → count_by (is_listed number place) blocks ≡ 0
 count_listed-none number place [] n = refl
 count_listed-none number place (block ∷ blocks) n =
-    count_by-cons (is_listed number place) block blocks ∙ rw (is_listed-elsewhere number place block n.0, count_listed-none number place blocks n.1) refl
+    count-cons (is_listed number place) block blocks ∙ rw (is_listed-elsewhere number place block n.0, count_listed-none number place blocks n.1) refl
 
 -- the one block at a place, with those before it and behind it
 pub record Found {A : Type 0} (place : ℕ) (blocks : List (Block A)) : Type 0 where
@@ -78,7 +68,7 @@ found_listed number place from (block ∷ blocks) a h = elim (cases_Bool (is_at 
   | inl here ↦
       let at : block.place ≡ place = eqb-true block.place place here in
       let none : NoneAt place blocks = NoneAt-below place (block.place + block.size) blocks (omega (arith, a.1, at)) a.2 in
-      let sums = count_by-cons (is_listed number place) block blocks in
+      let sums = count-cons (is_listed number place) block blocks in
       let rest = count_listed-none number place blocks none in
       let listed : is_listed number place block ≡ true = elim (cases_Bool (is_listed number place block)) [
         | inl yes_listed ↦ yes_listed
@@ -88,7 +78,7 @@ found_listed number place from (block ∷ blocks) a h = elim (cases_Bool (is_at 
       let more = and_parts _ _ parts.1 in
       (record { front = []; block = block; back = blocks; whole = refl; here = at; none_before = tt; none_behind = none }, parts.0, eqb-true _ _ more.1)
   | inr elsewhere ↦
-      let sums = count_by-cons (is_listed number place) block blocks in
+      let sums = count-cons (is_listed number place) block blocks in
       let here = is_listed-elsewhere number place block elsewhere in
       let found = found_listed number place (block.place + block.size) blocks a.2 (omega (arith, h, sums, ap one_if here)) in (
         record { front = block ∷ found.0.front; block = found.0.block; back = found.0.back; whole = ap (λ xs. block ∷ xs) found.0.whole; here = found.0.here; none_before = (elsewhere, found.0.none_before); none_behind = found.0.none_behind },

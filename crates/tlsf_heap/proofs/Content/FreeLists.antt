@@ -8,14 +8,14 @@ use Rattle.tlsf_class.proofs.ClassLaws.{class-lt}
 use Rattle.tlsf_heap.specs.Lists.{list_of, without, link, unlink, first_of_lists}
 use Rattle.tlsf_heap.specs.Good.{times, is_listed}
 use Rattle.tlsf_heap.specs.Malloc.{gap, link_gap}
-use Rattle.tlsf_heap.proofs.Content.Blocks.{count_by-cons, one_if}
+use Rattle.tlsf_heap.proofs.Counts.{count-cons, one_if}
 
 -- 1 where a free block of this size at this place stands at p in the list of class q
 abbrev pub stands : ℕ → ℕ → ℕ → ℕ → ℕ
 stands q p place size = one_if ((place == p) && (class size == q))
 
 pub times-cons : (p place : ℕ) (places : List ℕ) → times p (place ∷ places) ≡ one_if (place == p) + times p places
-times-cons p place places = count_by-cons (λ other. other == p) place places
+times-cons p place places = count-cons (λ other. other == p) place places
 
 stands-other : (q p place size : ℕ) → q ≢ class size → stands q p place size ≡ 0
 stands-other q p place size h = ap one_if (and_right (place == p) _ (ne_eqb (class size) q (λ e. h (sym e))))

@@ -7,7 +7,8 @@ use Rattle.tlsf_class.specs.Classes.{unit}
 use Rattle.tlsf_heap.specs.Content.{Block, Pool, blocks_of, is_free, is_at, size_at}
 use Rattle.tlsf_heap.specs.Good.{Covers, NoFreeNeighbours, AreGoodPools}
 use Rattle.tlsf_heap.specs.Malloc.{gap, cut, replaced, replaced_in}
-use Rattle.tlsf_heap.proofs.Content.Blocks.{NoneAt, Found, count_by-cons, count_by-append, one_if}
+use Rattle.tlsf_heap.proofs.Counts.{count-cons, count-append, one_if}
+use Rattle.tlsf_heap.proofs.Content.Blocks.{NoneAt, Found}
 
 module _ {A : Type 0} where
   pub replaced-append : (place : ℕ) (others blocks more : List (Block A)) → replaced place others (blocks ++ more) ≡ replaced place others blocks ++ replaced place others more
@@ -36,10 +37,10 @@ module _ {A : Type 0} where
   count_by-replaced place others blocks kind found =
       let after = ap (count_by kind) (replaced-found place others blocks found) in
       let before = ap (count_by kind) found.whole in
-      let one = count_by-append kind found.front (found.block ∷ found.back) in
-      let two = count_by-cons kind found.block found.back in
-      let three = count_by-append kind found.front (others ++ found.back) in
-      let four = count_by-append kind others found.back in
+      let one = count-append kind found.front (found.block ∷ found.back) in
+      let two = count-cons kind found.block found.back in
+      let three = count-append kind found.front (others ++ found.back) in
+      let four = count-append kind others found.back in
       omega (arith, after, before, one, two, three, four)
 
   pub length-replaced : (place : ℕ) (others blocks : List (Block A)) (found : Found place blocks) → length (replaced place others blocks) + 1 ≡ length blocks + length others

@@ -12,7 +12,8 @@ use Rattle.tlsf_heap.specs.Lists.{list_of, unlink, first_of_lists, pick}
 use Rattle.tlsf_heap.specs.Malloc.{gap, cut, replaced_in, allocated, allocate}
 use Rattle.tlsf_heap.specs.Pools.{most_pools, end_of_places, created, add_pool, with_pool, can_be_pool, is_apart, in_order_of_base}
 use Rattle.tlsf_heap.specs.Good.{Covers, NoFreeNeighbours, IsGoodPool, AreGoodPools, AreLists, IsGood, times, is_listed}
-use Rattle.tlsf_heap.proofs.Content.Blocks.{Found, found_listed, Ascends-pools, count_by-cons, count_by-append, count_listed-none, one_if}
+use Rattle.tlsf_heap.proofs.Counts.{count-cons, count-append, one_if}
+use Rattle.tlsf_heap.proofs.Content.Blocks.{Found, found_listed, Ascends-pools, count_listed-none}
 use Rattle.tlsf_heap.proofs.Content.Replacing.{blocks_of-replaced, count_by-replaced, length-replaced, size_at-found, EachAt-found, IsCuttable, AreGoodPools-cut}
 use Rattle.tlsf_heap.proofs.Content.FreeLists.{first_stands, times-link, times-unlink, times-link_gap, length-link, length-unlink, length-link_gap, count_listed-gap, stands}
 
@@ -77,8 +78,8 @@ module _ {A : Type 0} where
   one_at_most number place blocks found =
       let kind : Block A → Bool = is_listed number place in
       let before = ap (count_by kind) found.whole in
-      let one = count_by-append kind found.front (found.block ∷ found.back) in
-      let two = count_by-cons kind found.block found.back in
+      let one = count-append kind found.front (found.block ∷ found.back) in
+      let two = count-cons kind found.block found.back in
       let front = count_listed-none number place found.front found.none_before in
       let back = count_listed-none number place found.back found.none_behind in
       let last : one_if (kind found.block) ≤ 1 = elim (kind found.block) as (λ b. one_if b ≤ 1) [ true ↦ omega arith | false ↦ omega arith ] in
@@ -115,7 +116,7 @@ module _ {A : Type 0} where
 
   count_listed-cut : (owner : A) (q p place m size : ℕ) → count_by (is_listed q p) (cut owner place m size) ≡ cond ((size - m) == 0) 0 (stands q p (place + m) (size - m))
   count_listed-cut owner q p place m size =
-      count_by-cons (is_listed q p) (record { place = place; size = m; owner = Some owner }) (gap (place + m) (size - m)) ∙ zero-add _ ∙ count_listed-gap A q p (place + m) (size - m)
+      count-cons (is_listed q p) (record { place = place; size = m; owner = Some owner }) (gap (place + m) (size - m)) ∙ zero-add _ ∙ count_listed-gap A q p (place + m) (size - m)
 
   -- the lists after the block that was picked is cut
   lists-cut : (owner : A) (m place : ℕ) (content : Content A) (good : IsGood content) (is : Picked m place content)
@@ -195,12 +196,12 @@ module _ {A : Type 0} where
 
   -- how the blocks change where a pool comes in
   pub count_by-pools : (kind : Block A → Bool) (pool : Pool A) (pools : List (Pool A)) → count_by kind (blocks_of (in_order_of_base pool pools)) ≡ count_by kind pool.blocks + count_by kind (blocks_of pools)
-  count_by-pools kind pool [] = count_by-append kind pool.blocks []
+  count_by-pools kind pool [] = count-append kind pool.blocks []
   count_by-pools kind pool (other ∷ pools) = elim (nat_lt pool.base other.base) as (λ b. count_by kind (blocks_of (cond b (pool ∷ other ∷ pools) (other ∷ in_order_of_base pool pools))) ≡ count_by kind pool.blocks + count_by kind (blocks_of (other ∷ pools))) [
-    | true ↦ count_by-append kind pool.blocks (blocks_of (other ∷ pools))
+    | true ↦ count-append kind pool.blocks (blocks_of (other ∷ pools))
     | false ↦
-        let one = count_by-append kind other.blocks (blocks_of (in_order_of_base pool pools)) in
-        let two = count_by-append kind other.blocks (blocks_of pools) in
+        let one = count-append kind other.blocks (blocks_of (in_order_of_base pool pools)) in
+        let two = count-append kind other.blocks (blocks_of pools) in
         omega (arith, one, two, count_by-pools kind pool pools)
   ]
 

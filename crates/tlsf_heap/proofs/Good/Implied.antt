@@ -18,7 +18,8 @@ use Rattle.tlsf_heap.specs.Malloc.{allocated, malloc_picked, malloc_rounded, mal
 use Rattle.tlsf_heap.specs.Pools.{most_pools, add_pool, with_pool, can_be_pool, is_apart}
 use Rattle.tlsf_heap.specs.Good.{Covers, NoFreeNeighbours, AreGoodPools, IsGood, times, is_listed}
 use Rattle.tlsf_heap.specs.Implied.{IsAligned, AreDisjoint, HasAlignedBlocks, HasDisjointBlocks, ListsFreeBlocks, ListsNothingElse, AreFreeBelow, NoneFits, HasFewRecords}
-use Rattle.tlsf_heap.proofs.Content.Blocks.{Ascends, Ascends-higher, Ascends-pools, found_listed, count_by-cons, count_by-append, one_if}
+use Rattle.tlsf_heap.proofs.Counts.{count-cons, count-append, one_if}
+use Rattle.tlsf_heap.proofs.Content.Blocks.{Ascends, Ascends-higher, Ascends-pools, found_listed}
 use Rattle.tlsf_heap.proofs.Good.Calls.{one_at_most as one_at_most_listed}
 
 -- lists of which none is the first that isn't empty are empty
@@ -60,9 +61,9 @@ module _ {A : Type 0} where
           let kind : Block A → Bool = is_listed (class block.size) block.place in
           let here : is_at block.place block ≡ true = eq-eqb block.place block.place refl in
           let listed : kind block ≡ true = rw (free, here, eq-eqb (class block.size) (class block.size) refl) refl in
-          absurd (omega (arith, none (class block.size) block.place most (class-lt block.size), count_by-cons kind block blocks, ap one_if (listed_itself block free)))
+          absurd (omega (arith, none (class block.size) block.place most (class-lt block.size), count-cons kind block blocks, ap one_if (listed_itself block free)))
     ],
-    below_class c blocks within (λ k place above below. omega (arith, none k place above below, count_by-cons (is_listed k place) block blocks)),
+    below_class c blocks within (λ k place above below. omega (arith, none k place above below, count-cons (is_listed k place) block blocks)),
   )
 
   -- where nothing is picked for m bytes, the free blocks are smaller than the class needed
@@ -133,8 +134,8 @@ module _ {A : Type 0} where
   -- an element that passes is counted
   counted_at : (test : Block A → Bool) (blocks : List (Block A)) (k : ℕ) (d : Block A) → k < length blocks → test (get_or blocks k d) ≡ true → 1 ≤ count_by test blocks
   counted_at test [] k d within passes = absurd (omega (arith, within))
-  counted_at test (block ∷ blocks) zero d within passes = omega (arith, count_by-cons test block blocks, ap one_if passes)
-  counted_at test (block ∷ blocks) (suc k) d within passes = omega (arith, count_by-cons test block blocks, counted_at test blocks k d (omega (arith, within)) passes)
+  counted_at test (block ∷ blocks) zero d within passes = omega (arith, count-cons test block blocks, ap one_if passes)
+  counted_at test (block ∷ blocks) (suc k) d within passes = omega (arith, count-cons test block blocks, counted_at test blocks k d (omega (arith, within)) passes)
 
   -- a good content's free blocks are each listed once
   pub lists_free_blocks : (content : Content A) → IsGood content → ListsFreeBlocks content
@@ -170,7 +171,7 @@ module _ {A : Type 0} where
   few_free after (block ∷ blocks) n = of (is_free block) refl (few_free (is_free block) blocks n.1)
     where
       count : count_by is_used (block ∷ blocks) ≡ one_if (not (is_free block)) + count_by is_used blocks
-      count = count_by-cons is_used block blocks
+      count = count-cons is_used block blocks
 
       of : (free : Bool) → is_free block ≡ free → length blocks + one_if (is_free block) ≤ 2 * count_by is_used blocks + 1 → length (block ∷ blocks) + one_if after ≤ 2 * count_by is_used (block ∷ blocks) + 1
       of false is behind = omega (arith, behind, count, ap (λ b. one_if (not b)) is, one_at_most after)
@@ -179,7 +180,7 @@ module _ {A : Type 0} where
   few_blocks : (pools : List (Pool A)) (from : ℕ) → AreGoodPools from pools → length (blocks_of pools) ≤ 2 * count_by is_used (blocks_of pools) + length pools
   few_blocks [] from g = omega arith
   few_blocks (pool ∷ pools) from g =
-      omega (arith, few_free false pool.blocks g.1.merged, few_blocks pools (pool.base + pool.bytes) g.2, length-append pool.blocks (blocks_of pools), count_by-append is_used pool.blocks (blocks_of pools))
+      omega (arith, few_free false pool.blocks g.1.merged, few_blocks pools (pool.base + pool.bytes) g.2, length-append pool.blocks (blocks_of pools), count-append is_used pool.blocks (blocks_of pools))
 
   -- where each record is in use, there are few
   full : (content : Content A) → IsGood content → content.records ≤ used_records content → HasFewRecords content

@@ -8,7 +8,7 @@ use Rattle.tlsf_heap.specs.Malloc.{gap, cut, allocated}
 use Rattle.tlsf_heap.specs.Pools.{created, with_pool}
 use Rattle.tlsf_heap.specs.Good.{IsGood}
 use Rattle.tlsf_heap.specs.GoodSlots.{is_slot, slot_times, HasGoodSlots}
-use Rattle.tlsf_heap.proofs.Content.Blocks.{count_by-cons, count_by-append, one_if}
+use Rattle.tlsf_heap.proofs.Counts.{count-cons, count-append, one_if}
 use Rattle.tlsf_heap.proofs.Content.Replacing.{blocks_of-replaced, count_by-replaced}
 use Rattle.tlsf_heap.proofs.Good.Calls.{picked, count_by-pools}
 
@@ -21,10 +21,10 @@ free_has_none slot None h = refl
 free_has_none slot (Some owner) h = absurd (cc)
 
 pub slot_times-cons : (slot : ℕ) (block : Block ℕ) (blocks : List (Block ℕ)) → slot_times slot (block ∷ blocks) ≡ one_if (is_slot slot block.owner) + slot_times slot blocks
-slot_times-cons slot block blocks = count_by-cons (has slot) block blocks
+slot_times-cons slot block blocks = count-cons (has slot) block blocks
 
 pub slot_times-append : (slot : ℕ) (blocks more : List (Block ℕ)) → slot_times slot (blocks ++ more) ≡ slot_times slot blocks + slot_times slot more
-slot_times-append slot blocks more = count_by-append (has slot) blocks more
+slot_times-append slot blocks more = count-append (has slot) blocks more
 
 slot_times-gap : (slot place size : ℕ) → slot_times slot (gap place size) ≡ 0
 slot_times-gap slot place size =

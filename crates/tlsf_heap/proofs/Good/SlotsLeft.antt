@@ -5,7 +5,8 @@ use Rattle.std.specs.List.{list_any}
 use Rattle.std.proofs.lemmas.Bool.{cases_Bool, eqb-true, ne_eqb, or_parts, or_cases}
 use Rattle.tlsf_heap.specs.Content.{Block, Pool, blocks_of, is_free}
 use Rattle.tlsf_heap.specs.GoodSlots.{is_slot, slot_times}
-use Rattle.tlsf_heap.proofs.Content.Blocks.{Found, count_by-cons, count_by-append, one_if}
+use Rattle.tlsf_heap.proofs.Counts.{count-cons, count-append, one_if}
+use Rattle.tlsf_heap.proofs.Content.Blocks.{Found}
 use Rattle.tlsf_heap.proofs.Good.Slots.{slot_times-cons, slot_times-append}
 
 -- how many live blocks have a slot below n
@@ -50,7 +51,7 @@ hits-owner n (Some owner) = omega (arith, hits-some n owner)
 -- each live block has one slot
 total-few : (n : ℕ) (blocks : List (Block ℕ)) → total n blocks + count_by is_free blocks ≤ length blocks
 total-few n [] = omega (arith, total-none n)
-total-few n (block ∷ blocks) = omega (arith, total-cons n block blocks, count_by-cons is_free block blocks, hits-owner n block.owner, total-few n blocks)
+total-few n (block ∷ blocks) = omega (arith, total-cons n block blocks, count-cons is_free block blocks, hits-owner n block.owner, total-few n blocks)
 
 total-many : (n : ℕ) (blocks : List (Block ℕ)) → ((slot : ℕ) → slot < n → 1 ≤ slot_times slot blocks) → n ≤ total n blocks
 total-many zero blocks all = omega arith
@@ -63,7 +64,7 @@ slots_in_use n blocks all = omega (arith, total-many n blocks all, total-few n b
 -- a free block found is counted
 pub free_found : (place : ℕ) (blocks : List (Block ℕ)) (found : Found place blocks) → is_free found.block ≡ true → 1 ≤ count_by is_free blocks
 free_found place blocks found free =
-    omega (arith, ap (count_by is_free) found.whole, count_by-append is_free found.front (found.block ∷ found.back), count_by-cons is_free found.block found.back, ap one_if free)
+    omega (arith, ap (count_by is_free) found.whole, count-append is_free found.front (found.block ∷ found.back), count-cons is_free found.block found.back, ap one_if free)
 
 -- no block has the slot, where none is found
 slot_none : (slot : ℕ) (blocks : List (Block ℕ)) → list_any (λ block. is_slot slot block.owner) blocks ≡ false → slot_times slot blocks ≡ 0

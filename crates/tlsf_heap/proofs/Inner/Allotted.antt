@@ -11,9 +11,10 @@ use Rattle.tlsf_heap.specs.Inner.Nodes.{Status, InUse, Listed, Loose, Node, turn
 use Rattle.tlsf_heap.specs.Inner.Joined.{is_loose}
 use Rattle.tlsf_heap.specs.Inner.Represents.{Represents}
 use Rattle.tlsf_heap.specs.Inner.At.{At, layout_at, StandsAt, at_unlisted, with_slot, at_split}
-use Rattle.tlsf_heap.proofs.Inner.Counts.{one_if, count-cons}
+use Rattle.tlsf_heap.proofs.Counts.{one_if, count-cons}
 use Rattle.tlsf_heap.proofs.Inner.Plugs.{count-filled}
-use Rattle.tlsf_heap.proofs.Inner.Chains.{times-cons, at_node}
+use Rattle.tlsf_heap.proofs.Content.FreeLists.{times-cons}
+use Rattle.tlsf_heap.proofs.Inner.Chains.{at_node}
 use Rattle.tlsf_heap.proofs.Inner.Used.{stands_used, next_used}
 use Rattle.tlsf_heap.proofs.Inner.Unlinked.{unlinked_laid, prev_free_used, next_free_used}
 use Rattle.tlsf_heap.proofs.Inner.Split.{split_laid}

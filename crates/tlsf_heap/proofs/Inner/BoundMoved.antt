@@ -9,7 +9,7 @@ use Rattle.tlsf_heap.specs.Inner.Nodes.{Node, has_slot, is_listed, is_listed_in}
 use Rattle.tlsf_heap.specs.Inner.Spots.{Spot, laid}
 use Rattle.tlsf_heap.specs.Inner.Represents.{InPool, pool_view, list_view, pool_views, in_pool, first_slot, uses_in, Represents}
 use Rattle.tlsf_heap.specs.Inner.CellEdits.{bound_moved}
-use Rattle.tlsf_heap.proofs.Inner.Counts.{count-cons}
+use Rattle.tlsf_heap.proofs.Counts.{count-cons}
 use Rattle.tlsf_heap.proofs.Inner.Links.{linked_same, count-front, count-behind}
 use Rattle.tlsf_heap.proofs.Inner.Reads.{set_kept}
 use Rattle.tlsf_heap.proofs.Inner.Chains.{unlisted, AtNode, at_node, refilled}

@@ -14,12 +14,10 @@ use Rattle.tlsf_heap.specs.Good.{times}
 use Rattle.tlsf_heap.specs.Inner.Nodes.{Status, InUse, Listed, Loose, Node, Area, nodes_of, list_of, has_slot, is_listed, is_listed_in}
 use Rattle.tlsf_heap.specs.Inner.Spots.{plug, Spot, filled, laid}
 use Rattle.tlsf_heap.specs.Inner.Represents.{InPool, InList, in_pool, in_list, pool_view, pool_views, list_views, state_of, first_slot, AreLinked, IsChain, uses_in, AreChains, IsIndex, Agree, Represented, Represents}
-use Rattle.tlsf_heap.proofs.Inner.Counts.{one_if, count-cons, count_and}
+use Rattle.tlsf_heap.proofs.Counts.{one_if, count-cons, count_and}
+use Rattle.tlsf_heap.proofs.Content.FreeLists.{times-cons}
 use Rattle.tlsf_heap.proofs.Inner.Plugs.{map-plug, all_parts, all_plugged, count-nodes, around, count-filled}
 use Rattle.tlsf_heap.proofs.Inner.Links.{first-plug, from_behind, linked_same, linked_parts, linked_plugged}
-
-pub times-cons : (q slot : ℕ) (slots : List ℕ) → times q (slot ∷ slots) ≡ one_if (eqb slot q) + times q slots
-times-cons q slot slots = count-cons (λ other. eqb other q) slot slots
 
 pub not_taken : (q slot : ℕ) (slots : List ℕ) → times q (slot ∷ slots) ≡ 0 → (q ≢ slot) × (times q slots ≡ 0)
 not_taken q slot slots none = (

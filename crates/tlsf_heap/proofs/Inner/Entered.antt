@@ -18,8 +18,8 @@ use Rattle.tlsf_heap.specs.Inner.Represents.{Represents}
 use Rattle.tlsf_heap.specs.Inner.CellEdits.{pool_put}
 use Rattle.tlsf_heap.specs.Inner.Entering.{pool_node, area_of_one, entries_in, with_area, pool_laid}
 use Rattle.tlsf_heap.proofs.Inner.EntryLists.{entries_of-padded}
-use Rattle.tlsf_heap.proofs.Inner.Counts.{one_if}
-use Rattle.tlsf_heap.proofs.Inner.Chains.{times-cons}
+use Rattle.tlsf_heap.proofs.Counts.{one_if}
+use Rattle.tlsf_heap.proofs.Content.FreeLists.{times-cons}
 use Rattle.tlsf_heap.proofs.Inner.Used.{stands_used, head_used}
 use Rattle.tlsf_heap.proofs.Inner.Linked.{linked_laid}
 use Rattle.tlsf_heap.proofs.Inner.PoolMoves.{pool_enters}

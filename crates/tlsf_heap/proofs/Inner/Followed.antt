@@ -13,7 +13,7 @@ use Rattle.tlsf_heap.proofs.Inner.EntryLists.{entries_of-padded}
 use Rattle.tlsf_heap.specs.Inner.Nodes.{Status, InUse, Listed, Loose, Node, Area, Layout, owner_of, block_of, pool_of, content_by, nodes_of, list_of, is_listed_in}
 use Rattle.tlsf_heap.specs.Inner.Represents.{InPool, in_pool, in_list, pool_views, list_views, state_of, first_slot, AreLinked, IsChain, Represents}
 use Rattle.tlsf_heap.specs.Inner.Following.{follow, owner_in, block_at, pool_from, list_from, content_of, Stands}
-use Rattle.tlsf_heap.proofs.Inner.Counts.{one_if, count-cons, count_and, count_all}
+use Rattle.tlsf_heap.proofs.Counts.{one_if, count-cons, count_and, count_all}
 use Rattle.tlsf_heap.proofs.Inner.Plugs.{count-nodes}
 use Rattle.tlsf_heap.proofs.Inner.Sums.{all_records}
 

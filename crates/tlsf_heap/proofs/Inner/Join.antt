@@ -11,7 +11,7 @@ use Rattle.tlsf_heap.specs.Inner.Chains.{absorbed}
 use Rattle.tlsf_heap.specs.Inner.Nodes.{Node, has_slot, list_of, is_listed, is_listed_in}
 use Rattle.tlsf_heap.specs.Inner.Spots.{Spot, laid}
 use Rattle.tlsf_heap.specs.Inner.Represents.{InPool, pool_view, list_view, pool_views, list_views, in_pool, first_slot, uses_in, Represented, Represents}
-use Rattle.tlsf_heap.proofs.Inner.Counts.{one_if, count-cons}
+use Rattle.tlsf_heap.proofs.Counts.{one_if, count-cons}
 use Rattle.tlsf_heap.proofs.Inner.Links.{linked_moved, first_stands, count-front, count-behind}
 use Rattle.tlsf_heap.proofs.Inner.Reads.{length-edited, edited_here, edited_apart, edited_kept, set_kept}
 use Rattle.tlsf_heap.proofs.Inner.Chains.{unlisted, unlisted_nowhere, AtNode, at_node, refilled}

@@ -15,7 +15,7 @@ use Rattle.tlsf_heap.specs.Inner.Joined.{is_loose, past, listed_first, left_by, 
 use Rattle.tlsf_heap.specs.Inner.Represents.{InPool, in_pool, pool_views, state_of, first_slot, AreChains, Represents}
 use Rattle.tlsf_heap.specs.Inner.At.{At, StandsAt, previous_joined, next_joined, IsJoinable}
 use Rattle.tlsf_heap.proofs.Good.Calls.{IsWhole}
-use Rattle.tlsf_heap.proofs.Inner.Counts.{one_if, count-cons}
+use Rattle.tlsf_heap.proofs.Counts.{one_if, count-cons}
 use Rattle.tlsf_heap.proofs.Inner.Plugs.{count-filled}
 use Rattle.tlsf_heap.proofs.Inner.Links.{Some≢None, Some-same}
 use Rattle.tlsf_heap.proofs.Inner.Chains.{AtNode, at_node}

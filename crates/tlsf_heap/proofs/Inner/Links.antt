@@ -4,7 +4,7 @@ use Rattle.std.proofs.lemmas.Bool.{eq-eqb}
 use Rattle.tlsf_heap.specs.Inner.Nodes.{Node, has_slot}
 use Rattle.tlsf_heap.specs.Inner.Spots.{plug}
 use Rattle.tlsf_heap.specs.Inner.Represents.{first_slot, AreLinked}
-use Rattle.tlsf_heap.proofs.Inner.Counts.{one_if, count-cons}
+use Rattle.tlsf_heap.proofs.Counts.{one_if, count-cons}
 
 pub Some≢None : (q : ℕ) → Some q ≢ None
 Some≢None q = λ e. absurd (cc)

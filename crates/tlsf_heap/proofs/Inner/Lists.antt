@@ -6,7 +6,7 @@ use Rattle.tlsf_class.specs.Classes.{classes, class}
 use Rattle.tlsf_class.proofs.ClassLaws.{class-lt}
 use Rattle.tlsf_heap.specs.Inner.Nodes.{Node, Area, nodes_of, list_of, has_slot, is_listed, is_listed_in, without_slot, left, entered}
 use Rattle.tlsf_heap.specs.Inner.Represents.{first_slot, Agree}
-use Rattle.tlsf_heap.proofs.Inner.Counts.{one_if, count-cons, count-filter, count_apart}
+use Rattle.tlsf_heap.proofs.Counts.{one_if, count-cons, count-filter, count_apart}
 
 -- a slot stands in one list at most
 pub lists_apart : (areas : List Area) (lists : List (List Node)) (number other q : ℕ) → Agree areas lists → number ≢ other

@@ -16,7 +16,7 @@ use Rattle.tlsf_heap.specs.Inner.Represents.{InPool, state_of, uses_in, Represen
 use Rattle.tlsf_heap.specs.Inner.Joined.{is_loose}
 use Rattle.tlsf_heap.specs.Inner.Following.{content_of, Stands}
 use Rattle.tlsf_heap.specs.Inner.At.{At, areas_at, layout_at, StandsAt, at_freed}
-use Rattle.tlsf_heap.proofs.Inner.Counts.{one_if, count-cons, any_counts, counts_any, any-map}
+use Rattle.tlsf_heap.proofs.Counts.{one_if, count-cons, any_counts, counts_any, any-map}
 use Rattle.tlsf_heap.proofs.Inner.Plugs.{count-filled}
 use Rattle.tlsf_heap.proofs.Inner.Chains.{AtNode, at_node, uses_most}
 use Rattle.tlsf_heap.proofs.Inner.Followed.{content_is, stood_for}

@@ -3,7 +3,7 @@ use Rattle.std.proofs.Common.{◌≡◌, ◌≤◌, Bool, true, List, [], ◌∷
 use Rattle.std.proofs.lemmas.Bool.{cases_lt}
 use Rattle.tlsf_heap.specs.Inner.Nodes.{Node, Area, nodes_of}
 use Rattle.tlsf_heap.specs.Inner.Spots.{plug, Spot, filled}
-use Rattle.tlsf_heap.proofs.Inner.Counts.{Split, split_at}
+use Rattle.tlsf_heap.proofs.Counts.{Split, split_at}
 use Rattle.tlsf_heap.proofs.Inner.Plugs.{count-nodes}
 
 -- the first node that passes the test, at its spot

@@ -17,7 +17,7 @@ use Rattle.tlsf_heap.specs.Inner.States.{is_state_free}
 use Rattle.tlsf_heap.specs.Inner.Nodes.{Status, InUse, Listed, Loose, Node, Area, nodes_of, list_of, is_listed, is_listed_in}
 use Rattle.tlsf_heap.specs.Inner.Represents.{InPool, in_pool, pool_views, state_of, first_slot, AreLinked, IsChain}
 use Rattle.tlsf_heap.specs.Inner.Following.{content_of, Stands}
-use Rattle.tlsf_heap.proofs.Inner.Counts.{one_if, count-cons}
+use Rattle.tlsf_heap.proofs.Counts.{one_if, count-cons}
 use Rattle.tlsf_heap.proofs.Inner.Plugs.{count-nodes}
 use Rattle.tlsf_heap.proofs.Inner.Followed.{strays, list_strays, stood_for}
 use Rattle.tlsf_heap.proofs.Meaning.Places.{by_places}

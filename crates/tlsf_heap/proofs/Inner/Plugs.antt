@@ -3,7 +3,7 @@ use Rattle.std.proofs.Common.{◌≡◌, ℕ, ◌+◌, Bool, List, [], ◌∷◌
 use Rattle.std.specs.List.{AllByRecursion}
 use Rattle.tlsf_heap.specs.Inner.Nodes.{Node, Area, nodes_of}
 use Rattle.tlsf_heap.specs.Inner.Spots.{plug, Spot, filled}
-use Rattle.tlsf_heap.proofs.Inner.Counts.{count-append, count-plug}
+use Rattle.tlsf_heap.proofs.Counts.{count-append, count-plug}
 
 pub map-plug : {A B : Type 0} (f : A → B) (front behind : List A) → map f (plug front behind) ≡ plug (map f front) (map f behind)
 map-plug f [] behind = refl

@@ -14,9 +14,10 @@ use Rattle.tlsf_heap.specs.Inner.Spots.{plug, Spot}
 use Rattle.tlsf_heap.specs.Inner.Represents.{pool_view, list_view, pool_views, list_views, IsChain, uses_in, Represents}
 use Rattle.tlsf_heap.specs.Inner.CellEdits.{pool_put, pool_dropped}
 use Rattle.tlsf_heap.specs.Inner.Entering.{pool_node, area_of_one, entries_in}
-use Rattle.tlsf_heap.proofs.Inner.Counts.{one_if, count-cons}
+use Rattle.tlsf_heap.proofs.Counts.{one_if, count-cons}
 use Rattle.tlsf_heap.proofs.Inner.Plugs.{all_parts, all_plugged, count-nodes, count-nodes-plug}
-use Rattle.tlsf_heap.proofs.Inner.Chains.{times-cons, uses_most, used_below, chains_same, unlisted, unlisted_nowhere, index_same, listed_within, AtNode, at_node}
+use Rattle.tlsf_heap.proofs.Content.FreeLists.{times-cons}
+use Rattle.tlsf_heap.proofs.Inner.Chains.{uses_most, used_below, chains_same, unlisted, unlisted_nowhere, index_same, listed_within, AtNode, at_node}
 use Rattle.tlsf_heap.proofs.Inner.Taken.{counted_apart}
 
 module _ (cells : Cells) (count : ℕ) (front behind : List Area) (lists : List (List Node)) (entry : PoolEntry) (taken : List ℕ)

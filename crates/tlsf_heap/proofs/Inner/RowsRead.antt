@@ -25,7 +25,7 @@ use Rattle.tlsf_heap.specs.Inner.Nodes.{Node, Area, Layout, block_of, pool_of, n
 use Rattle.tlsf_heap.specs.Inner.Spots.{Spot, filled}
 use Rattle.tlsf_heap.specs.Inner.Represents.{InPool, in_pool, pool_views, first_slot, AreLinked, IsChain, AreChains, uses_in, Represents}
 use Rattle.tlsf_heap.specs.Inner.Following.{owner_in, follow, block_at, content_of, Stands}
-use Rattle.tlsf_heap.proofs.Inner.Counts.{count_all}
+use Rattle.tlsf_heap.proofs.Counts.{count_all}
 use Rattle.tlsf_heap.proofs.Inner.Plugs.{count-nodes, count-filled}
 use Rattle.tlsf_heap.proofs.Inner.Links.{Some-same, Some≢None, first_stands}
 use Rattle.tlsf_heap.proofs.Inner.Chains.{AtNode, at_node, linked_at}

@@ -21,7 +21,7 @@ use Rattle.tlsf_heap.specs.Inner.Represents.{Represents}
 use Rattle.tlsf_heap.specs.Inner.Following.{content_of, Stands}
 use Rattle.tlsf_heap.specs.Inner.At.{At, areas_at, layout_at, StandsAt, at_taken, at_cut}
 use Rattle.tlsf_heap.proofs.Good.Calls.{picked, allocated_is_good}
-use Rattle.tlsf_heap.proofs.Inner.Counts.{one_if, count-cons, count-map}
+use Rattle.tlsf_heap.proofs.Counts.{one_if, count-cons, count-map}
 use Rattle.tlsf_heap.proofs.Inner.Plugs.{count-filled}
 use Rattle.tlsf_heap.proofs.Inner.Sums.{all_records}
 use Rattle.tlsf_heap.proofs.Inner.Followed.{content_is, stood_for, records_are}

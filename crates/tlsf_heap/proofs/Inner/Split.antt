@@ -13,11 +13,12 @@ use Rattle.tlsf_heap.specs.Good.{times}
 use Rattle.tlsf_heap.specs.Inner.Nodes.{Node, rest_node, has_slot, list_of, is_listed, is_listed_in}
 use Rattle.tlsf_heap.specs.Inner.Spots.{Spot, laid, filled}
 use Rattle.tlsf_heap.specs.Inner.Represents.{InPool, pool_view, list_view, pool_views, list_views, in_pool, first_slot, uses_in, Represented, Represents}
-use Rattle.tlsf_heap.proofs.Inner.Counts.{one_if, count-cons}
+use Rattle.tlsf_heap.proofs.Counts.{one_if, count-cons}
 use Rattle.tlsf_heap.proofs.Inner.Plugs.{around}
 use Rattle.tlsf_heap.proofs.Inner.Links.{linked_moved, first_stands}
 use Rattle.tlsf_heap.proofs.Inner.Reads.{length-edited, edited_here, edited_apart, edited_kept, set_kept}
-use Rattle.tlsf_heap.proofs.Inner.Chains.{times-cons, not_taken, unlisted, listed_within, AtNode, at_node, refilled}
+use Rattle.tlsf_heap.proofs.Content.FreeLists.{times-cons}
+use Rattle.tlsf_heap.proofs.Inner.Chains.{not_taken, unlisted, listed_within, AtNode, at_node, refilled}
 
 module _ (cells : Cells) (count : ℕ) (spot : Spot) (node : Node) (nodes : List Node) (lists : List (List Node)) (rest : ℕ) (taken : List ℕ) (bytes : ℕ)
     (was : Represents cells (laid count spot (node ∷ nodes) lists (rest ∷ taken))) (was_not : is_listed node.status ≡ false) where

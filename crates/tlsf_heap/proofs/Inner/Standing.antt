@@ -17,7 +17,7 @@ use Rattle.tlsf_heap.specs.Inner.Represents.{uses_in}
 use Rattle.tlsf_heap.specs.Inner.Entering.{entries_in}
 use Rattle.tlsf_heap.specs.Inner.Following.{content_of, Stands}
 use Rattle.tlsf_heap.proofs.Inner.EntryLists.{entries_of-padded}
-use Rattle.tlsf_heap.proofs.Inner.Counts.{one_if, count_apart, count-map}
+use Rattle.tlsf_heap.proofs.Counts.{one_if, count_apart, count-map}
 use Rattle.tlsf_heap.proofs.Inner.Chains.{uses_most}
 use Rattle.tlsf_heap.proofs.Inner.Followed.{stood_for}
 use Rattle.tlsf_heap.proofs.Inner.Sums.{all_records}

@@ -9,7 +9,7 @@ use Rattle.tlsf_heap.specs.Inner.Chains.{with_state}
 use Rattle.tlsf_heap.specs.Inner.Nodes.{Status, Node, turned, has_slot, is_listed, is_listed_in}
 use Rattle.tlsf_heap.specs.Inner.Spots.{Spot, laid}
 use Rattle.tlsf_heap.specs.Inner.Represents.{InPool, pool_view, list_view, pool_views, state_of, in_pool, uses_in, Represents}
-use Rattle.tlsf_heap.proofs.Inner.Counts.{count-cons}
+use Rattle.tlsf_heap.proofs.Counts.{count-cons}
 use Rattle.tlsf_heap.proofs.Inner.Links.{Some-same, linked_same}
 use Rattle.tlsf_heap.proofs.Inner.Reads.{length-edited, edited_here, edited_apart, edited_kept}
 use Rattle.tlsf_heap.proofs.Inner.Chains.{uses_node, unlisted, AtNode, at_node, refilled}

@@ -12,7 +12,7 @@ use Rattle.tlsf_store.proofs.RecordLaws.{mark}
 use Rattle.tlsf_heap.specs.Good.{times}
 use Rattle.tlsf_heap.specs.Inner.Nodes.{Node, Layout, nodes_of, has_slot}
 use Rattle.tlsf_heap.specs.Inner.Represents.{uses_in, Represents}
-use Rattle.tlsf_heap.proofs.Inner.Counts.{one_if, count-cons}
+use Rattle.tlsf_heap.proofs.Counts.{one_if, count-cons}
 
 -- the sum over all numbers below one
 abbrev pub sum_below : (ℕ → ℕ) → ℕ → ℕ

@@ -10,8 +10,9 @@ use Rattle.tlsf_store.proofs.RecordLaws.{record_at-set_same, record_at-set_other
 use Rattle.tlsf_heap.specs.Good.{times}
 use Rattle.tlsf_heap.specs.Inner.Nodes.{Layout, has_slot, nodes_of}
 use Rattle.tlsf_heap.specs.Inner.Represents.{pool_view, list_view, pool_views, list_views, uses_in, Represents}
-use Rattle.tlsf_heap.proofs.Inner.Counts.{one_if}
-use Rattle.tlsf_heap.proofs.Inner.Chains.{times-cons, uses_most, used_below, chains_same, index_same, listed_within}
+use Rattle.tlsf_heap.proofs.Counts.{one_if}
+use Rattle.tlsf_heap.proofs.Content.FreeLists.{times-cons}
+use Rattle.tlsf_heap.proofs.Inner.Chains.{uses_most, used_below, chains_same, index_same, listed_within}
 
 -- what counts differently is another slot
 pub counted_apart : (count : ℕ → ℕ) (q slot : ℕ) → 1 ≤ count q → count slot ≡ 0 → q ≢ slot

@@ -14,7 +14,7 @@ use Rattle.tlsf_heap.specs.Inner.Nodes.{Node, Area, Listed, Loose, turned, nodes
 use Rattle.tlsf_heap.specs.Inner.Spots.{plug, Spot, laid, filled}
 use Rattle.tlsf_heap.specs.Inner.Represents.{InList, pool_view, list_view, pool_views, list_views, in_list, first_slot, AreLinked, AreChains, Agree, Represented, Represents}
 use Rattle.tlsf_heap.proofs.Bits.Edits.{bits_kept, bits_cleared}
-use Rattle.tlsf_heap.proofs.Inner.Counts.{one_if, count-cons, count-plug, count_but, filter_one, Split, split_at}
+use Rattle.tlsf_heap.proofs.Counts.{one_if, count-cons, count-plug, count_but, filter_one, Split, split_at}
 use Rattle.tlsf_heap.proofs.Inner.Plugs.{count-filled}
 use Rattle.tlsf_heap.proofs.Inner.Links.{first-plug, from_behind, linked_same, linked_parts, linked_plugged, linked_moved, first_stands}
 use Rattle.tlsf_heap.proofs.Inner.Reads.{length-edited, edited_here, edited_apart, edited_kept}

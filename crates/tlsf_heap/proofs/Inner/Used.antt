@@ -11,7 +11,7 @@ use Rattle.tlsf_heap.specs.Inner.Edits.{IsUsed}
 use Rattle.tlsf_heap.specs.Inner.Nodes.{Node, Layout, nodes_of, has_slot, list_of}
 use Rattle.tlsf_heap.specs.Inner.Spots.{Spot}
 use Rattle.tlsf_heap.specs.Inner.Represents.{InPool, first_slot, uses_in, Represents}
-use Rattle.tlsf_heap.proofs.Inner.Counts.{count-cons}
+use Rattle.tlsf_heap.proofs.Counts.{count-cons}
 use Rattle.tlsf_heap.proofs.Inner.Links.{first_stands}
 use Rattle.tlsf_heap.proofs.Inner.Chains.{used_below, listed_within, AtNode}
 use Rattle.tlsf_heap.proofs.Inner.Lists.{head_of}

@@ -6,8 +6,9 @@ use Rattle.tlsf_heap.specs.Content.{Block, Pool, blocks_of, is_at, size_at}
 use Rattle.tlsf_heap.specs.Malloc.{replaced, replaced_in}
 use Rattle.tlsf_heap.specs.Free.{previous_of, next_of, first_in_pools}
 use Rattle.tlsf_heap.specs.Inner.Spots.{plug}
+use Rattle.tlsf_heap.proofs.Content.Beside.{option_or-None}
 use Rattle.tlsf_heap.proofs.Content.Blocks.{Ascends, NoneAt, NoneAt-below}
-use Rattle.tlsf_heap.proofs.Inner.Counts.{one_if, count-cons, count-append, count-plug, Split, split_at}
+use Rattle.tlsf_heap.proofs.Counts.{one_if, count-cons, count-append, count-plug, Split, split_at}
 use Rattle.tlsf_heap.proofs.Inner.Plugs.{map-plug}
 
 -- a place between the blocks of a pool, what is in front nearest first
@@ -22,10 +23,6 @@ pub record BlockSpot (A : Type 0) : Type 0 where
 abbrev pub first_of : {A : Type 0} → List (Block A) → Option (Block A)
 first_of [] = None
 first_of (block ∷ blocks) = Some block
-
-pub option_or-None : {B : Type 0} (o : Option B) → option_or o None ≡ o
-option_or-None None = refl
-option_or-None (Some b) = refl
 
 module _ {A : Type 0} where
   abbrev pub pool_at : BlockSpot A → List (Block A) → Pool A

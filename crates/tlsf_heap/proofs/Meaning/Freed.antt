@@ -11,7 +11,7 @@ use Rattle.tlsf_heap.specs.Free.{free_block, without_block, after_free}
 use Rattle.tlsf_heap.specs.Inner.Nodes.{Status, InUse, Listed, Loose, Node, turned, owner_of, block_of, pool_of, content_by, has_place, is_listed, entered}
 use Rattle.tlsf_heap.specs.Inner.Spots.{Spot, filled, laid}
 use Rattle.tlsf_heap.specs.Inner.Joined.{is_loose, listed_first, past, left_by, grown_in_front, grown_behind, spot_past, merged_node, freed}
-use Rattle.tlsf_heap.proofs.Inner.Counts.{one_if, count-cons}
+use Rattle.tlsf_heap.proofs.Counts.{one_if, count-cons}
 use Rattle.tlsf_heap.proofs.Inner.Plugs.{count-filled}
 use Rattle.tlsf_heap.proofs.Inner.Lists.{length-left}
 use Rattle.tlsf_heap.proofs.Meaning.Places.{Told, PlacesOnce, Alike, alone, alike, alike-left, by_places, places-entered, places-left}

@@ -13,7 +13,7 @@ use Rattle.tlsf_heap.specs.Free.{free_block, without_block, after_free, free}
 use Rattle.tlsf_heap.specs.Inner.Spots.{plug}
 use Rattle.tlsf_heap.proofs.Content.Blocks.{Ascends-pools}
 use Rattle.tlsf_heap.proofs.Content.FreeLists.{stands, times-link, times-unlink, length-link, length-unlink}
-use Rattle.tlsf_heap.proofs.Inner.Counts.{one_if, count-cons, count_all, any_counts}
+use Rattle.tlsf_heap.proofs.Counts.{one_if, count-cons, count_all, any_counts}
 use Rattle.tlsf_heap.proofs.Meaning.BlockSpots.{BlockSpot, first_of, pool_at, filled_pools, around_blocks, count-filled_pools, LocatedBlock, located_block, at_most_one, IsAlone, block_alone, replaced_at, front_at, back_at, size_here}
 
 pub length-plug : {X : Type 0} (front behind : List X) → length (plug front behind) ≡ length front + length behind

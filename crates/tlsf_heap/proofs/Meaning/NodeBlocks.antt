@@ -6,7 +6,7 @@ use Rattle.tlsf_heap.specs.Malloc.{replaced_in}
 use Rattle.tlsf_heap.specs.Free.{previous_of, next_of, first_in_pools}
 use Rattle.tlsf_heap.specs.Inner.Nodes.{Node, Area, block_of, pool_of, nodes_of, has_place}
 use Rattle.tlsf_heap.specs.Inner.Spots.{plug, Spot, filled}
-use Rattle.tlsf_heap.proofs.Inner.Counts.{count-map}
+use Rattle.tlsf_heap.proofs.Counts.{count-map}
 use Rattle.tlsf_heap.proofs.Inner.Plugs.{map-plug}
 use Rattle.tlsf_heap.proofs.Meaning.BlockSpots.{BlockSpot, first_of, filled_pools, IsAlone, replaced_at, front_at, back_at, size_here}
 use Rattle.tlsf_heap.proofs.Meaning.Places.{blocks_of_areas, Alone}

@@ -12,7 +12,7 @@ use Rattle.tlsf_heap.specs.Inner.Spots.{Spot, filled}
 use Rattle.tlsf_heap.specs.Inner.Represents.{Agree}
 use Rattle.tlsf_heap.proofs.Content.Blocks.{Ascends-pools}
 use Rattle.tlsf_heap.proofs.Meaning.BlockSpots.{at_most_one}
-use Rattle.tlsf_heap.proofs.Inner.Counts.{one_if, count-cons, count_either, count_and, count-map}
+use Rattle.tlsf_heap.proofs.Counts.{one_if, count-cons, count_either, count_and, count-map}
 use Rattle.tlsf_heap.proofs.Inner.Plugs.{around, count-filled}
 use Rattle.tlsf_heap.proofs.Inner.Lists.{count-left_same, count-left_other}
 
