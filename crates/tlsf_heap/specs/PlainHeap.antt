@@ -21,8 +21,8 @@ abbrev pub pool_place : ℕ → List (Pool ℕ) → ℕ
 pool_place base pools = position_or_len (λ pool. nat_lt base pool.base) pools
 
 -- the content that the fields stand for
-abbrev pub content_of : ℕ → List (Pool ℕ) → List (Vec ℕ Global) → Content ℕ
-content_of records pools lists = record { records = records; pools = pools; lists = lists_of lists }
+abbrev pub plain_content : ℕ → List (Pool ℕ) → List (Vec ℕ Global) → Content ℕ
+plain_content records pools lists = record { records = records; pools = pools; lists = lists_of lists }
 
 -- the block that malloc(n) takes: the one picked for n bytes rounded up, where what is left has a record
 pub record IsChosen (n place asked size : ℕ) (content : Content ℕ) : Type 0 where
@@ -42,14 +42,14 @@ IsSized None = ⊤
 IsSized (Some block) = (0 < block.size) × (block.size % unit ≡ 0) × (block.size ≤ greatest_size)
 
 -- the rows of the blocks from the one at the place on
-abbrev pub rows_at : ℕ → List (Block ℕ) → List Row
-rows_at place [] = []
-rows_at place (block ∷ blocks) = if is_at place block then map row_of (block ∷ blocks) else rows_at place blocks
+abbrev pub rows_from_place : ℕ → List (Block ℕ) → List Row
+rows_from_place place [] = []
+rows_from_place place (block ∷ blocks) = if is_at place block then map row_of (block ∷ blocks) else rows_from_place place blocks
 
 -- the rows from the place on of the pool that has a block there
 abbrev pub rest_at : ℕ → List (Pool ℕ) → List Row
 rest_at place [] = []
-rest_at place (pool ∷ pools) = if list_any (is_at place) pool.blocks then rows_at place pool.blocks else rest_at place pools
+rest_at place (pool ∷ pools) = if list_any (is_at place) pool.blocks then rows_from_place place pool.blocks else rest_at place pools
 
 abbrev pub rest_from : Option ℕ → List (Pool ℕ) → List Row
 rest_from None pools = []
@@ -60,9 +60,9 @@ is_from None pools = true
 is_from (Some place) pools = list_any (is_at place) (blocks_of pools)
 
 -- the rows from the cursor on
-abbrev pub rest : Content ℕ → Cursor → List Row
-rest content cursor = rest_from cursor.next content.pools
+abbrev pub cursor_rows : Content ℕ → Cursor → List Row
+cursor_rows content cursor = rest_from cursor.next content.pools
 
 -- the cursor stands behind the last row, or at a block
-abbrev pub stands : Content ℕ → Cursor → Type 0
-stands content cursor = is_from cursor.next content.pools ≡ true
+abbrev pub cursor_stands : Content ℕ → Cursor → Type 0
+cursor_stands content cursor = is_from cursor.next content.pools ≡ true

@@ -11,17 +11,17 @@ use Rattle.tlsf_heap.specs.Malloc.{gap, link_gap}
 use Rattle.tlsf_heap.proofs.Counts.{count-cons, one_if}
 
 -- 1 where a free block of this size at this place stands at p in the list of class q
-abbrev pub stands : ℕ → ℕ → ℕ → ℕ → ℕ
-stands q p place size = one_if ((place == p) && (class size == q))
+abbrev pub listed_at : ℕ → ℕ → ℕ → ℕ → ℕ
+listed_at q p place size = one_if ((place == p) && (class size == q))
 
 pub times-cons : (p place : ℕ) (places : List ℕ) → times p (place ∷ places) ≡ one_if (place == p) + times p places
 times-cons p place places = count-cons (λ other. other == p) place places
 
-stands-other : (q p place size : ℕ) → q ≢ class size → stands q p place size ≡ 0
-stands-other q p place size h = ap one_if (and_right (place == p) _ (ne_eqb (class size) q (λ e. h (sym e))))
+listed_at-other : (q p place size : ℕ) → q ≢ class size → listed_at q p place size ≡ 0
+listed_at-other q p place size h = ap one_if (and_right (place == p) _ (ne_eqb (class size) q (λ e. h (sym e))))
 
-stands-here : (p place size : ℕ) → stands (class size) p place size ≡ one_if (place == p)
-stands-here p place size = elim (place == p) as (λ b. one_if (b && (class size == class size)) ≡ one_if b) [
+listed_at-here : (p place size : ℕ) → listed_at (class size) p place size ≡ one_if (place == p)
+listed_at-here p place size = elim (place == p) as (λ b. one_if (b && (class size == class size)) ≡ one_if b) [
   | true ↦ ap one_if (eq-eqb (class size) (class size) refl)
   | false ↦ refl
 ]
@@ -53,36 +53,36 @@ module _ (lists : List (List ℕ)) (full : length lists ≡ classes) where
   in_lists : (size : ℕ) → class size < length lists
   in_lists size = omega (arith, class-lt size, full)
 
-  pub times-link : (q p place size : ℕ) → times p (list_of q (link place size lists)) ≡ stands q p place size + times p (list_of q lists)
+  pub times-link : (q p place size : ℕ) → times p (list_of q (link place size lists)) ≡ listed_at q p place size + times p (list_of q lists)
   times-link q p place size = elim (cases_eq q (class size)) [
     | inl same ↦
-        let P : ℕ → Type 0 = λ n. times p (list_of n (link place size lists)) ≡ stands n p place size + times p (list_of n lists) in
-        subst P (sym same) (ap (times p) (list_of-set_same (class size) _ lists (in_lists size)) ∙ times-cons p place (list_of (class size) lists) ∙ ap (λ n. n + times p (list_of (class size) lists)) (sym (stands-here p place size)))
-    | inr apart ↦ ap (times p) (list_of-set_other (class size) q _ lists apart) ∙ omega (arith, stands-other q p place size apart)
+        let P : ℕ → Type 0 = λ n. times p (list_of n (link place size lists)) ≡ listed_at n p place size + times p (list_of n lists) in
+        subst P (sym same) (ap (times p) (list_of-set_same (class size) _ lists (in_lists size)) ∙ times-cons p place (list_of (class size) lists) ∙ ap (λ n. n + times p (list_of (class size) lists)) (sym (listed_at-here p place size)))
+    | inr apart ↦ ap (times p) (list_of-set_other (class size) q _ lists apart) ∙ omega (arith, listed_at-other q p place size apart)
   ]
 
-  pub times-unlink : (q p place size : ℕ) → times place (list_of (class size) lists) ≡ 1 → times p (list_of q (unlink place size lists)) + stands q p place size ≡ times p (list_of q lists)
+  pub times-unlink : (q p place size : ℕ) → times place (list_of (class size) lists) ≡ 1 → times p (list_of q (unlink place size lists)) + listed_at q p place size ≡ times p (list_of q lists)
   times-unlink q p place size once = elim (cases_eq q (class size)) [
     | inl same ↦
-        let P : ℕ → Type 0 = λ n. times p (list_of n (unlink place size lists)) + stands n p place size ≡ times p (list_of n lists) in
+        let P : ℕ → Type 0 = λ n. times p (list_of n (unlink place size lists)) + listed_at n p place size ≡ times p (list_of n lists) in
         let left : times p (list_of (class size) (unlink place size lists)) ≡ times p (without place (list_of (class size) lists)) = ap (times p) (list_of-set_same (class size) _ lists (in_lists size)) in
         subst P (sym same) (elim (cases_eq place p) [
           | inl at ↦
-              let Q : ℕ → Type 0 = λ n. times n (list_of (class size) (unlink place size lists)) + stands (class size) n place size ≡ times n (list_of (class size) lists) in
-              let one : stands (class size) place place size ≡ 1 = stands-here place place size ∙ ap one_if (eq-eqb place place refl) in
+              let Q : ℕ → Type 0 = λ n. times n (list_of (class size) (unlink place size lists)) + listed_at (class size) n place size ≡ times n (list_of (class size) lists) in
+              let one : listed_at (class size) place place size ≡ 1 = listed_at-here place place size ∙ ap one_if (eq-eqb place place refl) in
               let here : times place (list_of (class size) (unlink place size lists)) ≡ 0 = ap (times place) (list_of-set_same (class size) _ lists (in_lists size)) ∙ times-without_same place (list_of (class size) lists) in
               subst Q at (omega (arith, one, here, once))
           | inr apart ↦
-              let none : stands (class size) p place size ≡ 0 = stands-here p place size ∙ ap one_if (ne_eqb place p apart) in
+              let none : listed_at (class size) p place size ≡ 0 = listed_at-here p place size ∙ ap one_if (ne_eqb place p apart) in
               omega (arith, left, none, times-without_other p place (list_of (class size) lists) apart)
         ])
     | inr apart ↦
         let same : times p (list_of q (unlink place size lists)) ≡ times p (list_of q lists) = ap (times p) (list_of-set_other (class size) q _ lists apart) in
-        omega (arith, same, stands-other q p place size apart)
+        omega (arith, same, listed_at-other q p place size apart)
   ]
 
-  pub times-link_gap : (q p place size : ℕ) → times p (list_of q (link_gap place size lists)) ≡ cond (size == 0) 0 (stands q p place size) + times p (list_of q lists)
-  times-link_gap q p place size = elim (size == 0) as (λ b. times p (list_of q (cond b lists (link place size lists))) ≡ cond b 0 (stands q p place size) + times p (list_of q lists)) [
+  pub times-link_gap : (q p place size : ℕ) → times p (list_of q (link_gap place size lists)) ≡ cond (size == 0) 0 (listed_at q p place size) + times p (list_of q lists)
+  times-link_gap q p place size = elim (size == 0) as (λ b. times p (list_of q (cond b lists (link place size lists))) ≡ cond b 0 (listed_at q p place size) + times p (list_of q lists)) [
     | true ↦ omega arith
     | false ↦ times-link q p place size
   ]
@@ -97,10 +97,10 @@ module _ (lists : List (List ℕ)) (full : length lists ≡ classes) where
   length-link_gap place size = elim (size == 0) as (λ b. length (cond b lists (link place size lists)) ≡ classes) [ true ↦ full | false ↦ length-link place size ]
 
 -- a free block of a positive size is listed once, in its class's list
-pub count_listed-gap : (A : Type 0) (q p place size : ℕ) → count_by (is_listed q p) (gap {A = A} place size) ≡ cond (size == 0) 0 (stands q p place size)
-count_listed-gap A q p place size = elim (size == 0) as (λ b. count_by (is_listed {A = A} q p) (cond b [] (record { place = place; size = size; owner = None } ∷ [])) ≡ cond b 0 (stands q p place size)) [
+pub count_listed-gap : (A : Type 0) (q p place size : ℕ) → count_by (is_listed q p) (gap {A = A} place size) ≡ cond (size == 0) 0 (listed_at q p place size)
+count_listed-gap A q p place size = elim (size == 0) as (λ b. count_by (is_listed {A = A} q p) (cond b [] (record { place = place; size = size; owner = None } ∷ [])) ≡ cond b 0 (listed_at q p place size)) [
   | true ↦ refl
-  | false ↦ zero-add (stands q p place size)
+  | false ↦ zero-add (listed_at q p place size)
 ]
 
 -- where a place is the first of the lists, it stands in one of them

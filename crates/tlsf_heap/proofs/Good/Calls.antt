@@ -15,7 +15,7 @@ use Rattle.tlsf_heap.specs.Good.{Covers, NoFreeNeighbours, IsGoodPool, AreGoodPo
 use Rattle.tlsf_heap.proofs.Counts.{count-cons, count-append, one_if}
 use Rattle.tlsf_heap.proofs.Content.Blocks.{Found, found_listed, Ascends-pools, count_listed-none}
 use Rattle.tlsf_heap.proofs.Content.Replacing.{blocks_of-replaced, count_by-replaced, length-replaced, size_at-found, EachAt-found, IsCuttable, AreGoodPools-cut}
-use Rattle.tlsf_heap.proofs.Content.FreeLists.{first_stands, times-link, times-unlink, times-link_gap, length-link, length-unlink, length-link_gap, count_listed-gap, stands}
+use Rattle.tlsf_heap.proofs.Content.FreeLists.{first_stands, times-link, times-unlink, times-link_gap, length-link, length-unlink, length-link_gap, count_listed-gap, listed_at}
 
 and_then_some : {A B : Type 0} (f : A → Option B) (o : Option A) (b : B) → option_and_then f o ≡ Some b → (a : A) × (o ≡ Some a) × (f a ≡ Some b)
 and_then_some f None b h = absurd (cc)
@@ -108,13 +108,13 @@ module _ {A : Type 0} where
       }
 
   -- the block found is listed as any free block of its place and size is
-  found_stands : (q p place size : ℕ) (block : Block A) → is_free block ≡ true → block.place ≡ place → block.size ≡ size → one_if (is_listed q p block) ≡ stands q p place size
+  found_stands : (q p place size : ℕ) (block : Block A) → is_free block ≡ true → block.place ≡ place → block.size ≡ size → one_if (is_listed q p block) ≡ listed_at q p place size
   found_stands q p place size block free here same =
       ap (λ b. one_if (b && (is_at p block && (class block.size == q)))) free
       ∙ ap (λ n. one_if ((n == p) && (class block.size == q))) here
       ∙ ap (λ n. one_if ((place == p) && (class n == q))) same
 
-  count_listed-cut : (owner : A) (q p place m size : ℕ) → count_by (is_listed q p) (cut owner place m size) ≡ cond ((size - m) == 0) 0 (stands q p (place + m) (size - m))
+  count_listed-cut : (owner : A) (q p place m size : ℕ) → count_by (is_listed q p) (cut owner place m size) ≡ cond ((size - m) == 0) 0 (listed_at q p (place + m) (size - m))
   count_listed-cut owner q p place m size =
       count-cons (is_listed q p) (record { place = place; size = m; owner = Some owner }) (gap (place + m) (size - m)) ∙ zero-add _ ∙ count_listed-gap A q p (place + m) (size - m)
 
@@ -292,7 +292,7 @@ module _ {A : Type 0} where
             let old = good.listed q p below in
             let linked = times-link content.lists good.lists_count q p base bytes in
             let counted = count_by-pools (is_listed q p) pool content.pools in
-            let one : count_by (is_listed q p) (gap {A = A} base bytes) ≡ stands q p base bytes = count_listed-gap A q p base bytes ∙ ap (λ b. cond b 0 (stands q p base bytes)) some in
+            let one : count_by (is_listed q p) (gap {A = A} base bytes) ≡ listed_at q p base bytes = count_listed-gap A q p base bytes ∙ ap (λ b. cond b 0 (listed_at q p base bytes)) some in
             omega (arith, old, linked, counted, one));
         blocks_few = omega (arith, length-pools pool content.pools, length-gap base bytes (gap base bytes) refl, room);
       }

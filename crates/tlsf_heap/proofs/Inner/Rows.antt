@@ -15,7 +15,7 @@ use Rattle.std.specs.Prelude.{Ok}
 use Rattle.tlsf_heap.specs.Inner.Nodes.{Node, Layout, InUse, Listed, content_by, list_of, left, entered}
 use Rattle.tlsf_heap.specs.Inner.Spots.{Spot, filled, laid}
 use Rattle.tlsf_heap.specs.Inner.Represents.{pool_views, list_views, in_pool, in_list, AreLinked, first_slot}
-use Rattle.tlsf_heap.specs.Inner.Joined.{freed}
+use Rattle.tlsf_heap.specs.Inner.Joined.{freed_layout}
 
 -- a pool of 1024 bytes in a store of 4 records
 abbrev entry : PoolEntry
@@ -74,7 +74,7 @@ before_free = laid 4 (spot (front ∷ [])) (middle ∷ back ∷ []) (entered fro
 abbrev one_block : Content ℕ
 one_block = with_pool 0 1024 (created 4)
 
-both_sides : content_by (freed 4 (spot (front ∷ [])) middle (back ∷ []) before_free.lists []) ≡ one_block
+both_sides : content_by (freed_layout 4 (spot (front ∷ [])) middle (back ∷ []) before_free.lists []) ≡ one_block
 unfolding class low left entered
 both_sides = refl
 

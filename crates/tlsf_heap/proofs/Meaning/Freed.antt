@@ -10,7 +10,7 @@ use Rattle.tlsf_heap.specs.Free.{if_free, free_previous, free_next, unlink_block
 use Rattle.tlsf_heap.specs.Free.{free_block, without_block, after_free}
 use Rattle.tlsf_heap.specs.Inner.Nodes.{Status, InUse, Listed, Loose, Node, turned, owner_of, block_of, pool_of, content_by, has_place, is_listed, entered}
 use Rattle.tlsf_heap.specs.Inner.Spots.{Spot, filled, laid}
-use Rattle.tlsf_heap.specs.Inner.Joined.{is_loose, listed_first, past, left_by, grown_in_front, grown_behind, spot_past, merged_node, freed}
+use Rattle.tlsf_heap.specs.Inner.Joined.{is_loose, listed_first, past, left_by, grown_in_front, grown_behind, spot_past, merged_node, freed_layout}
 use Rattle.tlsf_heap.proofs.Counts.{one_if, count-cons}
 use Rattle.tlsf_heap.proofs.Inner.Plugs.{count-filled}
 use Rattle.tlsf_heap.proofs.Inner.Lists.{length-left}
@@ -140,7 +140,7 @@ module _ (spot : Spot) (node : Node) (nodes : List Node) (lists : List (List Nod
     lists = link (start_of f node.place) (size_of f + size + size_of b) (unlink_block b (unlink_block f (by_places lists)));
   }
 
-  pub freed_is : (count : ℕ) (taken kept : List ℕ) → NoneLoose spot.before → NoneLoose nodes → content_by (freed count spot node nodes lists kept) ≡ after_free node.place (content_by (laid count spot (node ∷ nodes) lists taken))
+  pub freed_is : (count : ℕ) (taken kept : List ℕ) → NoneLoose spot.before → NoneLoose nodes → content_by (freed_layout count spot node nodes lists kept) ≡ after_free node.place (content_by (laid count spot (node ∷ nodes) lists taken))
   freed_is count taken kept before_settled behind_settled =
       let merged : Node = turned Listed (merged_node spot node nodes) in
       let here = alone spot node nodes told.places in
@@ -158,7 +158,7 @@ module _ (spot : Spot) (node : Node) (nodes : List Node) (lists : List (List Nod
       places-entered merged (left_by back (left_by front lists)) (full_back front back)
       ∙ ap (λ (block : Block ℕ). link block.place block.size (by_places (left_by back (left_by front lists)))) block_is
       ∙ ap (link (start_of f node.place) (size_of f + node.size + size_of b)) (lists_back front ∙ ap (unlink_block b) lists_front) in
-      let both : content_by (freed count spot node nodes lists kept) ≡ after count taken f b node.size = λ i. record { records = count; pools = by_pools i; lists = by_lists i } in
+      let both : content_by (freed_layout count spot node nodes lists kept) ≡ after count taken f b node.size = λ i. record { records = count; pools = by_pools i; lists = by_lists i } in
       both
       ∙ sym (ap (λ x. after count taken x (free_next node.place (content_by (laid count spot (node ∷ nodes) lists taken))) (size_at node.place (blocks_of (map pool_of (filled spot (node ∷ nodes)))))) f_is
       ∙ ap (λ y. after count taken f y (size_at node.place (blocks_of (map pool_of (filled spot (node ∷ nodes)))))) b_is

@@ -12,7 +12,7 @@ use Rattle.tlsf_heap.specs.Free.{is_owned_by, is_live, if_free, free_previous, f
 use Rattle.tlsf_heap.specs.Free.{free_block, without_block, after_free, free}
 use Rattle.tlsf_heap.specs.Inner.Spots.{plug}
 use Rattle.tlsf_heap.proofs.Content.Blocks.{Ascends-pools}
-use Rattle.tlsf_heap.proofs.Content.FreeLists.{stands, times-link, times-unlink, length-link, length-unlink}
+use Rattle.tlsf_heap.proofs.Content.FreeLists.{listed_at, times-link, times-unlink, length-link, length-unlink}
 use Rattle.tlsf_heap.proofs.Counts.{one_if, count-cons, count_all, any_counts}
 use Rattle.tlsf_heap.proofs.Meaning.BlockSpots.{BlockSpot, first_of, pool_at, filled_pools, around_blocks, count-filled_pools, LocatedBlock, located_block, at_most_one, IsAlone, block_alone, replaced_at, front_at, back_at, size_here}
 
@@ -41,9 +41,9 @@ module _ {A : Type 0} where
   is_first_free (block ∷ blocks) = is_free block
 
   -- how often a block, if there is one, stands at p in the list of class q when it is free
-  abbrev stands_of : ℕ → ℕ → Option (Block A) → ℕ
-  stands_of q p None = 0
-  stands_of q p (Some block) = stands q p block.place block.size
+  abbrev listed_of : ℕ → ℕ → Option (Block A) → ℕ
+  listed_of q p None = 0
+  listed_of q p (Some block) = listed_at q p block.place block.size
 
   -- blocks of which no two free ones are neighbours, in parts
   not_both : (blocks : List (Block A)) (was : Bool) → NoFreeNeighbours was blocks → IsTrue (not (was && is_first_free blocks))
@@ -76,10 +76,10 @@ module _ {A : Type 0} where
     | inr live ↦ live
   ]
 
-  count_past : (q p : ℕ) (blocks : List (Block A)) → count_by (is_listed q p) (past_free blocks) + stands_of q p (free_first blocks) ≡ count_by (is_listed q p) blocks
+  count_past : (q p : ℕ) (blocks : List (Block A)) → count_by (is_listed q p) (past_free blocks) + listed_of q p (free_first blocks) ≡ count_by (is_listed q p) blocks
   count_past q p [] = refl
   count_past q p (block ∷ blocks) =
-      let P : Bool → Type 0 = λ f. count_by (is_listed q p) (cond f blocks (block ∷ blocks)) + stands_of q p (cond f (Some block) None) ≡ count_by (is_listed q p) (block ∷ blocks) in
+      let P : Bool → Type 0 = λ f. count_by (is_listed q p) (cond f blocks (block ∷ blocks)) + listed_of q p (cond f (Some block) None) ≡ count_by (is_listed q p) (block ∷ blocks) in
       elim (cases_Bool (is_free block)) [
         | inl free ↦ subst P (sym free) (omega (arith, count-cons (is_listed q p) block blocks, ap (λ b. one_if (b && (is_at p block && (class block.size == q)))) free))
         | inr live ↦ subst P (sym live) (omega arith)
@@ -119,7 +119,7 @@ module _ {A : Type 0} where
 
   -- a neighbour that leaves its list
   times-unlink_block : (lists : List (List ℕ)) (full : length lists ≡ classes) (o : Option (Block A)) → ((block : Block A) → o ≡ Some block → times block.place (list_of (class block.size) lists) ≡ 1)
-      → (q p : ℕ) → times p (list_of q (unlink_block o lists)) + stands_of q p o ≡ times p (list_of q lists)
+      → (q p : ℕ) → times p (list_of q (unlink_block o lists)) + listed_of q p o ≡ times p (list_of q lists)
   times-unlink_block lists full None once q p = omega arith
   times-unlink_block lists full (Some block) once q p = times-unlink lists full q p block.place block.size (once block refl)
 
@@ -245,10 +245,10 @@ module _ {A : Type 0} where
           there.0,
         )
       where
-        front_elsewhere : (q p : ℕ) → 1 ≤ count_by (is_at p) blocks → stands_of q p front ≡ 0
+        front_elsewhere : (q p : ℕ) → 1 ≤ count_by (is_at p) blocks → listed_of q p front ≡ 0
         front_elsewhere q p behind = go front refl
           where
-            go : (o : Option (Block A)) → front ≡ o → stands_of q p o ≡ 0
+            go : (o : Option (Block A)) → front ≡ o → listed_of q p o ≡ 0
             go None is_none = refl
             go (Some f) is_some = elim (cases_eq f.place p) [
               | inl same ↦ absurd (let P : ℕ → Type 0 = λ n. 1 ≤ count_by (is_at n) spot.before in omega (arith, subst P same (free_stands spot.before f is_some).1, behind, once p, counts (is_at p)))

@@ -11,7 +11,7 @@ use Rattle.tlsf_heap.specs.Content.{Block, Pool, blocks_of, is_at}
 use Rattle.tlsf_heap.specs.Free.{next_of, first_in_pools}
 use Rattle.tlsf_heap.specs.Good.{Covers, IsGoodPool, AreGoodPools}
 use Rattle.tlsf_heap.specs.Rows.{row_of, rows_from}
-use Rattle.tlsf_heap.specs.PlainHeap.{rows_at, rest_at, rest_from, is_from}
+use Rattle.tlsf_heap.specs.PlainHeap.{rows_from_place, rest_at, rest_from, is_from}
 use Rattle.tlsf_heap.proofs.Content.Blocks.{Ascends, Ascends-pools, NoneAt}
 use Rattle.tlsf_heap.proofs.Good.Calls.{Covers-le}
 use Rattle.tlsf_heap.proofs.Content.Replacing.{find-none}
@@ -21,7 +21,7 @@ use Rattle.tlsf_heap.proofs.Plain.Free.{OfSome, back_of_all, first_of_all}
 -- what the pool's rows are from the block behind on
 abbrev next_in : Option (Block ℕ) → List (Block ℕ) → List Row
 next_in None blocks = []
-next_in (Some next) blocks = rows_at next.place blocks
+next_in (Some next) blocks = rows_from_place next.place blocks
 
 abbrev pub next_rest : Option (Block ℕ) → List (Pool ℕ) → List Row
 next_rest None pools = []
@@ -38,11 +38,11 @@ any_none place (block ∷ blocks) h = let parts = or_parts (is_at place block) (
 any_later : (place : ℕ) (block : Block ℕ) (blocks : List (Block ℕ)) → is_at place block ≡ false → list_any (is_at place) (block ∷ blocks) ≡ true → list_any (is_at place) blocks ≡ true
 any_later place block blocks elsewhere h = sym (ap (λ b. b || list_any (is_at place) blocks) elsewhere) ∙ h
 
-rows_here : (place : ℕ) (block : Block ℕ) (blocks : List (Block ℕ)) → is_at place block ≡ true → rows_at place (block ∷ blocks) ≡ map row_of (block ∷ blocks)
-rows_here place block blocks here = ap (λ b. cond b (map row_of (block ∷ blocks)) (rows_at place blocks)) here
+rows_here : (place : ℕ) (block : Block ℕ) (blocks : List (Block ℕ)) → is_at place block ≡ true → rows_from_place place (block ∷ blocks) ≡ map row_of (block ∷ blocks)
+rows_here place block blocks here = ap (λ b. cond b (map row_of (block ∷ blocks)) (rows_from_place place blocks)) here
 
-rows_elsewhere : (place : ℕ) (block : Block ℕ) (blocks : List (Block ℕ)) → is_at place block ≡ false → rows_at place (block ∷ blocks) ≡ rows_at place blocks
-rows_elsewhere place block blocks elsewhere = ap (λ b. cond b (map row_of (block ∷ blocks)) (rows_at place blocks)) elsewhere
+rows_elsewhere : (place : ℕ) (block : Block ℕ) (blocks : List (Block ℕ)) → is_at place block ≡ false → rows_from_place place (block ∷ blocks) ≡ rows_from_place place blocks
+rows_elsewhere place block blocks elsewhere = ap (λ b. cond b (map row_of (block ∷ blocks)) (rows_from_place place blocks)) elsewhere
 
 find_here : (place : ℕ) (block : Block ℕ) (blocks : List (Block ℕ)) → is_at place block ≡ true → find (is_at place) (block ∷ blocks) ≡ Some block
 find_here place block blocks here = ap (λ b. cond b (Some block) (find (is_at place) blocks)) here
@@ -91,7 +91,7 @@ next_kept first blocks None h = refl
 next_kept first blocks (Some next) h = sym (rows_elsewhere next.place first blocks (ne_eqb first.place next.place (λ e. absurd (omega (arith, e, h)))))
 
 -- the rows from a block on are its own, and those from the block behind it on
-rows_found : (place from : ℕ) (blocks : List (Block ℕ)) (block : Block ℕ) → Ascends from blocks → find (is_at place) blocks ≡ Some block → rows_at place blocks ≡ row_of block ∷ next_in (next_of place blocks) blocks
+rows_found : (place from : ℕ) (blocks : List (Block ℕ)) (block : Block ℕ) → Ascends from blocks → find (is_at place) blocks ≡ Some block → rows_from_place place blocks ≡ row_of block ∷ next_in (next_of place blocks) blocks
 rows_found place from [] block a f = absurd (cc)
 rows_found place from (first ∷ []) block a f = elim (cases_Bool (is_at place first)) [
   | inl here ↦ rows_here place first [] here ∙ ap (λ (b : Block ℕ). row_of b ∷ []) (some_is first block (sym (find_here place first [] here) ∙ f))
@@ -102,7 +102,7 @@ rows_found place from (first ∷ next ∷ blocks) block a f = elim (cases_Bool (
       let same = some_is first block (sym (find_here place first (next ∷ blocks) here) ∙ f) in
       let back : next_of place (first ∷ next ∷ blocks) ≡ Some next = ap (λ b. cond b (Some next) (next_of place (next ∷ blocks))) here in
       let apart : is_at next.place first ≡ false = ne_eqb first.place next.place (λ e. absurd (omega (arith, e, a.1, a.2.0))) in
-      let rows : rows_at next.place (first ∷ next ∷ blocks) ≡ map row_of (next ∷ blocks) = rows_elsewhere next.place first (next ∷ blocks) apart ∙ rows_here next.place next blocks (eq-eqb next.place next.place refl) in
+      let rows : rows_from_place next.place (first ∷ next ∷ blocks) ≡ map row_of (next ∷ blocks) = rows_elsewhere next.place first (next ∷ blocks) apart ∙ rows_here next.place next blocks (eq-eqb next.place next.place refl) in
       rows_here place first (next ∷ blocks) here
       ∙ ap (λ (b : Block ℕ). row_of b ∷ map row_of (next ∷ blocks)) same
       ∙ ap (λ xs. row_of block ∷ xs) (sym (ap (λ o. next_in o (first ∷ next ∷ blocks)) back ∙ rows))
@@ -129,13 +129,13 @@ behind_any place (block ∷ other ∷ blocks) next h = elim (cases_Bool (is_at p
 
 next_here : (place : ℕ) (pool : Pool ℕ) (pools : List (Pool ℕ)) (o : Option (Block ℕ)) → next_of place pool.blocks ≡ o → next_in o pool.blocks ≡ next_rest o (pool ∷ pools)
 next_here place pool pools None h = refl
-next_here place pool pools (Some next) h = sym (ap (λ b. cond b (rows_at next.place pool.blocks) (rest_at next.place pools)) (behind_any place pool.blocks next h))
+next_here place pool pools (Some next) h = sym (ap (λ b. cond b (rows_from_place next.place pool.blocks) (rest_at next.place pools)) (behind_any place pool.blocks next h))
 
 next_later : (pool : Pool ℕ) (pools : List (Pool ℕ)) (o : Option (Block ℕ)) → IsGoodPool pool → OfSome (λ block. pool.base + pool.bytes ≤ block.place) o → next_rest o pools ≡ next_rest o (pool ∷ pools)
 next_later pool pools None g h = refl
 next_later pool pools (Some next) g h =
     let none = none_any next.place pool.blocks (NoneAt-above next.place pool.base (pool.base + pool.bytes) pool.blocks h g.covered).0 in
-    sym (ap (λ b. cond b (rows_at next.place pool.blocks) (rest_at next.place pools)) none)
+    sym (ap (λ b. cond b (rows_from_place next.place pool.blocks) (rest_at next.place pools)) none)
 
 -- the same in good pools
 pub rest_found : (place from : ℕ) (pools : List (Pool ℕ)) (block : Block ℕ) → AreGoodPools from pools → find (is_at place) (blocks_of pools) ≡ Some block
@@ -147,7 +147,7 @@ rest_found place from (pool ∷ pools) block g f = elim (cases_Bool (list_any (i
       let fact = found_fact (λ b. b.place < pool.base + pool.bytes) place pool.blocks block (all_below pool.base (pool.base + pool.bytes) pool.blocks g.1.covered) found in
       let others = untouched place (pool.base + pool.bytes) pools (omega (arith, fact.0, fact.1)) g.2 in
       let back : first_in_pools (next_of place) (pool ∷ pools) ≡ next_of place pool.blocks = ap (option_or (next_of place pool.blocks)) others.back ∙ option_or-None (next_of place pool.blocks) in
-      ap (λ b. cond b (rows_at place pool.blocks) (rest_at place pools)) here
+      ap (λ b. cond b (rows_from_place place pool.blocks) (rest_at place pools)) here
       ∙ rows_found place pool.base pool.blocks block (Ascends-covers pool.base (pool.base + pool.bytes) pool.blocks g.1.covered) found
       ∙ ap (λ xs. row_of block ∷ xs) (next_here place pool pools (next_of place pool.blocks) refl ∙ ap (λ o. next_rest o (pool ∷ pools)) (sym back))
   | inr elsewhere ↦
@@ -155,7 +155,7 @@ rest_found place from (pool ∷ pools) block g f = elim (cases_Bool (list_any (i
       let back : first_in_pools (next_of place) (pool ∷ pools) ≡ first_in_pools (next_of place) pools = ap (λ o. option_or o (first_in_pools (next_of place) pools)) (none_behind place pool.blocks none) in
       let above = first_of_all (λ b. pool.base + pool.bytes ≤ b.place) (next_of place) pools (back_of_all (λ b. pool.base + pool.bytes ≤ b.place) place)
       (all_from (pool.base + pool.bytes) (pool.base + pool.bytes) (blocks_of pools) (omega arith) (Ascends-pools (pool.base + pool.bytes) pools g.2)) in
-      ap (λ b. cond b (rows_at place pool.blocks) (rest_at place pools)) elsewhere
+      ap (λ b. cond b (rows_from_place place pool.blocks) (rest_at place pools)) elsewhere
       ∙ rest_found place (pool.base + pool.bytes) pools block g.2 (sym (find-none place pool.blocks (blocks_of pools) none) ∙ f)
       ∙ ap (λ xs. row_of block ∷ xs) (next_later pool pools (first_in_pools (next_of place) pools) g.1 above ∙ ap (λ o. next_rest o (pool ∷ pools)) (sym back))
 ]
@@ -198,7 +198,7 @@ pool_above base from (pool ∷ pools) g h = elim (or_cases (pool.base == base) (
   | inr later ↦ omega (arith, g.0, pool_above base (pool.base + pool.bytes) pools g.2 later)
 ]
 
-covers_first : (from to : ℕ) (blocks : List (Block ℕ)) → from < to → Covers from to blocks → (list_any (is_at from) blocks ≡ true) × (rows_at from blocks ≡ map row_of blocks)
+covers_first : (from to : ℕ) (blocks : List (Block ℕ)) → from < to → Covers from to blocks → (list_any (is_at from) blocks ≡ true) × (rows_from_place from blocks ≡ map row_of blocks)
 covers_first from to [] h c = absurd (omega (arith, h, c))
 covers_first from to (block ∷ blocks) h c =
     let here : is_at from block ≡ true = eq-eqb block.place from c.0 in
@@ -211,9 +211,9 @@ first_is base from [] g h = absurd (cc)
 first_is base from (pool ∷ pools) g h = elim (cases_Bool (pool.base == base)) [
   | inl here ↦
       let at : pool.base ≡ base = eqb-true pool.base base here in
-      let P : ℕ → Type 0 = λ n. (list_any (is_at n) pool.blocks ≡ true) × (rows_at n pool.blocks ≡ map row_of pool.blocks) in
+      let P : ℕ → Type 0 = λ n. (list_any (is_at n) pool.blocks ≡ true) × (rows_from_place n pool.blocks ≡ map row_of pool.blocks) in
       let begins = subst P at (covers_first pool.base (pool.base + pool.bytes) pool.blocks (omega (arith, g.1.least_bytes)) g.1.covered) in (
-        ap (λ b. cond b (Ok (map row_of pool.blocks)) (rows_from base pools)) here ∙ ap Ok (sym begins.1 ∙ sym (ap (λ b. cond b (rows_at base pool.blocks) (rest_at base pools)) begins.0)),
+        ap (λ b. cond b (Ok (map row_of pool.blocks)) (rows_from base pools)) here ∙ ap Ok (sym begins.1 ∙ sym (ap (λ b. cond b (rows_from_place base pool.blocks) (rest_at base pools)) begins.0)),
         list_any-append (is_at base) pool.blocks (blocks_of pools) ∙ or_left (list_any (is_at base) pool.blocks) (list_any (is_at base) (blocks_of pools)) begins.0,
         omega (arith, at, g.1.ends, g.1.least_bytes),
       )
@@ -221,7 +221,7 @@ first_is base from (pool ∷ pools) g h = elim (cases_Bool (pool.base == base)) 
       let later : list_any (λ (pool : Pool ℕ). pool.base == base) pools ≡ true = sym (ap (λ b. b || list_any (λ (pool : Pool ℕ). pool.base == base) pools) elsewhere) ∙ h in
       let rest = first_is base (pool.base + pool.bytes) pools g.2 later in
       let none = none_any base pool.blocks (NoneAt-above base pool.base (pool.base + pool.bytes) pool.blocks (pool_above base (pool.base + pool.bytes) pools g.2 later) g.1.covered).0 in (
-        ap (λ b. cond b (Ok (map row_of pool.blocks)) (rows_from base pools)) elsewhere ∙ rest.0 ∙ ap Ok (sym (ap (λ b. cond b (rows_at base pool.blocks) (rest_at base pools)) none)),
+        ap (λ b. cond b (Ok (map row_of pool.blocks)) (rows_from base pools)) elsewhere ∙ rest.0 ∙ ap Ok (sym (ap (λ b. cond b (rows_from_place base pool.blocks) (rest_at base pools)) none)),
         list_any-append (is_at base) pool.blocks (blocks_of pools) ∙ or_right (list_any (is_at base) pool.blocks) (list_any (is_at base) (blocks_of pools)) rest.1,
         rest.2,
       )

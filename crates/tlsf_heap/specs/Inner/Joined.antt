@@ -42,7 +42,7 @@ abbrev pub merged_node : Spot → Node → List Node → Node
 merged_node spot node nodes = grown_behind (listed_first nodes) (grown_in_front (listed_first spot.before) (turned Loose node))
 
 -- the layout after the node at the spot was freed: one listed node is left of it and those beside it
-abbrev pub freed : ℕ → Spot → Node → List Node → List (List Node) → List ℕ → Layout
-freed count spot node nodes lists taken =
+abbrev pub freed_layout : ℕ → Spot → Node → List Node → List (List Node) → List ℕ → Layout
+freed_layout count spot node nodes lists taken =
     let merged = turned Listed (merged_node spot node nodes) in
     laid count (spot_past spot) (merged ∷ past nodes) (entered merged (left_by (listed_first nodes) (left_by (listed_first spot.before) lists))) taken

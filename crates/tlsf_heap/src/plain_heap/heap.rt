@@ -28,13 +28,13 @@ pub struct PlainHeap {
 impl Model for PlainHeap {
     ghost use Rattle.std.specs.Prelude.{ℕ};
     ghost use Rattle.tlsf_heap.specs.Content.{Content};
-    ghost use Rattle.tlsf_heap.specs.PlainHeap.{IsPlain, content_of};
+    ghost use Rattle.tlsf_heap.specs.PlainHeap.{IsPlain, plain_content};
 
     ghost Value = { Content ℕ };
 
-    ghost view = { λ h. content_of h.records h.pools.items h.lists.items };
+    ghost view = { λ h. plain_content h.records h.pools.items h.lists.items };
 
-    ghost invariant = { λ h. IsPlain (content_of h.records h.pools.items h.lists.items) };
+    ghost invariant = { λ h. IsPlain (plain_content h.records h.pools.items h.lists.items) };
 }
 
 impl PlainHeap {
@@ -154,7 +154,7 @@ impl PlainHeap {
 /// It has no table to touch. Each call that changes it may lack memory.
 impl Heaped for PlainHeap {
     ghost use Rattle.std.specs.Prelude.{⊤};
-    ghost use Rattle.tlsf_heap.specs.PlainHeap.{rest as rows_behind, stands as is_at_row};
+    ghost use Rattle.tlsf_heap.specs.PlainHeap.{cursor_rows, cursor_stands};
 
     ghost content = { λ heap. heap };
 
@@ -162,9 +162,9 @@ impl Heaped for PlainHeap {
 
     ghost lacks = { λ heap. ⊤ };
 
-    ghost stands = { is_at_row };
+    ghost stands = { cursor_stands };
 
-    ghost rest = { rows_behind };
+    ghost rest = { cursor_rows };
 
     fn create(alloc: Global, records: u32) -> Result<Self, StoreError> {
         if records == 0 || records > MOST_RECORDS {

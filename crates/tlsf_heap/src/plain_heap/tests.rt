@@ -1,7 +1,7 @@
 //! Rows of the plain heap.
 
 ghost use Rattle.std.specs.Prelude.{IfSome};
-ghost use Rattle.tlsf_heap.specs.PlainHeap.{stands};
+ghost use Rattle.tlsf_heap.specs.PlainHeap.{cursor_stands};
 
 use super::PlainHeap;
 use crate::{Cursor, Heaped, Ptr, Refusal, Row};
@@ -10,8 +10,8 @@ use tlsf_store::StoreError;
 
 /// The cursor behind the row at the cursor, where it is this one.
 fn passed(heap: &mut PlainHeap, cursor: Cursor, place: u32, size: u32, used: bool) -> Option<Cursor>
-    requires { stands heap.old cursor }
-    ensures { IfSome result (λ next. stands heap.new next) }
+    requires { cursor_stands heap.old cursor }
+    ensures { IfSome result (λ next. cursor_stands heap.new next) }
 {
     match heap.row(cursor) {
         Some((row, next)) if row == Row { place, size, used } => Some(next),

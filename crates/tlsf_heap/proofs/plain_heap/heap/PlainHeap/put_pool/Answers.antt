@@ -4,7 +4,7 @@ use Rattle.std.proofs.lemmas.List.{length-map}
 use Rattle.tlsf_heap.specs.Content.{Content, Pool, used_records}
 use Rattle.tlsf_heap.specs.Malloc.{gap}
 use Rattle.tlsf_heap.specs.Pools.{with_pool, in_order_of_base, is_apart}
-use Rattle.tlsf_heap.specs.PlainHeap.{IsPlain, content_of, pool_place}
+use Rattle.tlsf_heap.specs.PlainHeap.{IsPlain, plain_content, pool_place}
 use Rattle.tlsf_heap.proofs.Good.Calls.{with_pool_is_good}
 use Rattle.tlsf_heap.proofs.Good.Slots.{with_pool_slots}
 use Rattle.tlsf_heap.proofs.Plain.Lists.{link_is}
@@ -12,8 +12,8 @@ use Rattle.tlsf_heap.proofs.Plain.Malloc.{insert_is}
 use Rattle.tlsf_heap.proofs.plain_heap.heap.PlainHeap.put_pool.Goals as goal
 
 -- the new fields stand for the content with the pool
-fields : (c : goal.After-drop-index_mut) → content_of c.self.inside.records c.insert.new.self.items (slice_set c.self.inside.lists.items c.list_number-number.result c.in_ok-entered.entered)
-    ≡ with_pool c.args.base c.args.bytes (content_of c.self.inside.records c.self.inside.pools.items c.self.inside.lists.items)
+fields : (c : goal.After-drop-index_mut) → plain_content c.self.inside.records c.insert.new.self.items (slice_set c.self.inside.lists.items c.list_number-number.result c.in_ok-entered.entered)
+    ≡ with_pool c.args.base c.args.bytes (plain_content c.self.inside.records c.self.inside.pools.items c.self.inside.lists.items)
 fields c =
     let pools = c.self.inside.pools.items in
     let pool : Pool ℕ = record { base = c.args.base; bytes = c.args.bytes; blocks = gap c.args.base c.args.bytes } in
@@ -27,7 +27,7 @@ fields c =
     let linked = link_is lists c.list_number-number.result c.args.base c.args.bytes c.index.result.now c.in_ok-entered.entered c.list_number-number.ensures.class
     (omega (arith, c.list_number-number.ensures.below, c.self.invariant.good.lists_count, length-map lists (λ v. v.items))) c.index.ensures
     (c.in_ok-entered.ensures ∙ ap (λ xs. c.args.base ∷ xs) c.as_slice.ensures.value) in
-    ap (λ ps. content_of c.self.inside.records ps entered) stands
+    ap (λ ps. plain_content c.self.inside.records ps entered) stands
     ∙ ap (λ ls. record { records = c.self.inside.records; pools = in_order_of_base pool pools; lists = ls }) linked
 
 pub invariant_of-self-2 : goal.invariant_of-self-2

@@ -4,13 +4,13 @@ use Rattle.tlsf_heap.specs.Free.{is_live, unlink_block, if_free, first_in_pools,
 use Rattle.tlsf_heap.specs.Free.{free_block, without_block, after_free}
 use Rattle.tlsf_heap.specs.Malloc.{replaced_in}
 use Rattle.tlsf_heap.specs.Lists.{link}
-use Rattle.tlsf_heap.specs.PlainHeap.{IsPlain, content_of, lists_of}
+use Rattle.tlsf_heap.specs.PlainHeap.{IsPlain, plain_content, lists_of}
 use Rattle.tlsf_heap.proofs.Plain.Free.{after_free_is, freed_is_plain}
 use Rattle.tlsf_heap.proofs.plain_heap.heap.PlainHeap.release.Goals as goal
 
 -- the new fields stand for the content after free
-fields : (c : goal.After-drop-pools-3) → content_of c.self.inside.records c.in_ok-pools-3.pools.items c.in_ok-lists.lists.items
-    ≡ after_free c.args.place (content_of c.self.inside.records c.self.inside.pools.items c.self.inside.lists.items)
+fields : (c : goal.After-drop-pools-3) → plain_content c.self.inside.records c.in_ok-pools-3.pools.items c.in_ok-lists.lists.items
+    ≡ after_free c.args.place (plain_content c.self.inside.records c.self.inside.pools.items c.self.inside.lists.items)
 fields c =
     let place = c.args.place in
     let pools = c.self.inside.pools.items in

@@ -2,16 +2,16 @@ use Rattle.std.proofs.Common.{◌≡◌, ℕ, ◌<◌, sym, ap, ◌∙◌, subst
 use Rattle.tlsf_heap.specs.Content.{Content, blocks_of}
 use Rattle.tlsf_heap.specs.GoodSlots.{slot_times}
 use Rattle.tlsf_heap.specs.Malloc.{allocated, replaced_in, cut}
-use Rattle.tlsf_heap.specs.PlainHeap.{IsPlain, content_of, IsChosen}
+use Rattle.tlsf_heap.specs.PlainHeap.{IsPlain, plain_content, IsChosen}
 use Rattle.tlsf_heap.proofs.Plain.Malloc.{chosen_is_plain}
 use Rattle.tlsf_heap.proofs.plain_heap.heap.PlainHeap.take.Goals as goal
 
 -- the new fields stand for the content with the block chosen cut
-fields : (c : goal.After-drop-self-inside) → content_of c.self.inside.records c.in_ok-pools.pools.items c.relink.new.lists.items
-    ≡ allocated c.args.choice.slot c.args.choice.place c.args.choice.asked c.args.choice.size (content_of c.self.inside.records c.self.inside.pools.items c.self.inside.lists.items)
+fields : (c : goal.After-drop-self-inside) → plain_content c.self.inside.records c.in_ok-pools.pools.items c.relink.new.lists.items
+    ≡ allocated c.args.choice.slot c.args.choice.place c.args.choice.asked c.args.choice.size (plain_content c.self.inside.records c.self.inside.pools.items c.self.inside.lists.items)
 fields c =
     let choice = c.args.choice in
-    ap (λ ps. content_of c.self.inside.records ps c.relink.new.lists.items)
+    ap (λ ps. plain_content c.self.inside.records ps c.relink.new.lists.items)
     (c.in_ok-pools.ensures ∙ ap (map (replaced_in choice.place (cut choice.slot choice.place choice.asked choice.size))) c.as_slice.ensures.value)
     ∙ ap (λ ls. record { records = c.self.inside.records; pools = map (replaced_in choice.place (cut choice.slot choice.place choice.asked choice.size)) c.self.inside.pools.items; lists = ls }) c.in_ok-relink.ensures.ok
 
