@@ -1,11 +1,9 @@
 -- A list of the plain heap is written: the lists are those of the definitions.
-use Rattle.std.proofs.Common.{◌≡◌, ℕ, ◌<◌, List, [], ◌∷◌, length, refl, sym, ap, ◌∙◌, arith, get_or, set, Vec}
-use Rattle.std.proofs.lemmas.Bool.{eq-eqb, ne_eqb}
+use Rattle.std.proofs.Common.{◌≡◌, ℕ, ◌<◌, List, [], ◌∷◌, length, sym, ap, ◌∙◌, get_or, set, Vec}
 use Rattle.std.proofs.lemmas.List.{map-set, get_or-map}
 use Rattle.std.specs.declared.alloc.Global.{Global}
 use Rattle.tlsf_class.specs.Classes.{class}
 use Rattle.tlsf_heap.specs.Lists.{list_of, without, link, unlink}
-use Rattle.tlsf_heap.specs.Malloc.{link_gap}
 use Rattle.tlsf_heap.specs.PlainHeap.{lists_of}
 
 abbrev Places : Type 0
@@ -29,18 +27,3 @@ pub unlink_is : (lists : List Places) (number place size : ℕ) (old left : Plac
 unlink_is lists number place size old left same below is items =
     set_list lists number left _ (items ∙ ap (without place) (sym (list_of-at lists number old below is)))
     ∙ ap (λ n. set (lists_of lists) n (without place (list_of n (lists_of lists)))) same
-
--- no gap enters a list
-pub link_gap-none : (place size : ℕ) (lists : List (List ℕ)) → size ≡ 0 → link_gap place size lists ≡ lists
-link_gap-none place size lists h = rw (eq-eqb size 0 h) refl
-
-pub link_gap-some : (place size : ℕ) (lists : List (List ℕ)) → 0 < size → link_gap place size lists ≡ link place size lists
-link_gap-some place size lists h = rw (ne_eqb size 0 (λ e. absurd (omega (arith, h, e)))) refl
-
--- the second list written, whose items were read off the first write
-pub link_after : (lists : List Places) (from number place size : ℕ) (left entered : Places) → number ≡ class size
-    → entered.items ≡ place ∷ list_of (class size) (set (lists_of lists) from left.items)
-    → lists_of (set (set lists from left) number entered) ≡ link place size (lists_of (set lists from left))
-link_after lists from number place size left entered same items =
-    set_list (set lists from left) number entered _ (items ∙ ap (λ xs. place ∷ list_of (class size) xs) (sym (map-set (λ v. v.items) lists from left)))
-    ∙ ap (λ n. set (lists_of (set lists from left)) n (place ∷ list_of (class size) (lists_of (set lists from left)))) same

@@ -1,6 +1,6 @@
 use super::block::Block;
 use super::choice::Choice;
-use super::lists::{in_front, list_number, no_places, pick, rejoined, relink};
+use super::lists::{in_front, list_number, no_places, pick, rejoined, relinked};
 use super::neighbours::{cursor_at, is_live, neighbours, next_of};
 use super::pool::Pool;
 use super::pools::{block_at, block_count, has_pool, is_apart, place_for, ranges, size_at};
@@ -104,8 +104,9 @@ impl PlainHeap {
     {
         let alloc = *self.pools.allocator();
         let pools = cut_in_pools(alloc, self.pools.as_slice(), choice)?;
-        relink(alloc, &mut self.lists, choice)?;
+        let lists = relinked(alloc, self.lists.as_slice(), choice)?;
         self.pools = pools;
+        self.lists = lists;
         Ok(())
     }
 

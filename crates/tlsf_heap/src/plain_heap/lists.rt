@@ -2,9 +2,9 @@
 
 ghost use Rattle.std.specs.Prelude.{◌≡◌, ◌+◌, ◌-◌, ◌%◌, ◌<◌, ◌≤◌, [], ◌∷◌, length, replicate, slice_set, vec_len, IfOk, OnOk, OnErr};
 ghost use Rattle.tlsf_class.specs.Classes.{unit, classes, greatest_size, class};
-ghost use Rattle.tlsf_heap.specs.Lists.{list_of, without, link, unlink, first_of_lists as first_place, pick as picked_place};
+ghost use Rattle.tlsf_heap.specs.Lists.{without, link as linked, unlink as unlinked, first_of_lists as first_place, pick as picked_place};
 ghost use Rattle.tlsf_heap.specs.Malloc.{link_gap};
-ghost use Rattle.tlsf_heap.specs.Free.{unlink_block};
+ghost use Rattle.tlsf_heap.specs.Free.{unlink_block as without_one};
 ghost use Rattle.tlsf_heap.specs.PlainHeap.{IsSized, lists_of};
 
 use super::block::Block;
@@ -83,50 +83,6 @@ pub fn list_number(size: u32) -> usize
     class_of(size).number() as usize
 }
 
-/// The list of the class of what is left of the block chosen, with what is left in front. `left` is
-/// the list that the block chosen left.
-fn list_of_rest(
-    alloc: Global,
-    lists: &[Vec<u32>],
-    left: &[u32],
-    choice: Choice,
-) -> Result<Vec<u32>, AllocError>
-    requires rest { choice.asked < choice.size }
-    requires full { length lists.now ≡ classes }
-    ensures { IfOk result (λ v. v.items ≡ (choice.place + choice.asked)
-        ∷ list_of (class (choice.size - choice.asked)) (slice_set (lists_of lists.now) (class choice.size) left.now)) }
-{
-    let from = list_number(choice.size);
-    let number = list_number(choice.size - choice.asked);
-    let place = choice.place + choice.asked;
-    if number == from {
-        in_front(alloc, place, left)
-    } else {
-        in_front(alloc, place, lists[number].as_slice())
-    }
-}
-
-/// The block chosen leaves its class's list, and what is left of it enters its own. An `Err` changes
-/// nothing.
-pub fn relink(alloc: Global, lists: &mut Vec<Vec<u32>>, choice: Choice) -> Result<(), AllocError>
-    requires { vec_len lists.old ≡ classes }
-    ensures ok { OnOk result (lists_of lists.new.items
-        ≡ link_gap (choice.place + choice.asked) (choice.size - choice.asked) (unlink choice.place choice.size (lists_of lists.old.items))) }
-    ensures err { OnErr result (lists.new.items ≡ lists.old.items) }
-{
-    let from = list_number(choice.size);
-    let left = others(alloc, lists[from].as_slice(), choice.place)?;
-    if choice.size == choice.asked {
-        lists[from] = left;
-        return Ok(());
-    }
-    let entered = list_of_rest(alloc, lists.as_slice(), left.as_slice(), choice)?;
-    lists[from] = left;
-    let number = list_number(choice.size - choice.asked);
-    lists[number] = entered;
-    Ok(())
-}
-
 /// The places, copied.
 fn copied(alloc: Global, places: &[u32]) -> Result<Vec<u32>, AllocError>
     ensures { IfOk result (λ v. v.items ≡ places.now) }
@@ -147,13 +103,13 @@ fn all_copied(alloc: Global, lists: &[Vec<u32>]) -> Result<Vec<Vec<u32>>, AllocE
     Ok(all)
 }
 
-/// A free block of `size` bytes enters its class's list in front.
-fn enter(alloc: Global, lists: &mut Vec<Vec<u32>>, place: u32, size: u32) -> Result<(), AllocError>
+/// A place enters the list of its size's class in front.
+fn link(alloc: Global, lists: &mut Vec<Vec<u32>>, place: u32, size: u32) -> Result<(), AllocError>
     requires whole { size % unit ≡ 0 }
     requires some { 0 < size }
     requires most { size ≤ greatest_size }
     requires full { vec_len lists.old ≡ classes }
-    ensures { OnOk result (lists_of lists.new.items ≡ link place size (lists_of lists.old.items)) }
+    ensures { OnOk result (lists_of lists.new.items ≡ linked place size (lists_of lists.old.items)) }
 {
     let number = list_number(size);
     let entered = in_front(alloc, place, lists[number].as_slice())?;
@@ -161,20 +117,59 @@ fn enter(alloc: Global, lists: &mut Vec<Vec<u32>>, place: u32, size: u32) -> Res
     Ok(())
 }
 
-/// A block, where there is one, leaves its class's list.
-fn leave(alloc: Global, lists: &mut Vec<Vec<u32>>, block: Option<Block>) -> Result<(), AllocError>
-    requires sized { IsSized block }
+/// A place leaves the list of its size's class.
+fn unlink(alloc: Global, lists: &mut Vec<Vec<u32>>, place: u32, size: u32) -> Result<(), AllocError>
+    requires whole { size % unit ≡ 0 }
+    requires some { 0 < size }
+    requires most { size ≤ greatest_size }
     requires full { vec_len lists.old ≡ classes }
-    ensures ok { OnOk result (lists_of lists.new.items ≡ unlink_block block (lists_of lists.old.items)) }
+    ensures ok { OnOk result (lists_of lists.new.items ≡ unlinked place size (lists_of lists.old.items)) }
     ensures full { OnOk result (vec_len lists.new ≡ classes) }
 {
-    let Some(block) = block else {
-        return Ok(());
-    };
-    let number = list_number(block.size());
-    let left = others(alloc, lists[number].as_slice(), block.place())?;
+    let number = list_number(size);
+    let left = others(alloc, lists[number].as_slice(), place)?;
     lists[number] = left;
     Ok(())
+}
+
+/// A block, where there is one, leaves its class's list.
+fn unlink_block(
+    alloc: Global,
+    lists: &mut Vec<Vec<u32>>,
+    block: Option<Block>,
+) -> Result<(), AllocError>
+    requires sized { IsSized block }
+    requires full { vec_len lists.old ≡ classes }
+    ensures ok { OnOk result (lists_of lists.new.items ≡ without_one block (lists_of lists.old.items)) }
+    ensures full { OnOk result (vec_len lists.new ≡ classes) }
+{
+    match block {
+        Some(block) => unlink(alloc, lists, block.place(), block.size()),
+        None => Ok(()),
+    }
+}
+
+/// The lists after the block chosen left its own, and what is left of it entered its own.
+pub fn relinked(
+    alloc: Global,
+    lists: &[Vec<u32>],
+    choice: Choice,
+) -> Result<Vec<Vec<u32>>, AllocError>
+    requires { length lists.now ≡ classes }
+    ensures { IfOk result (λ v. lists_of v.items
+        ≡ link_gap (choice.place + choice.asked) (choice.size - choice.asked) (unlinked choice.place choice.size (lists_of lists.now))) }
+{
+    let mut all = all_copied(alloc, lists)?;
+    unlink(alloc, &mut all, choice.place, choice.size)?;
+    if choice.asked < choice.size {
+        link(
+            alloc,
+            &mut all,
+            choice.place + choice.asked,
+            choice.size - choice.asked,
+        )?;
+    }
+    Ok(all)
 }
 
 /// The lists after the free neighbours left theirs, and the block that is left entered its own.
@@ -187,11 +182,11 @@ pub fn rejoined(
     requires previous_sized { IsSized neighbours.previous }
     requires next_sized { IsSized neighbours.next }
     ensures { IfOk result (λ v. lists_of v.items
-        ≡ link neighbours.start neighbours.size (unlink_block neighbours.next (unlink_block neighbours.previous (lists_of lists.now)))) }
+        ≡ linked neighbours.start neighbours.size (without_one neighbours.next (without_one neighbours.previous (lists_of lists.now)))) }
 {
     let mut all = all_copied(alloc, lists)?;
-    leave(alloc, &mut all, neighbours.previous)?;
-    leave(alloc, &mut all, neighbours.next)?;
-    enter(alloc, &mut all, neighbours.start, neighbours.size)?;
+    unlink_block(alloc, &mut all, neighbours.previous)?;
+    unlink_block(alloc, &mut all, neighbours.next)?;
+    link(alloc, &mut all, neighbours.start, neighbours.size)?;
     Ok(all)
 }

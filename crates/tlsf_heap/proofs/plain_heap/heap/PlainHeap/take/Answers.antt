@@ -1,22 +1,23 @@
-use Rattle.std.proofs.Common.{◌≡◌, ℕ, ◌<◌, sym, ap, ◌∙◌, subst, map}
+use Rattle.std.proofs.Common.{◌≡◌, ℕ, ◌+◌, ◌-◌, ◌<◌, sym, ap, ◌∙◌, subst, map}
 use Rattle.tlsf_heap.specs.Content.{Content, blocks_of}
 use Rattle.tlsf_heap.specs.GoodSlots.{slot_times}
-use Rattle.tlsf_heap.specs.Malloc.{allocated, replaced_in, cut}
-use Rattle.tlsf_heap.specs.PlainHeap.{IsPlain, plain_content, IsChosen}
+use Rattle.tlsf_heap.specs.Lists.{unlink}
+use Rattle.tlsf_heap.specs.Malloc.{allocated, replaced_in, cut, link_gap}
+use Rattle.tlsf_heap.specs.PlainHeap.{IsPlain, plain_content, lists_of, IsChosen}
 use Rattle.tlsf_heap.proofs.Plain.Malloc.{chosen_is_plain}
 use Rattle.tlsf_heap.proofs.plain_heap.heap.PlainHeap.take.Goals as goal
 
 -- the new fields stand for the content with the block chosen cut
-fields : (c : goal.After-drop-self-inside) → plain_content c.self.inside.records c.in_ok-pools.pools.items c.relink.new.lists.items
+fields : (c : goal.After-drop-self-inside-2) → plain_content c.self.inside.records c.in_ok-pools.pools.items c.in_ok-lists.lists.items
     ≡ allocated c.args.choice.slot c.args.choice.place c.args.choice.asked c.args.choice.size (plain_content c.self.inside.records c.self.inside.pools.items c.self.inside.lists.items)
 fields c =
     let choice = c.args.choice in
-    ap (λ ps. plain_content c.self.inside.records ps c.relink.new.lists.items)
+    ap (λ ps. plain_content c.self.inside.records ps c.in_ok-lists.lists.items)
     (c.in_ok-pools.ensures ∙ ap (map (replaced_in choice.place (cut choice.slot choice.place choice.asked choice.size))) c.as_slice.ensures.value)
-    ∙ ap (λ ls. record { records = c.self.inside.records; pools = map (replaced_in choice.place (cut choice.slot choice.place choice.asked choice.size)) c.self.inside.pools.items; lists = ls }) c.in_ok-relink.ensures.ok
+    ∙ ap (λ ls. record { records = c.self.inside.records; pools = map (replaced_in choice.place (cut choice.slot choice.place choice.asked choice.size)) c.self.inside.pools.items; lists = ls }) (c.in_ok-lists.ensures ∙ ap (λ ls. link_gap (choice.place + choice.asked) (choice.size - choice.asked) (unlink choice.place choice.size (lists_of ls))) c.as_slice-2.ensures.value)
 
-pub invariant_of-self-2 : goal.invariant_of-self-2
-invariant_of-self-2 c =
+pub invariant_of-self : goal.invariant_of-self
+invariant_of-self c =
     let choice = c.args.choice in
     let P : Content ℕ → Type 0 = λ x. IsPlain x in
     subst P (sym (fields c)) (chosen_is_plain choice.slot c.requires.chosen.0 choice.place choice.asked choice.size _ c.self.invariant

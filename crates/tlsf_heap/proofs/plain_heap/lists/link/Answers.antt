@@ -1,6 +1,6 @@
 use Rattle.std.proofs.Common.{◌∷◌, arith, ap, ◌∙◌}
 use Rattle.tlsf_heap.proofs.Plain.Lists.{link_is}
-use Rattle.tlsf_heap.proofs.plain_heap.lists.enter.Goals as goal
+use Rattle.tlsf_heap.proofs.plain_heap.lists.link.Goals as goal
 
 pub returns : goal.returns
 returns c =
