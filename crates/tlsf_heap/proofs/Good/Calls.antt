@@ -6,10 +6,12 @@ use Rattle.std.proofs.lemmas.Bool.{cases_Bool, ne_eqb, eqb-true, eqb-false, ltb-
 use Rattle.std.proofs.lemmas.List.{get_or-drop, length-drop, get_or-replicate, length-replicate, length-map}
 use Rattle.tlsf_class.specs.Classes.{unit, classes, greatest_size, class, need}
 use Rattle.tlsf_class.proofs.ClassLaws.{need_holds}
-use Rattle.tlsf_heap.specs.declared.refusal.Refusal.TheVariants.{TableFull, BadPool, PoolsFull}
+use Rattle.tlsf_class.specs.Rounding.{round}
+use Rattle.tlsf_class.proofs.RoundingLaws.{round-Some}
+use Rattle.tlsf_heap.specs.declared.refusal.Refusal.TheVariants.{ZeroSize, TableFull, BadPool, PoolsFull}
 use Rattle.tlsf_heap.specs.Content.{Block, Pool, Content, blocks_of, is_free, is_at, size_at, used_records}
 use Rattle.tlsf_heap.specs.Lists.{list_of, unlink, first_of_lists, pick}
-use Rattle.tlsf_heap.specs.Malloc.{gap, cut, replaced_in, allocated, allocate}
+use Rattle.tlsf_heap.specs.Malloc.{gap, cut, replaced_in, allocated, allocate, malloc_picked, malloc_rounded, malloc}
 use Rattle.tlsf_heap.specs.Pools.{most_pools, end_of_places, created, add_pool, with_pool, can_be_pool, is_apart, in_order_of_base}
 use Rattle.tlsf_heap.specs.Good.{Covers, NoFreeNeighbours, IsGoodPool, AreGoodPools, AreLists, IsGood, times, is_listed}
 use Rattle.tlsf_heap.proofs.Counts.{count-cons, count-append, one_if}
@@ -193,6 +195,29 @@ module _ {A : Type 0} where
             subst P same (allocated_is_good owner m place content good h positive in_units room)
       ] in
       go _ refl e
+
+  picked_is_good : (owner : A) (m : ℕ) (content : Content A) (new : ℕ × Content A) (place : Option ℕ) → pick m content.lists ≡ place → IsGood content → 0 < m → m % unit ≡ 0
+      → malloc_picked owner m place content ≡ Ok new → IsGood new.1
+  picked_is_good owner m content new None h good positive in_units e = absurd (cc)
+  picked_is_good owner m content new (Some place) h good positive in_units e = allocate_is_good owner m place content new good h positive in_units e
+
+  rounded_is_good : (owner : A) (n : ℕ) (content : Content A) (new : ℕ × Content A) (m : Option ℕ) → round n ≡ m → IsGood content → 0 < n → malloc_rounded owner m content ≡ Ok new → IsGood new.1
+  rounded_is_good owner n content new None h good positive e = absurd (cc)
+  rounded_is_good owner n content new (Some m) h good positive e =
+      let is = round-Some n m h in
+      picked_is_good owner m content new (pick m content.lists) refl good (omega (arith, is.least, positive)) is.whole e
+
+  -- malloc keeps a content good
+  pub malloc_is_good : (owner : A) (n : ℕ) (content : Content A) (new : ℕ × Content A) → IsGood content → malloc owner n content ≡ Ok new → IsGood new.1
+  malloc_is_good owner n content new good e = elim (cases_Bool (n == 0)) [
+    | inl zero_bytes ↦
+        let refused : malloc owner n content ≡ Err ZeroSize = rw zero_bytes refl in
+        absurd (cc)
+    | inr some_bytes ↦
+        let asked : malloc owner n content ≡ malloc_rounded owner (round n) content = rw some_bytes refl in
+        let positive : n ≢ 0 = eqb-false n 0 some_bytes in
+        rounded_is_good owner n content new (round n) refl good (grind arith) (sym asked ∙ e)
+  ]
 
   -- how the blocks change where a pool comes in
   pub count_by-pools : (kind : Block A → Bool) (pool : Pool A) (pools : List (Pool A)) → count_by kind (blocks_of (in_order_of_base pool pools)) ≡ count_by kind pool.blocks + count_by kind (blocks_of pools)
