@@ -1,4 +1,5 @@
 -- Lemmas on the blocks and lists of a content, and on the calls as the definitions have them.
+pub mod Alignments
 pub mod Blocks
 pub mod Beside
 pub mod Replacing

@@ -6,6 +6,9 @@ pub mod Malloc
 pub mod Pools
 pub mod Good
 pub mod Free
+pub mod Memalign
+pub mod Realloc
+pub mod BlockSize
 pub mod Readings
 pub mod Touches
 pub mod Counted

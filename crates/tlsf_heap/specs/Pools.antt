@@ -1,13 +1,13 @@
--- create and add_pool.
-use Rattle.std.specs.Prelude.{ℕ, ◌+◌, ◌%◌, ◌^◌, Bool, not, ◌&&◌, ◌||◌, List, [], ◌∷◌, length, replicate, Result, Ok, Err, if◌then◌else◌, ◌==◌, nat_lt, nat_le}
+-- create, add_pool and remove_pool.
+use Rattle.std.specs.Prelude.{ℕ, ◌+◌, ◌%◌, ◌^◌, Bool, not, ◌&&◌, ◌||◌, List, [], ◌∷◌, length, replicate, filter, find, Option, Some, None, Result, Ok, Err, if◌then◌else◌, ◌==◌, nat_lt, nat_le}
 use Rattle.std.specs.List.{list_all}
 use Rattle.tlsf_heap.specs.declared.refusal.Refusal.{Refusal}
-use Rattle.tlsf_heap.specs.declared.refusal.Refusal.TheVariants.{BadPool, PoolsFull, TableFull}
+use Rattle.tlsf_heap.specs.declared.refusal.Refusal.TheVariants.{BadPool, PoolsFull, TableFull, NoPool, PoolInUse}
 use Rattle.tlsf_class.specs.Classes.{unit, classes, greatest_size}
 pub use Rattle.tlsf_store.specs.Records.{most_records}
 pub use Rattle.tlsf_store.specs.Cells.{most_pools}
-use Rattle.tlsf_heap.specs.Content.{Pool, Content, used_records}
-use Rattle.tlsf_heap.specs.Lists.{link}
+use Rattle.tlsf_heap.specs.Content.{Pool, Content, is_free, used_records}
+use Rattle.tlsf_heap.specs.Lists.{link, unlink}
 use Rattle.tlsf_heap.specs.Malloc.{gap}
 
 -- no pool ends above this place
@@ -45,3 +45,26 @@ add_pool base bytes content =
     if not (can_be_pool base bytes && list_all (is_apart base bytes) content.pools) then Err BadPool else
     (if nat_le most_pools (length content.pools) then Err PoolsFull else
     (if nat_le content.records (used_records content) then Err TableFull else Ok (with_pool base bytes content)))
+
+-- whether the pool begins at the base
+abbrev pub is_based : {A : Type 0} → ℕ → Pool A → Bool
+is_based base pool = pool.base == base
+
+-- whether the pool is one free block
+abbrev pub is_unused : {A : Type 0} → Pool A → Bool
+is_unused pool = (length pool.blocks == 1) && list_all is_free pool.blocks
+
+-- the pool is gone, and its block from its list
+abbrev pub without_pool : {A : Type 0} → Pool A → Content A → Content A
+without_pool pool content = record content {
+  pools = filter (λ other. not (is_based pool.base other)) content.pools;
+  lists = unlink pool.base pool.bytes content.lists;
+}
+
+abbrev pub remove_found : {A : Type 0} → Option (Pool A) → Content A → Result (Content A) Refusal
+remove_found None content = Err NoPool
+remove_found (Some pool) content = if is_unused pool then Ok (without_pool pool content) else Err PoolInUse
+
+-- remove_pool(base): the new content, or why it is refused
+abbrev pub remove_pool : {A : Type 0} → ℕ → Content A → Result (Content A) Refusal
+remove_pool base content = remove_found (find (is_based base) content.pools) content

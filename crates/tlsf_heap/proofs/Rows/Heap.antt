@@ -1,17 +1,20 @@
 -- The worked rows of the heap, computed by the definitions.
-use Rattle.std.proofs.Common.{◌≡◌, ℕ, suc, ◌<◌, List, [], ◌∷◌, ◌++◌, refl, sym, subst, arith, Bool, true, false, map, not, Some, None, inl, inr}
+use Rattle.std.proofs.Common.{◌≡◌, ℕ, suc, ◌<◌, List, [], ◌∷◌, ◌++◌, refl, sym, subst, arith, Bool, true, false, map, not, Option, Some, None, inl, inr}
 use Rattle.std.specs.Prelude.{Result, Ok, Err, ◌==◌, All, AllPairs, IsTrue}
 use Rattle.std.proofs.lemmas.List.Elements.{All-nil, All-from_recursion}
 use Rattle.std.proofs.lemmas.List.Kept.{AllPairs-cons}
 use Rattle.tlsf_heap.specs.declared.refusal.Refusal.{Refusal}
-use Rattle.tlsf_heap.specs.declared.refusal.Refusal.TheVariants.{ZeroSize, NoFit, TableFull, BadPool, BadPointer}
+use Rattle.tlsf_heap.specs.declared.refusal.Refusal.TheVariants.{ZeroSize, NoFit, TableFull, BadPool, BadPointer, BadAlign, NoPool, PoolInUse}
 use Rattle.tlsf_class.specs.Classes.{class, need, low}
 use Rattle.tlsf_class.specs.Rounding.{rounded}
 use Rattle.tlsf_heap.specs.Lists.{list_of}
 use Rattle.tlsf_heap.specs.Content.{Block, Content, blocks_of, is_free}
 use Rattle.tlsf_heap.specs.Malloc.{malloc}
 use Rattle.tlsf_heap.specs.Free.{free}
-use Rattle.tlsf_heap.specs.Pools.{created, add_pool}
+use Rattle.tlsf_heap.specs.Memalign.{memalign, is_alignment}
+use Rattle.tlsf_heap.specs.Realloc.{realloc}
+use Rattle.tlsf_heap.specs.BlockSize.{block_size}
+use Rattle.tlsf_heap.specs.Pools.{created, add_pool, remove_pool}
 use Rattle.tlsf_heap.specs.Good.{times}
 use Rattle.tlsf_heap.specs.Implied.{IsAligned, AreDisjoint, HasAlignedBlocks, HasDisjointBlocks, AreFreeBelow, live_blocks, HasFewRecords}
 
@@ -20,11 +23,17 @@ data Request : Type 0 where
   pool : ℕ → ℕ → Request
   malloc_of : ℕ → Request
   free_of : ℕ → ℕ → Request
+  memalign_of : ℕ → ℕ → Request
+  realloc_of : Option (ℕ × ℕ) → ℕ → Request
+  remove : ℕ → Request
+  size_of : ℕ → ℕ → Request
 
 -- what is answered: the place, where one is
 data Answer : Type 0 where
   done : Answer
   given : ℕ → Answer
+  moved : Option (ℕ × ℕ) → Answer
+  sized : ℕ → Answer
   refused : Refusal → Answer
 
 abbrev Held : Type 0
@@ -42,11 +51,23 @@ abbrev after_malloc : Held → Result (ℕ × Held) Refusal → After
 after_malloc content (Ok new) = record { answers = given new.0 ∷ []; content = new.1 }
 after_malloc content (Err refusal) = record { answers = refused refusal ∷ []; content = content }
 
+abbrev after_realloc : Held → Result (Option (ℕ × ℕ) × Held) Refusal → After
+after_realloc content (Ok new) = record { answers = moved new.0 ∷ []; content = new.1 }
+after_realloc content (Err refusal) = record { answers = refused refusal ∷ []; content = content }
+
+abbrev after_size : Held → Result ℕ Refusal → After
+after_size content (Ok bytes) = record { answers = sized bytes ∷ []; content = content }
+after_size content (Err refusal) = record { answers = refused refusal ∷ []; content = content }
+
 -- one request, under the number of the request as the slot
 abbrev one : ℕ → Request → Held → After
 one number (pool base bytes) content = after_add content (add_pool base bytes content)
 one number (malloc_of n) content = after_malloc content (malloc number n content)
 one number (free_of place slot) content = after_add content (free (λ owner. owner == slot) place content)
+one number (memalign_of align n) content = after_malloc content (memalign number align n content)
+one number (realloc_of pointer n) content = after_realloc content (realloc (λ a b. a == b) number pointer n content)
+one number (remove base) content = after_add content (remove_pool base content)
+one number (size_of place slot) content = after_size content (block_size (λ owner. owner == slot) place content)
 
 abbrev requests : ℕ → List Request → Held → After
 requests number [] content = record { answers = []; content = content }
@@ -226,3 +247,89 @@ full_table-few = omega arith
 not_full : HasFewRecords (from_create 2 (pool 0 64 ∷ [])).content → ⊥
 unfolding class need low rounded
 not_full few = omega (arith, few)
+
+-- memalign-gap-and-rest
+gap_and_rest : (from_create 4 (pool 8 256 ∷ memalign_of 64 32 ∷ memalign_of 3 0 ∷ memalign_of 1073741824 8 ∷ memalign_of 8 0 ∷ [])).answers ≡ done ∷ given 64 ∷ refused BadAlign ∷ refused BadAlign ∷ refused ZeroSize ∷ []
+unfolding class need low rounded
+gap_and_rest = refl
+
+gap_and_rest-rows : rows (from_create 4 (pool 8 256 ∷ memalign_of 64 32 ∷ [])).content ≡ (8, 56, false) ∷ (64, 32, true) ∷ (96, 168, false) ∷ []
+unfolding class need low rounded
+gap_and_rest-rows = refl
+
+-- memalign-needs-records: the gap alone takes the one that is vacant
+needs_records : (from_create 2 (pool 8 256 ∷ memalign_of 64 32 ∷ memalign_of 64 200 ∷ [])).answers ≡ done ∷ refused TableFull ∷ given 64 ∷ []
+unfolding class need low rounded
+needs_records = refl
+
+needs_records-rows : rows (from_create 2 (pool 8 256 ∷ memalign_of 64 32 ∷ memalign_of 64 200 ∷ [])).content ≡ (8, 56, false) ∷ (64, 200, true) ∷ []
+unfolding class need low rounded
+needs_records-rows = refl
+
+-- the gap enters its list before the rest, where both are of one class
+gap_first : list_of 3 (from_create 3 (pool 40 80 ∷ memalign_of 32 32 ∷ [])).content.lists ≡ 96 ∷ 40 ∷ []
+unfolding class need low rounded
+gap_first = refl
+
+-- the powers of two up to 2^29
+alignments : map is_alignment (0 ∷ 1 ∷ 2 ∷ 3 ∷ 536870912 ∷ 536870913 ∷ 1073741824 ∷ []) ≡ false ∷ true ∷ true ∷ false ∷ true ∷ false ∷ false ∷ []
+alignments = refl
+
+-- grow-and-shrink-in-place
+grown_in_place : (from_create 4 (pool 0 1024 ∷ malloc_of 100 ∷ realloc_of (Some (0, 1)) 200 ∷ realloc_of (Some (0, 1)) 8 ∷ [])).answers ≡ done ∷ given 0 ∷ moved (Some (0, 1)) ∷ moved (Some (0, 1)) ∷ []
+unfolding class need low rounded
+grown_in_place = refl
+
+grown_in_place-rows : rows (from_create 4 (pool 0 1024 ∷ malloc_of 100 ∷ realloc_of (Some (0, 1)) 200 ∷ [])).content ≡ (0, 200, true) ∷ (200, 824, false) ∷ []
+unfolding class need low rounded
+grown_in_place-rows = refl
+
+shrunk_in_place-rows : rows (from_create 4 (pool 0 1024 ∷ malloc_of 100 ∷ realloc_of (Some (0, 1)) 200 ∷ realloc_of (Some (0, 1)) 8 ∷ [])).content ≡ (0, 8, true) ∷ (8, 1016, false) ∷ []
+unfolding class need low rounded
+shrunk_in_place-rows = refl
+
+-- realloc-moves
+moves : (from_create 4 (pool 0 1024 ∷ malloc_of 100 ∷ malloc_of 1 ∷ realloc_of (Some (0, 1)) 200 ∷ [])).answers ≡ done ∷ given 0 ∷ given 104 ∷ moved (Some (112, 3)) ∷ []
+unfolding class need low rounded
+moves = refl
+
+moves-rows : rows (from_create 4 (pool 0 1024 ∷ malloc_of 100 ∷ malloc_of 1 ∷ realloc_of (Some (0, 1)) 200 ∷ [])).content ≡ (0, 104, false) ∷ (104, 8, true) ∷ (112, 200, true) ∷ (312, 712, false) ∷ []
+unfolding class need low rounded
+moves-rows = refl
+
+-- full-table, whole
+full_table_whole : (from_create 1 (pool 0 64 ∷ malloc_of 8 ∷ malloc_of 64 ∷ realloc_of (Some (0, 2)) 8 ∷ size_of 0 2 ∷ [])).answers ≡ done ∷ refused TableFull ∷ given 0 ∷ moved (Some (0, 2)) ∷ sized 64 ∷ []
+unfolding class need low rounded
+full_table_whole = refl
+
+-- double-free-and-realloc-to-zero
+to_zero : (from_create 4 (pool 0 1024 ∷ malloc_of 100 ∷ free_of 0 1 ∷ free_of 0 1 ∷ realloc_of None 0 ∷ malloc_of 100 ∷ realloc_of (Some (0, 5)) 0 ∷ size_of 0 5 ∷ [])).answers
+    ≡ done ∷ given 0 ∷ done ∷ refused BadPointer ∷ refused ZeroSize ∷ given 0 ∷ moved None ∷ refused BadPointer ∷ []
+unfolding class need low rounded
+to_zero = refl
+
+-- a move that is refused, and sizes that are the block's or too large
+not_moved : (from_create 4 (pool 0 64 ∷ malloc_of 8 ∷ malloc_of 8 ∷ realloc_of (Some (0, 1)) 128 ∷ realloc_of (Some (0, 1)) 1 ∷ realloc_of (Some (0, 1)) 1073741817 ∷ realloc_of (Some (8, 1)) 1 ∷ [])).answers
+    ≡ done ∷ given 0 ∷ given 8 ∷ refused NoFit ∷ moved (Some (0, 1)) ∷ refused NoFit ∷ refused BadPointer ∷ []
+unfolding class need low rounded
+not_moved = refl
+
+-- a block that gets smaller before a live one leaves a free block
+shrunk_beside : rows (from_create 4 (pool 0 64 ∷ malloc_of 24 ∷ malloc_of 40 ∷ realloc_of (Some (0, 1)) 8 ∷ [])).content ≡ (0, 8, true) ∷ (8, 16, false) ∷ (24, 40, true) ∷ []
+unfolding class need low rounded
+shrunk_beside = refl
+
+-- pool-limits, whole
+pool_limits_whole : (from_create 4 (pool 4294967232 64 ∷ remove 8 ∷ malloc_of 8 ∷ remove 4294967232 ∷ free_of 4294967232 2 ∷ remove 4294967232 ∷ remove 4294967232 ∷ malloc_of 8 ∷ [])).answers
+    ≡ done ∷ refused NoPool ∷ given 4294967232 ∷ refused PoolInUse ∷ done ∷ done ∷ refused NoPool ∷ refused NoFit ∷ []
+unfolding class need low rounded
+pool_limits_whole = refl
+
+-- realloc-grows-over-freed
+grows_over_freed : (from_create 3 (pool 0 64 ∷ malloc_of 8 ∷ malloc_of 8 ∷ free_of 8 2 ∷ realloc_of (Some (0, 1)) 64 ∷ [])).answers ≡ done ∷ given 0 ∷ given 8 ∷ done ∷ moved (Some (0, 1)) ∷ []
+unfolding class need low rounded
+grows_over_freed = refl
+
+grows_over_freed-rows : rows (from_create 3 (pool 0 64 ∷ malloc_of 8 ∷ malloc_of 8 ∷ free_of 8 2 ∷ realloc_of (Some (0, 1)) 64 ∷ [])).content ≡ (0, 64, true) ∷ []
+unfolding class need low rounded
+grows_over_freed-rows = refl
