@@ -5,6 +5,11 @@ pub mod NodeBlocks
 pub mod Allocated
 pub mod Freed
 pub mod Covered
+pub mod FreeFirst
+pub mod Refilled
 pub mod FreedIsGood
+pub mod Gaps
+pub mod AlignedIsGood
+pub mod ResizedIsGood
 pub mod FreedSlots
 pub mod Entered

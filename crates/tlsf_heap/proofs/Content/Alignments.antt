@@ -1,15 +1,18 @@
 -- The alignments as the code finds them: powers of two that are not too great.
-use Rattle.std.proofs.Common.{◌≡◌, ℕ, zero, suc, ◌+◌, ◌/◌, ◌%◌, ◌^◌, ◌<◌, ◌≤◌, true, ◌&&◌, refl, sym, ap, ◌∙◌, subst, arith, inl, inr, pow_mono, zero-add}
-use Rattle.std.specs.Prelude.{count_ones, slice_index_or, ◌==◌, nat_le}
+use Rattle.std.proofs.Common.{◌≡◌, ℕ, zero, suc, ◌+◌, ◌-◌, ◌*◌, ◌/◌, ◌%◌, ◌^◌, ◌<◌, ◌≤◌, true, false, ◌&&◌, refl, sym, ap, ◌∙◌, subst, arith, inl, inr, pow_mono, zero-add, pow-add}
+use Rattle.std.specs.Prelude.{◌⊎◌, count_ones, slice_index_or, ◌==◌, nat_le}
 use Rattle.std.specs.List.{range_with_len}
 use Rattle.std.specs.Int.{is_power_of_two}
 use Rattle.std.specs.Int.Count.{ones_step}
-use Rattle.std.proofs.Math.Nat.{two-pow-succ}
-use Rattle.std.proofs.lemmas.Bool.{cases_Bool, cases_lt, eq-eqb, eqb-true, eqb-false, leb-true, le-leb, and_parts}
-use Rattle.std.proofs.lemmas.Nat.{zero_from_ones, ones-le}
+use Rattle.std.proofs.Math.Nat.{two-pow-succ, mul-mod_right, mod_self, sub-zero, mod-eq_of_lt, mod-mod_of_dvd, add-mul-mod_self_right}
+use Rattle.std.proofs.lemmas.Nat.Gcd.{dvd_of_mod-eq-zero}
+use Rattle.std.proofs.lemmas.Bool.{cases_Bool, cases_lt, eq-eqb, eqb-true, eqb-false, leb-true, le-leb, leb-false, lt-leb, and_parts}
+use Rattle.std.proofs.lemmas.Nat.{zero_from_ones, ones-le, mod_below, div-add-mod'}
 use Rattle.std.proofs.lemmas.List.Folds.{Any-from_list_any, list_any_at}
 use Rattle.std.proofs.lemmas.List.FromFn.{length-range_with_len, get_or-range_with_len}
-use Rattle.tlsf_heap.specs.Memalign.{alignments, is_alignment}
+use Rattle.std.specs.Int.{next_multiple_of}
+use Rattle.tlsf_class.specs.Classes.{unit}
+use Rattle.tlsf_heap.specs.Memalign.{alignments, is_alignment, size_asked}
 
 no_ones : count_ones 0 ≡ 0
 no_ones = omega (arith, ones-le 0 0 (omega arith))
@@ -65,3 +68,74 @@ alignment_is align = elim (cases_Bool (is_alignment align)) [
         list_any_at (λ k. 2 ^ k == align) (range_with_len 0 alignments) power.0 0 (omega (arith, below, length-range_with_len 0 alignments)) here ∙ sym both
   ]
 ]
+
+-- the least multiple of an alignment at or above a place of whole units
+pub record IsStart (align m place start : ℕ) : Type 0 where
+  pub begins : place ≤ start
+  pub multiple : start % align ≡ 0
+  pub gap_whole : (start - place) % unit ≡ 0
+  pub fits : (start - place) + m ≤ size_asked align m
+
+-- from 8 on, powers of two are multiples of 8
+whole_power : (k : ℕ) → 2 ^ (3 + k) % 8 ≡ 0
+whole_power k = ap (λ n. n % 8) (pow-add 2 3 k) ∙ mul-mod_right 8 (2 ^ k)
+
+-- an alignment is of whole units, or takes a place of whole units as it is
+alignment_cases : (k place : ℕ) → place % unit ≡ 0 → (place % 2 ^ k ≡ 0) ⊎ ((2 ^ k % unit ≡ 0) × (unit < 2 ^ k))
+alignment_cases zero place whole = inl (omega arith)
+alignment_cases (suc zero) place whole = inl (omega (arith, whole))
+alignment_cases (suc (suc zero)) place whole = inl (omega (arith, whole))
+alignment_cases (suc (suc (suc zero))) place whole = inl whole
+alignment_cases (suc (suc (suc (suc k)))) place whole =
+    let P : ℕ → Type 0 = λ n. 2 ^ n % 8 ≡ 0 in
+    let as_sum : 3 + suc k ≡ suc (suc (suc (suc k))) = omega arith in
+    inr (subst P as_sum (whole_power (suc k)), omega (arith, pow_mono {i = 4} {j = suc (suc (suc (suc k)))} (omega arith)))
+
+module _ (align m place : ℕ) (some : 0 < align) (place_whole : place % unit ≡ 0) where
+  -- at the place itself
+  start_here : place % align ≡ 0 → IsStart align m place (next_multiple_of place align)
+  start_here none =
+      let whole : (align - place % align) % align ≡ 0 = ap (λ r. (align - r) % align) none ∙ ap (λ n. n % align) (sub-zero align) ∙ mod_self align in
+      let is : next_multiple_of place align ≡ place = omega (arith, whole) in
+      record {
+        begins = omega (arith, is);
+        multiple = ap (λ s. s % align) is ∙ none;
+        gap_whole = (let zero_gap : next_multiple_of place align - place ≡ 0 = omega (arith, is) in ap (λ g. g % unit) zero_gap);
+        fits = elim (cases_Bool (nat_le align unit)) [
+          | inl few ↦ rw few (omega (arith, is))
+          | inr more ↦ let above = leb-false align unit more in rw more (omega (arith, is, above))
+        ];
+      }
+
+  -- or behind it
+  start_later : 0 < place % align → align % unit ≡ 0 → unit < align → IsStart align m place (next_multiple_of place align)
+  start_later left align_whole above =
+      let r : ℕ = place % align in
+      let below : r < align = mod_below place align some in
+      let gap_is : (align - r) % align ≡ align - r = mod-eq_of_lt {n = align - r} {m = align} (omega (arith, left, below)) in
+      let left_whole : r % unit ≡ 0 = mod-mod_of_dvd unit place (dvd_of_mod-eq-zero unit align_whole) ∙ place_whole in
+      let parts = div-add-mod' place align in
+      let end : next_multiple_of place align ≡ align + place / align * align = omega (arith, gap_is, parts, below) in
+      let large : nat_le align unit ≡ false = lt-leb align unit above in
+      let fits : (next_multiple_of place align - place) + m ≤ (m + align) - unit = omega (arith, gap_is, below, left_whole, align_whole, left) in
+      record {
+        begins = omega arith;
+        multiple = ap (λ s. s % align) end ∙ add-mul-mod_self_right align (place / align) align ∙ mod_self align;
+        gap_whole = (let gap : next_multiple_of place align - place ≡ align - r = omega (arith, gap_is) in ap (λ g. g % unit) gap ∙ omega (arith, below, left_whole, align_whole));
+        fits = rw large fits;
+      }
+
+-- where a live block for an alignment begins
+pub start_is : (align m place : ℕ) → is_alignment align ≡ true → place % unit ≡ 0 → IsStart align m place (next_multiple_of place align)
+start_is align m place is whole =
+    let at = Any-from_list_any (λ power. 2 ^ power == align) (range_with_len 0 alignments) is in
+    let power : 2 ^ at.1 ≡ align = eqb-true (2 ^ at.1) align at.4 in
+    let some : 0 < align = omega (arith, pow_mono {i = 0} {j = at.1} (omega arith), power) in
+    let P : ℕ → Type 0 = λ n. (place % n ≡ 0) ⊎ ((n % unit ≡ 0) × (unit < n)) in
+    elim (subst P power (alignment_cases at.1 place whole)) [
+      | inl here ↦ start_here align m place some whole here
+      | inr large ↦ elim (cases_lt 0 (place % align)) [
+        | inl left ↦ start_later align m place some whole left large.0 large.1
+        | inr none ↦ start_here align m place some whole (omega (arith, none))
+      ]
+    ]

@@ -110,7 +110,7 @@ module _ {A : Type 0} where
       }
 
   -- the block found is listed as any free block of its place and size is
-  found_stands : (q p place size : ℕ) (block : Block A) → is_free block ≡ true → block.place ≡ place → block.size ≡ size → one_if (is_listed q p block) ≡ listed_at q p place size
+  pub found_stands : (q p place size : ℕ) (block : Block A) → is_free block ≡ true → block.place ≡ place → block.size ≡ size → one_if (is_listed q p block) ≡ listed_at q p place size
   found_stands q p place size block free here same =
       ap (λ b. one_if (b && (is_at p block && (class block.size == q)))) free
       ∙ ap (λ n. one_if ((n == p) && (class block.size == q))) here
