@@ -116,7 +116,7 @@ module _ {A : Type 0} where
       ∙ ap (λ n. one_if ((n == p) && (class block.size == q))) here
       ∙ ap (λ n. one_if ((place == p) && (class n == q))) same
 
-  count_listed-cut : (owner : A) (q p place m size : ℕ) → count_by (is_listed q p) (cut owner place m size) ≡ cond ((size - m) == 0) 0 (listed_at q p (place + m) (size - m))
+  pub count_listed-cut : (owner : A) (q p place m size : ℕ) → count_by (is_listed q p) (cut owner place m size) ≡ cond ((size - m) == 0) 0 (listed_at q p (place + m) (size - m))
   count_listed-cut owner q p place m size =
       count-cons (is_listed q p) (record { place = place; size = m; owner = Some owner }) (gap (place + m) (size - m)) ∙ zero-add _ ∙ count_listed-gap A q p (place + m) (size - m)
 
@@ -137,7 +137,7 @@ module _ {A : Type 0} where
       let one = found_stands q p place size is.found.block is.free is.found.here is.size_is in
       omega (arith, linked, unlinked, old, new, counted, others, one)
 
-  length-cut : (owner : A) (place m size : ℕ) → length (cut owner place m size) ≡ cond ((size - m) == 0) 1 2
+  pub length-cut : (owner : A) (place m size : ℕ) → length (cut owner place m size) ≡ cond ((size - m) == 0) 1 2
   length-cut owner place m size =
       let rest : Block A = record { place = place + m; size = size - m; owner = None } in
       elim ((size - m) == 0) as (λ b. suc (length (cond b [] (rest ∷ []))) ≡ cond b 1 2) [ true ↦ refl | false ↦ refl ]

@@ -3,15 +3,17 @@ use Rattle.std.proofs.Common.{◌≡◌, ℕ, ◌+◌, ◌≤◌, Bool, true, fa
 use Rattle.std.specs.Prelude.{◌==◌, if◌then◌else◌}
 use Rattle.std.proofs.lemmas.Bool.{cases_Bool, eq-eqb, false≢true}
 use Rattle.tlsf_class.specs.Classes.{classes, class}
-use Rattle.tlsf_heap.specs.Content.{Block, Pool, is_free, is_at}
+use Rattle.tlsf_heap.specs.Content.{Block, Pool, is_free, is_at, blocks_of}
 use Rattle.tlsf_heap.specs.Lists.{list_of}
-use Rattle.tlsf_heap.specs.Good.{Covers, NoFreeNeighbours, AreGoodPools, times, is_listed}
-use Rattle.tlsf_heap.specs.Free.{if_free, unlink_block, size_of, start_of}
+use Rattle.tlsf_heap.specs.Good.{Covers, NoFreeNeighbours, AreGoodPools, times, is_listed, IsGood}
+use Rattle.tlsf_heap.specs.Free.{if_free, unlink_block, size_of, start_of, without_block}
 use Rattle.tlsf_heap.specs.Free.{free_block, free}
 use Rattle.tlsf_heap.specs.Inner.Spots.{plug}
 use Rattle.tlsf_heap.proofs.Content.FreeLists.{listed_at, times-unlink, length-unlink}
 use Rattle.tlsf_heap.proofs.Counts.{one_if, count-cons}
-use Rattle.tlsf_heap.proofs.Meaning.BlockSpots.{first_of}
+use Rattle.tlsf_heap.proofs.Meaning.BlockSpots.{first_of, BlockSpot, filled_pools, count-filled_pools, at_most_one, block_alone, replaced_at}
+use Rattle.tlsf_class.proofs.ClassLaws.{class-lt}
+use Rattle.tlsf_heap.proofs.Content.Blocks.{Ascends-pools}
 
 pub length-plug : {X : Type 0} (front behind : List X) → length (plug front behind) ≡ length front + length behind
 length-plug [] behind = omega arith
@@ -158,3 +160,31 @@ module _ {A : Type 0} where
               subst Q same c.3,
         )
       ]
+
+  -- a free block behind the one at a spot gives way to nothing
+  pub without_next : (spot : BlockSpot A) (block : Block A) (others : List (Block A)) → ((place : ℕ) → count_by (is_at place) (blocks_of (filled_pools spot (block ∷ others))) ≤ 1)
+      → without_block (free_first others) (filled_pools spot (block ∷ others)) ≡ filled_pools spot (block ∷ past_free others)
+  without_next spot block [] few = refl
+  without_next spot block (b ∷ others) few = elim (is_free b) as (λ t.
+      without_block (cond t (Some b) None) (filled_pools spot (block ∷ b ∷ others)) ≡ filled_pools spot (block ∷ cond t others (b ∷ others))) [
+        | true ↦ replaced_at (record spot { before = block ∷ spot.before }) b others (block_alone (record spot { before = block ∷ spot.before }) b others few) []
+        | false ↦ refl
+      ]
+
+  -- and stands once in its list
+  pub next_once : (records : ℕ) (spot : BlockSpot A) (block : Block A) (blocks : List (Block A)) (lists : List (List ℕ)) → IsGood (record { records = records; pools = filled_pools spot (block ∷ blocks); lists = lists })
+      → (other : Block A) → free_first blocks ≡ Some other → times other.place (list_of (class other.size) lists) ≡ 1
+  next_once records spot block blocks lists good other is =
+      let number : ℕ = class other.size in
+      let all : List (Block A) = blocks_of (filled_pools spot (block ∷ blocks)) in
+      let kind : Block A → Bool = is_listed number other.place in
+      let there = free_stands blocks other is in
+      omega (
+        arith,
+        good.listed number other.place (class-lt other.size),
+        at_most_one 0 all (Ascends-pools 0 (filled_pools spot (block ∷ blocks)) good.pools_good) other.place,
+        listed_few number other.place all,
+        count-filled_pools kind spot (block ∷ blocks),
+        count-cons kind block blocks,
+        there.0,
+      )

@@ -15,7 +15,7 @@ use Rattle.tlsf_heap.proofs.Content.Blocks.{Ascends-pools}
 use Rattle.tlsf_heap.proofs.Content.FreeLists.{times-link, length-link}
 use Rattle.tlsf_heap.proofs.Counts.{one_if, count-cons, count_all, any_counts}
 use Rattle.tlsf_heap.proofs.Meaning.BlockSpots.{BlockSpot, pool_at, filled_pools, around_blocks, count-filled_pools, LocatedBlock, located_block, at_most_one, IsAlone, block_alone, replaced_at, front_at, back_at, size_here}
-use Rattle.tlsf_heap.proofs.Meaning.FreeFirst.{length-plug, past_free, free_first, listed_of, apart_parts, apart_plugged, past_apart, past_live, count_past, listed_few, few_past, free_stands, times-unlink_block, length-unlink_block, covers_plug, pools_plug, merged_of, covers_behind}
+use Rattle.tlsf_heap.proofs.Meaning.FreeFirst.{length-plug, past_free, free_first, listed_of, apart_parts, apart_plugged, past_apart, past_live, count_past, listed_few, few_past, free_stands, times-unlink_block, length-unlink_block, covers_plug, pools_plug, merged_of, covers_behind, without_next}
 
 module _ {A : Type 0} where
   covers_merged : (before : List (Block A)) (block : Block A) (blocks : List (Block A)) (from to : ℕ) → Covers from to (plug before (block ∷ blocks)) → Covers from to (plug (past_free before) (merged_of (free_first before) block (free_first blocks) ∷ past_free blocks))
@@ -197,16 +197,7 @@ module _ {A : Type 0} where
             ]
 
     without_back : without_block back (filled_pools past_spot (block ∷ blocks)) ≡ filled_pools past_spot (block ∷ past_free blocks)
-    without_back = go blocks once_past
-      where
-        go : (others : List (Block A)) → ((place : ℕ) → count_by (is_at place) (blocks_of (filled_pools past_spot (block ∷ others))) ≤ 1)
-            → without_block (free_first others) (filled_pools past_spot (block ∷ others)) ≡ filled_pools past_spot (block ∷ past_free others)
-        go [] few = refl
-        go (b ∷ others) few = elim (is_free b) as (λ t.
-            without_block (cond t (Some b) None) (filled_pools past_spot (block ∷ b ∷ others)) ≡ filled_pools past_spot (block ∷ cond t others (b ∷ others))) [
-              | true ↦ replaced_at (record past_spot { before = block ∷ past_spot.before }) b others (block_alone (record past_spot { before = block ∷ past_spot.before }) b others few) []
-              | false ↦ refl
-            ]
+    without_back = without_next past_spot block blocks once_past
 
     -- the content, where these are the neighbours and this is the size
     abbrev after : Option (Block A) → Option (Block A) → ℕ → Content A
