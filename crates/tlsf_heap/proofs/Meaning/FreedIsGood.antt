@@ -222,7 +222,7 @@ module _ {A : Type 0} where
     pub after_is_good : IsGood (after_free block.place old)
     after_is_good = let P : Content A → Type 0 = λ x. IsGood x in subst P (sym after_is) new_is_good
 
-  owned_is_live : (is_meant : A → Bool) (owner : Option A) → is_owned_by is_meant owner ≡ true → is_none owner ≡ false
+  pub owned_is_live : (is_meant : A → Bool) (owner : Option A) → is_owned_by is_meant owner ≡ true → is_none owner ≡ false
   owned_is_live is_meant None owned = absurd (false≢true owned)
   owned_is_live is_meant (Some a) owned = refl
 

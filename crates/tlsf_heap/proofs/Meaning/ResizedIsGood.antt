@@ -1,21 +1,23 @@
 -- A live block that gets another size in its place keeps a content good.
-use Rattle.std.proofs.Common.{◌≡◌, ℕ, ◌+◌, ◌-◌, ◌%◌, ◌<◌, ◌≤◌, Bool, true, false, ◌&&◌, List, ◌∷◌, ◌++◌, length, map, refl, ap, ◌∙◌, subst, arith, count_by, IsTrue, not, Option, Some}
-use Rattle.std.specs.Prelude.{◌==◌}
+use Rattle.std.proofs.Common.{◌≡◌, ℕ, ◌+◌, ◌-◌, ◌%◌, ◌<◌, ◌≤◌, Bool, true, false, ◌&&◌, List, ◌∷◌, ◌++◌, length, map, refl, ap, ◌∙◌, subst, arith, count_by, IsTrue, not, Option, Some, ◌≢◌, suc, cond, sym, None, inl, inr, length-append, []}
+use Rattle.std.specs.Prelude.{◌==◌, ◌||◌, is_some, nat_lt, nat_le}
 use Rattle.tlsf_class.specs.Classes.{unit, classes, class}
-use Rattle.tlsf_heap.specs.Content.{Block, Content, blocks_of, is_free, is_at, size_at}
+use Rattle.tlsf_heap.specs.Content.{Block, Content, blocks_of, is_free, is_at, size_at, Pool}
 use Rattle.tlsf_heap.specs.Lists.{list_of}
 use Rattle.tlsf_heap.specs.Malloc.{gap, link_gap, cut, replaced_in}
-use Rattle.tlsf_heap.specs.Free.{if_free, free_next, unlink_block, without_block, size_of}
-use Rattle.tlsf_heap.specs.Realloc.{resized}
+use Rattle.tlsf_heap.specs.Free.{if_free, free_next, unlink_block, without_block, size_of, is_owned_by, is_live}
+use Rattle.tlsf_heap.specs.Realloc.{fits_in_place, resized}
 use Rattle.tlsf_heap.specs.Good.{Covers, NoFreeNeighbours, times, is_listed, IsGood}
 use Rattle.tlsf_heap.proofs.Content.Blocks.{Ascends-pools}
 use Rattle.tlsf_heap.proofs.Content.FreeLists.{times-link_gap, length-link_gap}
-use Rattle.tlsf_heap.proofs.Counts.{one_if, count-cons, count-append}
+use Rattle.tlsf_heap.proofs.Counts.{one_if, count-cons, count-append, count_all, any_counts}
 use Rattle.tlsf_heap.proofs.Good.Calls.{count_listed-cut}
-use Rattle.tlsf_heap.proofs.Meaning.BlockSpots.{BlockSpot, filled_pools, count-filled_pools, at_most_one, IsAlone, block_alone, replaced_at, back_at, size_here}
+use Rattle.tlsf_heap.proofs.Meaning.BlockSpots.{BlockSpot, filled_pools, count-filled_pools, at_most_one, IsAlone, block_alone, replaced_at, back_at, size_here, LocatedBlock, located_block}
 use Rattle.tlsf_heap.proofs.Meaning.FreeFirst.{past_free, free_first, few_past, past_apart, count_past, times-unlink_block, length-unlink_block, covers_behind, without_next, next_once}
 use Rattle.tlsf_heap.proofs.Meaning.Gaps.{covers_gap, apart_gap}
 use Rattle.tlsf_heap.proofs.Meaning.Refilled.{refilled_is_good}
+use Rattle.std.proofs.lemmas.Bool.{cases_Bool, eqb-true, and_parts, or_cases, ltb-true, ltb-false, leb-true}
+use Rattle.tlsf_heap.proofs.Meaning.FreedIsGood.{owned_is_live}
 
 module _ {A : Type 0} where
   module _ (owner : A) (m : ℕ) (block : Block A) (blocks : List (Block A)) (lists : List (List ℕ)) (live : is_free block ≡ false) (some : 0 < m) (whole : m % unit ≡ 0) where
@@ -109,3 +111,74 @@ module _ {A : Type 0} where
             full = length-link_gap (unlink_block next lists) (length-unlink_block lists good.lists_count next) (block.place + m) (size - m);
             listed = (λ q p within. listed good.lists_count (next_once records spot block blocks lists good) q p);
           }) few good
+
+      -- as many blocks as before, or one more where no free one is behind and a record is left
+      past_length : (others : List (Block A)) → length (past_free others) + cond (is_some (free_first others)) 1 0 ≡ length others
+      past_length [] = refl
+      past_length (b ∷ others) = elim (is_free b) as (λ f. length (cond f others (b ∷ others)) + cond (is_some (cond f (Some b) None)) 1 0 ≡ length (b ∷ others)) [ true ↦ omega arith | false ↦ omega arith ]
+
+      cut_length : length (cut owner block.place m size) ≤ 2
+      cut_length =
+          let rest : Block A = record { place = block.place + m; size = size - m; owner = None } in
+          elim ((size - m) == 0) as (λ b. suc (length (cond b [] (rest ∷ []))) ≤ 2) [ true ↦ omega arith | false ↦ omega arith ]
+
+      few_after : (is_some next || nat_lt (length (blocks_of old.pools)) records) ≡ true → length (blocks_of (filled_pools spot news)) ≤ records
+      few_after room =
+          let all : Block A → Bool = λ b. true in
+          let before = count-filled_pools all spot (block ∷ blocks) in
+          let behind = count-filled_pools all spot news in
+          let parts = count_all news in
+          let old_count = count_all (blocks_of old.pools) in
+          let new_count = count_all (blocks_of (filled_pools spot news)) in
+          let both = length-append (cut owner block.place m size) (past_free blocks) in
+          let past = past_length blocks in
+          elim (or_cases (is_some next) (nat_lt (length (blocks_of old.pools)) records) room) [
+            | inl there ↦ omega (arith, before, behind, parts, old_count, new_count, both, past, ap {B = ℕ} (λ b. cond b 1 0) there, cut_length, count_all (block ∷ blocks), good.blocks_few)
+            | inr left ↦ omega (arith, before, behind, parts, old_count, new_count, both, past, cut_length, count_all (block ∷ blocks), ltb-true (length (blocks_of old.pools)) records left)
+          ]
+
+      resized_good : m ≤ size → (is_some next || nat_lt (length (blocks_of old.pools)) records) ≡ true → IsGood (resized owner block.place m old)
+      resized_good fits room = let P : Content A → Type 0 = λ x. IsGood x in subst P (sym resized_is) (new_is_good fits (few_after room))
+
+      -- where it fits in place, there is room for it
+      fits_room : fits_in_place block.place m old ≡ true → m ≢ block.size → (m ≤ size) × ((is_some next || nat_lt (length (blocks_of old.pools)) records) ≡ true)
+      fits_room fits other =
+          let alone : IsAlone spot block blocks = block_alone spot block blocks once_here in
+          let next_is : free_next block.place old ≡ next = ap if_free (back_at spot block blocks alone) in
+          let size_is : size_at block.place (blocks_of old.pools) ≡ block.size = size_here spot block blocks alone in
+          let room : Bool = is_some next || nat_lt (length (blocks_of old.pools)) records in
+          let is : fits_in_place block.place m old ≡ cond (nat_lt m block.size) room (nat_le m size) =
+          ap (λ n. cond (nat_lt m n) (is_some (free_next block.place old) || nat_lt (length (blocks_of old.pools)) records) (nat_le m (n + size_of (free_next block.place old)))) size_is
+          ∙ ap (λ o. cond (nat_lt m block.size) (is_some o || nat_lt (length (blocks_of old.pools)) records) (nat_le m (block.size + size_of o))) next_is in
+          elim (cases_Bool (nat_lt m block.size)) [
+            | inl less ↦
+                let room_is : cond (nat_lt m block.size) room (nat_le m size) ≡ room = rw less refl in
+                (omega (arith, ltb-true m block.size less), sym room_is ∙ sym is ∙ fits)
+            | inr more ↦
+                let most_is : cond (nat_lt m block.size) room (nat_le m size) ≡ nat_le m size = rw more refl in
+                let most : m ≤ size = leb-true m size (sym most_is ∙ sym is ∙ fits) in
+                (most, larger next refl (ltb-false m block.size more) most)
+          ]
+        where
+          larger : (o : Option (Block A)) → next ≡ o → block.size ≤ m → m ≤ size → (is_some next || nat_lt (length (blocks_of old.pools)) records) ≡ true
+          larger None none at_least most =
+              let same : m ≡ block.size = omega (arith, at_least, most, ap size_of none) in
+              absurd (other same)
+          larger (Some b) there at_least most = ap (λ o. is_some o || nat_lt (length (blocks_of old.pools)) records) there
+
+  -- a live block that fits in place keeps the content good
+  pub resized_is_good : (is_meant : A → Bool) (owner : A) (place m : ℕ) (content : Content A) → IsGood content → is_live is_meant place (blocks_of content.pools) ≡ true → 0 < m → m % unit ≡ 0
+      → fits_in_place place m content ≡ true → m ≢ size_at place (blocks_of content.pools) → IsGood (resized owner place m content)
+  resized_is_good is_meant owner place m content good live some whole fits other =
+      let test : Block A → Bool = λ block. is_at place block && is_owned_by is_meant block.owner in
+      let at : LocatedBlock test content.pools = located_block test content.pools (any_counts test (blocks_of content.pools) live) in
+      let parts = and_parts _ _ at.passes in
+      let of : List (Pool A) → Content A = λ pools. record content { pools = pools } in
+      let P : List (Pool A) → Type 0 = λ pools. IsGood (of pools) → fits_in_place place m (of pools) ≡ true → m ≢ size_at place (blocks_of pools) → IsGood (resized owner place m (of pools)) in
+      let Q : ℕ → Type 0 = λ p. fits_in_place p m (of (filled_pools at.spot (at.block ∷ at.blocks))) ≡ true → m ≢ size_at p (blocks_of (filled_pools at.spot (at.block ∷ at.blocks))) → IsGood (resized owner p m (of (filled_pools at.spot (at.block ∷ at.blocks)))) in
+      let here : IsGood (of (filled_pools at.spot (at.block ∷ at.blocks))) → Q at.block.place = λ g f o.
+      let size_is : size_at at.block.place (blocks_of (filled_pools at.spot (at.block ∷ at.blocks))) ≡ at.block.size =
+      size_here at.spot at.block at.blocks (block_alone at.spot at.block at.blocks (at_most_one 0 (blocks_of (filled_pools at.spot (at.block ∷ at.blocks))) (Ascends-pools 0 (filled_pools at.spot (at.block ∷ at.blocks)) g.pools_good))) in
+      let room = fits_room owner m at.block at.blocks content.lists (owned_is_live is_meant at.block.owner parts.1) some whole content.records at.spot g f (λ e. o (e ∙ sym size_is)) in
+      resized_good owner m at.block at.blocks content.lists (owned_is_live is_meant at.block.owner parts.1) some whole content.records at.spot g room.0 room.1 in
+      subst P (sym at.whole) (λ g. subst Q (eqb-true at.block.place place parts.0) (here g)) good fits other
