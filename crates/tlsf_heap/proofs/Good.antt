@@ -3,3 +3,4 @@ pub mod Calls
 pub mod Slots
 pub mod SlotsLeft
 pub mod Implied
+pub mod RemovedPool
