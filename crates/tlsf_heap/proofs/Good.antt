@@ -4,3 +4,4 @@ pub mod Slots
 pub mod SlotsLeft
 pub mod Implied
 pub mod RemovedPool
+pub mod Realloc

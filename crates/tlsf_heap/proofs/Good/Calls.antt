@@ -201,7 +201,7 @@ module _ {A : Type 0} where
   picked_is_good owner m content new None h good positive in_units e = absurd (cc)
   picked_is_good owner m content new (Some place) h good positive in_units e = allocate_is_good owner m place content new good h positive in_units e
 
-  rounded_is_good : (owner : A) (n : ℕ) (content : Content A) (new : ℕ × Content A) (m : Option ℕ) → round n ≡ m → IsGood content → 0 < n → malloc_rounded owner m content ≡ Ok new → IsGood new.1
+  pub rounded_is_good : (owner : A) (n : ℕ) (content : Content A) (new : ℕ × Content A) (m : Option ℕ) → round n ≡ m → IsGood content → 0 < n → malloc_rounded owner m content ≡ Ok new → IsGood new.1
   rounded_is_good owner n content new None h good positive e = absurd (cc)
   rounded_is_good owner n content new (Some m) h good positive e =
       let is = round-Some n m h in
