@@ -16,6 +16,8 @@ use Rattle.tlsf_heap.proofs.Content.FreeLists.{listed_at, times-unlink, length-u
 use Rattle.tlsf_heap.proofs.Good.Calls.{found_stands}
 use Rattle.tlsf_heap.proofs.Meaning.BlockSpots.{count-blocks, at_most_one}
 use Rattle.tlsf_heap.proofs.Meaning.FreeFirst.{listed_few}
+use Rattle.tlsf_heap.specs.GoodSlots.{is_slot, slot_times, HasGoodSlots}
+use Rattle.tlsf_heap.proofs.Good.Slots.{slots_fewer}
 
 module _ {A : Type 0} (base : ℕ) where
   -- the pools but those that begin at the base
@@ -140,3 +142,11 @@ module _ {A : Type 0} where
             let P : Content A → Type 0 = λ x. IsGood x in
             subst P same (without_pool_is_good base pool content good there unused)
       ]
+
+-- and its live blocks are the same
+pub without_pool_slots : (base : ℕ) (pool : Pool ℕ) (content : Content ℕ) → IsGood content → find (is_based base) content.pools ≡ Some pool → HasGoodSlots content → HasGoodSlots (without_pool pool content)
+without_pool_slots base pool content good there slots =
+    let gone = removed base 0 content.pools pool good.pools_good there in
+    let same : others {A = ℕ} base content.pools ≡ others pool.base content.pools = ap (λ b. others {A = ℕ} b content.pools) (sym gone.based) in
+    slots_fewer content (without_pool pool content) refl
+    (λ slot. omega (arith, gone.left (λ block. is_slot slot block.owner), ap (λ pools. slot_times slot (blocks_of pools)) same)) slots

@@ -1,10 +1,11 @@
--- create, add_pool and malloc keep the live slots distinct, and below the number of records.
-use Rattle.std.proofs.Common.{◌≡◌, ℕ, ◌+◌, ◌-◌, ◌<◌, Bool, true, false, cond, List, [], ◌∷◌, ◌++◌, refl, ap, subst, arith, count_by, Option, Some, None, inl, inr}
+-- create, add_pool, malloc and memalign keep the live slots distinct, and below the number of records.
+use Rattle.std.proofs.Common.{◌≡◌, ℕ, ◌+◌, ◌-◌, ◌<◌, Bool, true, false, cond, List, [], ◌∷◌, ◌++◌, refl, ap, subst, arith, count_by, Option, Some, None, inl, inr, ◌≤◌}
 use Rattle.std.specs.Prelude.{◌==◌, is_none}
 use Rattle.std.proofs.lemmas.Bool.{cases_Bool, eqb-true, ne_eqb}
 use Rattle.tlsf_heap.specs.Content.{Block, Pool, Content, blocks_of, size_at}
 use Rattle.tlsf_heap.specs.Lists.{pick}
 use Rattle.tlsf_heap.specs.Malloc.{gap, cut, allocated}
+use Rattle.tlsf_heap.specs.Memalign.{carved, aligned}
 use Rattle.tlsf_heap.specs.Pools.{created, with_pool}
 use Rattle.tlsf_heap.specs.Good.{IsGood}
 use Rattle.tlsf_heap.specs.GoodSlots.{is_slot, slot_times, HasGoodSlots}
@@ -31,7 +32,7 @@ slot_times-gap slot place size =
     let rest : Block ℕ = record { place = place; size = size; owner = None } in
     elim (size == 0) as (λ b. slot_times slot (cond b [] (rest ∷ [])) ≡ 0) [ true ↦ refl | false ↦ slot_times-cons slot rest [] ]
 
-slot_times-cut : (slot owner place m size : ℕ) → slot_times slot (cut owner place m size) ≡ one_if (owner == slot)
+pub slot_times-cut : (slot owner place m size : ℕ) → slot_times slot (cut owner place m size) ≡ one_if (owner == slot)
 slot_times-cut slot owner place m size =
     omega (arith, slot_times-cons slot (record { place = place; size = m; owner = Some owner }) (gap (place + m) (size - m)), slot_times-gap slot (place + m) (size - m))
 
@@ -48,6 +49,37 @@ with_pool_slots base bytes content good =
       below = λ slot above. omega (arith, count_by-pools (has slot) pool content.pools, slot_times-gap slot base bytes, good.below slot above);
     }
 
+-- one live block more, with a slot that none had
+pub slots_given : (owner : ℕ) (old new : Content ℕ) → new.records ≡ old.records → ((slot : ℕ) → slot_times slot (blocks_of new.pools) ≡ slot_times slot (blocks_of old.pools) + one_if (owner == slot))
+    → HasGoodSlots old → owner < old.records → slot_times owner (blocks_of old.pools) ≡ 0 → HasGoodSlots new
+slots_given owner old new same counts slots within unused = record {
+  distinct = λ slot. elim (cases_Bool (owner == slot)) [
+    | inl here ↦
+        let none : slot_times slot (blocks_of old.pools) ≡ 0 = (let P : ℕ → Type 0 = λ s. slot_times s (blocks_of old.pools) ≡ 0 in subst P (eqb-true owner slot here) unused) in
+        omega (arith, counts slot, ap one_if here, none)
+    | inr other ↦ omega (arith, counts slot, ap one_if other, slots.distinct slot)
+  ];
+  below = λ slot above.
+      let other : (owner == slot) ≡ false = ne_eqb owner slot (λ e. absurd (omega (arith, e, above, within, same))) in
+      omega (arith, counts slot, ap one_if other, slots.below slot (omega (arith, above, same)));
+}
+
+-- no more live blocks of any slot
+pub slots_fewer : (old new : Content ℕ) → new.records ≡ old.records → ((slot : ℕ) → slot_times slot (blocks_of new.pools) ≤ slot_times slot (blocks_of old.pools)) → HasGoodSlots old → HasGoodSlots new
+slots_fewer old new same fewer slots = record {
+  distinct = λ slot. omega (arith, fewer slot, slots.distinct slot);
+  below = λ slot above. omega (arith, fewer slot, slots.below slot (omega (arith, above, same)));
+}
+
+slot_times-carved : (slot owner start m place size : ℕ) → slot_times slot (carved owner start m place size) ≡ one_if (owner == slot)
+slot_times-carved slot owner start m place size =
+    omega (
+      arith,
+      slot_times-append slot (gap place (start - place)) (cut owner start m (size - (start - place))),
+      slot_times-gap slot place (start - place),
+      slot_times-cut slot owner start m (size - (start - place)),
+    )
+
 module _ (owner m place : ℕ) (content : Content ℕ) (good : IsGood content) (is : pick m content.lists ≡ Some place) where
   abbrev size : ℕ
   size = size_at place (blocks_of content.pools)
@@ -63,14 +95,18 @@ module _ (owner m place : ℕ) (content : Content ℕ) (good : IsGood content) (
 
   -- a slot that no live block has, given to the block that was picked
   pub allocated_slots : HasGoodSlots content → owner < content.records → slot_times owner (blocks_of content.pools) ≡ 0 → HasGoodSlots (allocated owner place m size content)
-  allocated_slots slots within unused = record {
-    distinct = λ slot. elim (cases_Bool (owner == slot)) [
-      | inl same ↦
-          let none : slot_times slot (blocks_of content.pools) ≡ 0 = (let P : ℕ → Type 0 = λ s. slot_times s (blocks_of content.pools) ≡ 0 in subst P (eqb-true owner slot same) unused) in
-          omega (arith, slot_times-allocated slot, ap one_if same, none)
-      | inr other ↦ omega (arith, slot_times-allocated slot, ap one_if other, slots.distinct slot)
-    ];
-    below = λ slot above.
-        let other : (owner == slot) ≡ false = ne_eqb owner slot (λ e. absurd (omega (arith, e, above, within))) in
-        omega (arith, slot_times-allocated slot, ap one_if other, slots.below slot above);
-  }
+  allocated_slots slots within unused = slots_given owner content (allocated owner place m size content) refl slot_times-allocated slots within unused
+
+  -- the same where it was carved for an alignment
+  pub aligned_slots : (start n : ℕ) → HasGoodSlots content → owner < content.records → slot_times owner (blocks_of content.pools) ≡ 0 → HasGoodSlots (aligned owner start n place size content)
+  aligned_slots start n slots within unused =
+      let found = picked m place content good is in
+      let more = carved owner start n place size in
+      slots_given owner content (aligned owner start n place size content) refl
+      (λ slot. omega (
+        arith,
+        ap (count_by (has slot)) (blocks_of-replaced place more content.pools),
+        count_by-replaced place more (blocks_of content.pools) (has slot) found.found,
+        ap one_if (free_has_none slot found.found.block.owner found.free),
+        slot_times-carved slot owner start n place size,
+      )) slots within unused

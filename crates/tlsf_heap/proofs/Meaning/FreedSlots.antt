@@ -1,12 +1,12 @@
 -- free gives back one slot, and changes no other.
-use Rattle.std.proofs.Common.{◌≡◌, ℕ, ◌+◌, ◌≤◌, true, false, cond, List, [], ◌∷◌, ◌++◌, map, sym, subst, arith, Option, Some, None}
+use Rattle.std.proofs.Common.{◌≡◌, ℕ, ◌+◌, ◌≤◌, true, false, cond, List, [], ◌∷◌, ◌++◌, map, sym, subst, arith, Option, Some, None, refl}
 use Rattle.tlsf_heap.specs.Content.{Block, Pool, Content, blocks_of, is_at, size_at}
 use Rattle.tlsf_heap.specs.Free.{free_previous, free_next, size_of, start_of}
 use Rattle.tlsf_heap.specs.Malloc.{replaced, replaced_in}
 use Rattle.tlsf_heap.specs.GoodSlots.{slot_times, HasGoodSlots}
 use Rattle.tlsf_heap.specs.Free.{free_block, without_block, after_free}
 use Rattle.tlsf_heap.proofs.Content.Replacing.{blocks_of-replaced}
-use Rattle.tlsf_heap.proofs.Good.Slots.{slot_times-cons, slot_times-append}
+use Rattle.tlsf_heap.proofs.Good.Slots.{slot_times-cons, slot_times-append, slots_fewer}
 
 module _ (slot : ℕ) where
   -- a block that gives way to others of no slot
@@ -45,7 +45,4 @@ after_free_slots place content slots =
     let back = free_next place content in
     let size = size_of front + size_at place (blocks_of content.pools) + size_of back in
     let fewer : (slot : ℕ) → slot_times slot (blocks_of (after_free place content).pools) ≤ slot_times slot (blocks_of content.pools) = λ slot. free_slots slot place (start_of front place) size front back content.pools in
-    record {
-      distinct = λ slot. omega (arith, fewer slot, slots.distinct slot);
-      below = λ slot above. omega (arith, fewer slot, slots.below slot above);
-    }
+    slots_fewer content (after_free place content) refl fewer slots

@@ -18,6 +18,8 @@ use Rattle.tlsf_heap.proofs.Meaning.Gaps.{covers_gap, apart_gap}
 use Rattle.tlsf_heap.proofs.Meaning.Refilled.{refilled_is_good}
 use Rattle.std.proofs.lemmas.Bool.{cases_Bool, eqb-true, and_parts, or_cases, ltb-true, ltb-false, leb-true}
 use Rattle.tlsf_heap.proofs.Meaning.FreedIsGood.{owned_is_live}
+use Rattle.tlsf_heap.specs.GoodSlots.{is_slot, HasGoodSlots}
+use Rattle.tlsf_heap.proofs.Good.Slots.{slot_times-append, slot_times-cut, slots_fewer}
 
 module _ {A : Type 0} where
   module _ (owner : A) (m : ℕ) (block : Block A) (blocks : List (Block A)) (lists : List (List ℕ)) (live : is_free block ≡ false) (some : 0 < m) (whole : m % unit ≡ 0) where
@@ -182,3 +184,38 @@ module _ {A : Type 0} where
       let room = fits_room owner m at.block at.blocks content.lists (owned_is_live is_meant at.block.owner parts.1) some whole content.records at.spot g f (λ e. o (e ∙ sym size_is)) in
       resized_good owner m at.block at.blocks content.lists (owned_is_live is_meant at.block.owner parts.1) some whole content.records at.spot g room.0 room.1 in
       subst P (sym at.whole) (λ g. subst Q (eqb-true at.block.place place parts.0) (here g)) good fits other
+
+-- a live block keeps its slot in place
+pub resized_slots : (known place m : ℕ) (content : Content ℕ) → IsGood content → is_live (λ owner. owner == known) place (blocks_of content.pools) ≡ true → 0 < m → m % unit ≡ 0 → HasGoodSlots content → HasGoodSlots (resized known place m content)
+resized_slots known place m content good live some whole slots =
+    let test : Block ℕ → Bool = λ block. is_at place block && is_owned_by (λ owner. owner == known) block.owner in
+    let at : LocatedBlock test content.pools = located_block test content.pools (any_counts test (blocks_of content.pools) live) in
+    let parts = and_parts _ _ at.passes in
+    let of : List (Pool ℕ) → Content ℕ = λ pools. record content { pools = pools } in
+    let all : List (Pool ℕ) = filled_pools at.spot (at.block ∷ at.blocks) in
+    let P : List (Pool ℕ) → Type 0 = λ pools. IsGood (of pools) → HasGoodSlots (of pools) → HasGoodSlots (resized known place m (of pools)) in
+    let Q : ℕ → Type 0 = λ p. HasGoodSlots (resized known p m (of all)) in
+    let here : IsGood (of all) → HasGoodSlots (of all) → Q at.block.place = λ g s.
+    let is = resized_is known m at.block at.blocks content.lists (owned_is_live (λ owner. owner == known) at.block.owner parts.1) some whole content.records at.spot g in
+    let R : Content ℕ → Type 0 = λ x. HasGoodSlots x in
+    let news : List (Block ℕ) = cut known at.block.place m (at.block.size + size_of (free_first at.blocks)) ++ past_free at.blocks in
+    let own : at.block.owner ≡ Some known = owner_is at.block.owner parts.1 in
+    subst R (sym is)
+    (slots_fewer (of all) (record { records = content.records; pools = filled_pools at.spot news; lists = new_lists known m at.block at.blocks content.lists (owned_is_live (λ owner. owner == known) at.block.owner parts.1) some whole }) refl
+    (λ slot.
+    let has : Block ℕ → Bool = λ block. is_slot slot block.owner in
+    omega (
+      arith,
+      count-filled_pools has at.spot (at.block ∷ at.blocks),
+      count-filled_pools has at.spot news,
+      count-cons has at.block at.blocks,
+      ap (λ o. one_if (is_slot slot o)) own,
+      slot_times-append slot (cut known at.block.place m (at.block.size + size_of (free_first at.blocks))) (past_free at.blocks),
+      slot_times-cut slot known at.block.place m (at.block.size + size_of (free_first at.blocks)),
+      few_past has at.blocks,
+    )) s) in
+    subst P (sym at.whole) (λ g s. subst Q (eqb-true at.block.place place parts.0) (here g s)) good slots
+  where
+    owner_is : (owner : Option ℕ) → is_owned_by (λ o. o == known) owner ≡ true → owner ≡ Some known
+    owner_is None h = absurd (cc)
+    owner_is (Some o) h = ap Some (eqb-true o known h)
