@@ -13,3 +13,4 @@ pub mod AlignedIsGood
 pub mod ResizedIsGood
 pub mod FreedSlots
 pub mod Entered
+pub mod Resized

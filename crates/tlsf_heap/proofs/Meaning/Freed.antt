@@ -16,20 +16,34 @@ use Rattle.tlsf_heap.proofs.Inner.Plugs.{count-filled}
 use Rattle.tlsf_heap.proofs.Inner.Lists.{length-left}
 use Rattle.tlsf_heap.proofs.Meaning.Places.{Told, PlacesOnce, Alike, alone, alike, alike-left, by_places, places-entered, places-left}
 use Rattle.tlsf_heap.proofs.Meaning.NodeBlocks.{first_block, pools_replaced, front_is, back_is, size_is}
+use Rattle.tlsf_heap.proofs.Meaning.FreeFirst.{past_free}
 
 -- no node is loose
 abbrev pub NoneLoose : List Node → Type 0
 NoneLoose nodes = count_by (λ node. is_loose node.status) nodes ≡ 0
 
 -- where no node is loose, the free ones are listed
-free_first : (nodes : List Node) → NoneLoose nodes → if_free (first_block nodes) ≡ option_map block_of (listed_first nodes)
-free_first [] none = refl
-free_first (node ∷ nodes) none = by_status node.status (elim (cases_Bool (is_loose node.status)) [
+pub listed_is_free : (nodes : List Node) → NoneLoose nodes → if_free (first_block nodes) ≡ option_map block_of (listed_first nodes)
+listed_is_free [] none = refl
+listed_is_free (node ∷ nodes) none = by_status node.status (elim (cases_Bool (is_loose node.status)) [
   | inl loose ↦ absurd (omega (arith, none, count-cons (λ n. is_loose n.status) node nodes, ap one_if loose))
   | inr settled ↦ settled
 ])
   where
     by_status : (status : Status) → is_loose status ≡ false → cond (is_none (owner_of status node.slot)) (Some (block_of node)) None ≡ option_map block_of (cond (is_listed status) (Some node) None)
+    by_status InUse settled = refl
+    by_status Listed settled = refl
+    by_status Loose settled = absurd (cc)
+
+-- and what is behind the first is the same
+pub past_is : (nodes : List Node) → NoneLoose nodes → past_free (map block_of nodes) ≡ map block_of (past nodes)
+past_is [] none = refl
+past_is (node ∷ nodes) none = by_status node.status (elim (cases_Bool (is_loose node.status)) [
+  | inl loose ↦ absurd (omega (arith, none, count-cons (λ n. is_loose n.status) node nodes, ap one_if loose))
+  | inr settled ↦ settled
+])
+  where
+    by_status : (status : Status) → is_loose status ≡ false → cond (is_none (owner_of status node.slot)) (map block_of nodes) (block_of node ∷ map block_of nodes) ≡ map block_of (cond (is_listed status) nodes (node ∷ nodes))
     by_status InUse settled = refl
     by_status Listed settled = refl
     by_status Loose settled = absurd (cc)
@@ -104,7 +118,7 @@ module _ (spot : Spot) (node : Node) (nodes : List Node) (lists : List (List Nod
         | false ↦ refl
       ]
 
-  full_front : (o : Option Node) → length (left_by o lists) ≡ classes
+  pub full_front : (o : Option Node) → length (left_by o lists) ≡ classes
   full_front None = told.full
   full_front (Some f) = length-left f lists told.full
 
@@ -116,7 +130,7 @@ module _ (spot : Spot) (node : Node) (nodes : List Node) (lists : List (List Nod
   still_alike b None same = same
   still_alike b (Some f) same = alike-left b f lists told.full same
 
-  lists_back : (o : Option Node) → by_places (left_by back (left_by o lists)) ≡ unlink_block (option_map block_of back) (by_places (left_by o lists))
+  pub lists_back : (o : Option Node) → by_places (left_by back (left_by o lists)) ≡ unlink_block (option_map block_of back) (by_places (left_by o lists))
   lists_back o = go nodes told
     where
       go : (others : List Node) → Told (filled spot (node ∷ others)) lists → by_places (left_by (listed_first others) (left_by o lists)) ≡ unlink_block (option_map block_of (listed_first others)) (by_places (left_by o lists))
@@ -146,8 +160,8 @@ module _ (spot : Spot) (node : Node) (nodes : List Node) (lists : List (List Nod
       let here = alone spot node nodes told.places in
       let f : Option (Block ℕ) = option_map block_of front in
       let b : Option (Block ℕ) = option_map block_of back in
-      let f_is : free_previous node.place (content_by (laid count spot (node ∷ nodes) lists taken)) ≡ f = ap if_free (front_is spot node nodes here) ∙ free_first spot.before before_settled in
-      let b_is : free_next node.place (content_by (laid count spot (node ∷ nodes) lists taken)) ≡ b = ap if_free (back_is spot node nodes here) ∙ free_first nodes behind_settled in
+      let f_is : free_previous node.place (content_by (laid count spot (node ∷ nodes) lists taken)) ≡ f = ap if_free (front_is spot node nodes here) ∙ listed_is_free spot.before before_settled in
+      let b_is : free_next node.place (content_by (laid count spot (node ∷ nodes) lists taken)) ≡ b = ap if_free (back_is spot node nodes here) ∙ listed_is_free nodes behind_settled in
       let size_is_so : size_at node.place (blocks_of (map pool_of (filled spot (node ∷ nodes)))) ≡ node.size = size_is spot node nodes here in
       let block_is = block_merged front back in
       let by_pools : map pool_of (filled (spot_past spot) (merged ∷ past nodes)) ≡ (after count taken f b node.size).pools =
