@@ -14,3 +14,4 @@ pub mod ResizedIsGood
 pub mod FreedSlots
 pub mod Entered
 pub mod Resized
+pub mod Aligned

@@ -84,3 +84,7 @@ module _ (node : Node) (lists : List (List Node)) (full : length lists ≡ class
   pub length-left : length (left node lists) ≡ classes
   unfolding left
   length-left = length-set lists (class node.size) _ ∙ full
+
+  pub length-entered : length (entered node lists) ≡ classes
+  unfolding entered
+  length-entered = length-set lists (class node.size) _ ∙ full

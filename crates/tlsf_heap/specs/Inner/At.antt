@@ -1,5 +1,5 @@
 -- A node at a spot of a layout, and the steps of free there.
-use Rattle.std.specs.Prelude.{◌≡◌, ℕ, ◌+◌, ◌%◌, ◌^◌, ◌<◌, ◌≤◌, List, [], ◌∷◌, length, map, count_by, Some, ⊤}
+use Rattle.std.specs.Prelude.{◌≡◌, ℕ, ◌+◌, ◌%◌, ◌^◌, ◌<◌, ◌≤◌, List, [], ◌∷◌, length, map, count_by, Some, ⊤, ◌-◌, ◌++◌}
 use Rattle.tlsf_class.specs.Classes.{unit, greatest_size}
 use Rattle.tlsf_store.specs.declared.records.Record.{Record}
 use Rattle.tlsf_store.specs.Records.{record_at}
@@ -8,7 +8,7 @@ use Rattle.tlsf_heap.specs.Inner.Edits.{IsUsed}
 use Rattle.tlsf_heap.specs.Content.{Pool}
 use Rattle.tlsf_heap.specs.Good.{Covers}
 use Rattle.tlsf_heap.specs.Pools.{end_of_places}
-use Rattle.tlsf_heap.specs.Inner.Nodes.{Status, InUse, Listed, Loose, Node, Area, Layout, turned, rest_node, pool_of, nodes_of, left, entered}
+use Rattle.tlsf_heap.specs.Inner.Nodes.{Status, InUse, Listed, Loose, Node, Area, Layout, turned, rest_node, pool_of, nodes_of, left, entered, gap_nodes, entered_gap}
 use Rattle.tlsf_heap.specs.Inner.Spots.{Spot, filled, laid}
 use Rattle.tlsf_heap.specs.Inner.Joined.{is_loose, listed_first, past, left_by, grown_in_front, grown_behind, spot_past}
 use Rattle.tlsf_heap.specs.Inner.Represents.{Represents}
@@ -80,6 +80,22 @@ at_split rest bytes at = record at { spot = record at.spot { before = record at.
 -- and it entered its list
 abbrev pub at_cut : ℕ → ℕ → At → At
 at_cut rest bytes at = at_listed (at_split rest bytes at)
+
+-- the node keeps its first bytes, and a listed one of what is left stands behind it, where anything is
+abbrev pub at_trimmed : ℕ → ℕ → At → At
+at_trimmed rest bytes at = record at {
+  node = record at.node { size = bytes };
+  nodes = gap_nodes rest (at.node.place + bytes) (at.node.size - bytes) ++ at.nodes;
+  lists = entered_gap rest (at.node.place + bytes) (at.node.size - bytes) at.lists;
+}
+
+-- a listed node of its first bytes, where there are any, has its slot; it begins behind them, with a slot of its own
+abbrev pub at_gapped : ℕ → ℕ → At → At
+at_gapped live bytes at = record at {
+  spot = record at.spot { before = gap_nodes at.node.slot at.node.place bytes ++ at.spot.before };
+  node = record at.node { slot = live; place = at.node.place + bytes; size = at.node.size - bytes };
+  lists = entered_gap at.node.slot at.node.place bytes at.lists;
+}
 
 -- a node in use became free, one with the free ones beside it, and listed
 abbrev pub at_freed : At → At

@@ -1,5 +1,5 @@
 -- Nodes: the blocks of a heap with the slots of their records, by pool and by class.
-use Rattle.std.specs.Prelude.{ℕ, ◌+◌, ◌-◌, Bool, true, false, not, ◌&&◌, ◌==◌, List, [], ◌∷◌, map, flat_map, filter, slice_index_or, slice_set, Option, Some, None}
+use Rattle.std.specs.Prelude.{ℕ, ◌+◌, ◌-◌, Bool, true, false, not, ◌&&◌, ◌==◌, List, [], ◌∷◌, map, flat_map, filter, slice_index_or, slice_set, Option, Some, None, if◌then◌else◌}
 use Rattle.tlsf_class.specs.Classes.{class}
 use Rattle.tlsf_heap.specs.declared.pool_entry.PoolEntry.{PoolEntry}
 use Rattle.tlsf_heap.specs.Content.{Block, Pool, Content}
@@ -94,3 +94,11 @@ left node lists = slice_set lists (class node.size) (without_slot node.slot (lis
 -- the node enters its class's list, in front of the others
 unfoldable pub entered : Node → List (List Node) → List (List Node)
 entered node lists = slice_set lists (class node.size) (node ∷ list_of (class node.size) lists)
+
+-- a listed node of these bytes, or none where there are none
+abbrev pub gap_nodes : (slot place size : ℕ) → List Node
+gap_nodes slot place size = if size == 0 then [] else record { slot = slot; place = place; size = size; status = Listed } ∷ []
+
+-- it enters its class's list
+abbrev pub entered_gap : (slot place size : ℕ) → List (List Node) → List (List Node)
+entered_gap slot place size lists = if size == 0 then lists else entered (record { slot = slot; place = place; size = size; status = Listed }) lists

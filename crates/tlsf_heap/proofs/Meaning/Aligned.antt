@@ -1,0 +1,66 @@
+-- What a layout stands for after the node at a spot was carved for an alignment.
+use Rattle.std.proofs.Common.{◌≡◌, ℕ, ◌+◌, ◌-◌, List, [], ◌∷◌, ◌++◌, length, map, refl, sym, ap, ◌∙◌, arith, true, false, cond}
+use Rattle.std.proofs.lemmas.List.{map-append, append_assoc}
+use Rattle.tlsf_class.specs.Classes.{classes}
+use Rattle.tlsf_heap.specs.Content.{Pool, Content}
+use Rattle.tlsf_heap.specs.Lists.{unlink}
+use Rattle.tlsf_heap.specs.Malloc.{gap, link_gap, replaced_in, cut}
+use Rattle.tlsf_heap.specs.Memalign.{aligned}
+use Rattle.tlsf_heap.specs.Inner.Nodes.{Node, InUse, Listed, turned, block_of, pool_of, content_by, left, gap_nodes, entered_gap, entered}
+use Rattle.tlsf_heap.specs.Inner.Spots.{Spot, filled}
+use Rattle.tlsf_heap.specs.Inner.At.{At, layout_at, at_taken, at_trimmed, at_gapped}
+use Rattle.tlsf_heap.proofs.Inner.Lists.{length-left, length-entered}
+use Rattle.tlsf_heap.proofs.Meaning.Places.{Told, alone, alike, by_places, places-left}
+use Rattle.tlsf_heap.proofs.Meaning.NodeBlocks.{pools_replaced}
+use Rattle.tlsf_heap.proofs.Meaning.Resized.{gap_is, gap_entered}
+use Rattle.std.specs.Prelude.{◌==◌}
+
+module _ (count : ℕ) (spot : Spot) (node : Node) (nodes : List Node) (lists : List (List Node)) (told : Told (filled spot (turned Listed node ∷ nodes)) lists) where
+  abbrev pools : List (Pool ℕ)
+  pools = map pool_of (filled spot (turned Listed node ∷ nodes))
+
+  abbrev old_at : List ℕ → At
+  old_at taken = record { count = count; spot = spot; node = turned Listed node; nodes = nodes; lists = lists; taken = taken }
+
+  -- where the gap has these bytes
+  abbrev carved_by : (live start m g : ℕ) → List ℕ → Content ℕ
+  carved_by live start m g taken = record (content_by (layout_at (old_at taken))) {
+    pools = map (replaced_in node.place (gap node.place g ++ cut live start m (node.size - g))) pools;
+    lists = link_gap (start + m) ((node.size - g) - m) (link_gap node.place g (unlink node.place node.size (by_places lists)));
+  }
+
+  -- a gap of the first bytes, a live block of m bytes, and what is left behind it
+  pub aligned_is : (live rest front m : ℕ) (taken kept : List ℕ)
+      → content_by (layout_at (at_trimmed rest m (at_gapped live front (at_taken (old_at kept))))) ≡ aligned live (node.place + front) m node.place node.size (content_by (layout_at (old_at taken)))
+  aligned_is live rest front m taken kept =
+      let start : ℕ = node.place + front in
+      let left_over : ℕ = (node.size - front) - m in
+      let block : Node = record { slot = live; place = start; size = m; status = InUse } in
+      let gaps : List Node = gap_nodes node.slot node.place front in
+      let rests : List Node = gap_nodes rest (start + m) left_over in
+      let news : map block_of (gaps ++ (block ∷ rests)) ≡ gap node.place front ++ cut live start m (node.size - front) =
+      map-append block_of gaps (block ∷ rests)
+      ∙ ap (λ b. b ++ (block_of block ∷ map block_of rests)) (gap_is node.slot node.place front)
+      ∙ ap (λ b. gap node.place front ++ (block_of block ∷ b)) (gap_is rest (start + m) left_over) in
+      let by_pools : map pool_of (filled (record spot { before = gaps ++ spot.before }) (block ∷ (rests ++ nodes))) ≡ map (replaced_in node.place (gap node.place front ++ cut live start m (node.size - front))) pools =
+      ap (map pool_of) (behind_gap (block ∷ (rests ++ nodes)) node.slot node.place front)
+      ∙ ap (λ ns. map pool_of (filled spot ns)) (sym (append_assoc gaps (block ∷ rests) nodes))
+      ∙ sym (pools_replaced spot (turned Listed node) nodes (alone spot (turned Listed node) nodes told.places) (gaps ++ (block ∷ rests)))
+      ∙ ap (λ blocks. map (replaced_in node.place blocks) pools) news in
+      let out = length-left (turned Listed node) lists told.full in
+      let by_lists : by_places (entered_gap rest (start + m) left_over (entered_gap node.slot node.place front (left (turned Listed node) lists))) ≡ link_gap (start + m) left_over (link_gap node.place front (unlink node.place node.size (by_places lists))) =
+      gap_entered rest (start + m) left_over (entered_gap node.slot node.place front (left (turned Listed node) lists)) (full_gap node.slot node.place front (left (turned Listed node) lists) out)
+      ∙ ap (link_gap (start + m) left_over) (gap_entered node.slot node.place front (left (turned Listed node) lists) out ∙ ap (link_gap node.place front) (places-left (turned Listed node) lists told.full (alike (turned Listed node) lists spot (turned Listed node) nodes refl refl told))) in
+      let front_is : (node.place + front) - node.place ≡ front = omega arith in
+      (λ i. record { records = count; pools = by_pools i; lists = by_lists i }) ∙ sym (ap (λ g. carved_by live start m g taken) front_is)
+    where
+      -- what stands behind a gap in front of a spot
+      behind_gap : (ns : List Node) (slot place size : ℕ) → filled (record spot { before = gap_nodes slot place size ++ spot.before }) ns ≡ filled spot (gap_nodes slot place size ++ ns)
+      behind_gap ns slot place size =
+          let gap_node : Node = record { slot = slot; place = place; size = size; status = Listed } in
+          elim (size == 0) as (λ b. filled (record spot { before = cond b [] (gap_node ∷ []) ++ spot.before }) ns ≡ filled spot (cond b [] (gap_node ∷ []) ++ ns)) [ true ↦ refl | false ↦ refl ]
+
+      full_gap : (slot place size : ℕ) (ls : List (List Node)) → length ls ≡ classes → length (entered_gap slot place size ls) ≡ classes
+      full_gap slot place size ls full =
+          let gap_node : Node = record { slot = slot; place = place; size = size; status = Listed } in
+          elim (size == 0) as (λ b. length (cond b ls (entered gap_node ls)) ≡ classes) [ true ↦ full | false ↦ length-entered gap_node ls full ]
