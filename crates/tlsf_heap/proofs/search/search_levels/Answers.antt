@@ -1,4 +1,4 @@
-use Rattle.std.proofs.Common.{◌≡◌, ◌+◌, ◌^◌, ◌<◌, ℕ, Option, get_or, sym, ap, ◌∙◌, subst, arith}
+use Rattle.std.proofs.Common.{◌≡◌, ◌^◌, ◌<◌, ℕ, Option, get_or, sym, ap, ◌∙◌, subst, arith}
 use Rattle.std.specs.Prelude.{IfNone}
 use Rattle.std.specs.Int.{bit_at}
 use Rattle.tlsf_store.specs.Cells.{Cells, head_at}
@@ -8,7 +8,7 @@ use Rattle.tlsf_heap.proofs.search.search_levels.Goals as goal
 
 pub returns-in_default-clause-value : goal.returns-in_default-clause-value
 returns-in_default-clause-value c =
-    let old : Cells = c.args.store.now in
+    let old : Cells = c.args.store.now.cells in
     let P : Option ℕ → Type 0 = λ o. IfNone o (HasNoBit c.level_word-word.result c.args.from 32) in
     let Q : ℕ → Type 0 = λ w. HasNoBit w c.args.from 32 in
     let none = subst Q c.level_word-word.ensures.value (subst P c.in_default.is c.lowest_from.ensures.none) in
@@ -19,10 +19,10 @@ step_word-word-requires c = level_within c.level_word-word.result c.in-Some.leve
 
 pub returns-in_default-lowest_from-clause-value : goal.returns-in_default-lowest_from-clause-value
 returns-in_default-lowest_from-clause-value c =
-    let old : Cells = c.args.store.now in
+    let old : Cells = c.args.store.now.cells in
     let level : ℕ = c.in-Some.level in
     let below = level_within c.level_word-word.result level c.level_word-word.ensures.below c.in-Some.ensures.found.2 in
-    let word : c.step_word-word.result ≡ get_or old.step_words level 0 = c.step_word-word.ensures.value ∙ ap (λ (s : Cells). get_or s.step_words level 0) c.level_word-word.ensures.touch in
+    let word : c.step_word-word.result ≡ get_or old.step_words level 0 = c.step_word-word.ensures.value ∙ ap (λ (s : Cells). get_or s.step_words level 0) c.level_word-word.ensures.cells in
     let fits : c.step_word-word.result < 2 ^ 32 = c.step_word-word.type_inv in
     let P : Option ℕ → Type 0 = λ o. IfNone o (HasNoBit c.step_word-word.result 0 32) in
     let Q : ℕ → Type 0 = λ w. HasNoBit w 0 32 in
@@ -35,14 +35,14 @@ new-requires c = let below = level_within c.level_word-word.result c.in-Some.lev
 
 pub returns-clause-value : goal.returns-clause-value
 returns-clause-value c =
-    let old : Cells = c.args.store.now in
+    let old : Cells = c.args.store.now.cells in
     let level : ℕ = c.in-Some.level in
     let step : ℕ = c.in-Some-lowest_from.step in
     let below = level_within c.level_word-word.result level c.level_word-word.ensures.below c.in-Some.ensures.found.2 in
-    let word : c.step_word-word.result ≡ get_or old.step_words level 0 = c.step_word-word.ensures.value ∙ ap (λ (s : Cells). get_or s.step_words level 0) c.level_word-word.ensures.touch in
+    let word : c.step_word-word.result ≡ get_or old.step_words level 0 = c.step_word-word.ensures.value ∙ ap (λ (s : Cells). get_or s.step_words level 0) c.level_word-word.ensures.cells in
     let Q : ℕ → Type 0 = λ w. IsLowestFrom w c.args.from level in
     let R : ℕ → Type 0 = λ w. IsLowestFrom w 0 step in
     c.head.ensures.value
-    ∙ ap (λ (s : Cells). head_at s.heads c.new.result) (c.step_word-word.ensures.touch ∙ ap (λ (s : Cells). record s { touches = s.touches + 1 }) c.level_word-word.ensures.touch)
+    ∙ ap (λ (s : Cells). head_at s.heads c.new.result) (c.step_word-word.ensures.cells ∙ c.level_word-word.ensures.cells)
     ∙ ap (head_at old.heads) c.new.ensures
     ∙ found_above old.heads old.step_words old.level_word c.requires.bitmaps c.requires.count c.args.from level step below (subst Q c.level_word-word.ensures.value c.in-Some.ensures.found) (subst R word c.in-Some-lowest_from.ensures.found)
