@@ -1,4 +1,4 @@
-use Rattle.std.proofs.Common.{◌≡◌, ℕ, true, cond, sym, ap, ◌∙◌, subst, Ok, Err}
+use Rattle.std.proofs.Common.{◌≡◌, ℕ, true, cond, sym, ap, ◌∙◌, Ok, Err}
 use Rattle.std.specs.Prelude.{◌==◌}
 use Rattle.tlsf_store.specs.Cells.{Cells}
 use Rattle.tlsf_heap.specs.declared.refusal.Refusal.TheVariants.{BadPointer}
@@ -11,19 +11,9 @@ use Rattle.tlsf_heap.specs.Inner.At.{StandsAt}
 use Rattle.tlsf_heap.proofs.Inner.Live.{NodeAt, live_at, freed_stands}
 use Rattle.tlsf_heap.proofs.free.free.Goals as goal
 
-pub returns-then-not-is_live-clause-stands : goal.returns-then-not-is_live-clause-stands
-returns-then-not-is_live-clause-stands c = let P : Cells → Type 0 = λ s. Stands s in subst P (sym c.is_live.ensures.cells) c.requires
-
-pub returns-then-not-is_live-clause-unchanged : goal.returns-then-not-is_live-clause-unchanged
-returns-then-not-is_live-clause-unchanged c = ap content_of c.is_live.ensures.cells
-
 -- the node of the block, once it was looked for
 found : (old new : Cells) (slot at : ℕ) (place : ℕ) (stands : Stands old) (live : is_live (λ owner. owner == at) place (blocks_of (content_of old).pools) ≡ true) → new ≡ old → slot ≡ at → StandsAt slot InUse new (live_at old stands place at live).at
-found old new slot at place stands live same is =
-    let node : NodeAt place at InUse old stands.layout = live_at old stands place at live in
-    let P : Cells → Type 0 = λ s. StandsAt slot InUse s node.at in
-    let Q : ℕ → Type 0 = λ n. StandsAt n InUse old node.at in
-    subst P (sym same) (subst Q (sym is) node.stands)
+found old new slot at place stands live same is = rw (same, is) (live_at old stands place at live).stands
 
 pub release-requires : goal.release-requires
 release-requires c =

@@ -1,4 +1,4 @@
-use Rattle.std.proofs.Common.{◌≡◌, ℕ, refl, sym, subst}
+use Rattle.std.proofs.Common.{◌≡◌, ℕ, refl}
 use Rattle.tlsf_store.specs.declared.records.State.TheVariants.{Free}
 use Rattle.tlsf_store.specs.Cells.{Cells}
 use Rattle.tlsf_heap.specs.Inner.Chains.{with_state}
@@ -12,7 +12,7 @@ set_state-requires-clause-used c = slot_used c.args.store.now.cells c.args.slot 
 
 -- the node is loose
 loose : (old new : Cells) (slot : ℕ) (at : At) → StandsAt slot InUse old at → new ≡ with_state slot Free old → StandsAt slot Loose new (at_turned Loose at)
-loose old new slot at stands is = let P : Cells → Type 0 = λ s. StandsAt slot Loose s (at_turned Loose at) in subst P (sym is) (turned_stands old slot InUse at stands Loose refl refl)
+loose old new slot at stands is = rw is (turned_stands old slot InUse at stands Loose refl refl)
 
 pub join_previous-start-requires : goal.join_previous-start-requires
 join_previous-start-requires c = (at_turned Loose c.requires.0, loose c.args.store.now.cells c.set_state.new.store.cells c.args.slot c.requires.0 c.requires.1 c.set_state.ensures.cells)

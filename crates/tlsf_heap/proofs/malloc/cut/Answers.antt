@@ -1,10 +1,9 @@
-use Rattle.std.proofs.Common.{◌≡◌, ℕ, ◌-◌, ◌%◌, ◌<◌, sym, ap, ◌∙◌, subst, arith}
-use Rattle.tlsf_class.specs.Classes.{class, unit}
-use Rattle.tlsf_store.specs.Cells.{Cells, head_at}
-use Rattle.tlsf_heap.specs.Inner.Edits.{IsUsed, linked}
+use Rattle.std.proofs.Common.{◌≡◌, ℕ, ◌%◌, ◌<◌, arith}
+use Rattle.tlsf_class.specs.Classes.{unit}
+use Rattle.tlsf_store.specs.Cells.{Cells}
 use Rattle.tlsf_heap.specs.Inner.Chains.{split}
-use Rattle.tlsf_heap.specs.Inner.Nodes.{InUse, Listed, Loose}
-use Rattle.tlsf_heap.specs.Inner.At.{At, StandsAt, with_slot, at_split, at_cut}
+use Rattle.tlsf_heap.specs.Inner.Nodes.{InUse, Loose}
+use Rattle.tlsf_heap.specs.Inner.At.{At, StandsAt, with_slot, at_split}
 use Rattle.tlsf_heap.proofs.Inner.Steps.{slot_used, size_read, place_read, whole_at, first_used, listed_stands}
 use Rattle.tlsf_heap.proofs.Inner.Allotted.{rest_used, last_used, split_stands}
 use Rattle.tlsf_heap.proofs.malloc.cut.Goals as goal
@@ -46,9 +45,7 @@ class_of-requires-clause-most c = omega (arith, c.requires.stands.2, (whole_at c
 -- once it was split
 loose : (old new : Cells) (slot rest bytes size : ℕ) (at : At) → StandsAt slot InUse old (with_slot rest at) → size ≡ at.node.size → 0 < bytes → bytes < size → bytes % unit ≡ 0 → new ≡ split slot rest bytes old
     → StandsAt rest Loose new (at_split rest bytes at)
-loose old new slot rest bytes size at stands size_is some less whole left =
-    let P : Cells → Type 0 = λ s. StandsAt rest Loose s (at_split rest bytes at) in
-    subst P (sym left) (split_stands old slot rest at stands bytes some (omega (arith, less, size_is)) whole)
+loose old new slot rest bytes size at stands size_is some less whole left = rw left (split_stands old slot rest at stands bytes some (omega (arith, less, size_is)) whole)
 
 pub link-requires-clause-slot_used : goal.link-requires-clause-slot_used
 link-requires-clause-slot_used c =
@@ -58,15 +55,12 @@ link-requires-clause-slot_used c =
 pub link-requires-clause-first_used : goal.link-requires-clause-first_used
 link-requires-clause-first_used c =
     let at : At = c.requires.stands.0 in
-    let number : c.class_of.result ≡ class (at.node.size - c.args.bytes) = c.class_of.ensures ∙ ap (λ n. class (n - c.args.bytes)) c.requires.stands.2 in
-    let P : ℕ → Type 0 = λ n. IsUsed c.split.new.store.cells.records (head_at c.split.new.store.cells.heads n) in
-    subst P (sym number) (first_used c.split.new.store.cells c.args.rest Loose (at_split c.args.rest c.args.bytes at)
+    let number = rw c.requires.stands.2 at c.class_of.ensures in
+    rw number (first_used c.split.new.store.cells c.args.rest Loose (at_split c.args.rest c.args.bytes at)
     (loose c.args.store.now.cells c.split.new.store.cells c.args.slot c.args.rest c.args.bytes c.args.size at c.requires.stands.1 c.requires.stands.2 c.requires.some c.requires.less c.requires.whole c.split.ensures.cells))
 
 pub returns-clause-leads : goal.returns-clause-leads
 returns-clause-leads c at stands size_is =
-    let number : c.class_of.result ≡ class (at.node.size - c.args.bytes) = c.class_of.ensures ∙ ap (λ n. class (n - c.args.bytes)) size_is in
-    let P : Cells → Type 0 = λ s. StandsAt c.args.rest Listed s (at_cut c.args.rest c.args.bytes at) in
-    subst P (sym (c.link.ensures.cells ∙ ap (λ n. linked n c.args.rest c.split.new.store.cells) number))
-    (listed_stands c.split.new.store.cells c.args.rest (at_split c.args.rest c.args.bytes at)
+    let number = rw size_is at c.class_of.ensures in
+    rw (c.link.ensures.cells, number) (listed_stands c.split.new.store.cells c.args.rest (at_split c.args.rest c.args.bytes at)
     (loose c.args.store.now.cells c.split.new.store.cells c.args.slot c.args.rest c.args.bytes c.args.size at stands size_is c.requires.some c.requires.less c.requires.whole c.split.ensures.cells))

@@ -1,13 +1,11 @@
-use Rattle.std.proofs.Common.{◌≡◌, ℕ, ◌<◌, sym, ap, ◌∙◌, subst, arith, Some, Ok, Err}
+use Rattle.std.proofs.Common.{◌≡◌, ℕ, ◌<◌, sym, ◌∙◌, subst, arith, Some, Ok, Err}
 use Rattle.std.specs.Prelude.{Result, IfOk, IfErr, OnErr}
 use Rattle.tlsf_class.proofs.RoundingLaws.{round-Some}
 use Rattle.tlsf_store.specs.Records.{record_at}
-use Rattle.tlsf_store.specs.Cells.{Cells}
 use Rattle.tlsf_heap.specs.Content.{blocks_of}
-use Rattle.tlsf_heap.specs.Lists.{pick}
 use Rattle.tlsf_heap.specs.Malloc.{malloc, malloc_picked}
 use Rattle.tlsf_heap.specs.GoodSlots.{slot_times}
-use Rattle.tlsf_heap.specs.Inner.Following.{Stands, content_of}
+use Rattle.tlsf_heap.specs.Inner.Following.{content_of}
 use Rattle.tlsf_heap.proofs.Content.MallocCases.{picked_is_served}
 use Rattle.tlsf_heap.proofs.Inner.Live.{free_at}
 use Rattle.tlsf_heap.proofs.Inner.Served.{slot_below, slot_new}
@@ -31,36 +29,18 @@ pick-requires-clause-whole c = (round-Some c.args.n c.in-Some.asked (sym c.round
 pub pick-requires-clause-some : goal.pick-requires-clause-some
 pick-requires-clause-some c = let r = round-Some c.args.n c.in-Some.asked (sym c.round.ensures ∙ c.in-Some.is) in omega (arith, r.some, r.least)
 
-pub returns-in_default-pick-clause-stands : goal.returns-in_default-pick-clause-stands
-returns-in_default-pick-clause-stands c = let P : Cells → Type 0 = λ s. Stands s in subst P (sym c.pick.ensures.cells) c.requires
-
-pub returns-in_default-pick-clause-unchanged : goal.returns-in_default-pick-clause-unchanged
-returns-in_default-pick-clause-unchanged c = ap content_of c.pick.ensures.cells
-
-pub take-requires-clause-stands : goal.take-requires-clause-stands
-take-requires-clause-stands c = let P : Cells → Type 0 = λ s. Stands s in subst P (sym c.pick.ensures.cells) c.requires
-
 pub take-requires-clause-whole : goal.take-requires-clause-whole
 take-requires-clause-whole c = (round-Some c.args.n c.in-Some.asked (sym c.round.ensures ∙ c.in-Some.is)).whole
 
 pub take-requires-clause-some : goal.take-requires-clause-some
 take-requires-clause-some c = let r = round-Some c.args.n c.in-Some.asked (sym c.round.ensures ∙ c.in-Some.is) in omega (arith, r.some, r.least)
 
-pub take-requires-clause-found : goal.take-requires-clause-found
-take-requires-clause-found c =
-    ap (λ (s : Cells). pick c.in-Some.asked (content_of s).lists) c.pick.ensures.cells
-    ∙ c.in-Some-pick.ensures.found
-    ∙ ap (λ (s : Cells). Some (record_at s.records c.in-Some-pick.slot).place) (sym c.pick.ensures.cells)
-
 -- malloc of the slot's block is what is left after the search
 served : (c : goal.After-take) → (owner : ℕ)
     → malloc owner c.args.n (content_of c.args.store.now.cells) ≡ malloc_picked owner c.in-Some.asked (Some (record_at c.pick.new.store.cells.records c.in-Some-pick.slot).place) (content_of c.pick.new.store.cells)
 served c owner =
-    let old : Cells = c.args.store.now.cells in
-    let asked : ℕ = c.in-Some.asked in
-    let slot : ℕ = c.in-Some-pick.slot in
-    picked_is_served owner c.args.n (content_of old) c.if-n-eq0.false asked ((record_at old.records slot).place) (sym c.round.ensures ∙ c.in-Some.is) c.in-Some-pick.ensures.found
-    ∙ ap (λ (s : Cells). malloc_picked owner asked (Some (record_at s.records slot).place) (content_of s)) (sym c.pick.ensures.cells)
+    rw c.pick.ensures.cells (picked_is_served owner c.args.n (content_of c.args.store.now.cells) c.if-n-eq0.false c.in-Some.asked (record_at c.args.store.now.cells.records c.in-Some-pick.slot).place
+    (sym c.round.ensures ∙ c.in-Some.is) c.in-Some-pick.ensures.found)
 
 pub returns-clause-ok : goal.returns-clause-ok
 returns-clause-ok c =
@@ -87,8 +67,3 @@ returns-clause-refused c =
     (λ refusal. (owner : ℕ) → malloc_picked owner c.in-Some.asked (Some (record_at c.pick.new.store.cells.records c.in-Some-pick.slot).place) (content_of c.pick.new.store.cells) ≡ Err refusal)
     (λ refusal. (slot : ℕ) → malloc slot c.args.n (content_of c.args.store.now.cells) ≡ Err refusal)
     (λ refusal is. λ owner. served c owner ∙ is owner) c.take.ensures.refused
-
-pub returns-clause-unchanged : goal.returns-clause-unchanged
-returns-clause-unchanged c =
-    on_err c.take.result (content_of c.take.new.store.cells ≡ content_of c.pick.new.store.cells) (content_of c.take.new.store.cells ≡ content_of c.args.store.now.cells)
-    (λ is. is ∙ ap content_of c.pick.ensures.cells) c.take.ensures.unchanged

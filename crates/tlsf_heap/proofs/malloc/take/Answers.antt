@@ -64,10 +64,6 @@ returns-then-block-asked-clause-ok c =
     subst P (sym ptr) (whole c).1
 
 -- where no record was vacant, the cells are as before
-pub returns-in_default-clause-unchanged : goal.returns-in_default-clause-unchanged
-returns-in_default-clause-unchanged c =
-    ap content_of (c.take_vacant.ensures.taken ∙ ap (with_taken c.read-block.new.self.cells) c.in_default.is ∙ c.read-block.ensures.cells)
-
 pub returns-in_default-clause-refused : goal.returns-in_default-clause-refused
 returns-in_default-clause-refused c =
     let old : Cells = c.args.store.now.cells in

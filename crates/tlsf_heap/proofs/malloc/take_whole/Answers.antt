@@ -1,9 +1,9 @@
-use Rattle.std.proofs.Common.{◌≡◌, ℕ, ◌%◌, refl, sym, ap, ◌∙◌, subst, arith}
+use Rattle.std.proofs.Common.{◌≡◌, ℕ, ◌%◌, refl, ap, ◌∙◌, arith}
 use Rattle.tlsf_class.specs.Classes.{class, unit}
 use Rattle.tlsf_store.specs.Cells.{Cells}
 use Rattle.tlsf_heap.specs.Inner.Edits.{unlinked}
 use Rattle.tlsf_heap.specs.Inner.Nodes.{InUse, Listed, Loose}
-use Rattle.tlsf_heap.specs.Inner.At.{At, StandsAt, at_unlisted, at_taken}
+use Rattle.tlsf_heap.specs.Inner.At.{At, StandsAt, at_unlisted}
 use Rattle.tlsf_heap.proofs.Inner.Steps.{slot_used, whole_at, turned_stands}
 use Rattle.tlsf_heap.proofs.Inner.Allotted.{prev_used, behind_used, unlinked_stands}
 use Rattle.tlsf_heap.proofs.malloc.take_whole.Goals as goal
@@ -28,9 +28,7 @@ unlink-requires-clause-next_used c = behind_used c.args.store.now.cells c.args.s
 
 -- once it left its list
 loose : (old new : Cells) (slot size number : ℕ) (at : At) → StandsAt slot Listed old at → size ≡ at.node.size → number ≡ class size → new ≡ unlinked number slot old → StandsAt slot Loose new (at_unlisted at)
-loose old new slot size number at stands size_is number_is left =
-    let P : Cells → Type 0 = λ s. StandsAt slot Loose s (at_unlisted at) in
-    subst P (sym (left ∙ ap (λ n. unlinked n slot old) (number_is ∙ ap class size_is))) (unlinked_stands old slot at stands)
+loose old new slot size number at stands size_is number_is left = rw (left, number_is, size_is) (unlinked_stands old slot at stands)
 
 pub set_state-requires-clause-used : goal.set_state-requires-clause-used
 set_state-requires-clause-used c =
@@ -38,6 +36,5 @@ set_state-requires-clause-used c =
 
 pub returns-clause-leads : goal.returns-clause-leads
 returns-clause-leads c at stands size_is =
-    let P : Cells → Type 0 = λ s. StandsAt c.args.slot InUse s (at_taken at) in
-    subst P (sym c.set_state.ensures.cells)
+    rw c.set_state.ensures.cells
     (turned_stands c.unlink.new.store.cells c.args.slot Loose (at_unlisted at) (loose c.args.store.now.cells c.unlink.new.store.cells c.args.slot c.args.size c.class_of.result at stands size_is c.class_of.ensures c.unlink.ensures.cells) InUse refl refl)
