@@ -34,7 +34,6 @@ pub(crate) fn add_pool(store: &mut Store, base: u64, bytes: u64) -> Result<(), R
     ensures stands { Stands store.new.cells }
     ensures ok { OnOk result (added base bytes (content_of store.old.cells) ≡ Ok (content_of store.new.cells)) }
     ensures refused { IfErr result (λ refusal. added base bytes (content_of store.old.cells) ≡ Err refusal) }
-    ensures unchanged { OnErr result (content_of store.new.cells ≡ content_of store.old.cells) }
     ensures cells { OnErr result (store.new.cells ≡ store.old.cells) }
     ensures touches { AtMost 29 store.old.touches store.new.touches }
 {

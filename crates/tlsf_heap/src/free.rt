@@ -29,7 +29,6 @@ pub(crate) fn free(store: &mut Store, ptr: Ptr) -> Result<(), Refusal>
     ensures stands { Stands store.new.cells }
     ensures ok { OnOk result (freed (λ slot. slot == ptr.slot) ptr.place (content_of store.old.cells) ≡ Ok (content_of store.new.cells)) }
     ensures refused { IfErr result (λ refusal. freed (λ slot. slot == ptr.slot) ptr.place (content_of store.old.cells) ≡ Err refusal) }
-    ensures unchanged { OnErr result (content_of store.new.cells ≡ content_of store.old.cells) }
     ensures cells { OnErr result (store.new.cells ≡ store.old.cells) }
     ensures touches { AtMost 50 store.old.touches store.new.touches }
 {

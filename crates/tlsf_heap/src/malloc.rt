@@ -32,7 +32,6 @@ pub(crate) fn malloc(store: &mut Store, n: u64) -> Result<Ptr, Refusal>
     ensures slot_below { IfOk result (λ ptr. ptr.slot < (content_of store.old.cells).records) }
     ensures slot_new { IfOk result (λ ptr. slot_times ptr.slot (blocks_of (content_of store.old.cells).pools) ≡ 0) }
     ensures refused { IfErr result (λ refusal. (slot : ℕ) → served slot n (content_of store.old.cells) ≡ Err refusal) }
-    ensures unchanged { OnErr result (content_of store.new.cells ≡ content_of store.old.cells) }
     ensures cells { OnErr result (store.new.cells ≡ store.old.cells) }
     ensures touches { AtMost 32 store.old.touches store.new.touches }
 {
@@ -70,7 +69,7 @@ fn pick(store: &mut Store, asked: u32) -> Option<Slot>
 ///
 /// # Errors
 ///
-/// `TableFull` where a rest would be left and no record is vacant; then the content is as it was.
+/// `TableFull` where a rest would be left and no record is vacant; then the cells are as they were.
 fn take(store: &mut Store, slot: Slot, asked: u32) -> Result<Ptr, Refusal>
     requires stands { Stands store.old.cells }
     requires whole { asked % unit ≡ 0 }
@@ -81,7 +80,6 @@ fn take(store: &mut Store, slot: Slot, asked: u32) -> Result<Ptr, Refusal>
     ensures ok { IfOk result (λ ptr. malloc_picked ptr.slot asked (Some (record_at store.old.cells.records slot).place) (content_of store.old.cells) ≡ Ok (ptr.place, content_of store.new.cells)) }
     ensures slot { IfOk result (λ ptr. ptr.slot ≡ slot) }
     ensures refused { IfErr result (λ refusal. (owner : ℕ) → malloc_picked owner asked (Some (record_at store.old.cells.records slot).place) (content_of store.old.cells) ≡ Err refusal) }
-    ensures unchanged { OnErr result (content_of store.new.cells ≡ content_of store.old.cells) }
     ensures cells { OnErr result (store.new.cells ≡ store.old.cells) }
     ensures touches { AtMost 28 store.old.touches store.new.touches }
 {

@@ -1,5 +1,5 @@
-use Rattle.std.proofs.Common.{◌≡◌, ℕ, ◌<◌, sym, ◌∙◌, subst, arith, Some, Ok, Err}
-use Rattle.std.specs.Prelude.{Result, IfOk, IfErr, OnErr}
+use Rattle.std.proofs.Common.{◌≡◌, ℕ, ◌<◌, sym, ◌∙◌, arith, Some, Ok, Err}
+use Rattle.std.specs.Prelude.{Result, IfOk, IfErr}
 use Rattle.tlsf_class.proofs.RoundingLaws.{round-Some}
 use Rattle.tlsf_store.specs.Records.{record_at}
 use Rattle.tlsf_heap.specs.Content.{blocks_of}
@@ -18,10 +18,6 @@ if_ok (Err e) P Q f p = tt
 if_err : {A E : Type 0} (result : Result A E) (P Q : E → Type 0) → ((e : E) → P e → Q e) → IfErr result P → IfErr result Q
 if_err (Ok a) P Q f p = tt
 if_err (Err e) P Q f p = f e p
-
-on_err : {A E : Type 0} (result : Result A E) (P Q : Type 0) → (P → Q) → OnErr result P → OnErr result Q
-on_err (Ok a) P Q f p = tt
-on_err (Err e) P Q f p = f p
 
 pub pick-requires-clause-whole : goal.pick-requires-clause-whole
 pick-requires-clause-whole c = (round-Some c.args.n c.in-Some.asked (sym c.round.ensures ∙ c.in-Some.is)).whole
@@ -52,14 +48,12 @@ returns-clause-ok c =
 pub returns-clause-slot_below : goal.returns-clause-slot_below
 returns-clause-slot_below c =
     let slot : ℕ = c.in-Some-pick.slot in
-    let P : ℕ → Type 0 = λ n. n < (content_of c.args.store.now.cells).records in
-    if_ok c.take.result (λ ptr. ptr.slot ≡ slot) (λ ptr. ptr.slot < (content_of c.args.store.now.cells).records) (λ ptr is. subst P (sym is) (slot_below c.args.store.now.cells c.requires (record_at c.args.store.now.cells.records slot).place slot (free_at c.args.store.now.cells c.requires slot c.in-Some-pick.ensures.free))) c.take.ensures.slot
+    if_ok c.take.result (λ ptr. ptr.slot ≡ slot) (λ ptr. ptr.slot < (content_of c.args.store.now.cells).records) (λ ptr is. rw is (slot_below c.args.store.now.cells c.requires (record_at c.args.store.now.cells.records slot).place slot (free_at c.args.store.now.cells c.requires slot c.in-Some-pick.ensures.free))) c.take.ensures.slot
 
 pub returns-clause-slot_new : goal.returns-clause-slot_new
 returns-clause-slot_new c =
     let slot : ℕ = c.in-Some-pick.slot in
-    let P : ℕ → Type 0 = λ n. slot_times n (blocks_of (content_of c.args.store.now.cells).pools) ≡ 0 in
-    if_ok c.take.result (λ ptr. ptr.slot ≡ slot) (λ ptr. slot_times ptr.slot (blocks_of (content_of c.args.store.now.cells).pools) ≡ 0) (λ ptr is. subst P (sym is) (slot_new c.args.store.now.cells c.requires (record_at c.args.store.now.cells.records slot).place slot (free_at c.args.store.now.cells c.requires slot c.in-Some-pick.ensures.free))) c.take.ensures.slot
+    if_ok c.take.result (λ ptr. ptr.slot ≡ slot) (λ ptr. slot_times ptr.slot (blocks_of (content_of c.args.store.now.cells).pools) ≡ 0) (λ ptr is. rw is (slot_new c.args.store.now.cells c.requires (record_at c.args.store.now.cells.records slot).place slot (free_at c.args.store.now.cells c.requires slot c.in-Some-pick.ensures.free))) c.take.ensures.slot
 
 pub returns-clause-refused : goal.returns-clause-refused
 returns-clause-refused c =
