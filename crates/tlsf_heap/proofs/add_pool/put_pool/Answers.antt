@@ -20,9 +20,6 @@ put c =
 enters : (c : goal.After-class_of) → Enters c.args.entry c.requires.taken.0 c.args.store.now.cells
 enters c = pool_is_laid c.args.store.now.cells c.args.entry c.requires.taken.0 c.requires.taken.1
 
-pub link-requires-clause-slot_used : goal.link-requires-clause-slot_used
-link-requires-clause-slot_used c = rw (put c) (enters c).slot
-
 pub link-requires-clause-first_used : goal.link-requires-clause-first_used
 link-requires-clause-first_used c = rw (put c, c.class_of.ensures) (enters c).first
 

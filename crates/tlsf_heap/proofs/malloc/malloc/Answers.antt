@@ -1,12 +1,10 @@
-use Rattle.std.proofs.Common.{◌≡◌, ℕ, ◌<◌, sym, ◌∙◌, arith, Some, Ok, Err}
-use Rattle.std.specs.Prelude.{Result, IfOk, IfErr}
+use Rattle.std.proofs.Common.{◌≡◌, ℕ, ◌<◌, sym, ◌∙◌, arith, Ok, Err}
+use Rattle.std.specs.Prelude.{Result, IfOk}
 use Rattle.tlsf_class.proofs.RoundingLaws.{round-Some}
 use Rattle.tlsf_store.specs.Records.{record_at}
 use Rattle.tlsf_heap.specs.Content.{blocks_of}
-use Rattle.tlsf_heap.specs.Malloc.{malloc, malloc_picked}
 use Rattle.tlsf_heap.specs.GoodSlots.{slot_times}
 use Rattle.tlsf_heap.specs.Inner.Following.{content_of}
-use Rattle.tlsf_heap.proofs.Content.MallocCases.{picked_is_served}
 use Rattle.tlsf_heap.proofs.Inner.Live.{free_at}
 use Rattle.tlsf_heap.proofs.Inner.Served.{slot_below, slot_new}
 use Rattle.tlsf_heap.proofs.malloc.malloc.Goals as goal
@@ -14,10 +12,6 @@ use Rattle.tlsf_heap.proofs.malloc.malloc.Goals as goal
 if_ok : {A E : Type 0} (result : Result A E) (P Q : A → Type 0) → ((a : A) → P a → Q a) → IfOk result P → IfOk result Q
 if_ok (Ok a) P Q f p = f a p
 if_ok (Err e) P Q f p = tt
-
-if_err : {A E : Type 0} (result : Result A E) (P Q : E → Type 0) → ((e : E) → P e → Q e) → IfErr result P → IfErr result Q
-if_err (Ok a) P Q f p = tt
-if_err (Err e) P Q f p = f e p
 
 pub pick-requires-clause-whole : goal.pick-requires-clause-whole
 pick-requires-clause-whole c = (round-Some c.args.n c.in-Some.asked (sym c.round.ensures ∙ c.in-Some.is)).whole
@@ -31,20 +25,6 @@ take-requires-clause-whole c = (round-Some c.args.n c.in-Some.asked (sym c.round
 pub take-requires-clause-some : goal.take-requires-clause-some
 take-requires-clause-some c = let r = round-Some c.args.n c.in-Some.asked (sym c.round.ensures ∙ c.in-Some.is) in omega (arith, r.some, r.least)
 
--- malloc of the slot's block is what is left after the search
-served : (c : goal.After-take) → (owner : ℕ)
-    → malloc owner c.args.n (content_of c.args.store.now.cells) ≡ malloc_picked owner c.in-Some.asked (Some (record_at c.pick.new.store.cells.records c.in-Some-pick.slot).place) (content_of c.pick.new.store.cells)
-served c owner =
-    rw c.pick.ensures.cells (picked_is_served owner c.args.n (content_of c.args.store.now.cells) c.if-n-eq0.false c.in-Some.asked (record_at c.args.store.now.cells.records c.in-Some-pick.slot).place
-    (sym c.round.ensures ∙ c.in-Some.is) c.in-Some-pick.ensures.found)
-
-pub returns-clause-ok : goal.returns-clause-ok
-returns-clause-ok c =
-    if_ok c.take.result
-    (λ ptr. malloc_picked ptr.slot c.in-Some.asked (Some (record_at c.pick.new.store.cells.records c.in-Some-pick.slot).place) (content_of c.pick.new.store.cells) ≡ Ok (ptr.place, content_of c.take.new.store.cells))
-    (λ ptr. malloc ptr.slot c.args.n (content_of c.args.store.now.cells) ≡ Ok (ptr.place, content_of c.take.new.store.cells))
-    (λ ptr is. served c ptr.slot ∙ is) c.take.ensures.ok
-
 pub returns-clause-slot_below : goal.returns-clause-slot_below
 returns-clause-slot_below c =
     let slot : ℕ = c.in-Some-pick.slot in
@@ -54,10 +34,3 @@ pub returns-clause-slot_new : goal.returns-clause-slot_new
 returns-clause-slot_new c =
     let slot : ℕ = c.in-Some-pick.slot in
     if_ok c.take.result (λ ptr. ptr.slot ≡ slot) (λ ptr. slot_times ptr.slot (blocks_of (content_of c.args.store.now.cells).pools) ≡ 0) (λ ptr is. rw is (slot_new c.args.store.now.cells c.requires (record_at c.args.store.now.cells.records slot).place slot (free_at c.args.store.now.cells c.requires slot c.in-Some-pick.ensures.free))) c.take.ensures.slot
-
-pub returns-clause-refused : goal.returns-clause-refused
-returns-clause-refused c =
-    if_err c.take.result
-    (λ refusal. (owner : ℕ) → malloc_picked owner c.in-Some.asked (Some (record_at c.pick.new.store.cells.records c.in-Some-pick.slot).place) (content_of c.pick.new.store.cells) ≡ Err refusal)
-    (λ refusal. (slot : ℕ) → malloc slot c.args.n (content_of c.args.store.now.cells) ≡ Err refusal)
-    (λ refusal is. λ owner. served c owner ∙ is owner) c.take.ensures.refused
