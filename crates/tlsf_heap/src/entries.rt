@@ -1,12 +1,12 @@
 //! The pool entries of a store, in order of base.
 
 ghost use Rattle.std.specs.Prelude.{◌≡◌, ◌+◌, ◌<◌, ◌≤◌, ◌++◌, [], length, map, All, ◌∷◌};
-ghost use Rattle.std.specs.List.{list_all, insert};
+ghost use Rattle.std.specs.List.{list_all};
 ghost use Rattle.arrayvec.specs.ArrayVec.{array_vec_len};
 ghost use Rattle.tlsf_store.specs.Cells.{most_pools};
 ghost use Rattle.tlsf_heap.specs.Inner.Entries.{entries_of, padded_at};
 ghost use Rattle.tlsf_heap.specs.Pools.{end_of_places};
-ghost use Rattle.tlsf_heap.specs.Inner.Entries.{entry_place, with_entry, with_entries, is_entry_apart, entry_range};
+ghost use Rattle.tlsf_heap.specs.Inner.Entries.{entry_place, with_entries, is_entry_apart, entry_range};
 
 use crate::pool_entry::PoolEntry;
 use arrayvec::ArrayVec;

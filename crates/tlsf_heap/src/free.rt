@@ -1,6 +1,6 @@
 //! free: the block becomes free, takes in its free neighbours, and enters its class's list.
 
-ghost use Rattle.std.specs.Prelude.{◌≡◌, ◌+◌, ◌≤◌, ◌==◌, Ok, Err, OnOk, IfErr, OnErr};
+ghost use Rattle.std.specs.Prelude.{◌≡◌, ◌==◌, Ok, Err, OnOk, IfErr, OnErr};
 ghost use Rattle.tlsf_class.specs.Classes.{class};
 ghost use Rattle.tlsf_heap.specs.Touches.{AtMost};
 ghost use Rattle.tlsf_heap.specs.Content.{blocks_of};

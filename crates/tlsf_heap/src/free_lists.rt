@@ -1,8 +1,6 @@
 //! The free lists: for each class its free blocks, linked both ways.
 
-ghost use Rattle.std.specs.Prelude.{◌≡◌, ◌≢◌, ◌+◌, ◌<◌, ◌≤◌, length, Some, None};
-ghost use Rattle.tlsf_class.specs.Classes.{classes};
-ghost use Rattle.tlsf_store.specs.declared.records.State.TheVariants.{Vacant};
+ghost use Rattle.std.specs.Prelude.{◌≡◌, ◌+◌, ◌<◌, length, Some, None};
 ghost use Rattle.tlsf_store.specs.Records.{record_at, IsBelow};
 ghost use Rattle.tlsf_store.specs.Cells.{head_at};
 ghost use Rattle.tlsf_heap.specs.Touches.{AtMost};
