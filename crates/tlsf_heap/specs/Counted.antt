@@ -1,7 +1,7 @@
 -- What contracts see of a heap: its content, how often its store was touched, and the rows from each slot on.
 use Rattle.std.specs.Prelude.{ℕ, List}
 use Rattle.tlsf_heap.specs.declared.row.Row.{Row}
-use Rattle.tlsf_store.specs.Cells.{Cells}
+use Rattle.tlsf_store.specs.CountedCells.{CountedCells}
 use Rattle.tlsf_heap.specs.Content.{Pool, Content}
 use Rattle.tlsf_heap.specs.Inner.Following.{content_of}
 use Rattle.tlsf_heap.specs.Readings.{rows_by}
@@ -11,9 +11,9 @@ pub record Counted : Type 0 where
   pub touches : ℕ
   pub rows : List (List Row)
 
--- the same of the cells of a store
-abbrev pub counted : Cells → Counted
-counted cells = record { content = content_of cells; touches = cells.touches; rows = rows_by cells.records }
+-- the same of a store
+abbrev pub counted : CountedCells → Counted
+counted store = record { content = content_of store.cells; touches = store.touches; rows = rows_by store.cells.records }
 
 -- where the pool begins, and its bytes
 abbrev pub range_of : {A : Type 0} → Pool A → ℕ × ℕ

@@ -1,6 +1,6 @@
 //! add_pool: a pool enters, as one free block.
 
-ghost use Rattle.std.specs.Prelude.{◌≡◌, ◌+◌, ◌<◌, ◌≤◌, ◌&&◌, true, ◌∷◌, length, All, Some, Ok, Err, OnOk, OnErr, IfErr};
+ghost use Rattle.std.specs.Prelude.{◌≡◌, ◌<◌, ◌&&◌, true, ◌∷◌, length, All, Some, Ok, Err, OnOk, OnErr, IfErr};
 ghost use Rattle.std.specs.List.{list_all};
 ghost use Rattle.arrayvec.specs.ArrayVec.{array_vec_len};
 ghost use Rattle.tlsf_store.specs.Cells.{most_pools};
@@ -30,12 +30,11 @@ use tlsf_store::{MOST_POOLS, Record, Slot, State, Store};
 ///
 /// As `Heap::add_pool`.
 pub(crate) fn add_pool(store: &mut Store, base: u64, bytes: u64) -> Result<(), Refusal>
-    requires { Stands store.old }
-    ensures stands { Stands store.new }
-    ensures ok { OnOk result (added base bytes (content_of store.old) ≡ Ok (content_of store.new)) }
-    ensures refused { IfErr result (λ refusal. added base bytes (content_of store.old) ≡ Err refusal) }
-    ensures unchanged { OnErr result (content_of store.new ≡ content_of store.old) }
-    ensures cells { OnErr result (store.new ≡ record store.old { touches = store.new.touches }) }
+    requires { Stands store.old.cells }
+    ensures stands { Stands store.new.cells }
+    ensures ok { OnOk result (added base bytes (content_of store.old.cells) ≡ Ok (content_of store.new.cells)) }
+    ensures refused { IfErr result (λ refusal. added base bytes (content_of store.old.cells) ≡ Err refusal) }
+    ensures cells { OnErr result (store.new.cells ≡ store.old.cells) }
     ensures touches { AtMost 29 store.old.touches store.new.touches }
 {
     let entries = entries(store);
@@ -69,12 +68,12 @@ fn can_enter(entries: &[PoolEntry], base: u64, bytes: u64) -> bool
 fn put_pool(store: &mut Store, mut entries: ArrayVec<PoolEntry, MOST_POOLS>, entry: PoolEntry)
     requires can { can_be entry.base entry.bytes ≡ true }
     requires room { array_vec_len entries < most_pools }
-    requires count { length store.old.pools ≡ most_pools }
-    requires entries { entries.items ≡ entries_of store.old.pools }
-    requires below { All (λ e. e.first < length store.old.records) entries.items }
-    requires slot_used { IsUsed store.old.records (Some entry.first) }
-    requires taken { (layout : Layout) × Represents store.old (record layout { taken = entry.first ∷ layout.taken }) }
-    ensures leads { (layout : Layout) → Represents store.old (record layout { taken = entry.first ∷ layout.taken }) → Represents store.new (pool_laid entry layout) }
+    requires count { length store.old.cells.pools ≡ most_pools }
+    requires entries { entries.items ≡ entries_of store.old.cells.pools }
+    requires below { All (λ e. e.first < length store.old.cells.records) entries.items }
+    requires slot_used { IsUsed store.old.cells.records (Some entry.first) }
+    requires taken { (layout : Layout) × Represents store.old.cells (record layout { taken = entry.first ∷ layout.taken }) }
+    ensures leads { (layout : Layout) → Represents store.old.cells (record layout { taken = entry.first ∷ layout.taken }) → Represents store.new.cells (pool_laid entry layout) }
     ensures touches { AtMost 19 store.old.touches store.new.touches }
 {
     let slot = Slot(entry.first);

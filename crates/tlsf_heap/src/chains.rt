@@ -4,7 +4,6 @@ ghost use Rattle.std.specs.Prelude.{◌≡◌, ◌≢◌, ◌+◌, ◌%◌, ◌<
 ghost use Rattle.tlsf_class.specs.Classes.{unit};
 ghost use Rattle.tlsf_store.specs.declared.records.State.TheVariants.{Vacant};
 ghost use Rattle.tlsf_store.specs.Records.{record_at};
-ghost use Rattle.tlsf_store.specs.Cells.{touched};
 ghost use Rattle.tlsf_heap.specs.Touches.{AtMost};
 ghost use Rattle.tlsf_heap.specs.Pools.{end_of_places};
 ghost use Rattle.tlsf_heap.specs.Inner.Edits.{IsUsed};
@@ -14,9 +13,10 @@ use tlsf_store::{Record, Slot, State, Store};
 
 /// Makes a block free or live. Two touches.
 pub(crate) fn set_state(store: &mut Store, slot: Slot, state: State)
-    requires used { IsUsed store.old.records (Some slot) }
+    requires used { IsUsed store.old.cells.records (Some slot) }
     requires new_used { state ≢ Vacant }
-    ensures { store.new ≡ touched 2 (with_state slot state store.old) }
+    ensures cells { store.new.cells ≡ with_state slot state store.old.cells }
+    ensures touches { store.new.touches ≡ store.old.touches + 2 }
 {
     let block = store.read(slot);
     store.write(slot, Record { state, ..block });
@@ -24,9 +24,9 @@ pub(crate) fn set_state(store: &mut Store, slot: Slot, state: State)
 
 /// Links a block, if there is one, to the one in front of it in its pool. At most two touches.
 fn set_prev(store: &mut Store, slot: Option<Slot>, prev: Slot)
-    requires used { IsUsed store.old.records slot }
-    requires below { prev < length store.old.records }
-    ensures cells { store.new ≡ record (with_prev slot (Some prev) store.old) { touches = store.new.touches } }
+    requires used { IsUsed store.old.cells.records slot }
+    requires below { prev < length store.old.cells.records }
+    ensures cells { store.new.cells ≡ with_prev slot (Some prev) store.old.cells }
     ensures touches { AtMost 2 store.old.touches store.new.touches }
 {
     if let Some(slot) = slot {
@@ -44,13 +44,13 @@ fn set_prev(store: &mut Store, slot: Option<Slot>, prev: Slot)
 /// A block keeps its first bytes, and what is left is a free block of the slot `rest` behind it. At most
 /// five touches.
 pub(crate) fn split(store: &mut Store, slot: Slot, rest: Slot, bytes: u32)
-    requires slot_used { IsUsed store.old.records (Some slot) }
-    requires rest_used { IsUsed store.old.records (Some rest) }
-    requires next_used { IsUsed store.old.records (record_at store.old.records slot).next }
-    requires less { bytes < (record_at store.old.records slot).size }
+    requires slot_used { IsUsed store.old.cells.records (Some slot) }
+    requires rest_used { IsUsed store.old.cells.records (Some rest) }
+    requires next_used { IsUsed store.old.cells.records (record_at store.old.cells.records slot).next }
+    requires less { bytes < (record_at store.old.cells.records slot).size }
     requires in_units { bytes % unit ≡ 0 }
-    requires ends { (record_at store.old.records slot).place + (record_at store.old.records slot).size ≤ end_of_places }
-    ensures cells { store.new ≡ record (split_cells slot rest bytes store.old) { touches = store.new.touches } }
+    requires ends { (record_at store.old.cells.records slot).place + (record_at store.old.cells.records slot).size ≤ end_of_places }
+    ensures cells { store.new.cells ≡ split_cells slot rest bytes store.old.cells }
     ensures touches { AtMost 5 store.old.touches store.new.touches }
 {
     let block = store.read(slot);
@@ -75,11 +75,11 @@ pub(crate) fn split(store: &mut Store, slot: Slot, rest: Slot, bytes: u32)
 
 /// A block takes in the one behind it, whose slot becomes vacant. At most eight touches.
 pub(crate) fn absorb(store: &mut Store, slot: Slot, behind: Slot)
-    requires slot_used { IsUsed store.old.records (Some slot) }
-    requires behind_used { IsUsed store.old.records (Some behind) }
-    requires next_used { IsUsed store.old.records (record_at store.old.records behind).next }
-    requires fits { (record_at store.old.records slot).size + (record_at store.old.records behind).size < 2 ^ 32 }
-    ensures cells { store.new ≡ record (absorbed slot behind store.old) { touches = store.new.touches } }
+    requires slot_used { IsUsed store.old.cells.records (Some slot) }
+    requires behind_used { IsUsed store.old.cells.records (Some behind) }
+    requires next_used { IsUsed store.old.cells.records (record_at store.old.cells.records behind).next }
+    requires fits { (record_at store.old.cells.records slot).size + (record_at store.old.cells.records behind).size < 2 ^ 32 }
+    ensures cells { store.new.cells ≡ absorbed slot behind store.old.cells }
     ensures touches { AtMost 8 store.old.touches store.new.touches }
 {
     let block = store.read(slot);

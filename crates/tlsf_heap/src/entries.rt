@@ -1,12 +1,12 @@
 //! The pool entries of a store, in order of base.
 
 ghost use Rattle.std.specs.Prelude.{◌≡◌, ◌+◌, ◌<◌, ◌≤◌, ◌++◌, [], length, map, All, ◌∷◌};
-ghost use Rattle.std.specs.List.{list_all, insert};
+ghost use Rattle.std.specs.List.{list_all};
 ghost use Rattle.arrayvec.specs.ArrayVec.{array_vec_len};
-ghost use Rattle.tlsf_store.specs.Cells.{touched, most_pools};
+ghost use Rattle.tlsf_store.specs.Cells.{most_pools};
 ghost use Rattle.tlsf_heap.specs.Inner.Entries.{entries_of, padded_at};
 ghost use Rattle.tlsf_heap.specs.Pools.{end_of_places};
-ghost use Rattle.tlsf_heap.specs.Inner.Entries.{entry_place, with_entry, with_entries, is_entry_apart, entry_range};
+ghost use Rattle.tlsf_heap.specs.Inner.Entries.{entry_place, with_entries, is_entry_apart, entry_range};
 
 use crate::pool_entry::PoolEntry;
 use arrayvec::ArrayVec;
@@ -14,10 +14,11 @@ use tlsf_store::{MOST_POOLS, Pool, Store};
 
 /// The entries of the store's pools. One touch an entry.
 pub(crate) fn entries(store: &mut Store) -> ArrayVec<PoolEntry, MOST_POOLS>
-    requires { length store.old.pools ≡ most_pools }
-    ensures value { result.items ≡ entries_of store.old.pools }
-    ensures below { All (λ entry. entry.first < length store.old.records) result.items }
-    ensures touches { store.new ≡ touched most_pools store.old }
+    requires { length store.old.cells.pools ≡ most_pools }
+    ensures value { result.items ≡ entries_of store.old.cells.pools }
+    ensures below { All (λ entry. entry.first < length store.old.cells.records) result.items }
+    ensures cells { store.new.cells ≡ store.old.cells }
+    ensures touches { store.new.touches ≡ store.old.touches + most_pools }
 {
     let mut entries = ArrayVec::new();
     for number in 0..MOST_POOLS as u32 {
@@ -48,10 +49,11 @@ fn pool_at(entries: &[PoolEntry], number: usize) -> Option<Pool>
 
 /// Writes these entries, and none behind them. One touch an entry.
 pub(crate) fn set_entries(store: &mut Store, entries: &[PoolEntry])
-    requires count { length store.old.pools ≡ most_pools }
+    requires count { length store.old.cells.pools ≡ most_pools }
     requires few { length entries.now ≤ most_pools }
-    requires below { All (λ entry. entry.first < length store.old.records) entries.now }
-    ensures { store.new ≡ touched most_pools (with_entries entries.now store.old) }
+    requires below { All (λ entry. entry.first < length store.old.cells.records) entries.now }
+    ensures cells { store.new.cells ≡ with_entries entries.now store.old.cells }
+    ensures touches { store.new.touches ≡ store.old.touches + most_pools }
 {
     for number in 0..MOST_POOLS {
         store.set_pool(number as u32, pool_at(entries, number));

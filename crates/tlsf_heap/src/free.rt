@@ -1,6 +1,6 @@
 //! free: the block becomes free, takes in its free neighbours, and enters its class's list.
 
-ghost use Rattle.std.specs.Prelude.{◌≡◌, ◌+◌, ◌≤◌, ◌==◌, Ok, Err, OnOk, IfErr, OnErr};
+ghost use Rattle.std.specs.Prelude.{◌≡◌, ◌==◌, Ok, Err, OnOk, IfErr, OnErr};
 ghost use Rattle.tlsf_class.specs.Classes.{class};
 ghost use Rattle.tlsf_heap.specs.Touches.{AtMost};
 ghost use Rattle.tlsf_heap.specs.Content.{blocks_of};
@@ -25,12 +25,11 @@ use tlsf_store::{Slot, State, Store};
 ///
 /// As `Heap::free`.
 pub(crate) fn free(store: &mut Store, ptr: Ptr) -> Result<(), Refusal>
-    requires { Stands store.old }
-    ensures stands { Stands store.new }
-    ensures ok { OnOk result (freed (λ slot. slot == ptr.slot) ptr.place (content_of store.old) ≡ Ok (content_of store.new)) }
-    ensures refused { IfErr result (λ refusal. freed (λ slot. slot == ptr.slot) ptr.place (content_of store.old) ≡ Err refusal) }
-    ensures unchanged { OnErr result (content_of store.new ≡ content_of store.old) }
-    ensures cells { OnErr result (store.new ≡ record store.old { touches = store.new.touches }) }
+    requires { Stands store.old.cells }
+    ensures stands { Stands store.new.cells }
+    ensures ok { OnOk result (freed (λ slot. slot == ptr.slot) ptr.place (content_of store.old.cells) ≡ Ok (content_of store.new.cells)) }
+    ensures refused { IfErr result (λ refusal. freed (λ slot. slot == ptr.slot) ptr.place (content_of store.old.cells) ≡ Err refusal) }
+    ensures cells { OnErr result (store.new.cells ≡ store.old.cells) }
     ensures touches { AtMost 50 store.old.touches store.new.touches }
 {
     if !is_live(store, ptr) {
@@ -42,9 +41,9 @@ pub(crate) fn free(store: &mut Store, ptr: Ptr) -> Result<(), Refusal>
 
 /// Whether a live block has the pointer's place and slot. At most one touch.
 fn is_live(store: &mut Store, ptr: Ptr) -> bool
-    requires { Stands store.old }
-    ensures value { result ≡ is_live_in (λ slot. slot == ptr.slot) ptr.place (blocks_of (content_of store.old).pools) }
-    ensures cells { store.new ≡ record store.old { touches = store.new.touches } }
+    requires { Stands store.old.cells }
+    ensures value { result ≡ is_live_in (λ slot. slot == ptr.slot) ptr.place (blocks_of (content_of store.old.cells).pools) }
+    ensures cells { store.new.cells ≡ store.old.cells }
     ensures touches { AtMost 1 store.old.touches store.new.touches }
 {
     if u32::from(ptr.slot()) >= store.records() {
@@ -59,8 +58,8 @@ fn is_live(store: &mut Store, ptr: Ptr) -> bool
 
 /// The block becomes free, and one free block with its free neighbours in the pool. At most 49 touches.
 fn release(store: &mut Store, slot: Slot)
-    requires { (at : At) × StandsAt slot InUse store.old at }
-    ensures leads { (at : At) → StandsAt slot InUse store.old at → StandsAt (at_freed at).node.slot Listed store.new (at_freed at) }
+    requires { (at : At) × StandsAt slot InUse store.old.cells at }
+    ensures leads { (at : At) → StandsAt slot InUse store.old.cells at → StandsAt (at_freed at).node.slot Listed store.new.cells (at_freed at) }
     ensures touches { AtMost 49 store.old.touches store.new.touches }
 {
     set_state(store, slot, State::Free);
@@ -82,8 +81,8 @@ fn is_free(state: State) -> bool
 /// A free block before it takes in the block, which is free and in no list. The answer is where the block
 /// that is left begins. At most 18 touches.
 fn join_previous(store: &mut Store, slot: Slot) -> Slot
-    requires { (at : At) × StandsAt slot Loose store.old at }
-    ensures leads { (at : At) → StandsAt slot Loose store.old at → StandsAt result Loose store.new (previous_joined at) }
+    requires { (at : At) × StandsAt slot Loose store.old.cells at }
+    ensures leads { (at : At) → StandsAt slot Loose store.old.cells at → StandsAt result Loose store.new.cells (previous_joined at) }
     ensures touches { AtMost 18 store.old.touches store.new.touches }
 {
     let block = store.read(slot);
@@ -100,8 +99,8 @@ fn join_previous(store: &mut Store, slot: Slot) -> Slot
 
 /// The block, which is free and in no list, takes in a free one after it. At most 18 touches.
 fn join_next(store: &mut Store, slot: Slot)
-    requires { (at : At) × StandsAt slot Loose store.old at }
-    ensures leads { (at : At) → StandsAt slot Loose store.old at → StandsAt slot Loose store.new (next_joined at) }
+    requires { (at : At) × StandsAt slot Loose store.old.cells at }
+    ensures leads { (at : At) → StandsAt slot Loose store.old.cells at → StandsAt slot Loose store.new.cells (next_joined at) }
     ensures touches { AtMost 18 store.old.touches store.new.touches }
 {
     let block = store.read(slot);
@@ -118,8 +117,8 @@ fn join_next(store: &mut Store, slot: Slot)
 /// One of two neighbours, `listed`, leaves its class's list, and the first takes in the other. At most 16
 /// touches.
 fn join(store: &mut Store, first: Slot, second: Slot, listed: Slot, size: u32)
-    requires { IsJoinable first second listed size store.old.records (unlinked (class size) listed store.old).records }
-    ensures cells { store.new ≡ record (joined first second listed size store.old) { touches = store.new.touches } }
+    requires { IsJoinable first second listed size store.old.cells.records (unlinked (class size) listed store.old.cells).records }
+    ensures cells { store.new.cells ≡ joined first second listed size store.old.cells }
     ensures touches { AtMost 16 store.old.touches store.new.touches }
 {
     unlink(store, class_of(size), listed);
@@ -128,8 +127,8 @@ fn join(store: &mut Store, first: Slot, second: Slot, listed: Slot, size: u32)
 
 /// The block, which is free and in no list, enters its class's list. At most 11 touches.
 fn enter(store: &mut Store, slot: Slot)
-    requires { (at : At) × StandsAt slot Loose store.old at }
-    ensures leads { (at : At) → StandsAt slot Loose store.old at → StandsAt slot Listed store.new (at_listed at) }
+    requires { (at : At) × StandsAt slot Loose store.old.cells at }
+    ensures leads { (at : At) → StandsAt slot Loose store.old.cells at → StandsAt slot Listed store.new.cells (at_listed at) }
     ensures touches { AtMost 11 store.old.touches store.new.touches }
 {
     let block = store.read(slot);

@@ -1,10 +1,8 @@
 //! The free lists: for each class its free blocks, linked both ways.
 
-ghost use Rattle.std.specs.Prelude.{◌≡◌, ◌≢◌, ◌+◌, ◌<◌, ◌≤◌, length, Some, None};
-ghost use Rattle.tlsf_class.specs.Classes.{classes};
-ghost use Rattle.tlsf_store.specs.declared.records.State.TheVariants.{Vacant};
+ghost use Rattle.std.specs.Prelude.{◌≡◌, ◌+◌, ◌<◌, length, Some, None};
 ghost use Rattle.tlsf_store.specs.Records.{record_at, IsBelow};
-ghost use Rattle.tlsf_store.specs.Cells.{touched, head_at};
+ghost use Rattle.tlsf_store.specs.Cells.{head_at};
 ghost use Rattle.tlsf_heap.specs.Touches.{AtMost};
 ghost use Rattle.tlsf_heap.specs.Inner.Edits.{IsUsed, with_prev_free, with_next_free, with_free_links, with_first, with_behind, linked, unlinked};
 
@@ -14,9 +12,9 @@ use tlsf_store::{Record, Slot, Store};
 
 /// Makes a free block the first of its class's list. At most ten touches.
 pub(crate) fn link(store: &mut Store, class: Class, slot: Slot)
-    requires slot_used { IsUsed store.old.records (Some slot) }
-    requires first_used { IsUsed store.old.records (head_at store.old.heads class) }
-    ensures cells { store.new ≡ record (linked class slot store.old) { touches = store.new.touches } }
+    requires slot_used { IsUsed store.old.cells.records (Some slot) }
+    requires first_used { IsUsed store.old.cells.records (head_at store.old.cells.heads class) }
+    ensures cells { store.new.cells ≡ linked class slot store.old.cells }
     ensures touches { AtMost 10 store.old.touches store.new.touches }
 {
     let first = store.head(class);
@@ -27,10 +25,10 @@ pub(crate) fn link(store: &mut Store, class: Class, slot: Slot)
 
 /// Takes a free block out of its class's list, wherever it stands in it. At most eight touches.
 pub(crate) fn unlink(store: &mut Store, class: Class, slot: Slot)
-    requires within { slot < length store.old.records }
-    requires prev_used { IsUsed store.old.records (record_at store.old.records slot).prev_free }
-    requires next_used { IsUsed store.old.records (record_at store.old.records slot).next_free }
-    ensures cells { store.new ≡ record (unlinked class slot store.old) { touches = store.new.touches } }
+    requires within { slot < length store.old.cells.records }
+    requires prev_used { IsUsed store.old.cells.records (record_at store.old.cells.records slot).prev_free }
+    requires next_used { IsUsed store.old.cells.records (record_at store.old.cells.records slot).next_free }
+    ensures cells { store.new.cells ≡ unlinked class slot store.old.cells }
     ensures touches { AtMost 8 store.old.touches store.new.touches }
 {
     let block = store.read(slot);
@@ -41,9 +39,9 @@ pub(crate) fn unlink(store: &mut Store, class: Class, slot: Slot)
 /// Links a free block, with none in front of it, to the one that was first, if there was one. At most
 /// four touches.
 fn set_in_front(store: &mut Store, slot: Slot, first: Option<Slot>)
-    requires slot_used { IsUsed store.old.records (Some slot) }
-    requires first_used { IsUsed store.old.records first }
-    ensures cells { store.new ≡ record (with_prev_free first (Some slot) (with_free_links slot None first store.old)) { touches = store.new.touches } }
+    requires slot_used { IsUsed store.old.cells.records (Some slot) }
+    requires first_used { IsUsed store.old.cells.records first }
+    ensures cells { store.new.cells ≡ with_prev_free first (Some slot) (with_free_links slot None first store.old.cells) }
     ensures touches { AtMost 4 store.old.touches store.new.touches }
 {
     match first {
@@ -57,10 +55,11 @@ fn set_in_front(store: &mut Store, slot: Slot, first: Option<Slot>)
 
 /// Links a free block to both its neighbours in its class's list. Two touches.
 fn set_free_links(store: &mut Store, slot: Slot, prev: Option<Slot>, next: Option<Slot>)
-    requires used { IsUsed store.old.records (Some slot) }
-    requires prev_below { IsBelow (length store.old.records) prev }
-    requires next_below { IsBelow (length store.old.records) next }
-    ensures { store.new ≡ touched 2 (with_free_links slot prev next store.old) }
+    requires used { IsUsed store.old.cells.records (Some slot) }
+    requires prev_below { IsBelow (length store.old.cells.records) prev }
+    requires next_below { IsBelow (length store.old.cells.records) next }
+    ensures cells { store.new.cells ≡ with_free_links slot prev next store.old.cells }
+    ensures touches { store.new.touches ≡ store.old.touches + 2 }
 {
     let block = store.read(slot);
     store.write(
@@ -75,9 +74,10 @@ fn set_free_links(store: &mut Store, slot: Slot, prev: Option<Slot>, next: Optio
 
 /// Links a free block to the one in front of it. Two touches.
 fn set_prev_free(store: &mut Store, slot: Slot, prev: Option<Slot>)
-    requires used { IsUsed store.old.records (Some slot) }
-    requires prev_below { IsBelow (length store.old.records) prev }
-    ensures { store.new ≡ touched 2 (with_prev_free (Some slot) prev store.old) }
+    requires used { IsUsed store.old.cells.records (Some slot) }
+    requires prev_below { IsBelow (length store.old.cells.records) prev }
+    ensures cells { store.new.cells ≡ with_prev_free (Some slot) prev store.old.cells }
+    ensures touches { store.new.touches ≡ store.old.touches + 2 }
 {
     let block = store.read(slot);
     store.write(
@@ -91,9 +91,9 @@ fn set_prev_free(store: &mut Store, slot: Slot, prev: Option<Slot>)
 
 /// Links the block behind, if there is one, to the one in front. At most two touches.
 fn set_in_back(store: &mut Store, next: Option<Slot>, prev: Option<Slot>)
-    requires used { IsUsed store.old.records next }
-    requires prev_below { IsBelow (length store.old.records) prev }
-    ensures cells { store.new ≡ record (with_prev_free next prev store.old) { touches = store.new.touches } }
+    requires used { IsUsed store.old.cells.records next }
+    requires prev_below { IsBelow (length store.old.cells.records) prev }
+    ensures cells { store.new.cells ≡ with_prev_free next prev store.old.cells }
     ensures touches { AtMost 2 store.old.touches store.new.touches }
 {
     if let Some(slot) = next {
@@ -103,9 +103,10 @@ fn set_in_back(store: &mut Store, next: Option<Slot>, prev: Option<Slot>)
 
 /// Links a free block to the one behind it. Two touches.
 fn set_next_free(store: &mut Store, slot: Slot, next: Option<Slot>)
-    requires used { IsUsed store.old.records (Some slot) }
-    requires next_below { IsBelow (length store.old.records) next }
-    ensures { store.new ≡ touched 2 (with_next_free (Some slot) next store.old) }
+    requires used { IsUsed store.old.cells.records (Some slot) }
+    requires next_below { IsBelow (length store.old.cells.records) next }
+    ensures cells { store.new.cells ≡ with_next_free (Some slot) next store.old.cells }
+    ensures touches { store.new.touches ≡ store.old.touches + 2 }
 {
     let block = store.read(slot);
     store.write(
@@ -119,8 +120,8 @@ fn set_next_free(store: &mut Store, slot: Slot, next: Option<Slot>)
 
 /// Makes a block, or none, the first of a class's list. At most five touches.
 fn set_first(store: &mut Store, class: Class, first: Option<Slot>)
-    requires { IsBelow (length store.old.records) first }
-    ensures cells { store.new ≡ record (with_first class first store.old) { touches = store.new.touches } }
+    requires { IsBelow (length store.old.cells.records) first }
+    ensures cells { store.new.cells ≡ with_first class first store.old.cells }
     ensures touches { AtMost 5 store.old.touches store.new.touches }
 {
     match first {
@@ -135,9 +136,9 @@ fn set_first(store: &mut Store, class: Class, first: Option<Slot>)
 /// Puts a block, or none, behind the one in front, or first where none is in front. At most five
 /// touches.
 fn set_behind(store: &mut Store, class: Class, prev: Option<Slot>, next: Option<Slot>)
-    requires used { IsUsed store.old.records prev }
-    requires next_below { IsBelow (length store.old.records) next }
-    ensures cells { store.new ≡ record (with_behind class prev next store.old) { touches = store.new.touches } }
+    requires used { IsUsed store.old.cells.records prev }
+    requires next_below { IsBelow (length store.old.cells.records) next }
+    ensures cells { store.new.cells ≡ with_behind class prev next store.old.cells }
     ensures touches { AtMost 5 store.old.touches store.new.touches }
 {
     match prev {

@@ -29,7 +29,7 @@ impl Model for Heap {
 
     ghost view = { λ h. counted h.store };
 
-    ghost invariant = { λ h. Stands h.store };
+    ghost invariant = { λ h. Stands h.store.cells };
 }
 
 impl Heap {

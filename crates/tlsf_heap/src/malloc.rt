@@ -1,6 +1,6 @@
 //! malloc: the block picked is taken, whole or in part.
 
-ghost use Rattle.std.specs.Prelude.{◌≡◌, ℕ, ◌+◌, ◌%◌, ◌<◌, ◌≤◌, Some, None, Ok, Err, IfSome, IfNone, IfOk, IfErr, OnErr};
+ghost use Rattle.std.specs.Prelude.{◌≡◌, ℕ, ◌%◌, ◌<◌, Some, None, Ok, Err, IfSome, IfNone, IfOk, IfErr, OnErr};
 ghost use Rattle.tlsf_class.specs.Classes.{unit};
 ghost use Rattle.tlsf_store.specs.declared.records.State.TheVariants.{Free};
 ghost use Rattle.tlsf_store.specs.Records.{record_at};
@@ -26,14 +26,13 @@ use tlsf_store::{Slot, State, Store};
 ///
 /// As `Heap::malloc`.
 pub(crate) fn malloc(store: &mut Store, n: u64) -> Result<Ptr, Refusal>
-    requires { Stands store.old }
-    ensures stands { Stands store.new }
-    ensures ok { IfOk result (λ ptr. served ptr.slot n (content_of store.old) ≡ Ok (ptr.place, content_of store.new)) }
-    ensures slot_below { IfOk result (λ ptr. ptr.slot < (content_of store.old).records) }
-    ensures slot_new { IfOk result (λ ptr. slot_times ptr.slot (blocks_of (content_of store.old).pools) ≡ 0) }
-    ensures refused { IfErr result (λ refusal. (slot : ℕ) → served slot n (content_of store.old) ≡ Err refusal) }
-    ensures unchanged { OnErr result (content_of store.new ≡ content_of store.old) }
-    ensures cells { OnErr result (store.new ≡ record store.old { touches = store.new.touches }) }
+    requires { Stands store.old.cells }
+    ensures stands { Stands store.new.cells }
+    ensures ok { IfOk result (λ ptr. served ptr.slot n (content_of store.old.cells) ≡ Ok (ptr.place, content_of store.new.cells)) }
+    ensures slot_below { IfOk result (λ ptr. ptr.slot < (content_of store.old.cells).records) }
+    ensures slot_new { IfOk result (λ ptr. slot_times ptr.slot (blocks_of (content_of store.old.cells).pools) ≡ 0) }
+    ensures refused { IfErr result (λ refusal. (slot : ℕ) → served slot n (content_of store.old.cells) ≡ Err refusal) }
+    ensures cells { OnErr result (store.new.cells ≡ store.old.cells) }
     ensures touches { AtMost 32 store.old.touches store.new.touches }
 {
     if n == 0 {
@@ -51,13 +50,13 @@ pub(crate) fn malloc(store: &mut Store, n: u64) -> Result<Ptr, Refusal>
 /// The first block of the first list that isn't empty, at or above the class from which each block holds
 /// `asked` bytes. At most four touches.
 fn pick(store: &mut Store, asked: u32) -> Option<Slot>
-    requires stands { Stands store.old }
+    requires stands { Stands store.old.cells }
     requires whole { asked % unit ≡ 0 }
     requires some { 0 < asked }
-    ensures free { IfSome result (λ slot. (record_at store.old.records slot).state ≡ Free) }
-    ensures found { IfSome result (λ slot. picked asked (content_of store.old).lists ≡ Some (record_at store.old.records slot).place) }
-    ensures none { IfNone result (picked asked (content_of store.old).lists ≡ None) }
-    ensures cells { store.new ≡ record store.old { touches = store.new.touches } }
+    ensures free { IfSome result (λ slot. (record_at store.old.cells.records slot).state ≡ Free) }
+    ensures found { IfSome result (λ slot. picked asked (content_of store.old.cells).lists ≡ Some (record_at store.old.cells.records slot).place) }
+    ensures none { IfNone result (picked asked (content_of store.old.cells).lists ≡ None) }
+    ensures cells { store.new.cells ≡ store.old.cells }
     ensures touches { AtMost 4 store.old.touches store.new.touches }
 {
     let Some(class) = class_for(asked) else {
@@ -70,19 +69,18 @@ fn pick(store: &mut Store, asked: u32) -> Option<Slot>
 ///
 /// # Errors
 ///
-/// `TableFull` where a rest would be left and no record is vacant; then the content is as it was.
+/// `TableFull` where a rest would be left and no record is vacant; then the cells are as they were.
 fn take(store: &mut Store, slot: Slot, asked: u32) -> Result<Ptr, Refusal>
-    requires stands { Stands store.old }
+    requires stands { Stands store.old.cells }
     requires whole { asked % unit ≡ 0 }
     requires some { 0 < asked }
-    requires free { (record_at store.old.records slot).state ≡ Free }
-    requires found { picked asked (content_of store.old).lists ≡ Some (record_at store.old.records slot).place }
-    ensures stands { Stands store.new }
-    ensures ok { IfOk result (λ ptr. malloc_picked ptr.slot asked (Some (record_at store.old.records slot).place) (content_of store.old) ≡ Ok (ptr.place, content_of store.new)) }
+    requires free { (record_at store.old.cells.records slot).state ≡ Free }
+    requires found { picked asked (content_of store.old.cells).lists ≡ Some (record_at store.old.cells.records slot).place }
+    ensures stands { Stands store.new.cells }
+    ensures ok { IfOk result (λ ptr. malloc_picked ptr.slot asked (Some (record_at store.old.cells.records slot).place) (content_of store.old.cells) ≡ Ok (ptr.place, content_of store.new.cells)) }
     ensures slot { IfOk result (λ ptr. ptr.slot ≡ slot) }
-    ensures refused { IfErr result (λ refusal. (owner : ℕ) → malloc_picked owner asked (Some (record_at store.old.records slot).place) (content_of store.old) ≡ Err refusal) }
-    ensures unchanged { OnErr result (content_of store.new ≡ content_of store.old) }
-    ensures cells { OnErr result (store.new ≡ record store.old { touches = store.new.touches }) }
+    ensures refused { IfErr result (λ refusal. (owner : ℕ) → malloc_picked owner asked (Some (record_at store.old.cells.records slot).place) (content_of store.old.cells) ≡ Err refusal) }
+    ensures cells { OnErr result (store.new.cells ≡ store.old.cells) }
     ensures touches { AtMost 28 store.old.touches store.new.touches }
 {
     let block = store.read(slot);
@@ -100,11 +98,11 @@ fn take(store: &mut Store, slot: Slot, asked: u32) -> Result<Ptr, Refusal>
 /// The first bytes of a free block of `size` bytes, which leaves its class's list, are a live block. What
 /// is left is a free block of the slot `rest`, first in its class's list. At most 25 touches.
 fn take_part(store: &mut Store, slot: Slot, rest: Slot, bytes: u32, size: u32)
-    requires stands { (at : At) × StandsAt slot Listed store.old (with_slot rest at) × (size ≡ at.node.size) }
+    requires stands { (at : At) × StandsAt slot Listed store.old.cells (with_slot rest at) × (size ≡ at.node.size) }
     requires some { 0 < bytes }
     requires less { bytes < size }
     requires whole { bytes % unit ≡ 0 }
-    ensures leads { (at : At) → StandsAt slot Listed store.old (with_slot rest at) → size ≡ at.node.size → StandsAt rest Listed store.new (at_cut rest bytes (at_taken at)) }
+    ensures leads { (at : At) → StandsAt slot Listed store.old.cells (with_slot rest at) → size ≡ at.node.size → StandsAt rest Listed store.new.cells (at_cut rest bytes (at_taken at)) }
     ensures touches { AtMost 25 store.old.touches store.new.touches }
 {
     take_whole(store, slot, size);
@@ -113,8 +111,8 @@ fn take_part(store: &mut Store, slot: Slot, rest: Slot, bytes: u32, size: u32)
 
 /// A free block of `size` bytes leaves its class's list and is live. At most ten touches.
 fn take_whole(store: &mut Store, slot: Slot, size: u32)
-    requires { (at : At) × StandsAt slot Listed store.old at × (size ≡ at.node.size) }
-    ensures leads { (at : At) → StandsAt slot Listed store.old at → size ≡ at.node.size → StandsAt slot InUse store.new (at_taken at) }
+    requires { (at : At) × StandsAt slot Listed store.old.cells at × (size ≡ at.node.size) }
+    ensures leads { (at : At) → StandsAt slot Listed store.old.cells at → size ≡ at.node.size → StandsAt slot InUse store.new.cells (at_taken at) }
     ensures touches { AtMost 10 store.old.touches store.new.touches }
 {
     unlink(store, class_of(size), slot);
@@ -124,11 +122,11 @@ fn take_whole(store: &mut Store, slot: Slot, size: u32)
 /// A live block of `size` bytes keeps its first bytes. What is left is a free block of the slot `rest`,
 /// first in its class's list. At most 15 touches.
 fn cut(store: &mut Store, slot: Slot, rest: Slot, bytes: u32, size: u32)
-    requires stands { (at : At) × StandsAt slot InUse store.old (with_slot rest at) × (size ≡ at.node.size) }
+    requires stands { (at : At) × StandsAt slot InUse store.old.cells (with_slot rest at) × (size ≡ at.node.size) }
     requires some { 0 < bytes }
     requires less { bytes < size }
     requires whole { bytes % unit ≡ 0 }
-    ensures leads { (at : At) → StandsAt slot InUse store.old (with_slot rest at) → size ≡ at.node.size → StandsAt rest Listed store.new (at_cut rest bytes at) }
+    ensures leads { (at : At) → StandsAt slot InUse store.old.cells (with_slot rest at) → size ≡ at.node.size → StandsAt rest Listed store.new.cells (at_cut rest bytes at) }
     ensures touches { AtMost 15 store.old.touches store.new.touches }
 {
     split(store, slot, rest, bytes);

@@ -1,7 +1,8 @@
 //! Readings: the first row of a pool, and the rows behind it.
 
-ghost use Rattle.std.specs.Prelude.{◌≡◌, ◌+◌, ◌-◌, ◌*◌, ◌<◌, ◌≤◌, [], ◌∷◌, length, Ok, Err, IfOk, IfErr, IfSome, IfNone};
-ghost use Rattle.tlsf_store.specs.Cells.{touched, pool_at, most_pools};
+ghost use Rattle.std.specs.Prelude.{◌≡◌, ◌+◌, ◌-◌, ◌<◌, ◌≤◌, [], ◌∷◌, Ok, Err, IfOk, IfErr, IfSome, IfNone};
+ghost use Rattle.tlsf_store.specs.Cells.{most_pools};
+ghost use Rattle.tlsf_heap.specs.Touches.{AtMost};
 ghost use Rattle.tlsf_heap.specs.Inner.Following.{Stands, content_of};
 ghost use Rattle.tlsf_heap.specs.Inner.Entries.{entries_of};
 ghost use Rattle.tlsf_heap.specs.Rows.{rows_from};
@@ -20,11 +21,12 @@ const HALF: u32 = MOST_POOLS as u32 / 2;
 ///
 /// `NoPool` where no pool begins there.
 pub(crate) fn first(store: &mut Store, base: u64) -> Result<Cursor, Refusal>
-    requires { Stands store.old }
-    ensures ok { IfOk result (λ cursor. rows_from base (content_of store.old).pools ≡ Ok (rest_of (rows_by store.old.records) cursor.next)) }
-    ensures stands { IfOk result (λ cursor. stands_at (rows_by store.old.records) cursor.next) }
-    ensures refused { IfErr result (λ refusal. rows_from base (content_of store.old).pools ≡ Err refusal) }
-    ensures touches { store.new ≡ touched 4 store.old }
+    requires { Stands store.old.cells }
+    ensures ok { IfOk result (λ cursor. rows_from base (content_of store.old.cells).pools ≡ Ok (rest_of (rows_by store.old.cells.records) cursor.next)) }
+    ensures stands { IfOk result (λ cursor. stands_at (rows_by store.old.cells.records) cursor.next) }
+    ensures refused { IfErr result (λ refusal. rows_from base (content_of store.old.cells).pools ≡ Err refusal) }
+    ensures cells { store.new.cells ≡ store.old.cells }
+    ensures touches { store.new.touches ≡ store.old.touches + 4 }
 {
     match find(store, base) {
         Some(slot) => Ok(Cursor {
@@ -36,9 +38,10 @@ pub(crate) fn first(store: &mut Store, base: u64) -> Result<Cursor, Refusal>
 
 /// The first block of the pool that begins at `base`, found by halving. Four touches.
 fn find(store: &mut Store, base: u64) -> Option<Slot>
-    requires { Stands store.old }
-    ensures value { result ≡ slot_for base (entries_of store.old.pools) }
-    ensures touches { store.new ≡ touched 4 store.old }
+    requires { Stands store.old.cells }
+    ensures value { result ≡ slot_for base (entries_of store.old.cells.pools) }
+    ensures cells { store.new.cells ≡ store.old.cells }
+    ensures touches { store.new.touches ≡ store.old.touches + 4 }
 {
     let place = skip(store, base, 0, HALF);
     let place = skip(store, base, place, HALF / 2);
@@ -50,11 +53,12 @@ fn find(store: &mut Store, base: u64) -> Option<Slot>
 fn skip(store: &mut Store, base: u64, place: u32, width: u32) -> u32
     requires some { 0 < width }
     requires within { place + width + width ≤ most_pools }
-    requires in_order { AreInOrder base store.old.pools }
-    requires narrowed { IsNarrowed base store.old.pools place (place + width + width - 1) }
-    ensures narrowed { IsNarrowed base store.old.pools result (result + width - 1) }
+    requires in_order { AreInOrder base store.old.cells.pools }
+    requires narrowed { IsNarrowed base store.old.cells.pools place (place + width + width - 1) }
+    ensures narrowed { IsNarrowed base store.old.cells.pools result (result + width - 1) }
     ensures within { result + width ≤ place + width + width }
-    ensures touches { store.new ≡ touched 1 store.old }
+    ensures cells { store.new.cells ≡ store.old.cells }
+    ensures touches { store.new.touches ≡ store.old.touches + 1 }
 {
     if is_below(store.pool(place + width - 1), base) {
         place + width
@@ -92,14 +96,13 @@ fn first_if(pool: Option<Pool>, base: u64) -> Option<Slot>
 /// The row at the cursor, and the cursor behind it; none behind the last row. One touch where there is a
 /// row.
 pub(crate) fn row(store: &mut Store, cursor: Cursor) -> Option<(Row, Cursor)>
-    requires stands { Stands store.old }
-    requires there { stands_at (rows_by store.old.records) cursor.next }
-    ensures some { IfSome result (λ given. rest_of (rows_by store.old.records) cursor.next ≡ given.0 ∷ rest_of (rows_by store.old.records) given.1.next) }
-    ensures next_stands { IfSome result (λ given. stands_at (rows_by store.old.records) given.1.next) }
-    ensures none { IfNone result (rest_of (rows_by store.old.records) cursor.next ≡ []) }
-    ensures cells { store.new ≡ record store.old { touches = store.new.touches } }
-    ensures floor { store.old.touches ≤ store.new.touches }
-    ensures bound { IfSome result (λ given. store.new.touches ≤ store.old.touches + 1) }
+    requires stands { Stands store.old.cells }
+    requires there { stands_at (rows_by store.old.cells.records) cursor.next }
+    ensures some { IfSome result (λ given. rest_of (rows_by store.old.cells.records) cursor.next ≡ given.0 ∷ rest_of (rows_by store.old.cells.records) given.1.next) }
+    ensures next_stands { IfSome result (λ given. stands_at (rows_by store.old.cells.records) given.1.next) }
+    ensures none { IfNone result (rest_of (rows_by store.old.cells.records) cursor.next ≡ []) }
+    ensures cells { store.new.cells ≡ store.old.cells }
+    ensures touches { AtMost 1 store.old.touches store.new.touches }
     ensures no_touch { IfNone result (store.new.touches ≡ store.old.touches) }
 {
     let Some(next) = cursor.next else {

@@ -25,10 +25,10 @@ fn lowest_from(word: u32, from: u32) -> Option<u32>
 
 /// The first block of the first class, from this one on, whose list isn't empty. At most four touches.
 pub(crate) fn search(store: &mut Store, class: Class) -> Option<Slot>
-    requires bitmaps { AreBitmapsOf store.old.heads store.old.step_words store.old.level_word }
-    requires count { length store.old.heads ≡ classes }
-    ensures value { result ≡ first_head (drop class store.old.heads) }
-    ensures cells { store.new ≡ record store.old { touches = store.new.touches } }
+    requires bitmaps { AreBitmapsOf store.old.cells.heads store.old.cells.step_words store.old.cells.level_word }
+    requires count { length store.old.cells.heads ≡ classes }
+    ensures value { result ≡ first_head (drop class store.old.cells.heads) }
+    ensures cells { store.new.cells ≡ store.old.cells }
     ensures touches { AtMost 4 store.old.touches store.new.touches }
 {
     let level = class.number() / STEPS;
@@ -43,10 +43,10 @@ pub(crate) fn search(store: &mut Store, class: Class) -> Option<Slot>
 /// touches.
 fn search_levels(store: &mut Store, from: u32) -> Option<Slot>
     requires within { from ≤ levels }
-    requires bitmaps { AreBitmapsOf store.old.heads store.old.step_words store.old.level_word }
-    requires count { length store.old.heads ≡ classes }
-    ensures value { result ≡ first_head (drop (from * steps) store.old.heads) }
-    ensures cells { store.new ≡ record store.old { touches = store.new.touches } }
+    requires bitmaps { AreBitmapsOf store.old.cells.heads store.old.cells.step_words store.old.cells.level_word }
+    requires count { length store.old.cells.heads ≡ classes }
+    ensures value { result ≡ first_head (drop (from * steps) store.old.cells.heads) }
+    ensures cells { store.new.cells ≡ store.old.cells }
     ensures touches { AtMost 3 store.old.touches store.new.touches }
 {
     let word = store.level_word();

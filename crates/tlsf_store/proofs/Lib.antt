@@ -1,4 +1,3 @@
-pub mod CellLaws
 mod Chains
 pub mod RecordLaws
 mod TableLaws

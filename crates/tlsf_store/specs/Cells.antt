@@ -1,6 +1,5 @@
--- What contracts see of a store: its cells, and how often they were touched. A touch is one read or
--- write of a record, a class head, a bitmap word, the vacant mark or a pool entry.
-use Rattle.std.specs.Prelude.{ℕ, ◌+◌, ◌<◌, ◌^◌, List, Option, Some, None, All, replicate, slice_index_or, slice_set}
+-- The cells of a store, and what is written into them.
+use Rattle.std.specs.Prelude.{ℕ, ◌<◌, ◌^◌, List, Option, Some, None, All, replicate, slice_index_or, slice_set}
 use Rattle.tlsf_class.specs.Classes.{classes, levels}
 use Rattle.tlsf_store.specs.declared.records.Record.{Record}
 use Rattle.tlsf_store.specs.declared.records.State.TheVariants.{Free}
@@ -23,12 +22,6 @@ pub record Cells : Type 0 where
   pub step_words : List ℕ
   -- by number
   pub pools : List (Option Pool)
-  -- how often a cell was read or written
-  pub touches : ℕ
-
--- the same cells, touched `n` times more
-abbrev pub touched : ℕ → Cells → Cells
-touched n cells = record cells { touches = cells.touches + n }
 
 -- the cells with one of them changed
 abbrev pub with_record : Cells → ℕ → Record → Cells
@@ -73,7 +66,6 @@ empty_cells count =
       level_word = 0;
       step_words = replicate levels 0;
       pools = replicate most_pools None;
-      touches = 0;
     }
 
 -- the cells beside the table, over a table of `count` records

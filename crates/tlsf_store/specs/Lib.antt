@@ -1,4 +1,5 @@
 pub mod Cells
+pub mod CountedCells
 pub mod Records
 pub mod Table
 pub mod VacantChain

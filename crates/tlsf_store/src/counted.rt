@@ -5,7 +5,7 @@ ghost use Rattle.tlsf_class.specs.Classes.{levels};
 ghost use Rattle.tlsf_store.specs.declared.errors.StoreError.TheVariants.{BadCount};
 ghost use Rattle.tlsf_store.specs.declared.records.State.TheVariants.{Vacant};
 ghost use Rattle.tlsf_store.specs.Records.{most_records, blank, record_at, vacant_count, IsBelow, IsKept};
-ghost use Rattle.tlsf_store.specs.Cells.{touched, with_record, with_head, with_level_word, with_step_word, with_pool, with_taken, head_at, pool_at, most_pools, empty_cells, IsPoolBelow};
+ghost use Rattle.tlsf_store.specs.Cells.{with_record, with_head, with_level_word, with_step_word, with_pool, with_taken, head_at, pool_at, most_pools, empty_cells, IsPoolBelow};
 
 use super::table::Table;
 use super::touches::Touches;
@@ -38,17 +38,20 @@ pub struct Store {
 }
 
 impl Model for Store {
-    ghost use Rattle.tlsf_store.specs.Cells.{Cells, AreCells};
+    ghost use Rattle.tlsf_store.specs.Cells.{AreCells};
+    ghost use Rattle.tlsf_store.specs.CountedCells.{CountedCells};
     ghost use Rattle.std.specs.Prelude.{length};
 
-    ghost Value = { Cells };
+    ghost Value = { CountedCells };
 
     ghost view = { λ s. record {
-      records = s.table;
-      heads = s.heads;
-      level_word = s.level_word;
-      step_words = s.step_words;
-      pools = s.pools;
+      cells = record {
+        records = s.table;
+        heads = s.heads;
+        level_word = s.level_word;
+        step_words = s.step_words;
+        pools = s.pools;
+      };
       touches = s.touches.count;
     } };
 
@@ -59,7 +62,8 @@ impl Store {
     /// A store of this many vacant records, from 1 to 65,535, else `BadCount`. It takes memory once,
     /// for the table; where that is refused the answer is `OutOfMemory`.
     pub fn create(alloc: Global, records: u32) -> Result<Store, StoreError>
-        ensures made { IfOk result (λ store. store ≡ empty_cells records) }
+        ensures made { IfOk result (λ store. store.cells ≡ empty_cells records) }
+        ensures untouched { IfOk result (λ store. store.touches ≡ 0) }
         ensures bad_count { (result ≡ Err BadCount) ↔ ((records ≡ 0) ⊎ (most_records < records)) }
     {
         if records == 0 || records > MOST_RECORDS {
@@ -80,7 +84,7 @@ impl Store {
 
     /// How many records there are. It isn't a touch.
     pub fn records(&self) -> u32
-        ensures value { result ≡ length self.now.records }
+        ensures value { result ≡ length self.now.cells.records }
         ensures some { 0 < result }
         ensures few { result ≤ most_records }
     {
@@ -89,11 +93,12 @@ impl Store {
 
     /// The record of a slot. A vacant one has no place, size or links. One touch.
     pub fn read(&mut self, slot: Slot) -> Record
-        requires { slot < length self.old.records }
-        ensures value { result ≡ record_at self.old.records slot }
-        ensures kept { IsKept (length self.old.records) result }
+        requires { slot < length self.old.cells.records }
+        ensures value { result ≡ record_at self.old.cells.records slot }
+        ensures kept { IsKept (length self.old.cells.records) result }
         ensures vacant { result.state ≡ Vacant → result ≡ blank }
-        ensures touch { self.new ≡ touched 1 self.old }
+        ensures cells { self.new.cells ≡ self.old.cells }
+        ensures touch { self.new.touches ≡ self.old.touches + 1 }
     {
         self.touches.tick();
         self.table.read(slot)
@@ -102,11 +107,12 @@ impl Store {
     /// Writes a record that isn't vacant over one that isn't. Places and sizes are multiples of the
     /// unit, links are of records of this store. One touch.
     pub fn write(&mut self, slot: Slot, value: Record)
-        requires within { slot < length self.old.records }
-        requires used { (record_at self.old.records slot).state ≢ Vacant }
+        requires within { slot < length self.old.cells.records }
+        requires used { (record_at self.old.cells.records slot).state ≢ Vacant }
         requires new_used { value.state ≢ Vacant }
-        requires kept { IsKept (length self.old.records) value }
-        ensures { self.new ≡ touched 1 (with_record self.old slot value) }
+        requires kept { IsKept (length self.old.cells.records) value }
+        ensures written { self.new.cells ≡ with_record self.old.cells slot value }
+        ensures touch { self.new.touches ≡ self.old.touches + 1 }
     {
         self.touches.tick();
         self.table.write(slot, value);
@@ -114,10 +120,11 @@ impl Store {
 
     /// The first block of a class's list. One touch.
     pub fn head(&mut self, class: Class) -> Option<Slot>
-        ensures within { class < length self.old.heads }
-        ensures value { result ≡ head_at self.old.heads class }
-        ensures below { IsBelow (length self.old.records) result }
-        ensures touch { self.new ≡ touched 1 self.old }
+        ensures within { class < length self.old.cells.heads }
+        ensures value { result ≡ head_at self.old.cells.heads class }
+        ensures below { IsBelow (length self.old.cells.records) result }
+        ensures cells { self.new.cells ≡ self.old.cells }
+        ensures touch { self.new.touches ≡ self.old.touches + 1 }
     {
         self.touches.tick();
         self.heads[class.number() as usize]
@@ -125,9 +132,10 @@ impl Store {
 
     /// Makes this the first block of a class's list. One touch.
     pub fn set_head(&mut self, class: Class, first: Option<Slot>)
-        requires { IsBelow (length self.old.records) first }
-        ensures within { class < length self.old.heads }
-        ensures written { self.new ≡ touched 1 (with_head self.old class first) }
+        requires { IsBelow (length self.old.cells.records) first }
+        ensures within { class < length self.old.cells.heads }
+        ensures written { self.new.cells ≡ with_head self.old.cells class first }
+        ensures touch { self.new.touches ≡ self.old.touches + 1 }
     {
         self.touches.tick();
         self.heads[class.number() as usize] = first;
@@ -135,9 +143,10 @@ impl Store {
 
     /// The level word: a bit for each first level. One touch.
     pub fn level_word(&mut self) -> u32
-        ensures value { result ≡ self.old.level_word }
+        ensures value { result ≡ self.old.cells.level_word }
         ensures below { result < 2 ^ levels }
-        ensures touch { self.new ≡ touched 1 self.old }
+        ensures cells { self.new.cells ≡ self.old.cells }
+        ensures touch { self.new.touches ≡ self.old.touches + 1 }
     {
         self.touches.tick();
         self.level_word
@@ -146,7 +155,8 @@ impl Store {
     /// Writes the level word, which has no bit at or above the number of first levels. One touch.
     pub fn set_level_word(&mut self, word: u32)
         requires { word < 2 ^ levels }
-        ensures { self.new ≡ touched 1 (with_level_word self.old word) }
+        ensures written { self.new.cells ≡ with_level_word self.old.cells word }
+        ensures touch { self.new.touches ≡ self.old.touches + 1 }
     {
         self.touches.tick();
         self.level_word = word;
@@ -155,9 +165,10 @@ impl Store {
     /// The step word of a first level: a bit for each of its classes. One touch.
     pub fn step_word(&mut self, level: u32) -> u32
         requires { level < levels }
-        ensures within { level < length self.old.step_words }
-        ensures value { result ≡ slice_index self.old.step_words level }
-        ensures touch { self.new ≡ touched 1 self.old }
+        ensures within { level < length self.old.cells.step_words }
+        ensures value { result ≡ slice_index self.old.cells.step_words level }
+        ensures cells { self.new.cells ≡ self.old.cells }
+        ensures touch { self.new.touches ≡ self.old.touches + 1 }
     {
         self.touches.tick();
         self.step_words[level as usize]
@@ -166,8 +177,9 @@ impl Store {
     /// Writes the step word of a first level. One touch.
     pub fn set_step_word(&mut self, level: u32, word: u32)
         requires { level < levels }
-        ensures within { level < length self.old.step_words }
-        ensures written { self.new ≡ touched 1 (with_step_word self.old level word) }
+        ensures within { level < length self.old.cells.step_words }
+        ensures written { self.new.cells ≡ with_step_word self.old.cells level word }
+        ensures touch { self.new.touches ≡ self.old.touches + 1 }
     {
         self.touches.tick();
         self.step_words[level as usize] = word;
@@ -176,10 +188,11 @@ impl Store {
     /// The pool of an entry, a number below `MOST_POOLS`. One touch.
     pub fn pool(&mut self, number: u32) -> Option<Pool>
         requires { number < most_pools }
-        ensures within { number < length self.old.pools }
-        ensures value { result ≡ pool_at self.old.pools number }
-        ensures below { IsPoolBelow (length self.old.records) result }
-        ensures touch { self.new ≡ touched 1 self.old }
+        ensures within { number < length self.old.cells.pools }
+        ensures value { result ≡ pool_at self.old.cells.pools number }
+        ensures below { IsPoolBelow (length self.old.cells.records) result }
+        ensures cells { self.new.cells ≡ self.old.cells }
+        ensures touch { self.new.touches ≡ self.old.touches + 1 }
     {
         self.touches.tick();
         self.pools[number as usize]
@@ -188,9 +201,10 @@ impl Store {
     /// Writes the pool of an entry, a number below `MOST_POOLS`. One touch.
     pub fn set_pool(&mut self, number: u32, pool: Option<Pool>)
         requires within { number < most_pools }
-        requires below { IsPoolBelow (length self.old.records) pool }
-        ensures within { number < length self.old.pools }
-        ensures written { self.new ≡ touched 1 (with_pool self.old number pool) }
+        requires below { IsPoolBelow (length self.old.cells.records) pool }
+        ensures within { number < length self.old.cells.pools }
+        ensures written { self.new.cells ≡ with_pool self.old.cells number pool }
+        ensures touch { self.new.touches ≡ self.old.touches + 1 }
     {
         self.touches.tick();
         self.pools[number as usize] = pool;
@@ -198,8 +212,9 @@ impl Store {
 
     /// How many records are vacant. One touch.
     pub fn vacant(&mut self) -> u32
-        ensures value { result ≡ vacant_count self.old.records }
-        ensures touch { self.new ≡ touched 1 self.old }
+        ensures value { result ≡ vacant_count self.old.cells.records }
+        ensures cells { self.new.cells ≡ self.old.cells }
+        ensures touch { self.new.touches ≡ self.old.touches + 1 }
     {
         self.touches.tick();
         self.table.vacant()
@@ -209,10 +224,11 @@ impl Store {
     /// no record is vacant. Which vacant record it is, is open. Two touches: the vacant mark and the
     /// record.
     pub fn take_vacant(&mut self) -> Option<Slot>
-        ensures none { IfNone result (vacant_count self.old.records ≡ 0) }
-        ensures within { IfSome result (λ slot. slot < length self.old.records) }
-        ensures vacant { IfSome result (λ slot. record_at self.old.records slot ≡ blank) }
-        ensures taken { self.new ≡ touched 2 (with_taken self.old result) }
+        ensures none { IfNone result (vacant_count self.old.cells.records ≡ 0) }
+        ensures within { IfSome result (λ slot. slot < length self.old.cells.records) }
+        ensures vacant { IfSome result (λ slot. record_at self.old.cells.records slot ≡ blank) }
+        ensures taken { self.new.cells ≡ with_taken self.old.cells result }
+        ensures touch { self.new.touches ≡ self.old.touches + 2 }
     {
         self.touches.tick();
         self.touches.tick();
@@ -222,9 +238,10 @@ impl Store {
     /// Makes a record vacant that isn't. Three touches: the vacant mark is read and written, and the record
     /// is written.
     pub fn give_vacant(&mut self, slot: Slot)
-        requires within { slot < length self.old.records }
-        requires used { (record_at self.old.records slot).state ≢ Vacant }
-        ensures { self.new ≡ touched 3 (with_record self.old slot blank) }
+        requires within { slot < length self.old.cells.records }
+        requires used { (record_at self.old.cells.records slot).state ≢ Vacant }
+        ensures written { self.new.cells ≡ with_record self.old.cells slot blank }
+        ensures touch { self.new.touches ≡ self.old.touches + 3 }
     {
         self.touches.tick();
         self.touches.tick();

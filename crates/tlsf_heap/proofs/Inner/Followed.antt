@@ -1,5 +1,5 @@
 -- The content of cells that represent a layout is that of the layout.
-use Rattle.std.proofs.Common.{◌≡◌, ℕ, zero, suc, ◌+◌, ◌≤◌, Bool, true, not, ◌&&◌, eqb, List, [], ◌∷◌, length, map, refl, sym, ap, ◌∙◌, subst, arith, count_by, Option, Some, None, inl, inr}
+use Rattle.std.proofs.Common.{◌≡◌, ℕ, zero, suc, ◌≤◌, Bool, true, not, ◌&&◌, eqb, List, [], ◌∷◌, length, map, refl, sym, ap, ◌∙◌, arith, count_by, Option, Some, None, inl, inr}
 use Rattle.std.specs.List.{AllByRecursion}
 use Rattle.std.proofs.lemmas.Bool.{cases_Bool, eq-eqb, eqb-true}
 use Rattle.std.proofs.lemmas.List.{length-append, length-map}
@@ -7,7 +7,7 @@ use Rattle.std.proofs.lemmas.List.Sums.{count_by-le-length}
 use Rattle.tlsf_class.specs.Classes.{classes}
 use Rattle.tlsf_store.specs.declared.records.Record.{Record}
 use Rattle.tlsf_store.specs.Records.{record_at}
-use Rattle.tlsf_store.specs.Cells.{Cells, touched}
+use Rattle.tlsf_store.specs.Cells.{Cells}
 use Rattle.tlsf_heap.specs.Inner.Entries.{entries_of}
 use Rattle.tlsf_heap.proofs.Inner.EntryLists.{entries_of-padded}
 use Rattle.tlsf_heap.specs.Inner.Nodes.{Status, InUse, Listed, Loose, Node, Area, Layout, owner_of, block_of, pool_of, content_by, nodes_of, list_of, is_listed_in}
@@ -108,21 +108,6 @@ module _ (cells : Cells) (layout : Layout) (was : Represents cells layout) where
 
 pub stood_for : (cells : Cells) (stands : Stands cells) → content_of cells ≡ content_by stands.layout
 stood_for cells stands = content_is cells stands.layout stands.represented
-
--- how often the cells were touched is not seen
-pub stands_touched : (cells : Cells) (n : ℕ) → Stands cells → Stands (record cells { touches = n })
-stands_touched cells n stands = record { layout = stands.layout; represented = stands.represented; settled = stands.settled; none_taken = stands.none_taken; good = stands.good }
-
-pub content_touched : (cells : Cells) (n : ℕ) → content_of (record cells { touches = n }) ≡ content_of cells
-unfolding content_of
-content_touched cells n = refl
-
--- the same of cells that were only touched
-pub touched_stands : (n : ℕ) (cells new : Cells) → new ≡ touched n cells → Stands cells → Stands new
-touched_stands n cells new is stands = let P : Cells → Type 0 = λ s. Stands s in subst P (sym is) (stands_touched cells (cells.touches + n) stands)
-
-pub touched_content : (n : ℕ) (cells new : Cells) → new ≡ touched n cells → content_of new ≡ content_of cells
-touched_content n cells new is = ap content_of is ∙ content_touched cells (cells.touches + n)
 
 pub records_are : (cells : Cells) → (content_of cells).records ≡ length cells.records
 unfolding content_of

@@ -1,34 +1,26 @@
-use Rattle.std.proofs.Common.{◌≡◌, ℕ, ◌<◌, ◌≤◌, Bool, false, ◌∷◌, length, sym, ap, ◌∙◌, subst, arith, Option, Some, Ok}
-use Rattle.std.specs.Prelude.{IfNone, ◌==◌}
+use Rattle.std.proofs.Common.{◌≡◌, ℕ, ◌<◌, ◌≤◌, Bool, false, ◌∷◌, length, sym, ap, ◌∙◌, arith, Option, Some, Ok}
+use Rattle.std.specs.Prelude.{◌==◌}
 use Rattle.std.proofs.lemmas.Bool.{eqb-true, eqb-false}
-use Rattle.tlsf_store.specs.Records.{blank, record_at, vacant_count}
-use Rattle.tlsf_store.specs.Cells.{Cells, touched, with_taken, most_pools}
+use Rattle.tlsf_store.specs.Records.{blank, record_at}
+use Rattle.tlsf_store.specs.Cells.{Cells, with_taken, most_pools}
 use Rattle.tlsf_heap.specs.Pools.{add_pool}
 use Rattle.tlsf_heap.specs.Inner.Entries.{entries_of}
 use Rattle.tlsf_heap.specs.Inner.Represents.{Represents}
 use Rattle.tlsf_heap.specs.Inner.Following.{Stands, content_of}
-use Rattle.tlsf_heap.specs.Inner.Entering.{pool_laid}
 use Rattle.tlsf_heap.proofs.Inner.Taken.{slot_taken}
-use Rattle.tlsf_heap.proofs.Inner.Followed.{content_touched}
 use Rattle.tlsf_heap.proofs.Inner.Added.{is_allowed, refused_bad, refused_pools, refused_records, pool_added}
 use Rattle.tlsf_heap.proofs.add_pool.add_pool.Goals as goal
 
 pub returns-then-not-can_enter-clause-refused : goal.returns-then-not-can_enter-clause-refused
 returns-then-not-can_enter-clause-refused c =
     let allowed = sym (c.can_enter.ensures ∙ ap (is_allowed c.args.base c.args.bytes) (c.as_slice.ensures.value ∙ c.entries-entries.ensures.value)) in
-    refused_bad c.args.store.now c.requires c.args.base c.args.bytes (allowed ∙ c.if-not-can_enter.true)
-
-pub returns-then-not-can_enter-clause-unchanged : goal.returns-then-not-can_enter-clause-unchanged
-returns-then-not-can_enter-clause-unchanged c = ap content_of c.entries-entries.ensures.touches ∙ content_touched c.args.store.now _
+    refused_bad c.args.store.now.cells c.requires c.args.base c.args.bytes (allowed ∙ c.if-not-can_enter.true)
 
 pub returns-then-is_full-clause-refused : goal.returns-then-is_full-clause-refused
 returns-then-is_full-clause-refused c =
     let allowed = sym (c.can_enter.ensures ∙ ap (is_allowed c.args.base c.args.bytes) (c.as_slice.ensures.value ∙ c.entries-entries.ensures.value)) in
     let full : length c.entries-entries.result.items ≡ most_pools = eqb-true _ _ (sym c.is_full.ensures.value ∙ c.if-is_full.true) in
-    refused_pools c.args.store.now c.requires c.args.base c.args.bytes (allowed ∙ c.if-not-can_enter.false) (omega (arith, full, ap length c.entries-entries.ensures.value))
-
-pub returns-then-is_full-clause-unchanged : goal.returns-then-is_full-clause-unchanged
-returns-then-is_full-clause-unchanged c = ap content_of c.entries-entries.ensures.touches ∙ content_touched c.args.store.now _
+    refused_pools c.args.store.now.cells c.requires c.args.base c.args.bytes (allowed ∙ c.if-not-can_enter.false) (omega (arith, full, ap length c.entries-entries.ensures.value))
 
 few_entries : (full : Bool) (entries entries_old : ℕ) → full ≡ (entries == most_pools) → full ≡ false → entries ≤ most_pools → entries ≡ entries_old → entries_old < most_pools
 few_entries full entries entries_old is not_full fits same = omega (arith, eqb-false entries most_pools (sym is ∙ not_full), fits, same)
@@ -36,44 +28,32 @@ few_entries full entries entries_old is not_full fits same = omega (arith, eqb-f
 pub returns-in_default-clause-refused : goal.returns-in_default-clause-refused
 returns-in_default-clause-refused c =
     let allowed = sym (c.can_enter.ensures ∙ ap (is_allowed c.args.base c.args.bytes) (c.as_slice.ensures.value ∙ c.entries-entries.ensures.value)) in
-    let few = few_entries c.is_full.result (length c.entries-entries.result.items) (length (entries_of c.args.store.now.pools)) c.is_full.ensures.value c.if-is_full.false c.is_full.ensures.fits (ap length c.entries-entries.ensures.value) in
-    let P : Option ℕ → Type 0 = λ o. IfNone o (vacant_count c.entries-entries.new.store.records ≡ 0) in
-    refused_records c.args.store.now c.requires c.args.base c.args.bytes (allowed ∙ c.if-not-can_enter.false) few
-    (sym (ap (λ (s : Cells). vacant_count s.records) c.entries-entries.ensures.touches) ∙ subst P c.in_default.is c.take_vacant.ensures.none)
-
-pub returns-in_default-clause-unchanged : goal.returns-in_default-clause-unchanged
-returns-in_default-clause-unchanged c =
-    ap content_of (c.take_vacant.ensures.taken ∙ ap (λ o. touched 2 (with_taken c.entries-entries.new.store o)) c.in_default.is ∙ ap (touched 2) c.entries-entries.ensures.touches) ∙ content_touched c.args.store.now _
+    let few = few_entries c.is_full.result (length c.entries-entries.result.items) (length (entries_of c.args.store.now.cells.pools)) c.is_full.ensures.value c.if-is_full.false c.is_full.ensures.fits (ap length c.entries-entries.ensures.value) in
+    let none = rw (c.in_default.is, c.entries-entries.ensures.cells) at c.take_vacant.ensures.none in
+    refused_records c.args.store.now.cells c.requires c.args.base c.args.bytes (allowed ∙ c.if-not-can_enter.false) few none
 
 -- the cells and the slot, once it was taken
-taken : (old one two : Cells) (result : Option ℕ) (slot first : ℕ) (stands : Stands old) → one ≡ touched most_pools old → result ≡ Some slot → two ≡ touched 2 (with_taken one result) → first ≡ slot → slot < length one.records → record_at one.records slot ≡ blank
+taken : (old one two : Cells) (result : Option ℕ) (slot first : ℕ) (stands : Stands old) → one ≡ old → result ≡ Some slot → two ≡ with_taken one result → first ≡ slot → slot < length one.records → record_at one.records slot ≡ blank
     → Represents two (record stands.layout { taken = first ∷ stands.layout.taken }) × (slot < length old.records) × (record_at old.records slot ≡ blank)
 taken old one two result slot first stands read is took same within vacant =
-    let P : Cells → Type 0 = λ s. slot < length s.records in
-    let Q : Cells → Type 0 = λ s. record_at s.records slot ≡ blank in
-    let R : Cells → Type 0 = λ s. Represents s (record stands.layout { taken = first ∷ stands.layout.taken }) in
-    let S : ℕ → Type 0 = λ n. Represents (with_taken old (Some slot)) (record stands.layout { taken = n ∷ stands.layout.taken }) in
-    let below : slot < length old.records = subst P read within in
-    let empty : record_at old.records slot ≡ blank = subst Q read vacant in (
-      subst R (sym (took ∙ ap (λ o. touched 2 (with_taken one o)) is ∙ ap (λ s. touched 2 (with_taken s (Some slot))) read)) (subst S (sym same) (slot_taken old stands.layout slot stands.represented below empty)),
-      below,
-      empty,
-    )
+    let below = rw read at within in
+    let empty = rw read at vacant in
+    (rw (took, is, read, same) (slot_taken old stands.layout slot stands.represented below empty), below, empty)
 
 pub put_pool-requires-clause-taken : goal.put_pool-requires-clause-taken
 put_pool-requires-clause-taken c = (
   c.requires.layout,
-  (taken c.args.store.now c.entries-entries.new.store c.take_vacant.new.self c.take_vacant.result c.in-Some.slot _ c.requires c.entries-entries.ensures.touches c.in-Some.is c.take_vacant.ensures.taken c.slot.view_is c.in-Some.ensures.within c.in-Some.ensures.vacant).0,
+  (taken c.args.store.now.cells c.entries-entries.new.store.cells c.take_vacant.new.self.cells c.take_vacant.result c.in-Some.slot _ c.requires c.entries-entries.ensures.cells c.in-Some.is c.take_vacant.ensures.taken c.slot.view_is c.in-Some.ensures.within c.in-Some.ensures.vacant).0,
 )
 
-added : (c : goal.After-put_pool) → Stands c.put_pool.new.store × (add_pool c.args.base c.args.bytes (content_of c.args.store.now) ≡ Ok (content_of c.put_pool.new.store))
+added : (c : goal.After-put_pool) → Stands c.put_pool.new.store.cells × (add_pool c.args.base c.args.bytes (content_of c.args.store.now.cells) ≡ Ok (content_of c.put_pool.new.store.cells))
 added c =
-    let old : Cells = c.args.store.now in
+    let old : Cells = c.args.store.now.cells in
     let allowed = sym (c.can_enter.ensures ∙ ap (is_allowed c.args.base c.args.bytes) (c.as_slice.ensures.value ∙ c.entries-entries.ensures.value)) ∙ c.if-not-can_enter.false in
     let few = few_entries c.is_full.result (length c.entries-entries.result.items) (length (entries_of old.pools)) c.is_full.ensures.value c.if-is_full.false c.is_full.ensures.fits (ap length c.entries-entries.ensures.value) in
-    let at = taken old c.entries-entries.new.store c.take_vacant.new.self c.take_vacant.result c.in-Some.slot _ c.requires c.entries-entries.ensures.touches c.in-Some.is c.take_vacant.ensures.taken c.slot.view_is c.in-Some.ensures.within c.in-Some.ensures.vacant in
-    let P : ℕ → Type 0 = λ n. Represents c.put_pool.new.store (pool_laid (record { base = c.args.base; bytes = c.args.bytes; first = n }) c.requires.layout) in
-    pool_added old c.requires c.args.base c.args.bytes allowed few c.in-Some.slot at.1 at.2 c.put_pool.new.store (subst P c.slot.view_is (c.put_pool.ensures.leads c.requires.layout at.0))
+    let at = taken old c.entries-entries.new.store.cells c.take_vacant.new.self.cells c.take_vacant.result c.in-Some.slot _ c.requires c.entries-entries.ensures.cells c.in-Some.is c.take_vacant.ensures.taken c.slot.view_is c.in-Some.ensures.within c.in-Some.ensures.vacant in
+    let laid = rw c.slot.view_is at (c.put_pool.ensures.leads c.requires.layout at.0) in
+    pool_added old c.requires c.args.base c.args.bytes allowed few c.in-Some.slot at.1 at.2 c.put_pool.new.store.cells laid
 
 pub returns-clause-stands : goal.returns-clause-stands
 returns-clause-stands c = (added c).0

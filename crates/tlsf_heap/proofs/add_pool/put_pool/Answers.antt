@@ -1,61 +1,35 @@
-use Rattle.std.proofs.Common.{◌≡◌, ◌<◌, ℕ, List, ◌∷◌, length, set, take, drop, sym, ap, ◌∙◌, subst, Some}
-use Rattle.std.specs.Prelude.{All, insert}
+use Rattle.std.proofs.Common.{◌≡◌, ◌<◌, ℕ, List, ◌∷◌, length, take, drop}
 use Rattle.std.proofs.lemmas.List.{length-set}
 use Rattle.std.proofs.lemmas.List.Elements.{All-append, All-take, All-cons, All-drop}
 use Rattle.tlsf_heap.specs.declared.pool_entry.PoolEntry.{PoolEntry}
-use Rattle.tlsf_class.specs.Classes.{class}
-use Rattle.tlsf_store.specs.Cells.{Cells, touched, with_record, most_pools, head_at}
-use Rattle.tlsf_heap.specs.Inner.Edits.{IsUsed, linked}
 use Rattle.tlsf_heap.specs.Inner.Entries.{entries_of}
-use Rattle.tlsf_heap.specs.Inner.Entries.{with_entries, with_entry, entry_place}
+use Rattle.tlsf_heap.specs.Inner.Entries.{with_entry}
 use Rattle.tlsf_heap.specs.Inner.CellEdits.{pool_put}
-use Rattle.tlsf_heap.specs.Inner.Entering.{pool_laid}
-use Rattle.tlsf_heap.specs.Inner.Represents.{Represents}
 use Rattle.tlsf_heap.proofs.Inner.EntryLists.{insert_is}
 use Rattle.tlsf_heap.proofs.Inner.Entered.{Enters, pool_is_laid}
 use Rattle.tlsf_heap.proofs.add_pool.put_pool.Goals as goal
 
 -- the cells once the pool is there
-put : (c : goal.After-class_of) → c.set_entries.new.store ≡ touched most_pools (touched 1 (pool_put c.args.entry (with_entry c.args.entry (entries_of c.args.store.now.pools)) c.args.store.now))
+put : (c : goal.After-class_of) → c.set_entries.new.store.cells ≡ pool_put c.args.entry (with_entry c.args.entry (entries_of c.args.store.now.cells.pools)) c.args.store.now.cells
 put c =
-    let entry = c.args.entry in
-    let old : Cells = c.args.store.now in
-    c.set_entries.ensures
-    ∙ ap (λ es. touched most_pools (with_entries es c.write.new.self))
-    (c.as_slice-2.ensures.value
-    ∙ c.insert.ensures.items
-    ∙ ap (λ n. insert c.args.entries.items n entry) (c.place_for-place.ensures.place ∙ ap (entry_place entry.base) c.as_slice.ensures.value)
-    ∙ insert_is entry c.args.entries.items
-    ∙ ap (with_entry entry) c.requires.entries)
-    ∙ ap (λ s. touched most_pools (with_entries (with_entry entry (entries_of old.pools)) s)) (c.write.ensures ∙ ap (λ r. touched 1 (with_record old entry.first r)) c.free_block.ensures)
+    let items : List PoolEntry = c.args.entries.items in
+    let all : c.as_slice-2.result.now ≡ with_entry c.args.entry (entries_of c.args.store.now.cells.pools) =
+    rw (c.as_slice-2.ensures.value, c.insert.ensures.items, c.place_for-place.ensures.place, c.as_slice.ensures.value, insert_is c.args.entry items, c.requires.entries) in
+    rw (c.set_entries.ensures.cells, c.write.ensures.written, c.free_block.ensures, all)
 
-enters : (c : goal.After-class_of) → Enters c.args.entry c.requires.taken.0 c.args.store.now
-enters c = pool_is_laid c.args.store.now c.args.entry c.requires.taken.0 c.requires.taken.1
-
-pub link-requires-clause-slot_used : goal.link-requires-clause-slot_used
-link-requires-clause-slot_used c = let P : Cells → Type 0 = λ s. IsUsed s.records (Some c.args.entry.first) in subst P (sym (put c)) (enters c).slot
+enters : (c : goal.After-class_of) → Enters c.args.entry c.requires.taken.0 c.args.store.now.cells
+enters c = pool_is_laid c.args.store.now.cells c.args.entry c.requires.taken.0 c.requires.taken.1
 
 pub link-requires-clause-first_used : goal.link-requires-clause-first_used
-link-requires-clause-first_used c =
-    let P : Cells → Type 0 = λ s. IsUsed s.records (head_at s.heads c.class_of.result) in
-    let Q : ℕ → Type 0 = λ n. IsUsed (pool_put c.args.entry (with_entry c.args.entry (entries_of c.args.store.now.pools)) c.args.store.now).records (head_at c.args.store.now.heads n) in
-    subst P (sym (put c)) (subst Q (sym c.class_of.ensures) (enters c).first)
+link-requires-clause-first_used c = rw (put c, c.class_of.ensures) (enters c).first
 
 pub returns-clause-leads : goal.returns-clause-leads
-returns-clause-leads c layout was =
-    let P : Cells → Type 0 = λ s. Represents s (pool_laid c.args.entry layout) in
-    let after : ℕ → Cells → Cells = λ number cells. record (linked number c.args.entry.first cells) { touches = c.link.new.store.touches } in
-    subst P (sym (c.link.ensures.cells ∙ ap (λ n. after n c.set_entries.new.store) c.class_of.ensures ∙ ap (after (class c.args.entry.bytes)) (put c.before))) (pool_is_laid c.args.store.now c.args.entry layout was).laid
+returns-clause-leads c layout was = rw (c.link.ensures.cells, c.class_of.ensures, put c.before) (pool_is_laid c.args.store.now.cells c.args.entry layout was).laid
 
 pub set_entries-requires-clause-below : goal.set_entries-requires-clause-below
 set_entries-requires-clause-below c =
-    let old : Cells = c.args.store.now in
     let n : ℕ = c.place_for-place.result in
     let items : List PoolEntry = c.args.entries.items in
-    let P : PoolEntry → Type 0 = λ e. e.first < length old.records in
-    let Q : Cells → Type 0 = λ s. All (λ (e : PoolEntry). e.first < length s.records) c.as_slice-2.result.now in
-    let R : List PoolEntry → Type 0 = λ es. All P es in
-    let same : length (set old.records c.args.entry.first c.free_block.result) ≡ length old.records = length-set old.records c.args.entry.first c.free_block.result in
-    let S : ℕ → Type 0 = λ count. All (λ (e : PoolEntry). e.first < count) c.as_slice-2.result.now in
-    subst Q (sym c.write.ensures) (subst S (sym same) (subst R (sym (c.as_slice-2.ensures.value ∙ c.insert.ensures.items))
-    (All-append P (take n items) (c.args.entry ∷ drop n items) (All-take P n items c.requires.below) (All-cons P c.args.entry (drop n items) c.requires.slot_used.0 (All-drop P n items c.requires.below)))))
+    let P : PoolEntry → Type 0 = λ e. e.first < length c.args.store.now.cells.records in
+    rw (c.write.ensures.written, length-set c.args.store.now.cells.records c.args.entry.first c.free_block.result, c.as_slice-2.ensures.value, c.insert.ensures.items)
+    (All-append P (take n items) (c.args.entry ∷ drop n items) (All-take P n items c.requires.below) (All-cons P c.args.entry (drop n items) c.requires.slot_used.0 (All-drop P n items c.requires.below)))

@@ -1,24 +1,16 @@
-use Rattle.std.proofs.Common.{◌≡◌, ◌+◌, length, List, Option, sym, ap, ◌∙◌, subst, arith}
-use Rattle.tlsf_store.specs.declared.records.Record.{Record}
-use Rattle.tlsf_store.specs.declared.pools.Pool.{Pool as StoredPool}
-use Rattle.tlsf_store.specs.Cells.{Cells, IsPoolBelow, most_pools}
-use Rattle.tlsf_heap.specs.Inner.Entries.{padded}
+use Rattle.std.proofs.Common.{◌≡◌, length, ap, ◌∙◌, arith}
+use Rattle.tlsf_store.specs.Cells.{most_pools}
 use Rattle.tlsf_heap.proofs.Inner.EntryLists.{padded_at-below, written_is_padded}
 use Rattle.tlsf_heap.proofs.entries.set_entries.Goals as goal
 
 pub set_pool-requires-clause-below : goal.set_pool-requires-clause-below
 set_pool-requires-clause-below c =
-    let P : Option StoredPool → Type 0 = λ p. IsPoolBelow (length c.loop-number.store.records) p in
-    let Q : List Record → Type 0 = λ rs. IsPoolBelow (length rs) (c.pool_at.result) in
-    subst Q (sym (ap (λ (s : Cells). s.records) c.loop-number.invariant.rest))
-    (let R : Option StoredPool → Type 0 = λ p. IsPoolBelow (length c.args.store.now.records) p in
-    subst R (sym c.pool_at.ensures) (padded_at-below (length c.args.store.now.records) c.args.entries.now c.loop-number.number c.requires.below))
+    rw (c.loop-number.invariant.rest, c.pool_at.ensures) (padded_at-below (length c.args.store.now.cells.records) c.args.entries.now c.loop-number.number c.requires.below)
 
-pub returns : goal.returns
-returns c =
+pub returns-clause-cells : goal.returns-clause-cells
+returns-clause-cells c =
     let end : c.loop-number.number ≡ most_pools = omega (arith, c.loop-number-test.false, c.loop-number.auto.number-end) in
     c.loop-number.invariant.rest
-    ∙ ap (λ pools. record c.args.store.now { pools = pools; touches = c.args.store.now.touches + c.loop-number.number })
-    (written_is_padded c.loop-number.store.pools c.args.entries.now c.loop-number.invariant.count c.requires.few
+    ∙ ap (λ pools. record c.args.store.now.cells { pools = pools })
+    (written_is_padded c.loop-number.store.cells.pools c.args.entries.now c.loop-number.invariant.count c.requires.few
     (λ k within. c.loop-number.invariant.written k (omega (arith, end, within))))
-    ∙ ap (λ n. record c.args.store.now { pools = padded c.args.entries.now; touches = c.args.store.now.touches + n }) end

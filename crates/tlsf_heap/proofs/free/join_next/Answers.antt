@@ -1,56 +1,45 @@
 use Rattle.std.proofs.Common.{◌≡◌, ℕ, true, false, sym, ap, ◌∙◌, subst, Some}
 use Rattle.tlsf_store.specs.declared.records.Record.{Record}
 use Rattle.tlsf_store.specs.Records.{record_at}
-use Rattle.tlsf_store.specs.Cells.{Cells, touched}
-use Rattle.tlsf_class.specs.Classes.{class}
-use Rattle.tlsf_heap.specs.Inner.Edits.{unlinked}
+use Rattle.tlsf_store.specs.Cells.{Cells}
 use Rattle.tlsf_heap.specs.Inner.States.{is_state_free}
-use Rattle.tlsf_heap.specs.Inner.Chains.{joined}
 use Rattle.tlsf_heap.specs.Inner.Nodes.{Loose}
-use Rattle.tlsf_heap.specs.Inner.At.{At, StandsAt, IsJoinable, next_joined}
+use Rattle.tlsf_heap.specs.Inner.At.{At, StandsAt, next_joined}
 use Rattle.tlsf_heap.proofs.Inner.Joinable.{Joins, next_joins, back_stays, back_is_live}
 use Rattle.tlsf_heap.proofs.Inner.Steps.{slot_used}
 use Rattle.tlsf_heap.proofs.free.join_next.Goals as goal
 
 pub read-block-requires : goal.read-block-requires
-read-block-requires c = (slot_used c.args.store.now c.args.slot Loose c.requires.0 c.requires.1).0
+read-block-requires c = (slot_used c.args.store.now.cells c.args.slot Loose c.requires.0 c.requires.1).0
 
 pub returns-in_default-clause-leads : goal.returns-in_default-clause-leads
 returns-in_default-clause-leads c at stands =
-    let P : Cells → Type 0 = λ s. StandsAt c.args.slot Loose s (next_joined at) in
-    let Q : At → Type 0 = λ a. StandsAt c.args.slot Loose (touched 1 c.args.store.now) a in
-    subst P (sym c.read-block.ensures.touch) (subst Q (sym (back_stays c.args.store.now at c.args.slot stands (ap (λ r. r.next) (sym c.read-block.ensures.value) ∙ c.in_default.is))) stands)
-
--- the cells once both blocks were read
-abbrev read : Cells → Cells
-read old = touched 1 (touched 1 old)
+    let same = back_stays c.args.store.now.cells at c.args.slot stands (ap (λ r. r.next) (sym c.read-block.ensures.value) ∙ c.in_default.is) in
+    rw c.read-block.ensures.cells (subst (λ (a : At). StandsAt c.args.slot Loose c.args.store.now.cells a) (sym same) stands)
 
 pub returns-then-not-is_free-clause-leads : goal.returns-then-not-is_free-clause-leads
 returns-then-not-is_free-clause-leads c at stands =
-    let old : Cells = c.args.store.now in
+    let old : Cells = c.args.store.now.cells in
     let link = ap (λ r. r.next) (sym c.read-block.ensures.value) ∙ c.in-Some.is in
-    let back_at : c.read-next.result ≡ record_at old.records c.in-Some.next_slot = c.read-next.ensures.value ∙ ap (λ (s : Cells). record_at s.records c.in-Some.next_slot) c.read-block.ensures.touch in
+    let back_at : c.read-next.result ≡ record_at old.records c.in-Some.next_slot = c.read-next.ensures.value ∙ ap (λ (s : Cells). record_at s.records c.in-Some.next_slot) c.read-block.ensures.cells in
     let live : is_state_free (record_at old.records c.in-Some.next_slot).state ≡ false = sym (ap (λ r. is_state_free r.state) back_at) ∙ sym c.is_free.ensures ∙ c.if-not-is_free.true in
-    let P : Cells → Type 0 = λ s. StandsAt c.args.slot Loose s (next_joined at) in
-    let Q : At → Type 0 = λ a. StandsAt c.args.slot Loose (read old) a in
-    subst P (sym (c.read-next.ensures.touch ∙ ap (touched 1) c.read-block.ensures.touch)) (subst Q (sym (back_is_live old at c.args.slot stands c.in-Some.next_slot link live)) stands)
+    rw (c.read-next.ensures.cells, c.read-block.ensures.cells)
+    (subst (λ (a : At). StandsAt c.args.slot Loose old a) (sym (back_is_live old at c.args.slot stands c.in-Some.next_slot link live)) stands)
 
 -- what join needs and leaves
 joins : (old : Cells) (slot p : ℕ) (at : At) → StandsAt slot Loose old at → (block next : Record) → block ≡ record_at old.records slot → block.next ≡ Some p → next ≡ record_at old.records p → is_state_free next.state ≡ true
-    → Joins slot p p next.size slot (read old) (next_joined at)
+    → Joins slot p p next.size slot old (next_joined at)
 joins old slot p at stands block next block_is link back_is free =
-    next_joins (read old) at slot stands p next.size (ap (λ r. r.next) (sym block_is) ∙ link) (sym (ap (λ r. is_state_free r.state) back_is) ∙ free) (ap (λ r. r.size) back_is)
+    next_joins old at slot stands p next.size (ap (λ r. r.next) (sym block_is) ∙ link) (sym (ap (λ r. is_state_free r.state) back_is) ∙ free) (ap (λ r. r.size) back_is)
 
 pub join-requires : goal.join-requires
 join-requires c =
-    let back_is = c.read-next.ensures.value ∙ ap (λ (s : Cells). record_at s.records c.in-Some.next_slot) c.read-block.ensures.touch in
-    let P : Cells → Type 0 = λ s. IsJoinable c.args.slot c.in-Some.next_slot c.in-Some.next_slot c.read-next.result.size s.records (unlinked (class c.read-next.result.size) c.in-Some.next_slot s).records in
-    subst P (sym (c.read-next.ensures.touch ∙ ap (touched 1) c.read-block.ensures.touch))
-    (joins c.args.store.now c.args.slot c.in-Some.next_slot c.requires.0 c.requires.1 c.read-block.result c.read-next.result c.read-block.ensures.value c.in-Some.is back_is (sym c.is_free.ensures ∙ c.if-not-is_free.false)).ready
+    let back_is = c.read-next.ensures.value ∙ ap (λ (s : Cells). record_at s.records c.in-Some.next_slot) c.read-block.ensures.cells in
+    rw (c.read-next.ensures.cells, c.read-block.ensures.cells)
+    (joins c.args.store.now.cells c.args.slot c.in-Some.next_slot c.requires.0 c.requires.1 c.read-block.result c.read-next.result c.read-block.ensures.value c.in-Some.is back_is (sym c.is_free.ensures ∙ c.if-not-is_free.false)).ready
 
 pub returns-clause-leads : goal.returns-clause-leads
 returns-clause-leads c at stands =
-    let back_is = c.read-next.ensures.value ∙ ap (λ (s : Cells). record_at s.records c.in-Some.next_slot) c.read-block.ensures.touch in
-    let P : Cells → Type 0 = λ s. StandsAt c.args.slot Loose s (next_joined at) in
-    subst P (sym (c.join.ensures.cells ∙ ap (λ s. record (joined c.args.slot c.in-Some.next_slot c.in-Some.next_slot c.read-next.result.size s) { touches = c.join.new.store.touches }) (c.read-next.ensures.touch ∙ ap (touched 1) c.read-block.ensures.touch)))
-    (joins c.args.store.now c.args.slot c.in-Some.next_slot at stands c.read-block.result c.read-next.result c.read-block.ensures.value c.in-Some.is back_is (sym c.is_free.ensures ∙ c.if-not-is_free.false)).leads
+    let back_is = c.read-next.ensures.value ∙ ap (λ (s : Cells). record_at s.records c.in-Some.next_slot) c.read-block.ensures.cells in
+    rw (c.join.ensures.cells, c.read-next.ensures.cells, c.read-block.ensures.cells)
+    (joins c.args.store.now.cells c.args.slot c.in-Some.next_slot at stands c.read-block.result c.read-next.result c.read-block.ensures.value c.in-Some.is back_is (sym c.is_free.ensures ∙ c.if-not-is_free.false)).leads

@@ -1,15 +1,10 @@
-use Rattle.std.proofs.Common.{◌≡◌, ℕ, ◌<◌, sym, ap, ◌∙◌, subst, arith, Some, Ok, Err}
-use Rattle.std.specs.Prelude.{Result, IfOk, IfErr, OnErr}
+use Rattle.std.proofs.Common.{◌≡◌, ℕ, ◌<◌, sym, ◌∙◌, arith, Ok, Err}
+use Rattle.std.specs.Prelude.{Result, IfOk}
 use Rattle.tlsf_class.proofs.RoundingLaws.{round-Some}
 use Rattle.tlsf_store.specs.Records.{record_at}
-use Rattle.tlsf_store.specs.Cells.{Cells}
 use Rattle.tlsf_heap.specs.Content.{blocks_of}
-use Rattle.tlsf_heap.specs.Lists.{pick}
-use Rattle.tlsf_heap.specs.Malloc.{malloc, malloc_picked}
 use Rattle.tlsf_heap.specs.GoodSlots.{slot_times}
-use Rattle.tlsf_heap.specs.Inner.Following.{Stands, content_of}
-use Rattle.tlsf_heap.proofs.Inner.Followed.{stands_touched, content_touched}
-use Rattle.tlsf_heap.proofs.Content.MallocCases.{picked_is_served}
+use Rattle.tlsf_heap.specs.Inner.Following.{content_of}
 use Rattle.tlsf_heap.proofs.Inner.Live.{free_at}
 use Rattle.tlsf_heap.proofs.Inner.Served.{slot_below, slot_new}
 use Rattle.tlsf_heap.proofs.malloc.malloc.Goals as goal
@@ -18,28 +13,11 @@ if_ok : {A E : Type 0} (result : Result A E) (P Q : A → Type 0) → ((a : A) �
 if_ok (Ok a) P Q f p = f a p
 if_ok (Err e) P Q f p = tt
 
-if_err : {A E : Type 0} (result : Result A E) (P Q : E → Type 0) → ((e : E) → P e → Q e) → IfErr result P → IfErr result Q
-if_err (Ok a) P Q f p = tt
-if_err (Err e) P Q f p = f e p
-
-on_err : {A E : Type 0} (result : Result A E) (P Q : Type 0) → (P → Q) → OnErr result P → OnErr result Q
-on_err (Ok a) P Q f p = tt
-on_err (Err e) P Q f p = f p
-
 pub pick-requires-clause-whole : goal.pick-requires-clause-whole
 pick-requires-clause-whole c = (round-Some c.args.n c.in-Some.asked (sym c.round.ensures ∙ c.in-Some.is)).whole
 
 pub pick-requires-clause-some : goal.pick-requires-clause-some
 pick-requires-clause-some c = let r = round-Some c.args.n c.in-Some.asked (sym c.round.ensures ∙ c.in-Some.is) in omega (arith, r.some, r.least)
-
-pub returns-in_default-pick-clause-stands : goal.returns-in_default-pick-clause-stands
-returns-in_default-pick-clause-stands c = let P : Cells → Type 0 = λ s. Stands s in subst P (sym c.pick.ensures.cells) (stands_touched c.args.store.now _ c.requires)
-
-pub returns-in_default-pick-clause-unchanged : goal.returns-in_default-pick-clause-unchanged
-returns-in_default-pick-clause-unchanged c = ap content_of c.pick.ensures.cells ∙ content_touched c.args.store.now _
-
-pub take-requires-clause-stands : goal.take-requires-clause-stands
-take-requires-clause-stands c = let P : Cells → Type 0 = λ s. Stands s in subst P (sym c.pick.ensures.cells) (stands_touched c.args.store.now _ c.requires)
 
 pub take-requires-clause-whole : goal.take-requires-clause-whole
 take-requires-clause-whole c = (round-Some c.args.n c.in-Some.asked (sym c.round.ensures ∙ c.in-Some.is)).whole
@@ -47,51 +25,12 @@ take-requires-clause-whole c = (round-Some c.args.n c.in-Some.asked (sym c.round
 pub take-requires-clause-some : goal.take-requires-clause-some
 take-requires-clause-some c = let r = round-Some c.args.n c.in-Some.asked (sym c.round.ensures ∙ c.in-Some.is) in omega (arith, r.some, r.least)
 
-pub take-requires-clause-found : goal.take-requires-clause-found
-take-requires-clause-found c =
-    let old : Cells = c.args.store.now in
-    ap (λ content. pick c.in-Some.asked content.lists) (ap content_of c.pick.ensures.cells ∙ content_touched old _)
-    ∙ c.in-Some-pick.ensures.found
-    ∙ ap (λ (s : Cells). Some (record_at s.records c.in-Some-pick.slot).place) (sym c.pick.ensures.cells)
-
--- malloc of the slot's block is what is left after the search
-served : (c : goal.After-take) → (owner : ℕ)
-    → malloc owner c.args.n (content_of c.args.store.now) ≡ malloc_picked owner c.in-Some.asked (Some (record_at c.pick.new.store.records c.in-Some-pick.slot).place) (content_of c.pick.new.store)
-served c owner =
-    let old : Cells = c.args.store.now in
-    let asked : ℕ = c.in-Some.asked in
-    let slot : ℕ = c.in-Some-pick.slot in
-    picked_is_served owner c.args.n (content_of old) c.if-n-eq0.false asked ((record_at old.records slot).place) (sym c.round.ensures ∙ c.in-Some.is) c.in-Some-pick.ensures.found
-    ∙ ap (malloc_picked owner asked (Some (record_at old.records slot).place)) (sym (ap content_of c.pick.ensures.cells ∙ content_touched old _))
-    ∙ ap (λ (s : Cells). malloc_picked owner asked (Some (record_at s.records slot).place) (content_of c.pick.new.store)) (sym c.pick.ensures.cells)
-
-pub returns-clause-ok : goal.returns-clause-ok
-returns-clause-ok c =
-    if_ok c.take.result
-    (λ ptr. malloc_picked ptr.slot c.in-Some.asked (Some (record_at c.pick.new.store.records c.in-Some-pick.slot).place) (content_of c.pick.new.store) ≡ Ok (ptr.place, content_of c.take.new.store))
-    (λ ptr. malloc ptr.slot c.args.n (content_of c.args.store.now) ≡ Ok (ptr.place, content_of c.take.new.store))
-    (λ ptr is. served c ptr.slot ∙ is) c.take.ensures.ok
-
 pub returns-clause-slot_below : goal.returns-clause-slot_below
 returns-clause-slot_below c =
     let slot : ℕ = c.in-Some-pick.slot in
-    let P : ℕ → Type 0 = λ n. n < (content_of c.args.store.now).records in
-    if_ok c.take.result (λ ptr. ptr.slot ≡ slot) (λ ptr. ptr.slot < (content_of c.args.store.now).records) (λ ptr is. subst P (sym is) (slot_below c.args.store.now c.requires (record_at c.args.store.now.records slot).place slot (free_at c.args.store.now c.requires slot c.in-Some-pick.ensures.free))) c.take.ensures.slot
+    if_ok c.take.result (λ ptr. ptr.slot ≡ slot) (λ ptr. ptr.slot < (content_of c.args.store.now.cells).records) (λ ptr is. rw is (slot_below c.args.store.now.cells c.requires (record_at c.args.store.now.cells.records slot).place slot (free_at c.args.store.now.cells c.requires slot c.in-Some-pick.ensures.free))) c.take.ensures.slot
 
 pub returns-clause-slot_new : goal.returns-clause-slot_new
 returns-clause-slot_new c =
     let slot : ℕ = c.in-Some-pick.slot in
-    let P : ℕ → Type 0 = λ n. slot_times n (blocks_of (content_of c.args.store.now).pools) ≡ 0 in
-    if_ok c.take.result (λ ptr. ptr.slot ≡ slot) (λ ptr. slot_times ptr.slot (blocks_of (content_of c.args.store.now).pools) ≡ 0) (λ ptr is. subst P (sym is) (slot_new c.args.store.now c.requires (record_at c.args.store.now.records slot).place slot (free_at c.args.store.now c.requires slot c.in-Some-pick.ensures.free))) c.take.ensures.slot
-
-pub returns-clause-refused : goal.returns-clause-refused
-returns-clause-refused c =
-    if_err c.take.result
-    (λ refusal. (owner : ℕ) → malloc_picked owner c.in-Some.asked (Some (record_at c.pick.new.store.records c.in-Some-pick.slot).place) (content_of c.pick.new.store) ≡ Err refusal)
-    (λ refusal. (slot : ℕ) → malloc slot c.args.n (content_of c.args.store.now) ≡ Err refusal)
-    (λ refusal is. λ owner. served c owner ∙ is owner) c.take.ensures.refused
-
-pub returns-clause-unchanged : goal.returns-clause-unchanged
-returns-clause-unchanged c =
-    on_err c.take.result (content_of c.take.new.store ≡ content_of c.pick.new.store) (content_of c.take.new.store ≡ content_of c.args.store.now)
-    (λ is. is ∙ ap content_of c.pick.ensures.cells ∙ content_touched c.args.store.now _) c.take.ensures.unchanged
+    if_ok c.take.result (λ ptr. ptr.slot ≡ slot) (λ ptr. slot_times ptr.slot (blocks_of (content_of c.args.store.now.cells).pools) ≡ 0) (λ ptr is. rw is (slot_new c.args.store.now.cells c.requires (record_at c.args.store.now.cells.records slot).place slot (free_at c.args.store.now.cells c.requires slot c.in-Some-pick.ensures.free))) c.take.ensures.slot

@@ -1,42 +1,31 @@
-use Rattle.std.proofs.Common.{◌≡◌, ℕ, ◌∷◌, sym, ap, ◌∙◌, subst, arith, Option, Some}
+use Rattle.std.proofs.Common.{◌≡◌, ◌∷◌, ap, ◌∙◌, arith, Some}
 use Rattle.tlsf_store.specs.declared.records.Record.{Record}
 use Rattle.tlsf_store.specs.Records.{record_at}
-use Rattle.tlsf_store.specs.Cells.{Cells}
 use Rattle.tlsf_heap.specs.Inner.Edits.{IsUsed}
 use Rattle.tlsf_heap.specs.Rows.{row_of}
-use Rattle.tlsf_heap.specs.Readings.{rows_by, rest_of, stands_at}
-use Rattle.tlsf_heap.specs.Inner.States.{is_state_live}
+use Rattle.tlsf_heap.specs.Readings.{rows_by, rest_of}
 use Rattle.tlsf_heap.specs.Inner.Following.{block_at}
 use Rattle.tlsf_heap.proofs.Inner.RowsRead.{stands_used, row_then_rest, rest_stands, live_is_used, past_rest}
 use Rattle.tlsf_heap.proofs.readings.row.Goals as goal
 
-used : (c : goal.After-number_of) → IsUsed c.args.store.now.records (Some c.in-Some.next)
-used c = let P : Option ℕ → Type 0 = λ o. stands_at (rows_by c.args.store.now.records) o in stands_used c.args.store.now c.requires.stands c.in-Some.next (subst P c.in-Some.is c.requires.there)
+used : (c : goal.After-number_of) → IsUsed c.args.store.now.cells.records (Some c.in-Some.next)
+used c = stands_used c.args.store.now.cells c.requires.stands c.in-Some.next (rw c.in-Some.is at c.requires.there)
 
-next_is : (c : goal.After-number_of) → c.number_of.result ≡ (record_at c.args.store.now.records c.in-Some.next).next
-next_is c = c.number_of.ensures ∙ ap (λ (r : Record). r.next) c.read-block.ensures.value
+next_is : (c : goal.After-number_of) → c.number_of.result ≡ (record_at c.args.store.now.cells.records c.in-Some.next).next
+next_is c = rw (c.number_of.ensures, c.read-block.ensures.value)
 
-row_is : (c : goal.After-number_of) → row_of (block_at c.args.store.now.records c.in-Some.next) ≡ record { place = c.read-block.result.place; size = c.read-block.result.size; used = c.is_used.result }
+row_is : (c : goal.After-number_of) → row_of (block_at c.args.store.now.cells.records c.in-Some.next) ≡ record { place = c.read-block.result.place; size = c.read-block.result.size; used = c.is_used.result }
 row_is c =
-    let r : Record = record_at c.args.store.now.records c.in-Some.next in
-    ap (λ b. record { place = r.place; size = r.size; used = b }) (live_is_used r.state c.in-Some.next r.place r.size)
-    ∙ ap (λ (x : Record). record { place = x.place; size = x.size; used = is_state_live x.state }) (sym c.read-block.ensures.value)
-    ∙ ap (λ b. record { place = c.read-block.result.place; size = c.read-block.result.size; used = b }) (sym c.is_used.ensures)
+    let r : Record = record_at c.args.store.now.cells.records c.in-Some.next in
+    rw (c.is_used.ensures, c.read-block.ensures.value) (ap (λ b. record { place = r.place; size = r.size; used = b }) (live_is_used r.state c.in-Some.next r.place r.size))
 
 pub returns-clause-some : goal.returns-clause-some
 returns-clause-some c =
-    let old : Cells = c.args.store.now in
-    ap (rest_of (rows_by old.records)) c.in-Some.is
-    ∙ row_then_rest old c.requires.stands c.in-Some.next (used c)
-    ∙ ap (λ row. row ∷ rest_of (rows_by old.records) (record_at old.records c.in-Some.next).next) (row_is c)
-    ∙ ap (λ next. record { place = c.read-block.result.place; size = c.read-block.result.size; used = c.is_used.result } ∷ rest_of (rows_by old.records) next) (sym (next_is c))
+    rw (c.in-Some.is, next_is c) (row_then_rest c.args.store.now.cells c.requires.stands c.in-Some.next (used c)
+    ∙ ap (λ row. row ∷ rest_of (rows_by c.args.store.now.cells.records) (record_at c.args.store.now.cells.records c.in-Some.next).next) (row_is c))
 
 pub returns-clause-next_stands : goal.returns-clause-next_stands
-returns-clause-next_stands c =
-    let P : Option ℕ → Type 0 = λ next. stands_at (rows_by c.args.store.now.records) next in
-    subst P (sym (next_is c)) (rest_stands c.args.store.now c.requires.stands c.in-Some.next (used c))
+returns-clause-next_stands c = rw (next_is c) (rest_stands c.args.store.now.cells c.requires.stands c.in-Some.next (used c))
 
 pub returns-then-next-records-clause-none : goal.returns-then-next-records-clause-none
-returns-then-next-records-clause-none c =
-    let old : Cells = c.args.store.now in
-    ap (rest_of (rows_by old.records)) c.in-Some.is ∙ past_rest old.records c.in-Some.next (omega (arith, c.if-next-records.true, c.records.ensures.value))
+returns-then-next-records-clause-none c = rw c.in-Some.is (past_rest c.args.store.now.cells.records c.in-Some.next (omega (arith, c.if-next-records.true, c.records.ensures.value)))

@@ -1,7 +1,5 @@
-use Rattle.std.proofs.Common.{◌≡◌, subst, Err}
+use Rattle.std.proofs.Common.{◌≡◌, Err}
 use Rattle.std.proofs.lemmas.Result.{IfErr-at_err}
-use Rattle.tlsf_heap.specs.Counted.{Counted}
-use Rattle.tlsf_heap.specs.Implied.{HasFewRecords}
 use Rattle.tlsf_heap.specs.Inner.Following.{content_of}
 use Rattle.tlsf_heap.specs.Pools.{add_pool}
 use Rattle.tlsf_heap.proofs.Inner.Standing.{content_is_good}
@@ -10,6 +8,5 @@ use Rattle.tlsf_heap.proofs.heap.Heap.add_pool.Goals as goal
 
 pub returns-clause-table_full : goal.returns-clause-table_full
 returns-clause-table_full c = λ is.
-    let P : Counted → Type 0 = λ h. HasFewRecords h.content in
-    let refused = IfErr-at_err (λ why. add_pool c.args.base c.args.bytes (content_of c.self.inside.store) ≡ Err why) is c.add_pool.ensures.refused in
-    subst P c.self.view_is (add_pool_full c.args.base c.args.bytes (content_of c.self.inside.store) (content_is_good c.self.inside.store c.self.invariant) refused)
+    let refused = IfErr-at_err (λ why. add_pool c.args.base c.args.bytes (content_of c.self.inside.store.cells) ≡ Err why) is c.add_pool.ensures.refused in
+    rw (← c.self.view_is) (add_pool_full c.args.base c.args.bytes (content_of c.self.inside.store.cells) (content_is_good c.self.inside.store.cells c.self.invariant) refused)

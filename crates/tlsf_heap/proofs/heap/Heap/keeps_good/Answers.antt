@@ -1,34 +1,21 @@
-use Rattle.std.proofs.Common.{subst}
-use Rattle.tlsf_heap.specs.Good.{IsGood}
-use Rattle.tlsf_heap.specs.GoodSlots.{HasGoodSlots}
-use Rattle.tlsf_heap.specs.Counted.{Counted}
-use Rattle.tlsf_heap.specs.Implied.{HasAlignedBlocks, HasDisjointBlocks, ListsFreeBlocks, ListsNothingElse}
 use Rattle.tlsf_heap.proofs.Inner.Standing.{content_is_good, slots_are_good}
 use Rattle.tlsf_heap.proofs.Good.Implied.{has_aligned_blocks, has_disjoint_blocks, lists_free_blocks, lists_nothing_else}
 use Rattle.tlsf_heap.proofs.heap.Heap.keeps_good.Goals as goal
 
 pub returns-clause-good : goal.returns-clause-good
-returns-clause-good c = let P : Counted → Type 0 = λ h. IsGood h.content in subst P c.self.view_is (content_is_good c.self.inside.store c.self.invariant)
+returns-clause-good c = rw (← c.self.view_is) (content_is_good c.self.inside.store.cells c.self.invariant)
 
 pub returns-clause-slots : goal.returns-clause-slots
-returns-clause-slots c = let P : Counted → Type 0 = λ h. HasGoodSlots h.content in subst P c.self.view_is (slots_are_good c.self.inside.store c.self.invariant)
+returns-clause-slots c = rw (← c.self.view_is) (slots_are_good c.self.inside.store.cells c.self.invariant)
 
 pub returns-clause-aligned : goal.returns-clause-aligned
-returns-clause-aligned c =
-    let P : Counted → Type 0 = λ h. HasAlignedBlocks h.content in
-    subst P c.self.view_is (has_aligned_blocks _ (content_is_good c.self.inside.store c.self.invariant))
+returns-clause-aligned c = rw (← c.self.view_is) (has_aligned_blocks _ (content_is_good c.self.inside.store.cells c.self.invariant))
 
 pub returns-clause-disjoint : goal.returns-clause-disjoint
-returns-clause-disjoint c =
-    let P : Counted → Type 0 = λ h. HasDisjointBlocks h.content in
-    subst P c.self.view_is (has_disjoint_blocks _ (content_is_good c.self.inside.store c.self.invariant))
+returns-clause-disjoint c = rw (← c.self.view_is) (has_disjoint_blocks _ (content_is_good c.self.inside.store.cells c.self.invariant))
 
 pub returns-clause-listed_once : goal.returns-clause-listed_once
-returns-clause-listed_once c =
-    let P : Counted → Type 0 = λ h. ListsFreeBlocks h.content in
-    subst P c.self.view_is (lists_free_blocks _ (content_is_good c.self.inside.store c.self.invariant))
+returns-clause-listed_once c = rw (← c.self.view_is) (lists_free_blocks _ (content_is_good c.self.inside.store.cells c.self.invariant))
 
 pub returns-clause-listed_alone : goal.returns-clause-listed_alone
-returns-clause-listed_alone c =
-    let P : Counted → Type 0 = λ h. ListsNothingElse h.content in
-    subst P c.self.view_is (lists_nothing_else _ (content_is_good c.self.inside.store c.self.invariant))
+returns-clause-listed_alone c = rw (← c.self.view_is) (lists_nothing_else _ (content_is_good c.self.inside.store.cells c.self.invariant))

@@ -1,9 +1,7 @@
-use Rattle.std.proofs.Common.{◌≡◌, ℕ, subst, Err}
+use Rattle.std.proofs.Common.{◌≡◌, ℕ, Err}
 use Rattle.std.proofs.lemmas.Result.{IfErr-at_err}
 use Rattle.tlsf_heap.specs.declared.refusal.Refusal.{Refusal}
 use Rattle.tlsf_heap.specs.declared.refusal.Refusal.TheVariants.{NoFit, TableFull, OutOfMemory}
-use Rattle.tlsf_heap.specs.Counted.{Counted}
-use Rattle.tlsf_heap.specs.Implied.{NoneFits, HasFewRecords}
 use Rattle.tlsf_heap.specs.Inner.Following.{content_of}
 use Rattle.tlsf_heap.specs.Malloc.{malloc}
 use Rattle.tlsf_heap.proofs.Inner.Standing.{content_is_good}
@@ -12,18 +10,16 @@ use Rattle.tlsf_heap.proofs.Content.MallocCases.{malloc_lacks_none}
 use Rattle.tlsf_heap.proofs.heap.Heap.malloc.Goals as goal
 
 -- where malloc is refused, so is it under slot 0
-refused : (c : goal.After-malloc) → (refusal : Refusal) → c.malloc.result ≡ Err refusal → malloc 0 c.args.n (content_of c.self.inside.store) ≡ Err refusal
-refused c refusal is = IfErr-at_err (λ why. (slot : ℕ) → malloc slot c.args.n (content_of c.self.inside.store) ≡ Err why) is c.malloc.ensures.refused 0
+refused : (c : goal.After-malloc) → (refusal : Refusal) → c.malloc.result ≡ Err refusal → malloc 0 c.args.n (content_of c.self.inside.store.cells) ≡ Err refusal
+refused c refusal is = IfErr-at_err (λ why. (slot : ℕ) → malloc slot c.args.n (content_of c.self.inside.store.cells) ≡ Err why) is c.malloc.ensures.refused 0
 
 pub returns-clause-no_fit : goal.returns-clause-no_fit
 returns-clause-no_fit c = λ is.
-    let P : Counted → Type 0 = λ h. NoneFits c.args.n h.content in
-    subst P c.self.view_is (no_fit 0 c.args.n (content_of c.self.inside.store) (content_is_good c.self.inside.store c.self.invariant) (refused c NoFit is))
+    rw (← c.self.view_is) (no_fit 0 c.args.n (content_of c.self.inside.store.cells) (content_is_good c.self.inside.store.cells c.self.invariant) (refused c NoFit is))
 
 pub returns-clause-table_full : goal.returns-clause-table_full
 returns-clause-table_full c = λ is.
-    let P : Counted → Type 0 = λ h. HasFewRecords h.content in
-    subst P c.self.view_is (malloc_full 0 c.args.n (content_of c.self.inside.store) (content_is_good c.self.inside.store c.self.invariant) (refused c TableFull is))
+    rw (← c.self.view_is) (malloc_full 0 c.args.n (content_of c.self.inside.store.cells) (content_is_good c.self.inside.store.cells c.self.invariant) (refused c TableFull is))
 
 pub returns-clause-never_memory : goal.returns-clause-never_memory
-returns-clause-never_memory c = λ is. malloc_lacks_none 0 c.args.n (content_of c.self.inside.store) (refused c OutOfMemory is)
+returns-clause-never_memory c = λ is. malloc_lacks_none 0 c.args.n (content_of c.self.inside.store.cells) (refused c OutOfMemory is)
