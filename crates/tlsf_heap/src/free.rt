@@ -1,6 +1,6 @@
 //! free: the block becomes free, takes in its free neighbours, and enters its class's list.
 
-ghost use Rattle.std.specs.Prelude.{◌≡◌, ◌==◌, Ok, Err, OnOk, IfErr, OnErr};
+ghost use Rattle.std.specs.Prelude.{◌≡◌, false, ◌==◌, Ok, Err, OnOk, IfErr, OnErr};
 ghost use Rattle.tlsf_class.specs.Classes.{class};
 ghost use Rattle.tlsf_heap.specs.Touches.{AtMost};
 ghost use Rattle.tlsf_heap.specs.Content.{blocks_of};
@@ -9,7 +9,7 @@ ghost use Rattle.tlsf_heap.specs.Free.{free as freed};
 ghost use Rattle.tlsf_heap.specs.Inner.Edits.{unlinked};
 ghost use Rattle.tlsf_heap.specs.Inner.States.{is_state_free};
 ghost use Rattle.tlsf_heap.specs.Inner.Chains.{joined};
-ghost use Rattle.tlsf_heap.specs.Inner.Nodes.{InUse, Listed, Loose};
+ghost use Rattle.tlsf_heap.specs.Inner.Nodes.{Status, InUse, Listed, Loose, is_listed};
 ghost use Rattle.tlsf_heap.specs.Inner.Following.{Stands, content_of};
 ghost use Rattle.tlsf_heap.specs.Inner.At.{At, StandsAt, IsJoinable, previous_joined, next_joined, at_listed, at_freed};
 
@@ -97,10 +97,10 @@ fn join_previous(store: &mut Store, slot: Slot) -> Slot
     previous_slot
 }
 
-/// The block, which is free and in no list, takes in a free one after it. At most 18 touches.
-fn join_next(store: &mut Store, slot: Slot)
-    requires { (at : At) × StandsAt slot Loose store.old.cells at }
-    ensures leads { (at : At) → StandsAt slot Loose store.old.cells at → StandsAt slot Loose store.new.cells (next_joined at) }
+/// The block, which is in no list, takes in a free one after it. At most 18 touches.
+pub(crate) fn join_next(store: &mut Store, slot: Slot)
+    requires { (status : Status) × (at : At) × (is_listed status ≡ false) × StandsAt slot status store.old.cells at }
+    ensures leads { (status : Status) (at : At) → is_listed status ≡ false → StandsAt slot status store.old.cells at → StandsAt slot status store.new.cells (next_joined at) }
     ensures touches { AtMost 18 store.old.touches store.new.touches }
 {
     let block = store.read(slot);

@@ -65,8 +65,8 @@ module _ (cells : Cells) (count : ℕ) (spot : Spot) (front node : Node) (nodes 
           fits = omega (arith, both.at_most, ap (λ (v : InPool). v.size) here.says, ap (λ (v : InPool). v.size) there.says);
         }
 
--- the same where the node in front is loose and the one behind is listed
-module _ (cells : Cells) (count : ℕ) (spot : Spot) (node behind : Node) (nodes : List Node) (lists : List (List Node)) (taken : List ℕ) (node_loose : node.status ≡ Loose)
+-- the same where the node in front isn't listed and the one behind is
+module _ (cells : Cells) (count : ℕ) (spot : Spot) (node behind : Node) (nodes : List Node) (lists : List (List Node)) (taken : List ℕ) (unlisted : is_listed node.status ≡ false)
     (was : Represents cells (laid count spot (node ∷ turned Listed behind ∷ nodes) lists taken)) (covered : AreCovered 0 (map pool_of (filled spot (node ∷ turned Listed behind ∷ nodes)))) where
   abbrev next_spot : Spot
   next_spot = record spot { before = node ∷ spot.before }
@@ -78,7 +78,7 @@ module _ (cells : Cells) (count : ℕ) (spot : Spot) (node behind : Node) (nodes
   back_covered = covered_refilled spot (node ∷ turned Listed behind ∷ nodes) (record node { size = node.size + behind.size } ∷ nodes) (λ from to c. covers_both node.status node (turned Listed behind) nodes from to c) covered
 
   pub back_laid : Represents (joined node.slot behind.slot behind.slot behind.size cells) (laid count spot (record node { size = node.size + behind.size } ∷ nodes) (left (turned Listed behind) lists) taken)
-  back_laid = join_laid (unlinked (class behind.size) behind.slot cells) count spot node (turned Loose behind) nodes (left (turned Listed behind) lists) taken back_unlinked (loose_unlisted node.status node_loose) refl
+  back_laid = join_laid (unlinked (class behind.size) behind.slot cells) count spot node (turned Loose behind) nodes (left (turned Listed behind) lists) taken back_unlinked unlisted refl
 
   pub back_joinable : IsJoinable node.slot behind.slot behind.slot behind.size cells.records (unlinked (class behind.size) behind.slot cells).records
   back_joinable =
@@ -101,16 +101,16 @@ module _ (cells : Cells) (count : ℕ) (spot : Spot) (node behind : Node) (nodes
       }
 
 -- what a step leads to
-pub record Joins (slot behind listed size result : ℕ) (cells : Cells) (after : At) : Type 0 where
+pub record Joins (slot behind listed size result : ℕ) (status : Status) (cells : Cells) (after : At) : Type 0 where
   pub ready : IsJoinable slot behind listed size cells.records (unlinked (class size) listed cells).records
-  pub leads : StandsAt result Loose (joined slot behind listed size cells) after
+  pub leads : StandsAt result status (joined slot behind listed size cells) after
 
 -- the node in front is free
 module _ (cells : Cells) (at : At) (front : Node) (before : List Node) where
   abbrev seen : List Node → At
   seen nodes = record at { spot = record at.spot { before = nodes } }
 
-  joins_seen : (slot : ℕ) → StandsAt slot Loose cells (seen (turned Listed front ∷ before)) → Joins front.slot at.node.slot front.slot front.size front.slot cells (previous_joined (seen (turned Listed front ∷ before)))
+  joins_seen : (slot : ℕ) → StandsAt slot Loose cells (seen (turned Listed front ∷ before)) → Joins front.slot at.node.slot front.slot front.size front.slot Loose cells (previous_joined (seen (turned Listed front ∷ before)))
   joins_seen slot stands =
       let spot : Spot = record at.spot { before = before } in
       let loose : Node → Bool = λ node. is_loose node.status in
@@ -135,18 +135,18 @@ module _ (cells : Cells) (at : At) (front : Node) (before : List Node) where
 
 -- the node behind is free
 module _ (cells : Cells) (at : At) (behind : Node) (nodes : List Node) where
-  joins_behind : (slot : ℕ) → StandsAt slot Loose cells (record at { nodes = turned Listed behind ∷ nodes }) → Joins at.node.slot behind.slot behind.slot behind.size at.node.slot cells (next_joined (record at { nodes = turned Listed behind ∷ nodes }))
-  joins_behind slot stands =
+  joins_behind : (slot : ℕ) (status : Status) → is_listed status ≡ false → StandsAt slot status cells (record at { nodes = turned Listed behind ∷ nodes }) → Joins at.node.slot behind.slot behind.slot behind.size at.node.slot status cells (next_joined (record at { nodes = turned Listed behind ∷ nodes }))
+  joins_behind slot status unlisted stands =
       let loose : Node → Bool = λ node. is_loose node.status in
       record {
-        ready = back_joinable cells at.count at.spot at.node behind nodes at.lists at.taken stands.1.status_is stands.0 stands.1.covered;
+        ready = back_joinable cells at.count at.spot at.node behind nodes at.lists at.taken (ap is_listed stands.1.status_is ∙ unlisted) stands.0 stands.1.covered;
         leads = (
-          back_laid cells at.count at.spot at.node behind nodes at.lists at.taken stands.1.status_is stands.0 stands.1.covered,
+          back_laid cells at.count at.spot at.node behind nodes at.lists at.taken (ap is_listed stands.1.status_is ∙ unlisted) stands.0 stands.1.covered,
           record {
             slot_is = refl;
             status_is = stands.1.status_is;
             others_settled = omega (arith, stands.1.others_settled, count-filled loose at.spot (turned Listed behind ∷ nodes), count-filled loose at.spot nodes, count-cons loose (turned Listed behind) nodes);
-            covered = back_covered cells at.count at.spot at.node behind nodes at.lists at.taken stands.1.status_is stands.0 stands.1.covered;
+            covered = back_covered cells at.count at.spot at.node behind nodes at.lists at.taken (ap is_listed stands.1.status_is ∙ unlisted) stands.0 stands.1.covered;
           },
         );
       }
@@ -241,14 +241,14 @@ unjoined_back at same = λ i. record at { nodes = same.0 i; node = grown_behind 
 
 module _ (cells : Cells) (at : At) (slot : ℕ) (stands : StandsAt slot Loose cells at) where
   -- the free block in front takes it in
-  pub previous_joins : (p size : ℕ) → (record_at cells.records slot).prev ≡ Some p → is_state_free (record_at cells.records p).state ≡ true → size ≡ (record_at cells.records p).size → Joins p slot p size p cells (previous_joined at)
+  pub previous_joins : (p size : ℕ) → (record_at cells.records slot).prev ≡ Some p → is_state_free (record_at cells.records p).state ≡ true → size ≡ (record_at cells.records p).size → Joins p slot p size p Loose cells (previous_joined at)
   previous_joins p size link free size_is =
       let by : Neighbour cells.records p at.spot.before = in_front cells at slot Loose stands p link in
-      let P : List Node → Type 0 = λ ns. StandsAt slot Loose cells (seen cells at by.node by.others ns) → Joins by.node.slot at.node.slot by.node.slot by.node.size by.node.slot cells (previous_joined (seen cells at by.node by.others ns)) in
-      let base : Joins by.node.slot at.node.slot by.node.slot by.node.size by.node.slot cells (previous_joined at) = subst P (sym (turned_listed cells.records p at.spot.before by free)) (joins_seen cells at by.node by.others slot) stands in
-      let Q : ℕ → Type 0 = λ n. Joins n slot n size n cells (previous_joined at) in
-      let R : ℕ → Type 0 = λ n. Joins by.node.slot n by.node.slot size by.node.slot cells (previous_joined at) in
-      let S : ℕ → Type 0 = λ n. Joins by.node.slot at.node.slot by.node.slot n by.node.slot cells (previous_joined at) in
+      let P : List Node → Type 0 = λ ns. StandsAt slot Loose cells (seen cells at by.node by.others ns) → Joins by.node.slot at.node.slot by.node.slot by.node.size by.node.slot Loose cells (previous_joined (seen cells at by.node by.others ns)) in
+      let base : Joins by.node.slot at.node.slot by.node.slot by.node.size by.node.slot Loose cells (previous_joined at) = subst P (sym (turned_listed cells.records p at.spot.before by free)) (joins_seen cells at by.node by.others slot) stands in
+      let Q : ℕ → Type 0 = λ n. Joins n slot n size n Loose cells (previous_joined at) in
+      let R : ℕ → Type 0 = λ n. Joins by.node.slot n by.node.slot size by.node.slot Loose cells (previous_joined at) in
+      let S : ℕ → Type 0 = λ n. Joins by.node.slot at.node.slot by.node.slot n by.node.slot Loose cells (previous_joined at) in
       subst Q by.slot_is (subst R stands.1.slot_is (subst S (sym (size_is ∙ by.size_is)) base))
 
   pub front_stays : (record_at cells.records slot).prev ≡ None → previous_joined at ≡ at
@@ -257,19 +257,20 @@ module _ (cells : Cells) (at : At) (slot : ℕ) (stands : StandsAt slot Loose ce
   pub front_is_live : (p : ℕ) → (record_at cells.records slot).prev ≡ Some p → is_state_free (record_at cells.records p).state ≡ false → previous_joined at ≡ at
   front_is_live p link live = unjoined_front at (past_live cells.records p at.spot.before (in_front cells at slot Loose stands p link) live)
 
+module _ (cells : Cells) (at : At) (slot : ℕ) (status : Status) (unlisted : is_listed status ≡ false) (stands : StandsAt slot status cells at) where
   -- it takes in the free block behind
-  pub next_joins : (n size : ℕ) → (record_at cells.records slot).next ≡ Some n → is_state_free (record_at cells.records n).state ≡ true → size ≡ (record_at cells.records n).size → Joins slot n n size slot cells (next_joined at)
+  pub next_joins : (n size : ℕ) → (record_at cells.records slot).next ≡ Some n → is_state_free (record_at cells.records n).state ≡ true → size ≡ (record_at cells.records n).size → Joins slot n n size slot status cells (next_joined at)
   next_joins n size link free size_is =
-      let by : Neighbour cells.records n at.nodes = in_back cells at slot Loose stands n link in
-      let P : List Node → Type 0 = λ ns. StandsAt slot Loose cells (record at { nodes = ns }) → Joins at.node.slot by.node.slot by.node.slot by.node.size at.node.slot cells (next_joined (record at { nodes = ns })) in
-      let base : Joins at.node.slot by.node.slot by.node.slot by.node.size at.node.slot cells (next_joined at) = subst P (sym (turned_listed cells.records n at.nodes by free)) (joins_behind cells at by.node by.others slot) stands in
-      let Q : ℕ → Type 0 = λ m. Joins slot m m size slot cells (next_joined at) in
-      let R : ℕ → Type 0 = λ m. Joins m by.node.slot by.node.slot size m cells (next_joined at) in
-      let S : ℕ → Type 0 = λ m. Joins at.node.slot by.node.slot by.node.slot m at.node.slot cells (next_joined at) in
+      let by : Neighbour cells.records n at.nodes = in_back cells at slot status stands n link in
+      let P : List Node → Type 0 = λ ns. StandsAt slot status cells (record at { nodes = ns }) → Joins at.node.slot by.node.slot by.node.slot by.node.size at.node.slot status cells (next_joined (record at { nodes = ns })) in
+      let base : Joins at.node.slot by.node.slot by.node.slot by.node.size at.node.slot status cells (next_joined at) = subst P (sym (turned_listed cells.records n at.nodes by free)) (joins_behind cells at by.node by.others slot status unlisted) stands in
+      let Q : ℕ → Type 0 = λ m. Joins slot m m size slot status cells (next_joined at) in
+      let R : ℕ → Type 0 = λ m. Joins m by.node.slot by.node.slot size m status cells (next_joined at) in
+      let S : ℕ → Type 0 = λ m. Joins at.node.slot by.node.slot by.node.slot m at.node.slot status cells (next_joined at) in
       subst Q by.slot_is (subst R stands.1.slot_is (subst S (sym (size_is ∙ by.size_is)) base))
 
   pub back_stays : (record_at cells.records slot).next ≡ None → next_joined at ≡ at
-  back_stays none = unjoined_back at (past_none at.nodes (sym (next_is cells at slot Loose stands) ∙ none))
+  back_stays none = unjoined_back at (past_none at.nodes (sym (next_is cells at slot status stands) ∙ none))
 
   pub back_is_live : (n : ℕ) → (record_at cells.records slot).next ≡ Some n → is_state_free (record_at cells.records n).state ≡ false → next_joined at ≡ at
-  back_is_live n link live = unjoined_back at (past_live cells.records n at.nodes (in_back cells at slot Loose stands n link) live)
+  back_is_live n link live = unjoined_back at (past_live cells.records n at.nodes (in_back cells at slot status stands n link) live)

@@ -28,7 +28,7 @@ returns-then-not-is_free-clause-leads c at stands =
 
 -- what join needs and leaves
 joins : (old : Cells) (slot p : ℕ) (at : At) → StandsAt slot Loose old at → (block previous : Record) → block ≡ record_at old.records slot → block.prev ≡ Some p → previous ≡ record_at old.records p → is_state_free previous.state ≡ true
-    → Joins p slot p previous.size p old (previous_joined at)
+    → Joins p slot p previous.size p Loose old (previous_joined at)
 joins old slot p at stands block previous block_is link front_is free =
     previous_joins old at slot stands p previous.size (ap (λ r. r.prev) (sym block_is) ∙ link) (sym (ap (λ r. is_state_free r.state) front_is) ∙ free) (ap (λ r. r.size) front_is)
 

@@ -19,15 +19,15 @@ join_previous-start-requires c = (at_turned Loose c.requires.0, loose c.args.sto
 
 pub join_next-requires : goal.join_next-requires
 join_next-requires c =
-    (previous_joined (at_turned Loose c.requires.0), c.join_previous-start.ensures.leads (at_turned Loose c.requires.0) (loose c.args.store.now.cells c.set_state.new.store.cells c.args.slot c.requires.0 c.requires.1 c.set_state.ensures.cells))
+    (Loose, previous_joined (at_turned Loose c.requires.0), refl, c.join_previous-start.ensures.leads (at_turned Loose c.requires.0) (loose c.args.store.now.cells c.set_state.new.store.cells c.args.slot c.requires.0 c.requires.1 c.set_state.ensures.cells))
 
 pub enter-requires : goal.enter-requires
 enter-requires c =
     let at : At = at_turned Loose c.requires.0 in
-    (next_joined (previous_joined at), c.join_next.ensures.leads (previous_joined at) (c.join_previous-start.ensures.leads at (loose c.args.store.now.cells c.set_state.new.store.cells c.args.slot c.requires.0 c.requires.1 c.set_state.ensures.cells)))
+    (next_joined (previous_joined at), c.join_next.ensures.leads Loose (previous_joined at) refl (c.join_previous-start.ensures.leads at (loose c.args.store.now.cells c.set_state.new.store.cells c.args.slot c.requires.0 c.requires.1 c.set_state.ensures.cells)))
 
 pub returns-clause-leads : goal.returns-clause-leads
 returns-clause-leads c from stands =
     let at : At = at_turned Loose from in
-    let end = c.enter.ensures.leads (next_joined (previous_joined at)) (c.join_next.ensures.leads (previous_joined at) (c.join_previous-start.ensures.leads at (loose c.args.store.now.cells c.set_state.new.store.cells c.args.slot from stands c.set_state.ensures.cells))) in
+    let end = c.enter.ensures.leads (next_joined (previous_joined at)) (c.join_next.ensures.leads Loose (previous_joined at) refl (c.join_previous-start.ensures.leads at (loose c.args.store.now.cells c.set_state.new.store.cells c.args.slot from stands c.set_state.ensures.cells))) in
     (end.0, record { slot_is = refl; status_is = refl; others_settled = end.1.others_settled; covered = end.1.covered })
