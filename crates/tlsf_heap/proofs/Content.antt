@@ -5,5 +5,7 @@ pub mod Beside
 pub mod Replacing
 pub mod FreeLists
 pub mod MallocCases
+pub mod ReallocCases
+pub mod Results
 pub mod BareSteps
 pub mod BareFree

@@ -19,6 +19,7 @@ pub mod Used
 pub mod Joinable
 pub mod Steps
 pub mod Live
+pub mod Resizing
 pub mod Allotted
 pub mod Served
 pub mod Picked

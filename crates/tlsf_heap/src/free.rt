@@ -40,7 +40,7 @@ pub(crate) fn free(store: &mut Store, ptr: Ptr) -> Result<(), Refusal>
 }
 
 /// Whether a live block has the pointer's place and slot. At most one touch.
-fn is_live(store: &mut Store, ptr: Ptr) -> bool
+pub(crate) fn is_live(store: &mut Store, ptr: Ptr) -> bool
     requires { Stands store.old.cells }
     ensures value { result ≡ is_live_in (λ slot. slot == ptr.slot) ptr.place (blocks_of (content_of store.old.cells).pools) }
     ensures cells { store.new.cells ≡ store.old.cells }
@@ -57,7 +57,7 @@ fn is_live(store: &mut Store, ptr: Ptr) -> bool
 }
 
 /// The block becomes free, and one free block with its free neighbours in the pool. At most 49 touches.
-fn release(store: &mut Store, slot: Slot)
+pub(crate) fn release(store: &mut Store, slot: Slot)
     requires { (at : At) × StandsAt slot InUse store.old.cells at }
     ensures leads { (at : At) → StandsAt slot InUse store.old.cells at → StandsAt (at_freed at).node.slot Listed store.new.cells (at_freed at) }
     ensures touches { AtMost 49 store.old.touches store.new.touches }
@@ -69,7 +69,7 @@ fn release(store: &mut Store, slot: Slot)
 }
 
 /// Whether a record in this state is of a free block.
-fn is_free(state: State) -> bool
+pub(crate) fn is_free(state: State) -> bool
     ensures { result ≡ is_state_free state }
 {
     match state {

@@ -4,7 +4,8 @@ use crate::add_pool::add_pool;
 use crate::entries::{entries, pool_ranges};
 use crate::free::free;
 use crate::malloc::malloc;
-use crate::readings::{first, row};
+use crate::readings::{block_size, first, row};
+use crate::realloc::realloc;
 use crate::{Cursor, Heaped, Ptr, Refusal, Row};
 use arrayvec::ArrayVec;
 use std::alloc::Global;
@@ -41,6 +42,9 @@ impl Heap {
     ghost use Rattle.tlsf_heap.specs.Content.{blocks_of};
     ghost use Rattle.tlsf_heap.specs.Malloc.{malloc as served};
     ghost use Rattle.tlsf_heap.specs.Free.{free as freed};
+    ghost use Rattle.tlsf_heap.specs.Realloc.{realloc as reallocated};
+    ghost use Rattle.tlsf_heap.specs.BlockSize.{block_size as sized};
+    ghost use Rattle.tlsf_heap.specs.Pointer.{place_and_slot, slot_of};
     ghost use Rattle.tlsf_heap.specs.Rows.{rows_from};
     ghost use Rattle.tlsf_heap.specs.Readings.{rows_behind, is_at_row};
     ghost use Rattle.tlsf_heap.specs.Pools.{created, add_pool as added};
@@ -127,6 +131,47 @@ impl Heap {
         ensures bound { self.new.touches ≤ self.old.touches + 96 }
     {
         free(&mut self.store, ptr)
+    }
+
+    /// The block with room for `n` bytes, rounded up to the unit, in its place where it can have them: with
+    /// the free block behind it, or smaller. Else a new block is given, and the old one is freed; which bytes
+    /// are copied is the caller's. Without a pointer it is `malloc`. The answer to 0 bytes is `None`, and the
+    /// block is freed. A block that gets smaller stays as it is where no free block is behind it and each record
+    /// is in use. At most 256 touches.
+    ///
+    /// # Errors
+    ///
+    /// `BadPointer` unless a live block has both the pointer's place and its slot; as `malloc` without a
+    /// pointer, or where the block has to move: then the old block is as it was.
+    pub fn realloc(&mut self, ptr: Option<Ptr>, n: u64) -> Result<Option<Ptr>, Refusal>
+        ensures ok { IfOk result (λ given. reallocated (λ a b. a == b) (slot_of given) (place_and_slot ptr) n self.old.content ≡ Ok (place_and_slot given, self.new.content)) }
+        ensures slot_below { IfOk result (λ given. IfSome given (λ p. p.slot < self.old.content.records)) }
+        ensures slot_new { IfOk result (λ given. IfSome given (λ p. ptr ≢ Some p → slot_times p.slot (blocks_of self.old.content.pools) ≡ 0)) }
+        ensures refused { IfErr result (λ refusal. (slot : ℕ) → reallocated (λ a b. a == b) slot (place_and_slot ptr) n self.old.content ≡ Err refusal) }
+        ensures table_full { result ≡ Err TableFull → HasFewRecords self.old.content }
+        ensures never_memory { result ≢ Err Refusal.OutOfMemory }
+        ensures unchanged { OnErr result (self.new.content ≡ self.old.content) }
+        ensures others { OnErr result (self.new.rows ≡ self.old.rows) }
+        ensures floor { self.old.touches ≤ self.new.touches }
+        ensures bound { self.new.touches ≤ self.old.touches + 256 }
+    {
+        realloc(&mut self.store, ptr, n)
+    }
+
+    /// The size of a live block, in bytes. At most four touches.
+    ///
+    /// # Errors
+    ///
+    /// `BadPointer` unless a live block has both the pointer's place and its slot.
+    pub fn block_size(&mut self, ptr: Ptr) -> Result<u32, Refusal>
+        ensures ok { IfOk result (λ bytes. sized (λ slot. slot == ptr.slot) ptr.place self.old.content ≡ Ok bytes) }
+        ensures refused { IfErr result (λ refusal. sized (λ slot. slot == ptr.slot) ptr.place self.old.content ≡ Err refusal) }
+        ensures others { self.new.rows ≡ self.old.rows }
+        ensures unchanged { self.new.content ≡ self.old.content }
+        ensures floor { self.old.touches ≤ self.new.touches }
+        ensures bound { self.new.touches ≤ self.old.touches + 4 }
+    {
+        block_size(&mut self.store, ptr)
     }
 
     /// Where each pool begins and how many bytes it has, in order of base. At most eight touches.

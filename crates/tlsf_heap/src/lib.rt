@@ -19,6 +19,7 @@ mod pointer;
 mod pool_entry;
 mod pools;
 mod readings;
+mod realloc;
 mod refusal;
 mod request;
 mod row;

@@ -1,17 +1,17 @@
 //! malloc: the block picked is taken, whole or in part.
 
-ghost use Rattle.std.specs.Prelude.{◌≡◌, ℕ, ◌%◌, ◌<◌, Some, None, Ok, Err, IfSome, IfNone, IfOk, IfErr, OnErr};
+ghost use Rattle.std.specs.Prelude.{◌≡◌, ℕ, ◌%◌, ◌<◌, ◌≤◌, Some, None, Ok, Err, IfSome, IfNone, IfOk, IfErr, OnErr};
 ghost use Rattle.tlsf_class.specs.Classes.{unit};
 ghost use Rattle.tlsf_store.specs.declared.records.State.TheVariants.{Free};
-ghost use Rattle.tlsf_store.specs.Records.{record_at};
+ghost use Rattle.tlsf_store.specs.Records.{record_at, vacant_count};
 ghost use Rattle.tlsf_heap.specs.Touches.{AtMost};
 ghost use Rattle.tlsf_heap.specs.Content.{blocks_of};
 ghost use Rattle.tlsf_heap.specs.Lists.{pick as picked};
-ghost use Rattle.tlsf_heap.specs.Malloc.{malloc as served, malloc_picked};
+ghost use Rattle.tlsf_heap.specs.Malloc.{malloc as served, malloc_rounded, malloc_picked};
 ghost use Rattle.tlsf_heap.specs.GoodSlots.{slot_times};
 ghost use Rattle.tlsf_heap.specs.Inner.Following.{Stands, content_of};
 ghost use Rattle.tlsf_heap.specs.Inner.Nodes.{InUse, Listed};
-ghost use Rattle.tlsf_heap.specs.Inner.At.{At, StandsAt, with_slot, at_taken, at_cut};
+ghost use Rattle.tlsf_heap.specs.Inner.At.{At, StandsAt, with_slot, at_taken, at_cut, at_trimmed};
 
 use crate::chains::{set_state, split};
 use crate::free_lists::{link, unlink};
@@ -41,6 +41,26 @@ pub(crate) fn malloc(store: &mut Store, n: u64) -> Result<Ptr, Refusal>
     let Some(asked) = round(n) else {
         return Err(Refusal::NoFit);
     };
+    allocate(store, asked)
+}
+
+/// A live block of `asked` bytes: the first of those that the block picked has. At most 32 touches.
+///
+/// # Errors
+///
+/// `NoFit` where none is picked; `TableFull` where a rest would be left and no record is vacant.
+pub(crate) fn allocate(store: &mut Store, asked: u32) -> Result<Ptr, Refusal>
+    requires stands { Stands store.old.cells }
+    requires whole { asked % unit ≡ 0 }
+    requires some { 0 < asked }
+    ensures stands { Stands store.new.cells }
+    ensures ok { IfOk result (λ ptr. malloc_rounded ptr.slot (Some asked) (content_of store.old.cells) ≡ Ok (ptr.place, content_of store.new.cells)) }
+    ensures slot_below { IfOk result (λ ptr. ptr.slot < (content_of store.old.cells).records) }
+    ensures slot_new { IfOk result (λ ptr. slot_times ptr.slot (blocks_of (content_of store.old.cells).pools) ≡ 0) }
+    ensures refused { IfErr result (λ refusal. (slot : ℕ) → malloc_rounded slot (Some asked) (content_of store.old.cells) ≡ Err refusal) }
+    ensures cells { OnErr result (store.new.cells ≡ store.old.cells) }
+    ensures touches { AtMost 32 store.old.touches store.new.touches }
+{
     let Some(slot) = pick(store, asked) else {
         return Err(Refusal::NoFit);
     };
@@ -131,4 +151,24 @@ fn cut(store: &mut Store, slot: Slot, rest: Slot, bytes: u32, size: u32)
 {
     split(store, slot, rest, bytes);
     link(store, class_of(size - bytes), rest);
+}
+
+/// A live block keeps its first bytes. What is left, where anything is, is a free block first in its
+/// class's list. At most 18 touches.
+pub(crate) fn trim(store: &mut Store, slot: Slot, bytes: u32)
+    requires stands { (at : At) × StandsAt slot InUse store.old.cells at × (bytes ≤ at.node.size) }
+    requires some { 0 < bytes }
+    requires whole { bytes % unit ≡ 0 }
+    requires room { bytes < (record_at store.old.cells.records slot).size → 0 < vacant_count store.old.cells.records }
+    ensures leads { (at : At) → StandsAt slot InUse store.old.cells at → (rest : ℕ) × StandsAt slot InUse store.new.cells (at_trimmed rest bytes at) }
+    ensures touches { AtMost 18 store.old.touches store.new.touches }
+{
+    let block = store.read(slot);
+    if block.size == bytes {
+        return;
+    }
+    let Some(rest) = store.take_vacant() else {
+        unreachable!()
+    };
+    cut(store, slot, rest, bytes, block.size);
 }

@@ -1,15 +1,17 @@
 //! Readings: the first row of a pool, and the rows behind it.
 
-ghost use Rattle.std.specs.Prelude.{◌≡◌, ◌+◌, ◌-◌, ◌<◌, ◌≤◌, [], ◌∷◌, Ok, Err, IfOk, IfErr, IfSome, IfNone};
+ghost use Rattle.std.specs.Prelude.{◌≡◌, ◌==◌, ◌+◌, ◌-◌, ◌<◌, ◌≤◌, [], ◌∷◌, Ok, Err, IfOk, IfErr, IfSome, IfNone};
 ghost use Rattle.tlsf_store.specs.Cells.{most_pools};
 ghost use Rattle.tlsf_heap.specs.Touches.{AtMost};
 ghost use Rattle.tlsf_heap.specs.Inner.Following.{Stands, content_of};
 ghost use Rattle.tlsf_heap.specs.Inner.Entries.{entries_of};
 ghost use Rattle.tlsf_heap.specs.Rows.{rows_from};
+ghost use Rattle.tlsf_heap.specs.BlockSize.{block_size as sized};
 ghost use Rattle.tlsf_heap.specs.Readings.{rows_by, rest_of, stands_at, slot_for, begins_below, slot_if, AreInOrder, IsNarrowed};
 ghost use Rattle.tlsf_heap.specs.Inner.States.{is_state_live};
 
-use crate::{Cursor, Refusal, Row};
+use crate::free::is_live;
+use crate::{Cursor, Ptr, Refusal, Row};
 use tlsf_store::{MOST_POOLS, Pool, Slot, State, Store};
 
 /// Half of the pool entries.
@@ -141,4 +143,23 @@ fn number_of(slot: Option<Slot>) -> Option<u32>
         Some(slot) => Some(u32::from(slot.0)),
         None => None,
     }
+}
+
+/// The size in bytes of the block that the pointer is of. At most two touches.
+///
+/// # Errors
+///
+/// `BadPointer` unless a live block has both the pointer's place and its slot.
+pub(crate) fn block_size(store: &mut Store, ptr: Ptr) -> Result<u32, Refusal>
+    requires { Stands store.old.cells }
+    ensures ok { IfOk result (λ bytes. sized (λ slot. slot == ptr.slot) ptr.place (content_of store.old.cells) ≡ Ok bytes) }
+    ensures refused { IfErr result (λ refusal. sized (λ slot. slot == ptr.slot) ptr.place (content_of store.old.cells) ≡ Err refusal) }
+    ensures cells { store.new.cells ≡ store.old.cells }
+    ensures touches { AtMost 2 store.old.touches store.new.touches }
+{
+    if !is_live(store, ptr) {
+        return Err(Refusal::BadPointer);
+    }
+    let block = store.read(Slot(ptr.slot()));
+    Ok(block.size)
 }

@@ -1,6 +1,7 @@
 //! Rows of the heap.
 
 mod random;
+mod resizing;
 mod rows;
 
 use super::*;

@@ -1,16 +1,16 @@
 -- A listed node leaves its list and is in use, and what is left behind its first bytes is listed: what the steps need and leave.
-use Rattle.std.proofs.Common.{◌≡◌, ℕ, ◌+◌, ◌-◌, ◌%◌, ◌<◌, Bool, List, ◌∷◌, length, map, refl, ap, subst, arith, Some}
-use Rattle.std.proofs.lemmas.Bool.{eq-eqb}
+use Rattle.std.proofs.Common.{◌≡◌, ℕ, ◌+◌, ◌-◌, ◌%◌, ◌<◌, Bool, List, ◌∷◌, length, map, refl, ap, subst, arith, Some, true, false, cond, [], ◌++◌, sym, count_by, ◌≤◌}
+use Rattle.std.proofs.lemmas.Bool.{eq-eqb, ne_eqb}
 use Rattle.tlsf_class.specs.Classes.{unit, class}
 use Rattle.tlsf_store.specs.Records.{blank, record_at}
 use Rattle.tlsf_store.specs.Cells.{Cells, with_taken}
 use Rattle.tlsf_heap.specs.Good.{Covers}
 use Rattle.tlsf_heap.specs.Inner.Edits.{IsUsed, unlinked}
 use Rattle.tlsf_heap.specs.Inner.Chains.{split}
-use Rattle.tlsf_heap.specs.Inner.Nodes.{Status, InUse, Listed, Loose, Node, turned, rest_node, block_of, is_listed}
+use Rattle.tlsf_heap.specs.Inner.Nodes.{Status, InUse, Listed, Loose, Node, turned, rest_node, block_of, is_listed, Layout, pool_of, nodes_of}
 use Rattle.tlsf_heap.specs.Inner.Joined.{is_loose}
 use Rattle.tlsf_heap.specs.Inner.Represents.{Represents}
-use Rattle.tlsf_heap.specs.Inner.At.{At, layout_at, StandsAt, at_unlisted, with_slot, at_split}
+use Rattle.tlsf_heap.specs.Inner.At.{At, layout_at, StandsAt, at_unlisted, with_slot, at_split, AreCovered, at_cut, at_trimmed}
 use Rattle.tlsf_heap.proofs.Counts.{one_if, count-cons}
 use Rattle.tlsf_heap.proofs.Inner.Plugs.{count-filled}
 use Rattle.tlsf_heap.proofs.Content.FreeLists.{times-cons}
@@ -21,6 +21,8 @@ use Rattle.tlsf_heap.proofs.Inner.Split.{split_laid}
 use Rattle.tlsf_heap.proofs.Inner.Taken.{slot_taken}
 use Rattle.tlsf_heap.proofs.Inner.Steps.{covered_turned}
 use Rattle.tlsf_heap.proofs.Meaning.Covered.{covered_refilled}
+use Rattle.std.specs.Prelude.{◌==◌}
+use Rattle.tlsf_heap.specs.Inner.Spots.{filled}
 
 module _ (cells : Cells) (slot : ℕ) (at : At) (stands : StandsAt slot Listed cells at) where
   listed_was : Represents cells (layout_at (record at { node = turned Listed at.node }))
@@ -87,3 +89,41 @@ module _ (cells : Cells) (slot rest : ℕ) (at : At) (stands : StandsAt slot InU
             covered = covered_refilled at.spot (at.node ∷ at.nodes) (first ∷ rest_node rest bytes at.node ∷ at.nodes) (covers_cut rest bytes at.node at.nodes some less whole) stands.1.covered;
           },
         )
+
+-- a gap of no bytes is none, and another is a node
+trimmed_all : (rest : ℕ) (at : At) → at_trimmed rest at.node.size at ≡ at
+trimmed_all rest at =
+    let nothing : ((at.node.size - at.node.size) == 0) ≡ true = eq-eqb (at.node.size - at.node.size) 0 (omega arith) in
+    rw nothing refl
+
+trimmed_cut : (rest bytes : ℕ) (at : At) → bytes < at.node.size → layout_at (at_cut rest bytes at) ≡ layout_at (at_trimmed rest bytes at)
+trimmed_cut rest bytes at less =
+    let some : ((at.node.size - bytes) == 0) ≡ false = ne_eqb (at.node.size - bytes) 0 (λ e. omega (arith, e, less)) in
+    rw some refl
+
+-- the node keeps all
+pub trimmed_none : (cells : Cells) (slot rest bytes : ℕ) (at : At) → StandsAt slot InUse cells at → bytes ≡ at.node.size → StandsAt slot InUse cells (at_trimmed rest bytes at)
+trimmed_none cells slot rest bytes at stands all =
+    let P : At → Type 0 = λ a. StandsAt slot InUse cells a in
+    let Q : ℕ → Type 0 = λ n. StandsAt slot InUse cells (at_trimmed rest n at) in
+    subst Q (sym all) (subst P (sym (trimmed_all rest at)) stands)
+
+-- the node keeps its first bytes, and the rest was linked
+pub trimmed_stands : (old new : Cells) (slot rest bytes : ℕ) (at : At) → StandsAt slot InUse old at → bytes < at.node.size → StandsAt rest Listed new (at_cut rest bytes at) → StandsAt slot InUse new (at_trimmed rest bytes at)
+trimmed_stands old new slot rest bytes at was less stands =
+    let loose : Node → Bool = λ n. is_loose n.status in
+    let first : Node = record at.node { size = bytes } in
+    let second : Node = record { slot = rest; place = at.node.place + bytes; size = at.node.size - bytes; status = Listed } in
+    let same = trimmed_cut rest bytes at less in
+    let some : ((at.node.size - bytes) == 0) ≡ false = ne_eqb (at.node.size - bytes) 0 (λ e. omega (arith, e, less)) in
+    let P : Layout → Type 0 = λ l. Represents new l in
+    let Q : Layout → Type 0 = λ l. AreCovered 0 (map pool_of l.areas) in
+    let R : Bool → Type 0 = λ b. count_by loose (nodes_of (filled at.spot (cond b [] (second ∷ []) ++ at.nodes))) ≡ 0 in (
+      subst P same stands.0,
+      record {
+        slot_is = was.1.slot_is;
+        status_is = was.1.status_is;
+        others_settled = subst R (sym some) (omega (arith, was.1.others_settled, count-filled loose at.spot at.nodes, count-filled loose at.spot (second ∷ at.nodes), count-cons loose second at.nodes));
+        covered = subst Q same stands.1.covered;
+      },
+    )

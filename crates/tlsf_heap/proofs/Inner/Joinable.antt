@@ -1,5 +1,5 @@
 -- A node takes in the free one behind it, or is taken in by the free one in front: what the steps need and leave.
-use Rattle.std.proofs.Common.{◌≡◌, ℕ, ◌+◌, Bool, true, false, cond, List, [], ◌∷◌, map, refl, sym, ap, ◌∙◌, subst, arith, count_by, Option, Some, None, inl, inr}
+use Rattle.std.proofs.Common.{◌≡◌, ℕ, ◌+◌, Bool, true, false, cond, List, [], ◌∷◌, map, refl, sym, ap, ◌∙◌, subst, arith, count_by, Option, Some, None, inl, inr, option_map}
 use Rattle.std.proofs.lemmas.Bool.{cases_Bool, false≢true}
 use Rattle.tlsf_class.specs.Classes.{class}
 use Rattle.tlsf_store.specs.declared.records.Record.{Record}
@@ -274,3 +274,16 @@ module _ (cells : Cells) (at : At) (slot : ℕ) (status : Status) (unlisted : is
 
   pub back_is_live : (n : ℕ) → (record_at cells.records slot).next ≡ Some n → is_state_free (record_at cells.records n).state ≡ false → next_joined at ≡ at
   back_is_live n link live = unjoined_back at (past_live cells.records n at.nodes (in_back cells at slot status stands n link) live)
+
+-- the free one behind, by the records
+module _ (cells : Cells) (at : At) (slot : ℕ) (status : Status) (stands : StandsAt slot status cells at) where
+  pub listed_none : (record_at cells.records slot).next ≡ None → listed_first at.nodes ≡ None
+  listed_none none = (past_none at.nodes (sym (next_is cells at slot status stands) ∙ none)).1
+
+  pub listed_live : (n : ℕ) → (record_at cells.records slot).next ≡ Some n → is_state_free (record_at cells.records n).state ≡ false → listed_first at.nodes ≡ None
+  listed_live n link live = (past_live cells.records n at.nodes (in_back cells at slot status stands n link) live).1
+
+  pub listed_free : (n : ℕ) → (record_at cells.records slot).next ≡ Some n → is_state_free (record_at cells.records n).state ≡ true → option_map (λ (node : Node). node.size) (listed_first at.nodes) ≡ Some (record_at cells.records n).size
+  listed_free n link free =
+      let by : Neighbour cells.records n at.nodes = in_back cells at slot status stands n link in
+      ap (λ ns. option_map (λ (node : Node). node.size) (listed_first ns)) (turned_listed cells.records n at.nodes by free) ∙ ap Some (sym by.size_is)

@@ -63,7 +63,7 @@ no_room cells stands none =
     )
 
 -- new cells that represent a layout in which no node is loose
-stands_with : (new : Cells) (slot : ℕ) (status : Status) (at : At) (content : Content ℕ) → StandsAt slot status new at → is_loose status ≡ false → at.taken ≡ [] → content_by (layout_at at) ≡ content → IsGood content → Stands new × (content_of new ≡ content)
+pub stands_with : (new : Cells) (slot : ℕ) (status : Status) (at : At) (content : Content ℕ) → StandsAt slot status new at → is_loose status ≡ false → at.taken ≡ [] → content_by (layout_at at) ≡ content → IsGood content → Stands new × (content_of new ≡ content)
 stands_with new slot status at content after settled none is good =
     let loose : Node → Bool = λ n. is_loose n.status in
     let P : Content ℕ → Type 0 = λ x. IsGood x in (

@@ -1,0 +1,35 @@
+use Rattle.std.proofs.Common.{◌≡◌, ℕ, Err, inl, inr}
+use Rattle.std.specs.Prelude.{◌==◌, ◌⊎◌}
+use Rattle.std.proofs.lemmas.Result.{IfErr-at_err}
+use Rattle.tlsf_heap.specs.declared.refusal.Refusal.{Refusal}
+use Rattle.tlsf_heap.specs.declared.refusal.Refusal.TheVariants.{NoFit, TableFull, BadPointer, OutOfMemory}
+use Rattle.tlsf_heap.specs.Pointer.{place_and_slot}
+use Rattle.tlsf_heap.specs.Inner.Following.{content_of}
+use Rattle.tlsf_heap.specs.Malloc.{malloc}
+use Rattle.tlsf_heap.specs.Realloc.{realloc}
+use Rattle.tlsf_heap.proofs.Inner.Standing.{content_is_good}
+use Rattle.tlsf_heap.proofs.Good.Implied.{malloc_full}
+use Rattle.tlsf_heap.proofs.Content.MallocCases.{malloc_lacks_none}
+use Rattle.tlsf_heap.proofs.Content.ReallocCases.{realloc_refused}
+use Rattle.tlsf_heap.proofs.heap.Heap.realloc.Goals as goal
+
+-- where realloc is refused, malloc is refused alike, or it is for another reason
+refused : (c : goal.After-realloc) → (refusal : Refusal) → c.realloc.result ≡ Err refusal → (malloc 0 c.args.n (content_of c.self.inside.store.cells) ≡ Err refusal) ⊎ ((refusal ≡ NoFit) ⊎ (refusal ≡ BadPointer))
+refused c refusal is =
+    realloc_refused 0 refusal (λ a b. a == b) (place_and_slot c.args.ptr) c.args.n (content_of c.self.inside.store.cells)
+    (IfErr-at_err (λ why. (slot : ℕ) → realloc (λ a b. a == b) slot (place_and_slot c.args.ptr) c.args.n (content_of c.self.inside.store.cells) ≡ Err why) is c.realloc.ensures.refused 0)
+
+pub returns-clause-table_full : goal.returns-clause-table_full
+returns-clause-table_full c = λ is.
+    rw (← c.self.view_is) (elim (refused c TableFull is) [
+      | inl full ↦ malloc_full 0 c.args.n (content_of c.self.inside.store.cells) (content_is_good c.self.inside.store.cells c.self.invariant) full
+      | inr (inl other) ↦ absurd (cc)
+      | inr (inr other) ↦ absurd (cc)
+    ])
+
+pub returns-clause-never_memory : goal.returns-clause-never_memory
+returns-clause-never_memory c = λ is. elim (refused c OutOfMemory is) [
+  | inl memory ↦ malloc_lacks_none 0 c.args.n (content_of c.self.inside.store.cells) memory
+  | inr (inl other) ↦ cc
+  | inr (inr other) ↦ cc
+]

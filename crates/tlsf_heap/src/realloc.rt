@@ -1,0 +1,188 @@
+//! realloc: the block gets another size in its place, or moves.
+
+ghost use Rattle.std.specs.Prelude.{◌≡◌, ◌≢◌, ℕ, true, false, ◌+◌, ◌%◌, ◌<◌, ◌≤◌, ◌==◌, Some, None, Ok, Err, IfOk, IfErr, IfSome, OnErr, option_map};
+ghost use Rattle.tlsf_class.specs.Classes.{unit, greatest_size};
+ghost use Rattle.tlsf_heap.specs.Touches.{AtMost};
+ghost use Rattle.tlsf_heap.specs.Content.{blocks_of, size_at};
+ghost use Rattle.tlsf_heap.specs.Free.{is_live as is_live_in};
+ghost use Rattle.tlsf_heap.specs.Realloc.{fits_in_place as fits, resized, moved, realloc as reallocated, realloc_sized};
+ghost use Rattle.tlsf_heap.specs.Malloc.{malloc_rounded};
+ghost use Rattle.tlsf_heap.specs.Pointer.{place_and_slot, slot_of};
+ghost use Rattle.tlsf_heap.specs.GoodSlots.{slot_times};
+ghost use Rattle.tlsf_heap.specs.Inner.Following.{Stands, content_of};
+ghost use Rattle.tlsf_heap.specs.Inner.Nodes.{InUse};
+ghost use Rattle.tlsf_heap.specs.Inner.Joined.{listed_first};
+ghost use Rattle.tlsf_heap.specs.Inner.At.{At, StandsAt};
+
+use crate::free::{is_free, is_live, join_next, release};
+use crate::malloc::{allocate, malloc, trim};
+use crate::{Ptr, Refusal};
+use tlsf_class::round;
+use tlsf_store::{Slot, Store};
+
+/// The block with another size, in its place or moved; without a pointer a new block. At most 87 touches.
+///
+/// # Errors
+///
+/// As `Heap::realloc`.
+pub(crate) fn realloc(store: &mut Store, ptr: Option<Ptr>, n: u64) -> Result<Option<Ptr>, Refusal>
+    requires { Stands store.old.cells }
+    ensures stands { Stands store.new.cells }
+    ensures ok { IfOk result (λ given. reallocated (λ a b. a == b) (slot_of given) (place_and_slot ptr) n (content_of store.old.cells) ≡ Ok (place_and_slot given, content_of store.new.cells)) }
+    ensures slot_below { IfOk result (λ given. IfSome given (λ p. p.slot < (content_of store.old.cells).records)) }
+    ensures slot_new { IfOk result (λ given. IfSome given (λ p. ptr ≢ Some p → slot_times p.slot (blocks_of (content_of store.old.cells).pools) ≡ 0)) }
+    ensures refused { IfErr result (λ refusal. (owner : ℕ) → reallocated (λ a b. a == b) owner (place_and_slot ptr) n (content_of store.old.cells) ≡ Err refusal) }
+    ensures cells { OnErr result (store.new.cells ≡ store.old.cells) }
+    ensures touches { AtMost 87 store.old.touches store.new.touches }
+{
+    match ptr {
+        Some(ptr) => reallocate(store, ptr, n),
+        None => match malloc(store, n) {
+            Ok(new) => Ok(Some(new)),
+            Err(refusal) => Err(refusal),
+        },
+    }
+}
+
+/// The block with another size; none where no byte is asked for, for then it is freed. At most 87
+/// touches.
+///
+/// # Errors
+///
+/// As `Heap::realloc`.
+fn reallocate(store: &mut Store, ptr: Ptr, n: u64) -> Result<Option<Ptr>, Refusal>
+    requires { Stands store.old.cells }
+    ensures stands { Stands store.new.cells }
+    ensures ok { IfOk result (λ given. reallocated (λ a b. a == b) (slot_of given) (Some (ptr.place, ptr.slot)) n (content_of store.old.cells) ≡ Ok (place_and_slot given, content_of store.new.cells)) }
+    ensures slot_below { IfOk result (λ given. IfSome given (λ p. p.slot < (content_of store.old.cells).records)) }
+    ensures slot_new { IfOk result (λ given. IfSome given (λ p. ptr ≢ p → slot_times p.slot (blocks_of (content_of store.old.cells).pools) ≡ 0)) }
+    ensures refused { IfErr result (λ refusal. (owner : ℕ) → reallocated (λ a b. a == b) owner (Some (ptr.place, ptr.slot)) n (content_of store.old.cells) ≡ Err refusal) }
+    ensures cells { OnErr result (store.new.cells ≡ store.old.cells) }
+    ensures touches { AtMost 87 store.old.touches store.new.touches }
+{
+    if !is_live(store, ptr) {
+        return Err(Refusal::BadPointer);
+    }
+    if n == 0 {
+        release(store, Slot(ptr.slot()));
+        return Ok(None);
+    }
+    let Some(asked) = round(n) else {
+        return Err(Refusal::NoFit);
+    };
+    match resize(store, ptr, asked) {
+        Ok(given) => Ok(Some(given)),
+        Err(refusal) => Err(refusal),
+    }
+}
+
+/// The live block with `asked` bytes, in its place where it can have them. A block that gets smaller and
+/// can't give back what is left stays as it is. At most 86 touches.
+///
+/// # Errors
+///
+/// As `Heap::malloc`, where the block has to move.
+fn resize(store: &mut Store, ptr: Ptr, asked: u32) -> Result<Ptr, Refusal>
+    requires stands { Stands store.old.cells }
+    requires live { is_live_in (λ slot. slot == ptr.slot) ptr.place (blocks_of (content_of store.old.cells).pools) ≡ true }
+    requires some { 0 < asked }
+    requires whole { asked % unit ≡ 0 }
+    ensures stands { Stands store.new.cells }
+    ensures ok { IfOk result (λ given. realloc_sized given.slot ptr.place ptr.slot asked (content_of store.old.cells) ≡ Ok (Some (given.place, given.slot), content_of store.new.cells)) }
+    ensures slot_below { IfOk result (λ given. given.slot < (content_of store.old.cells).records) }
+    ensures slot_new { IfOk result (λ given. ptr ≢ given → slot_times given.slot (blocks_of (content_of store.old.cells).pools) ≡ 0) }
+    ensures refused { IfErr result (λ refusal. (owner : ℕ) → realloc_sized owner ptr.place ptr.slot asked (content_of store.old.cells) ≡ Err refusal) }
+    ensures cells { OnErr result (store.new.cells ≡ store.old.cells) }
+    ensures touches { AtMost 86 store.old.touches store.new.touches }
+{
+    let size = store.read(Slot(ptr.slot())).size;
+    if asked == size {
+        return Ok(ptr);
+    }
+    if fits_in_place(store, ptr, asked) {
+        resize_in_place(store, ptr, asked);
+        return Ok(ptr);
+    }
+    if asked < size {
+        return Ok(ptr);
+    }
+    relocate(store, ptr, asked)
+}
+
+/// Whether the live block can have `asked` bytes in its place. At most four touches.
+fn fits_in_place(store: &mut Store, ptr: Ptr, asked: u32) -> bool
+    requires stands { Stands store.old.cells }
+    requires live { is_live_in (λ slot. slot == ptr.slot) ptr.place (blocks_of (content_of store.old.cells).pools) ≡ true }
+    ensures value { result ≡ fits ptr.place asked (content_of store.old.cells) }
+    ensures cells { store.new.cells ≡ store.old.cells }
+    ensures touches { AtMost 4 store.old.touches store.new.touches }
+{
+    let size = store.read(Slot(ptr.slot())).size;
+    let behind = free_behind(store, Slot(ptr.slot()));
+    if size <= asked {
+        return asked - size <= behind.unwrap_or(0);
+    }
+    behind.is_some() || store.vacant() > 0
+}
+
+/// The size of the block behind, in bytes, where it is free. At most two touches.
+fn free_behind(store: &mut Store, slot: Slot) -> Option<u32>
+    requires { (at : At) × StandsAt slot InUse store.old.cells at }
+    ensures value { (at : At) → StandsAt slot InUse store.old.cells at → result ≡ option_map (λ node. node.size) (listed_first at.nodes) }
+    ensures cells { store.new.cells ≡ store.old.cells }
+    ensures touches { AtMost 2 store.old.touches store.new.touches }
+{
+    let Some(next_slot) = store.read(slot).next else {
+        return None;
+    };
+    let next = store.read(next_slot);
+    if !is_free(next.state) {
+        return None;
+    }
+    Some(next.size)
+}
+
+/// The live block takes in a free one behind it, and keeps the first `asked` bytes. What is left, where
+/// anything is, is a free block. At most 36 touches.
+fn resize_in_place(store: &mut Store, ptr: Ptr, asked: u32)
+    requires stands { Stands store.old.cells }
+    requires live { is_live_in (λ slot. slot == ptr.slot) ptr.place (blocks_of (content_of store.old.cells).pools) ≡ true }
+    requires fits { fits ptr.place asked (content_of store.old.cells) ≡ true }
+    requires other { asked ≢ size_at ptr.place (blocks_of (content_of store.old.cells).pools) }
+    requires some { 0 < asked }
+    requires whole { asked % unit ≡ 0 }
+    ensures stands { Stands store.new.cells }
+    ensures content { content_of store.new.cells ≡ resized ptr.slot ptr.place asked (content_of store.old.cells) }
+    ensures touches { AtMost 36 store.old.touches store.new.touches }
+{
+    let slot = Slot(ptr.slot());
+    join_next(store, slot);
+    trim(store, slot, asked);
+}
+
+/// A new block, and the old one is freed. At most 81 touches.
+///
+/// # Errors
+///
+/// As `Heap::malloc`; then the old block is as it was.
+fn relocate(store: &mut Store, ptr: Ptr, asked: u32) -> Result<Ptr, Refusal>
+    requires stands { Stands store.old.cells }
+    requires live { is_live_in (λ slot. slot == ptr.slot) ptr.place (blocks_of (content_of store.old.cells).pools) ≡ true }
+    requires some { 0 < asked }
+    requires whole { asked % unit ≡ 0 }
+    ensures stands { Stands store.new.cells }
+    ensures ok { IfOk result (λ given. moved given.slot ptr.place (malloc_rounded given.slot (Some asked) (content_of store.old.cells)) ≡ Ok (Some (given.place, given.slot), content_of store.new.cells)) }
+    ensures slot_below { IfOk result (λ given. given.slot < (content_of store.old.cells).records) }
+    ensures slot_new { IfOk result (λ given. slot_times given.slot (blocks_of (content_of store.old.cells).pools) ≡ 0) }
+    ensures refused { IfErr result (λ refusal. (owner : ℕ) → moved owner ptr.place (malloc_rounded owner (Some asked) (content_of store.old.cells)) ≡ Err refusal) }
+    ensures cells { OnErr result (store.new.cells ≡ store.old.cells) }
+    ensures touches { AtMost 81 store.old.touches store.new.touches }
+{
+    match allocate(store, asked) {
+        Ok(given) => {
+            release(store, Slot(ptr.slot()));
+            Ok(given)
+        }
+        Err(refusal) => Err(refusal),
+    }
+}
