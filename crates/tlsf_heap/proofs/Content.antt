@@ -1,8 +1,8 @@
 -- Lemmas on the blocks and lists of a content, and on the calls as the definitions have them.
 pub mod Blocks
-pub mod Beside
 pub mod Replacing
 pub mod FreeLists
 pub mod MallocCases
 pub mod BareSteps
 pub mod BareFree
+pub mod PoolCases

@@ -1,5 +1,5 @@
 -- What the plain heap's free comes to.
-use Rattle.std.proofs.Common.{◌≡◌, ℕ, ◌+◌, Bool, true, false, cond, [], ◌∷◌, map, ap, ◌∙◌, subst, arith, Option}
+use Rattle.std.proofs.Common.{◌≡◌, ℕ, ◌+◌, Bool, true, cond, [], ◌∷◌, map, ap, ◌∙◌, subst, arith, Option}
 use Rattle.std.specs.Prelude.{Ok, Err}
 use Rattle.tlsf_heap.specs.declared.refusal.Refusal.TheVariants.{BadPointer}
 use Rattle.tlsf_heap.specs.Content.{Block, Content, blocks_of, size_at}
@@ -16,9 +16,6 @@ Plain = Content ℕ
 -- the plain heap keeps what it keeps where a live block is freed
 pub freed_is_plain : (is_meant : ℕ → Bool) (place : ℕ) (content : Plain) → IsPlain content → is_live is_meant place (blocks_of content.pools) ≡ true → IsPlain (after_free place content)
 freed_is_plain is_meant place content plain live = record { good = freed_is_good is_meant place content plain.good live; slots = after_free_slots place content plain.slots; records_few = plain.records_few }
-
-pub free_refused : (is_meant : ℕ → Bool) (place : ℕ) (content : Plain) → is_live is_meant place (blocks_of content.pools) ≡ false → free is_meant place content ≡ Err BadPointer
-free_refused is_meant place content h = ap (λ b. cond b (Ok (after_free place content)) (Err BadPointer)) h
 
 pub free_served : (is_meant : ℕ → Bool) (place : ℕ) (content : Plain) → is_live is_meant place (blocks_of content.pools) ≡ true → free is_meant place content ≡ Ok (after_free place content)
 free_served is_meant place content h = ap (λ b. cond b (Ok (after_free place content)) (Err BadPointer)) h

@@ -1,19 +1,16 @@
 -- What the plain heap's malloc comes to.
-use Rattle.std.proofs.Common.{◌≡◌, ◌≢◌, ℕ, ◌+◌, ◌-◌, ◌%◌, ◌<◌, ◌≤◌, true, false, cond, [], ◌∷◌, map, refl, sym, ap, ◌∙◌, subst, arith, Option, Some, None, count_by}
-use Rattle.std.specs.Prelude.{nat_le, ◌==◌, Ok, Err}
-use Rattle.std.proofs.lemmas.Bool.{lt-ltb, and_from}
+use Rattle.std.proofs.Common.{◌≡◌, ℕ, ◌+◌, ◌-◌, ◌%◌, ◌<◌, ◌≤◌, true, false, cond, [], ◌∷◌, map, refl, sym, ap, ◌∙◌, subst, arith, Option, Some, None, count_by}
+use Rattle.std.specs.Prelude.{◌==◌}
 use Rattle.tlsf_class.specs.Classes.{unit}
 use Rattle.tlsf_class.specs.Rounding.{round}
 use Rattle.tlsf_class.proofs.RoundingLaws.{round-Some}
-use Rattle.tlsf_heap.specs.declared.refusal.Refusal.TheVariants.{TableFull}
 use Rattle.tlsf_heap.specs.Content.{Block, Content, blocks_of, is_free, size_at, used_records}
 use Rattle.tlsf_heap.specs.Lists.{link, unlink, pick}
-use Rattle.tlsf_heap.specs.Malloc.{replaced_in, cut, allocated, malloc}
+use Rattle.tlsf_heap.specs.Malloc.{replaced_in, cut, allocated}
 use Rattle.tlsf_heap.specs.Free.{free_block}
 use Rattle.tlsf_heap.specs.Pools.{end_of_places}
 use Rattle.tlsf_heap.specs.PlainHeap.{IsSize, IsPlain, gap_block, link_block, blocks_among}
 use Rattle.tlsf_heap.specs.GoodSlots.{slot_times}
-use Rattle.tlsf_heap.proofs.Content.MallocCases.{picked_is_served}
 use Rattle.tlsf_heap.proofs.Good.Calls.{picked, allocated_is_good}
 use Rattle.tlsf_heap.proofs.Good.Slots.{allocated_slots}
 use Rattle.tlsf_heap.proofs.Good.SlotsLeft.{free_found}
@@ -64,13 +61,6 @@ allocated_is_plain slot n place asked size content plain rounded is same room be
       slots = allocated_slots slot asked place content plain.good is plain.slots below new;
       records_few = plain.records_few;
     })
-
-module _ (slot n : ℕ) (content : Plain) where
-  pub refused_full : n ≢ 0 → (asked place : ℕ) → round n ≡ Some asked → pick asked content.lists ≡ Some place → asked < size_at place (blocks_of content.pools) → nat_le content.records (used_records content) ≡ true
-      → malloc slot n content ≡ Err TableFull
-  refused_full some asked place rounded is larger full =
-      picked_is_served slot n content some asked place rounded is
-      ∙ ap (λ b. cond b (Err TableFull) (Ok (place, allocated slot place asked (size_at place (blocks_of content.pools)) content))) (and_from _ _ (lt-ltb asked _ larger) full)
 
 -- the steps of the code are those of the definition
 pub allocated_by : (slot place asked size : ℕ) (rest : Option (Block ℕ)) (content copy unlinked linked cut : Plain)
