@@ -1,7 +1,6 @@
 -- Lemmas on the blocks and lists of a content, and on the calls as the definitions have them.
 pub mod Alignments
 pub mod Blocks
-pub mod Beside
 pub mod Replacing
 pub mod FreeLists
 pub mod MallocCases
@@ -9,3 +8,4 @@ pub mod ReallocCases
 pub mod Results
 pub mod BareSteps
 pub mod BareFree
+pub mod PoolCases

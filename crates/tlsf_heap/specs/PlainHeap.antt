@@ -1,68 +1,62 @@
--- What the fields of the plain heap stand for.
-use Rattle.std.specs.Prelude.{◌≡◌, ◌<◌, ◌≤◌, ◌%◌, ℕ, ⊤, Bool, true, Option, None, Some, List, [], ◌∷◌, map, Vec, if◌then◌else◌, nat_lt}
-use Rattle.std.specs.List.{position_or_len, list_any}
+-- What the fields of the plain heap stand for, and what it keeps.
+use Rattle.std.specs.Prelude.{◌≡◌, ◌<◌, ◌≤◌, ◌%◌, ◌+◌, ◌-◌, ℕ, Option, None, Some, List, [], ◌∷◌, map, drop, length, option_map, Vec, if◌then◌else◌, ◌==◌, nat_lt}
+use Rattle.std.specs.List.{filter_map}
 use Rattle.std.specs.declared.alloc.Global.{Global}
+use Rattle.tlsf_class.specs.Classes.{unit, greatest_size}
 use Rattle.tlsf_heap.specs.declared.cursor.Cursor.{Cursor}
 use Rattle.tlsf_heap.specs.declared.row.Row.{Row}
-use Rattle.tlsf_heap.specs.Rows.{row_of}
-use Rattle.tlsf_heap.specs.Content.{Block, Pool, Content, blocks_of, is_at, size_at, used_records}
-use Rattle.tlsf_class.specs.Classes.{unit, greatest_size}
-use Rattle.tlsf_class.specs.Rounding.{round}
-use Rattle.tlsf_heap.specs.Lists.{pick}
+use Rattle.tlsf_heap.specs.Content.{Block, Pool, Content}
+use Rattle.tlsf_heap.specs.Lists.{link}
+use Rattle.tlsf_heap.specs.Free.{free_block}
+use Rattle.tlsf_heap.specs.Pools.{most_records}
 use Rattle.tlsf_heap.specs.Good.{IsGood}
 use Rattle.tlsf_heap.specs.GoodSlots.{HasGoodSlots}
+use Rattle.tlsf_heap.specs.Rows.{row_of}
 
 -- the lists of places
 abbrev pub lists_of : List (Vec ℕ Global) → List (List ℕ)
 lists_of lists = map (λ places. places.items) lists
 
--- how many pools stand in front of the first that begins behind the base
-abbrev pub pool_place : ℕ → List (Pool ℕ) → ℕ
-pool_place base pools = position_or_len (λ pool. nat_lt base pool.base) pools
+-- what a block can have of bytes
+pub record IsSize (size : ℕ) : Type 0 where
+  pub positive : 0 < size
+  pub in_units : size % unit ≡ 0
+  pub at_most : size ≤ greatest_size
 
--- the content that the fields stand for
-abbrev pub plain_content : ℕ → List (Pool ℕ) → List (Vec ℕ Global) → Content ℕ
-plain_content records pools lists = record { records = records; pools = pools; lists = lists_of lists }
+-- a free block of this size at the place, or none where the size is 0
+abbrev pub gap_block : ℕ → ℕ → Option (Block ℕ)
+gap_block place size = if size == 0 then None else Some (free_block place size)
 
--- the block that malloc(n) takes: the one picked for n bytes rounded up, where what is left has a record
-pub record IsChosen (n place asked size : ℕ) (content : Content ℕ) : Type 0 where
-  pub rounded : round n ≡ Some asked
-  pub is_picked : pick asked content.lists ≡ Some place
-  pub size_is : size ≡ size_at place (blocks_of content.pools)
-  pub room : asked < size → used_records content < content.records
+-- a free block, where there is one, enters its list
+abbrev pub link_block : Option (Block ℕ) → List (List ℕ) → List (List ℕ)
+link_block None lists = lists
+link_block (Some block) lists = link block.place block.size lists
+
+-- the blocks that there are
+abbrev pub blocks_among : List (Option (Block ℕ)) → List (Block ℕ)
+blocks_among blocks = filter_map (λ block. block) blocks
 
 -- what the plain heap keeps
 pub record IsPlain (content : Content ℕ) : Type 0 where
   pub good : IsGood content
   pub slots : HasGoodSlots content
+  pub records_few : content.records ≤ most_records
 
--- a block, where there is one, has a class
-abbrev pub IsSized : Option (Block ℕ) → Type 0
-IsSized None = ⊤
-IsSized (Some block) = (0 < block.size) × (block.size % unit ≡ 0) × (block.size ≤ greatest_size)
+-- the blocks of a pool from one on, which has so many blocks in front of it, in all pools
+abbrev pub blocks_from : ℕ → List (Pool ℕ) → List (Block ℕ)
+blocks_from number [] = []
+blocks_from number (pool ∷ pools) = if nat_lt number (length pool.blocks) then drop number pool.blocks else blocks_from (number - length pool.blocks) pools
 
--- the rows of the blocks from the one at the place on
-abbrev pub rows_from_place : ℕ → List (Block ℕ) → List Row
-rows_from_place place [] = []
-rows_from_place place (block ∷ blocks) = if is_at place block then map row_of (block ∷ blocks) else rows_from_place place blocks
+-- how many blocks stand in front of those of the first pool that begins at the base
+abbrev pub first_of : ℕ → List (Pool ℕ) → Option ℕ
+first_of base [] = None
+first_of base (pool ∷ pools) = if pool.base == base then Some 0 else option_map (λ number. length pool.blocks + number) (first_of base pools)
 
--- the rows from the place on of the pool that has a block there
-abbrev pub rest_at : ℕ → List (Pool ℕ) → List Row
-rest_at place [] = []
-rest_at place (pool ∷ pools) = if list_any (is_at place) pool.blocks then rows_from_place place pool.blocks else rest_at place pools
-
-abbrev pub rest_from : Option ℕ → List (Pool ℕ) → List Row
-rest_from None pools = []
-rest_from (Some place) pools = rest_at place pools
-
-abbrev pub is_from : Option ℕ → List (Pool ℕ) → Bool
-is_from None pools = true
-is_from (Some place) pools = list_any (is_at place) (blocks_of pools)
+-- the rows from a number on, none behind the last
+abbrev pub rows_at : Option ℕ → List (Pool ℕ) → List Row
+rows_at None pools = []
+rows_at (Some number) pools = map row_of (blocks_from number pools)
 
 -- the rows from the cursor on
 abbrev pub cursor_rows : Content ℕ → Cursor → List Row
-cursor_rows content cursor = rest_from cursor.next content.pools
-
--- the cursor stands behind the last row, or at a block
-abbrev pub cursor_stands : Content ℕ → Cursor → Type 0
-cursor_stands content cursor = is_from cursor.next content.pools ≡ true
+cursor_rows content cursor = rows_at cursor.next content.pools

@@ -1,5 +1,7 @@
 //! Why a call of the heap is refused.
 
+use std::alloc::AllocError;
+
 /// Why a call of the heap is refused. A refused call leaves the heap's content as it was.
 #[derive(Clone, Copy, Debug, PartialEq, Eq)]
 pub enum Refusal {
@@ -23,4 +25,15 @@ pub enum Refusal {
     OutOfMemory = 9,
     /// No pool begins there.
     NoPool = 10,
+}
+
+impl From<AllocError> for Refusal {
+    ghost use Rattle.std.specs.Prelude.{◌≡◌};
+    ghost use Rattle.tlsf_heap.specs.declared.refusal.Refusal.TheVariants.{OutOfMemory};
+
+    ghost from_gives = { λ _ refusal. refusal ≡ OutOfMemory };
+
+    fn from(_: AllocError) -> Self {
+        Refusal::OutOfMemory
+    }
 }

@@ -8,7 +8,7 @@ use Rattle.tlsf_heap.specs.Malloc.{gap}
 use Rattle.tlsf_heap.specs.Pools.{most_pools, end_of_places, add_pool, with_pool, is_apart, can_be_pool, in_order_of_base, created}
 use Rattle.tlsf_tool.specs.declared.settings.Settings.{Settings}
 use Rattle.tlsf_tool.specs.Settings.{are_bad}
-use Rattle.tlsf_heap.proofs.Plain.Malloc.{pool_is_added}
+use Rattle.tlsf_heap.proofs.Content.PoolCases.{pool_is_added}
 use Rattle.tlsf_tool.specs.History.{Bare, with_pools, after_add, started}
 use Rattle.std.proofs.lemmas.Bool.{ltb-false, lt-ltb, le-leb, lt-leb, eqb-true, eq-eqb, ne_eqb}
 use Rattle.std.proofs.lemmas.Nat.{mul-mod_second}

@@ -4,7 +4,7 @@ use Rattle.std.specs.Prelude.{◌&&◌, ◌==◌, nat_lt, nat_le, Ok, Err}
 use Rattle.std.proofs.lemmas.Bool.{ne_eqb}
 use Rattle.tlsf_class.specs.Rounding.{round}
 use Rattle.tlsf_heap.specs.declared.refusal.Refusal.{Refusal}
-use Rattle.tlsf_heap.specs.declared.refusal.Refusal.TheVariants.{ZeroSize, NoFit, TableFull, OutOfMemory}
+use Rattle.tlsf_heap.specs.declared.refusal.Refusal.TheVariants.{ZeroSize, TableFull, OutOfMemory}
 use Rattle.tlsf_heap.specs.Content.{Content, blocks_of, size_at, used_records}
 use Rattle.tlsf_heap.specs.Lists.{pick}
 use Rattle.tlsf_heap.specs.Malloc.{allocated, malloc_picked, malloc_rounded, malloc}
@@ -17,9 +17,6 @@ cond_lacks_none false refusal result named lacks_none is = lacks_none is
 module _ {A : Type 0} (owner : A) (n : ℕ) (content : Content A) where
   some_asked : n ≢ 0 → malloc owner n content ≡ malloc_rounded owner (round n) content
   some_asked h = rw (ne_eqb n 0 h) refl
-
-  pub refused_pick : n ≢ 0 → (asked : ℕ) → round n ≡ Some asked → pick asked content.lists ≡ None → malloc owner n content ≡ Err NoFit
-  refused_pick some asked rounded none = some_asked some ∙ ap (λ m. malloc_rounded owner m content) rounded ∙ ap (λ place. malloc_picked owner asked place content) none
 
   -- where a block is picked, it is what malloc takes
   pub picked_is_served : n ≢ 0 → (asked place : ℕ) → round n ≡ Some asked → pick asked content.lists ≡ Some place → malloc owner n content ≡ malloc_picked owner asked (Some place) content

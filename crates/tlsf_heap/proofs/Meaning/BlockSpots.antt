@@ -6,10 +6,13 @@ use Rattle.tlsf_heap.specs.Content.{Block, Pool, blocks_of, is_at, size_at}
 use Rattle.tlsf_heap.specs.Malloc.{replaced, replaced_in}
 use Rattle.tlsf_heap.specs.Free.{previous_of, next_of, first_in_pools}
 use Rattle.tlsf_heap.specs.Inner.Spots.{plug}
-use Rattle.tlsf_heap.proofs.Content.Beside.{option_or-None}
 use Rattle.tlsf_heap.proofs.Content.Blocks.{Ascends, NoneAt, NoneAt-below}
 use Rattle.tlsf_heap.proofs.Counts.{one_if, count-cons, count-append, count-plug, Split, split_at}
 use Rattle.tlsf_heap.proofs.Inner.Plugs.{map-plug}
+
+option_or-None : {B : Type 0} (o : Option B) → option_or o None ≡ o
+option_or-None None = refl
+option_or-None (Some b) = refl
 
 -- a place between the blocks of a pool, what is in front nearest first
 pub record BlockSpot (A : Type 0) : Type 0 where

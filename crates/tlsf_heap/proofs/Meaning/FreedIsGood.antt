@@ -1,9 +1,9 @@
 -- free by the block's neighbours keeps a content good.
-use Rattle.std.proofs.Common.{◌≡◌, ℕ, ◌+◌, ◌<◌, ◌≤◌, Bool, true, false, cond, not, ◌&&◌, List, [], ◌∷◌, length, map, refl, sym, ap, ◌∙◌, subst, arith, count_by, IsTrue, Option, Some, None, inl, inr}
+use Rattle.std.proofs.Common.{◌≡◌, ℕ, ◌+◌, ◌%◌, ◌<◌, ◌≤◌, Bool, true, false, cond, not, ◌&&◌, List, [], ◌∷◌, length, map, refl, sym, ap, ◌∙◌, subst, arith, count_by, IsTrue, Option, Some, None, inl, inr}
 use Rattle.tlsf_class.proofs.ClassLaws.{class-lt}
 use Rattle.std.specs.Prelude.{is_none, ◌==◌}
 use Rattle.std.proofs.lemmas.Bool.{cases_eq, ne_eqb, eqb-true, and_parts, false≢true}
-use Rattle.tlsf_class.specs.Classes.{classes, class}
+use Rattle.tlsf_class.specs.Classes.{unit, greatest_size, classes, class}
 use Rattle.tlsf_heap.specs.Content.{Block, Pool, Content, blocks_of, is_free, is_at, size_at}
 use Rattle.tlsf_heap.specs.Lists.{list_of, link}
 use Rattle.tlsf_heap.specs.Malloc.{replaced_in}
@@ -13,11 +13,21 @@ use Rattle.tlsf_heap.specs.Free.{free_block, without_block, after_free}
 use Rattle.tlsf_heap.specs.Inner.Spots.{plug}
 use Rattle.tlsf_heap.proofs.Content.Blocks.{Ascends-pools}
 use Rattle.tlsf_heap.proofs.Content.FreeLists.{times-link, length-link}
+use Rattle.tlsf_heap.proofs.Good.Calls.{Covers-le}
 use Rattle.tlsf_heap.proofs.Counts.{one_if, count-cons, count_all, any_counts}
 use Rattle.tlsf_heap.proofs.Meaning.BlockSpots.{BlockSpot, pool_at, filled_pools, around_blocks, count-filled_pools, LocatedBlock, located_block, at_most_one, IsAlone, block_alone, replaced_at, front_at, back_at, size_here}
 use Rattle.tlsf_heap.proofs.Meaning.FreeFirst.{length-plug, past_free, free_first, listed_of, apart_parts, apart_plugged, past_apart, past_live, count_past, listed_few, few_past, free_stands, times-unlink_block, length-unlink_block, covers_plug, pools_plug, merged_of, covers_behind, without_next}
 
 module _ {A : Type 0} where
+  good_behind : (from : ℕ) (front pools : List (Pool A)) → AreGoodPools from (plug front pools) → (place : ℕ) × AreGoodPools place pools
+  good_behind from [] pools g = (from, g)
+  good_behind from (pool ∷ front) pools g = let rest = good_behind from front (pool ∷ pools) g in (pool.base + pool.bytes, rest.1.2)
+
+  -- blocks behind others cover the rest
+  within_plug : (front blocks : List (Block A)) (from to : ℕ) → Covers from to (plug front blocks) → (place : ℕ) × (from ≤ place) × Covers place to blocks
+  within_plug [] blocks from to c = (from, omega arith, c)
+  within_plug (block ∷ front) blocks from to c = let rest = within_plug front (block ∷ blocks) from to c in (rest.0 + block.size, omega (arith, rest.1), rest.2.3)
+
   covers_merged : (before : List (Block A)) (block : Block A) (blocks : List (Block A)) (from to : ℕ) → Covers from to (plug before (block ∷ blocks)) → Covers from to (plug (past_free before) (merged_of (free_first before) block (free_first blocks) ∷ past_free blocks))
   covers_merged [] block blocks from to c =
       let P : ℕ → Type 0 = λ n. Covers from to (free_block block.place n ∷ past_free blocks) in
@@ -219,6 +229,22 @@ module _ {A : Type 0} where
         ∙ ap (after front back) (size_here spot block blocks alone)
         ∙ ap (λ pools. record new { pools = pools }) by_pools
 
+    pub merged_size : (0 < merged.size) × (merged.size % unit ≡ 0) × (merged.size ≤ greatest_size)
+    merged_size =
+        let pool = (good_behind 0 spot.pools_before (pool_at past_spot (merged ∷ past_free blocks) ∷ spot.pools_behind) pools_good).1.1 in
+        let at = within_plug (past_free spot.before) (merged ∷ past_free blocks) past_spot.base (past_spot.base + past_spot.bytes) pool.covered in
+        (at.2.1, at.2.2, omega (arith, at.1, Covers-le (at.0 + merged.size) (past_spot.base + past_spot.bytes) (past_free blocks) at.2.3, pool.most_bytes))
+
+    pub sizes_are : size_of (free_previous block.place old) + size_at block.place (blocks_of old.pools) + size_of (free_next block.place old) ≡ merged.size
+    sizes_are =
+        let alone : IsAlone spot block blocks = block_alone spot block blocks once in
+        omega (
+          arith,
+          ap (λ o. size_of (if_free o)) (front_at spot block blocks alone),
+          ap (λ o. size_of (if_free o)) (back_at spot block blocks alone),
+          size_here spot block blocks alone,
+        )
+
     pub after_is_good : IsGood (after_free block.place old)
     after_is_good = let P : Content A → Type 0 = λ x. IsGood x in subst P (sym after_is) new_is_good
 
@@ -235,3 +261,19 @@ module _ {A : Type 0} where
       let P : List (Pool A) → Type 0 = λ pools. IsGood (record content { pools = pools }) → IsGood (after_free place (record content { pools = pools })) in
       let Q : ℕ → Type 0 = λ p. IsGood (after_free p (record content { pools = filled_pools at.spot (at.block ∷ at.blocks) })) in
       subst P (sym at.whole) (λ g. subst Q (eqb-true at.block.place place parts.0) (after_is_good content.records at.spot at.block at.blocks content.lists g (owned_is_live is_meant at.block.owner parts.1))) good
+
+  -- the block that is left has a size that a block can have
+  pub freed_size : (is_meant : A → Bool) (place : ℕ) (content : Content A) → IsGood content → is_live is_meant place (blocks_of content.pools) ≡ true
+      → let size = size_of (free_previous place content) + size_at place (blocks_of content.pools) + size_of (free_next place content) in (0 < size) × (size % unit ≡ 0) × (size ≤ greatest_size)
+  freed_size is_meant place content good live =
+      let test : Block A → Bool = λ block. is_at place block && is_owned_by is_meant block.owner in
+      let at : LocatedBlock test content.pools = located_block test content.pools (any_counts test (blocks_of content.pools) live) in
+      let parts = and_parts _ _ at.passes in
+      let Sized : ℕ → Content A → Type 0 = λ p x.
+      let size = size_of (free_previous p x) + size_at p (blocks_of x.pools) + size_of (free_next p x) in (0 < size) × (size % unit ≡ 0) × (size ≤ greatest_size) in
+      let P : List (Pool A) → Type 0 = λ pools. IsGood (record content { pools = pools }) → Sized place (record content { pools = pools }) in
+      let Q : ℕ → Type 0 = λ p. Sized p (record content { pools = filled_pools at.spot (at.block ∷ at.blocks) }) in
+      let R : ℕ → Type 0 = λ n. (0 < n) × (n % unit ≡ 0) × (n ≤ greatest_size) in
+      subst P (sym at.whole) (λ g.
+      let live_one = owned_is_live is_meant at.block.owner parts.1 in
+      subst Q (eqb-true at.block.place place parts.0) (subst R (sym (sizes_are content.records at.spot at.block at.blocks content.lists g live_one)) (merged_size content.records at.spot at.block at.blocks content.lists g live_one))) good

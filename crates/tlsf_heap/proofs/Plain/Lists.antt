@@ -1,6 +1,7 @@
 -- A list of the plain heap is written: the lists are those of the definitions.
-use Rattle.std.proofs.Common.{◌≡◌, ℕ, ◌<◌, List, [], ◌∷◌, length, sym, ap, ◌∙◌, get_or, set, Vec}
+use Rattle.std.proofs.Common.{◌≡◌, ℕ, ◌<◌, List, [], ◌∷◌, length, sym, ap, ◌∙◌, get_or, set, Vec, vec_len, refl}
 use Rattle.std.proofs.lemmas.List.{map-set, get_or-map}
+use Rattle.std.specs.List.{AllZip, each_same}
 use Rattle.std.specs.declared.alloc.Global.{Global}
 use Rattle.tlsf_class.specs.Classes.{class}
 use Rattle.tlsf_heap.specs.Lists.{list_of, without, link, unlink}
@@ -27,3 +28,10 @@ pub unlink_is : (lists : List Places) (number place size : ℕ) (old left : Plac
 unlink_is lists number place size old left same below is items =
     set_list lists number left _ (items ∙ ap (without place) (sym (list_of-at lists number old below is)))
     ∙ ap (λ n. set (lists_of lists) n (without place (list_of n (lists_of lists)))) same
+
+-- lists whose places are clones of others are those lists
+pub lists_cloned : (lists others : List Places) → AllZip (λ (v w : Places). AllZip (λ (x y : ℕ). y ≡ x) v.items w.items × (vec_len w ≡ vec_len v)) lists others → lists_of others ≡ lists_of lists
+lists_cloned [] [] same = refl
+lists_cloned [] (other ∷ others) same = absurd same
+lists_cloned (places ∷ lists) [] same = absurd same
+lists_cloned (places ∷ lists) (other ∷ others) same = λ i. each_same places.items other.items same.0.0 i ∷ lists_cloned lists others same.1 i

@@ -1,35 +1,38 @@
 use crate::Row;
 use std::marker::Model;
 
-/// A block of a pool: where it begins, its size, and the slot of its owner, where it is live.
+/// A block of a pool: where it begins, its size in bytes, and the slot of its owner, where it is live.
 #[derive(Clone, Copy)]
 pub struct Block {
-    place: u32,
-    size: u32,
-    owner: Option<u16>,
+    pub place: u32,
+    pub size: u32,
+    pub owner: Option<u16>,
 }
 
 impl Model for Block {
     ghost use Rattle.std.specs.Prelude.{ℕ};
     ghost use Rattle.tlsf_heap.specs.Content.{Block};
+    ghost use Rattle.tlsf_heap.specs.PlainHeap.{IsSize};
 
     ghost Value = { Block ℕ };
 
     ghost view = { λ b. record { place = b.place; size = b.size; owner = b.owner } };
 
     ghost inverse = { λ b. record { place = b.place; size = b.size; owner = b.owner } };
+
+    ghost invariant = { λ b. IsSize b.size };
 }
 
 impl Block {
-    ghost use Rattle.std.specs.Prelude.{◌≡◌, ◌&&◌, ◌==◌, None, Some};
-    ghost use Rattle.tlsf_heap.specs.Content.{is_free, is_at};
-    ghost use Rattle.tlsf_heap.specs.Free.{is_owned_by};
-    ghost use Rattle.tlsf_heap.specs.GoodSlots.{is_slot};
+    ghost use Rattle.std.specs.Prelude.{◌≡◌, ◌<◌, ◌^◌};
+    ghost use Rattle.tlsf_heap.specs.Free.{free_block, start_of, size_of};
+    ghost use Rattle.tlsf_heap.specs.PlainHeap.{IsSize, gap_block};
     ghost use Rattle.tlsf_heap.specs.Rows.{row_of};
 
     /// A free block of `size` bytes at a place.
     pub fn free(place: u32, size: u32) -> Self
-        ensures { result ≡ record { place = place; size = size; owner = None } }
+        requires { IsSize size }
+        ensures { result ≡ free_block place size }
     {
         Block {
             place,
@@ -38,55 +41,35 @@ impl Block {
         }
     }
 
-    /// A live block of `size` bytes at a place, with this slot.
-    pub fn live(place: u32, size: u32, slot: u16) -> Self
-        ensures { result ≡ record { place = place; size = size; owner = Some slot } }
+    /// The same, or none where there is no byte.
+    pub fn gap(place: u64, size: u32) -> Option<Self>
+        requires size { 0 < size → IsSize size }
+        requires place { 0 < size → place < 2 ^ 32 }
+        ensures { result ≡ gap_block place size }
     {
-        Block {
-            place,
-            size,
-            owner: Some(slot),
+        if size == 0 {
+            return None;
+        }
+        Some(Block::free(place as u32, size))
+    }
+
+    /// Where the block that a neighbour before the place takes in begins.
+    pub fn start_of(block: &Option<Block>, place: u32) -> u32
+        ensures { result ≡ start_of block.now place }
+    {
+        match block {
+            Some(block) => block.place,
+            None => place,
         }
     }
 
-    /// Where it begins.
-    pub fn place(&self) -> u32
-        ensures { result ≡ self.now.place }
+    /// The size of a block, 0 where there is none.
+    pub fn size_of(block: &Option<Block>) -> u32
+        ensures { result ≡ size_of block.now }
     {
-        self.place
-    }
-
-    /// Its size in bytes.
-    pub fn size(&self) -> u32
-        ensures { result ≡ self.now.size }
-    {
-        self.size
-    }
-
-    /// Whether it is free.
-    pub fn is_free(&self) -> bool
-        ensures { result ≡ is_free self.now }
-    {
-        self.owner.is_none()
-    }
-
-    /// Whether it is live, at this place and with this slot.
-    pub fn is_live_at(&self, place: u32, slot: u16) -> bool
-        ensures { result ≡ (is_at place self.now && is_owned_by (λ owner. owner == slot) self.now.owner) }
-    {
-        match self.owner {
-            Some(owner) => self.place == place && owner == slot,
-            None => false,
-        }
-    }
-
-    /// Whether it is live, with this slot.
-    pub fn has_slot(&self, slot: u16) -> bool
-        ensures { result ≡ is_slot slot self.now.owner }
-    {
-        match self.owner {
-            Some(owner) => owner == slot,
-            None => false,
+        match block {
+            Some(block) => block.size,
+            None => 0,
         }
     }
 

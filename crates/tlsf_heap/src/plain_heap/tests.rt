@@ -1,18 +1,18 @@
 //! Rows of the plain heap.
 
-ghost use Rattle.std.specs.Prelude.{IfSome};
-ghost use Rattle.tlsf_heap.specs.PlainHeap.{cursor_stands};
-
 use super::PlainHeap;
 use crate::{Cursor, Heaped, Ptr, Refusal, Row};
 use std::process::Abort;
 use tlsf_store::StoreError;
 
 /// The cursor behind the row at the cursor, where it is this one.
-fn passed(heap: &mut PlainHeap, cursor: Cursor, place: u32, size: u32, used: bool) -> Option<Cursor>
-    requires { cursor_stands heap.old cursor }
-    ensures { IfSome result (λ next. cursor_stands heap.new next) }
-{
+fn passed(
+    heap: &mut PlainHeap,
+    cursor: Cursor,
+    place: u32,
+    size: u32,
+    used: bool,
+) -> Option<Cursor> {
     match heap.row(cursor) {
         Some((row, next)) if row == Row { place, size, used } => Some(next),
         _ => None,

@@ -1,8 +1,0 @@
-use Rattle.std.proofs.Common.{◌≡◌, drop}
-use Rattle.tlsf_heap.specs.Lists.{first_of_lists as first_place}
-use Rattle.tlsf_heap.specs.PlainHeap.{lists_of}
-use Rattle.tlsf_heap.proofs.plain_heap.lists.first_of_lists.Given as goal
-
--- the lists so far were empty
-abbrev pub invariant-loop-places : goal.invariant-loop-places
-invariant-loop-places l = first_place (lists_of (drop l.places-index l.lists)) ≡ first_place (lists_of l.lists)

@@ -1,7 +1,0 @@
-use Rattle.std.proofs.Common.{◌≡◌, drop}
-use Rattle.tlsf_heap.specs.Free.{previous_of, first_in_pools}
-use Rattle.tlsf_heap.proofs.plain_heap.neighbours.previous_of.Given as goal
-
--- the pools so far have none
-abbrev pub invariant-loop-pool : goal.invariant-loop-pool
-invariant-loop-pool l = first_in_pools (previous_of l.place) (drop l.pool-index l.pools) ≡ first_in_pools (previous_of l.place) l.pools

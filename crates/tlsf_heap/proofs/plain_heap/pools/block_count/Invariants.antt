@@ -1,7 +1,0 @@
-use Rattle.std.proofs.Common.{◌≡◌, take, length}
-use Rattle.tlsf_heap.specs.Content.{blocks_of}
-use Rattle.tlsf_heap.proofs.plain_heap.pools.block_count.Given as goal
-
--- the blocks of the pools so far are counted
-abbrev pub invariant-loop-pool : goal.invariant-loop-pool
-invariant-loop-pool l = l.count ≡ length (blocks_of (take l.pool-index l.pools))
