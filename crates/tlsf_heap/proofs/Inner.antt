@@ -10,7 +10,6 @@ pub mod Lists
 pub mod Taken
 pub mod Linked
 pub mod Unlinked
-pub mod BoundMoved
 pub mod PoolMoves
 pub mod Sums
 pub mod Followed
