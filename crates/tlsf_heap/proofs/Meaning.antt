@@ -9,6 +9,7 @@ pub mod FreeFirst
 pub mod Refilled
 pub mod FreedIsGood
 pub mod Gaps
+pub mod Carved
 pub mod AlignedIsGood
 pub mod ResizedIsGood
 pub mod FreedSlots
