@@ -16,7 +16,6 @@ use Rattle.tlsf_heap.specs.Malloc.{allocated, malloc_picked}
 use Rattle.tlsf_heap.specs.Good.{IsGood}
 use Rattle.tlsf_heap.specs.Inner.Nodes.{Status, InUse, Listed, Loose, Node, Layout, turned, owner_of, block_of, pool_of, content_by, nodes_of, has_slot}
 use Rattle.tlsf_heap.specs.Inner.Spots.{filled}
-use Rattle.tlsf_heap.specs.Inner.Joined.{is_loose}
 use Rattle.tlsf_heap.specs.Inner.Represents.{Represents}
 use Rattle.tlsf_heap.specs.Inner.Following.{content_of, Stands}
 use Rattle.tlsf_heap.specs.Inner.At.{At, areas_at, layout_at, StandsAt, at_taken, at_cut}
@@ -24,10 +23,10 @@ use Rattle.tlsf_heap.proofs.Good.Calls.{picked, allocated_is_good}
 use Rattle.tlsf_heap.proofs.Counts.{one_if, count-cons, count-map}
 use Rattle.tlsf_heap.proofs.Inner.Plugs.{count-filled}
 use Rattle.tlsf_heap.proofs.Inner.Sums.{all_records}
-use Rattle.tlsf_heap.proofs.Inner.Followed.{content_is, stood_for, records_are}
+use Rattle.tlsf_heap.proofs.Inner.Followed.{stood_for, records_are}
 use Rattle.tlsf_heap.proofs.Inner.Chains.{uses_most}
 use Rattle.tlsf_heap.proofs.Inner.Steps.{slot_used}
-use Rattle.tlsf_heap.proofs.Inner.Live.{NodeAt, told_of}
+use Rattle.tlsf_heap.proofs.Inner.Live.{NodeAt, told_of, stands_with}
 use Rattle.tlsf_heap.proofs.Meaning.Places.{Told, alone, blocks_of_areas}
 use Rattle.tlsf_heap.proofs.Meaning.NodeBlocks.{size_is}
 use Rattle.tlsf_heap.proofs.Meaning.Allocated.{whole_is, part_is}
@@ -60,29 +59,6 @@ no_room cells stands none =
       all_records cells stands.layout stands.represented,
       stands.represented.count,
       ap (λ (xs : List ℕ). length xs) stands.none_taken,
-    )
-
--- new cells that represent a layout in which no node is loose
-stands_with : (new : Cells) (slot : ℕ) (status : Status) (at : At) (content : Content ℕ) → StandsAt slot status new at → is_loose status ≡ false → at.taken ≡ [] → content_by (layout_at at) ≡ content → IsGood content → Stands new × (content_of new ≡ content)
-stands_with new slot status at content after settled none is good =
-    let loose : Node → Bool = λ n. is_loose n.status in
-    let P : Content ℕ → Type 0 = λ x. IsGood x in (
-      record {
-        layout = layout_at at;
-        represented = after.0;
-        settled = omega (
-          arith,
-          after.1.others_settled,
-          count-filled loose at.spot (at.node ∷ at.nodes),
-          count-filled loose at.spot at.nodes,
-          count-cons loose at.node at.nodes,
-          ap (λ s. one_if (is_loose s)) after.1.status_is,
-          ap one_if settled,
-        );
-        none_taken = none;
-        good = subst P (sym is) good;
-      },
-      content_is new (layout_at at) after.0 ∙ is,
     )
 
 module _ (cells : Cells) (stands : Stands cells) (place slot asked : ℕ) (by : NodeAt place slot Listed cells stands.layout) (some : 0 < asked) (whole : asked % unit ≡ 0) (found : pick asked (content_of cells).lists ≡ Some place) where
