@@ -2,7 +2,6 @@
 pub mod BlockSpots
 pub mod Places
 pub mod NodeBlocks
-pub mod Allocated
 pub mod Freed
 pub mod Covered
 pub mod FreeFirst
