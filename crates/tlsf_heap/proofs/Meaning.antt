@@ -2,13 +2,13 @@
 pub mod BlockSpots
 pub mod Places
 pub mod NodeBlocks
-pub mod Allocated
 pub mod Freed
 pub mod Covered
 pub mod FreeFirst
 pub mod Refilled
 pub mod FreedIsGood
 pub mod Gaps
+pub mod Carved
 pub mod AlignedIsGood
 pub mod ResizedIsGood
 pub mod FreedSlots

@@ -1,5 +1,5 @@
 -- How often a place stands in a class's list, after a block entered or left its list.
-use Rattle.std.proofs.Common.{◌≡◌, ◌≢◌, ℕ, suc, ◌+◌, ◌<◌, ◌≤◌, true, false, cond, eqb, ◌&&◌, List, [], ◌∷◌, length, refl, sym, ap, ◌∙◌, subst, arith, zero-add, count_by, set, Some, None, inl, inr}
+use Rattle.std.proofs.Common.{◌≡◌, ◌≢◌, ℕ, suc, ◌+◌, ◌-◌, ◌<◌, ◌≤◌, true, false, cond, eqb, ◌&&◌, List, [], ◌∷◌, length, refl, sym, ap, ◌∙◌, subst, arith, zero-add, count_by, set, Some, None, inl, inr}
 use Rattle.std.specs.Prelude.{◌==◌}
 use Rattle.std.proofs.lemmas.Bool.{cases_Bool, cases_eq, eq-eqb, ne_eqb, eqb-true, and_right}
 use Rattle.std.proofs.lemmas.List.{get_or-set_same, get_or-set_other, length-set}
@@ -7,7 +7,8 @@ use Rattle.tlsf_class.specs.Classes.{classes, class}
 use Rattle.tlsf_class.proofs.ClassLaws.{class-lt}
 use Rattle.tlsf_heap.specs.Lists.{list_of, without, link, unlink, first_of_lists}
 use Rattle.tlsf_heap.specs.Good.{times, is_listed}
-use Rattle.tlsf_heap.specs.Malloc.{gap, link_gap}
+use Rattle.tlsf_heap.specs.Malloc.{gap, cut, link_gap}
+use Rattle.tlsf_heap.specs.Content.{Block, is_free, is_at}
 use Rattle.tlsf_heap.proofs.Counts.{count-cons, one_if}
 
 -- 1 where a free block of this size at this place stands at p in the list of class q
@@ -102,6 +103,17 @@ count_listed-gap A q p place size = elim (size == 0) as (λ b. count_by (is_list
   | true ↦ refl
   | false ↦ zero-add (listed_at q p place size)
 ]
+
+pub count_listed-cut : {A : Type 0} (owner : A) (q p place m size : ℕ) → count_by (is_listed q p) (cut owner place m size) ≡ cond ((size - m) == 0) 0 (listed_at q p (place + m) (size - m))
+count_listed-cut {A = A} owner q p place m size =
+    count-cons (is_listed q p) (record { place = place; size = m; owner = Some owner }) (gap (place + m) (size - m)) ∙ zero-add _ ∙ count_listed-gap A q p (place + m) (size - m)
+
+-- a free block is listed as any of its place and size is
+pub found_stands : {A : Type 0} (q p place size : ℕ) (block : Block A) → is_free block ≡ true → block.place ≡ place → block.size ≡ size → one_if (is_listed q p block) ≡ listed_at q p place size
+found_stands q p place size block free here same =
+    ap (λ b. one_if (b && (is_at p block && (class block.size == q)))) free
+    ∙ ap (λ n. one_if ((n == p) && (class block.size == q))) here
+    ∙ ap (λ n. one_if ((place == p) && (class n == q))) same
 
 -- where a place is the first of the lists, it stands in one of them
 pub first_stands : (lists : List (List ℕ)) (place : ℕ) → first_of_lists lists ≡ Some place → (number : ℕ) × (number < length lists) × (1 ≤ times place (list_of number lists))

@@ -1,23 +1,26 @@
 -- create, add_pool and malloc keep a content good.
-use Rattle.std.proofs.Common.{◌≡◌, ◌≢◌, ℕ, suc, ◌+◌, ◌-◌, ◌%◌, ◌<◌, ◌≤◌, Bool, true, false, cond, ◌&&◌, List, [], ◌∷◌, ◌++◌, length, refl, sym, ap, ◌∙◌, subst, arith, count_by, Option, Some, None, drop, option_and_then, inl, inr, length-append, zero-add}
+use Rattle.std.proofs.Common.{◌≡◌, ◌≢◌, ℕ, suc, ◌+◌, ◌-◌, ◌%◌, ◌<◌, ◌≤◌, Bool, true, false, cond, ◌&&◌, List, [], ◌∷◌, ◌++◌, length, refl, sym, ap, ◌∙◌, subst, arith, count_by, Option, Some, None, drop, option_and_then, inl, inr, length-append}
 use Rattle.std.specs.Prelude.{◌==◌, Ok, Err, nat_lt, nat_le}
 use Rattle.std.specs.List.{AllByRecursion, list_all}
-use Rattle.std.proofs.lemmas.Bool.{cases_Bool, ne_eqb, eqb-true, eqb-false, ltb-true, ltb-false, leb-true, leb-false, and_parts, and_cases, or_cases}
-use Rattle.std.proofs.lemmas.List.{get_or-drop, length-drop, get_or-replicate, length-replicate, length-map}
+use Rattle.std.proofs.lemmas.Bool.{cases_Bool, cases_lt, eq-eqb, ne_eqb, eqb-true, eqb-false, ltb-true, ltb-false, leb-true, leb-false, and_parts, and_cases, or_cases}
+use Rattle.std.proofs.lemmas.List.{get_or-drop, length-drop, get_or-replicate, length-replicate}
 use Rattle.tlsf_class.specs.Classes.{unit, classes, greatest_size, class, need}
 use Rattle.tlsf_class.proofs.ClassLaws.{need_holds}
 use Rattle.tlsf_class.specs.Rounding.{round}
 use Rattle.tlsf_class.proofs.RoundingLaws.{round-Some}
 use Rattle.tlsf_heap.specs.declared.refusal.Refusal.TheVariants.{ZeroSize, TableFull, BadPool, PoolsFull}
-use Rattle.tlsf_heap.specs.Content.{Block, Pool, Content, blocks_of, is_free, is_at, size_at, used_records}
-use Rattle.tlsf_heap.specs.Lists.{list_of, unlink, first_of_lists, pick}
-use Rattle.tlsf_heap.specs.Malloc.{gap, cut, replaced_in, allocated, allocate, malloc_picked, malloc_rounded, malloc}
+use Rattle.tlsf_heap.specs.Content.{Block, Pool, Content, blocks_of, is_free, size_at, used_records}
+use Rattle.tlsf_heap.specs.Lists.{list_of, first_of_lists, pick}
+use Rattle.tlsf_heap.specs.Malloc.{gap, cut, replaced, allocated, allocate, malloc_picked, malloc_rounded, malloc}
 use Rattle.tlsf_heap.specs.Pools.{most_pools, end_of_places, created, add_pool, with_pool, can_be_pool, is_apart, in_order_of_base}
-use Rattle.tlsf_heap.specs.Good.{Covers, NoFreeNeighbours, IsGoodPool, AreGoodPools, AreLists, IsGood, times, is_listed}
-use Rattle.tlsf_heap.proofs.Counts.{count-cons, count-append, one_if}
+use Rattle.tlsf_heap.specs.Good.{Covers, NoFreeNeighbours, IsGoodPool, AreGoodPools, IsGood, times, is_listed}
+use Rattle.tlsf_heap.proofs.Counts.{count-cons, count-append, count_all, one_if}
 use Rattle.tlsf_heap.proofs.Content.Blocks.{Found, found_listed, Ascends-pools, count_listed-none}
-use Rattle.tlsf_heap.proofs.Content.Replacing.{blocks_of-replaced, count_by-replaced, length-replaced, size_at-found, EachAt-found, IsCuttable, AreGoodPools-cut}
-use Rattle.tlsf_heap.proofs.Content.FreeLists.{first_stands, times-link, times-unlink, times-link_gap, length-link, length-unlink, length-link_gap, count_listed-gap, listed_at}
+use Rattle.tlsf_heap.proofs.Content.Replacing.{blocks_of-replaced, count_by-replaced, size_at-found}
+use Rattle.tlsf_heap.proofs.Meaning.Gaps.{length-cut, length-cut_most}
+use Rattle.tlsf_heap.proofs.Meaning.Carved.{aligned_is_good, aligned_here}
+use Rattle.tlsf_heap.specs.Memalign.{aligned}
+use Rattle.tlsf_heap.proofs.Content.FreeLists.{first_stands, times-link, length-link, count_listed-gap, listed_at}
 
 and_then_some : {A B : Type 0} (f : A → Option B) (o : Option A) (b : B) → option_and_then f o ≡ Some b → (a : A) × (o ≡ Some a) × (f a ≡ Some b)
 and_then_some f None b h = absurd (cc)
@@ -109,83 +112,41 @@ module _ {A : Type 0} where
         once = (let P : ℕ → Type 0 = λ c. times place (list_of c content.lists) ≡ 1 in subst P (sym of_class) once);
       }
 
-  -- the block found is listed as any free block of its place and size is
-  pub found_stands : (q p place size : ℕ) (block : Block A) → is_free block ≡ true → block.place ≡ place → block.size ≡ size → one_if (is_listed q p block) ≡ listed_at q p place size
-  found_stands q p place size block free here same =
-      ap (λ b. one_if (b && (is_at p block && (class block.size == q)))) free
-      ∙ ap (λ n. one_if ((n == p) && (class block.size == q))) here
-      ∙ ap (λ n. one_if ((place == p) && (class n == q))) same
-
-  pub count_listed-cut : (owner : A) (q p place m size : ℕ) → count_by (is_listed q p) (cut owner place m size) ≡ cond ((size - m) == 0) 0 (listed_at q p (place + m) (size - m))
-  count_listed-cut owner q p place m size =
-      count-cons (is_listed q p) (record { place = place; size = m; owner = Some owner }) (gap (place + m) (size - m)) ∙ zero-add _ ∙ count_listed-gap A q p (place + m) (size - m)
-
-  -- the lists after the block that was picked is cut
-  lists-cut : (owner : A) (m place : ℕ) (content : Content A) (good : IsGood content) (is : Picked m place content)
-      → AreLists (blocks_of (allocated owner place m (size_at place (blocks_of content.pools)) content).pools) (allocated owner place m (size_at place (blocks_of content.pools)) content).lists
-  lists-cut owner m place content good is q p below =
-      let blocks = blocks_of content.pools in
-      let size : ℕ = size_at place blocks in
-      let kind : Block A → Bool = is_listed q p in
-      let whole_list = length-unlink content.lists good.lists_count place size in
-      let linked = times-link_gap (unlink place size content.lists) whole_list q p (place + m) (size - m) in
-      let unlinked = times-unlink content.lists good.lists_count q p place size is.once in
-      let old = good.listed q p below in
-      let new = ap (count_by kind) (blocks_of-replaced place (cut owner place m size) content.pools) in
-      let counted = count_by-replaced place (cut owner place m size) blocks kind is.found in
-      let others = count_listed-cut owner q p place m size in
-      let one = found_stands q p place size is.found.block is.free is.found.here is.size_is in
-      omega (arith, linked, unlinked, old, new, counted, others, one)
-
-  pub length-cut : (owner : A) (place m size : ℕ) → length (cut owner place m size) ≡ cond ((size - m) == 0) 1 2
-  length-cut owner place m size =
-      let rest : Block A = record { place = place + m; size = size - m; owner = None } in
-      elim ((size - m) == 0) as (λ b. suc (length (cond b [] (rest ∷ []))) ≡ cond b 1 2) [ true ↦ refl | false ↦ refl ]
-
-  few-cut : (owner : A) (m place : ℕ) (content : Content A) (good : IsGood content) (is : Picked m place content)
-      → (m < size_at place (blocks_of content.pools) → used_records content < content.records)
-      → used_records (allocated owner place m (size_at place (blocks_of content.pools)) content) ≤ content.records
-  few-cut owner m place content good is room =
-      let size : ℕ = size_at place (blocks_of content.pools) in
-      let new = ap length (blocks_of-replaced place (cut owner place m size) content.pools) in
-      let counted = length-replaced place (cut owner place m size) (blocks_of content.pools) is.found in
-      let others = length-cut owner place m size in
-      let old = good.blocks_few in
-      elim (cases_Bool ((size - m) == 0)) [
-        | inl whole ↦ omega (arith, new, counted, others ∙ ap (λ b. cond b 1 2) whole, old)
-        | inr more ↦
-            let rest : size - m ≢ 0 = eqb-false (size - m) 0 more in
-            let larger : m < size = grind arith in
-            omega (arith, new, counted, others ∙ ap (λ b. cond b 1 2) more, room larger)
-      ]
-
   -- cutting the block that was picked keeps the content good
   pub allocated_is_good : (owner : A) (m place : ℕ) (content : Content A) → IsGood content → pick m content.lists ≡ Some place → 0 < m → m % unit ≡ 0
       → (m < size_at place (blocks_of content.pools) → used_records content < content.records) → IsGood (allocated owner place m (size_at place (blocks_of content.pools)) content)
   allocated_is_good owner m place content good h positive in_units room =
       let is = picked m place content good h in
       let size : ℕ = size_at place (blocks_of content.pools) in
-      let size_in_units : size % unit ≡ 0 = ap (λ n. n % unit) (sym is.size_is) ∙ is.whole.in_units in
-      record {
-        pools_few = (let same = length-map content.pools (replaced_in place (cut owner place m size)) in omega (arith, same, good.pools_few));
-        pools_good = AreGoodPools-cut owner place m size 0 content.pools positive is.holds in_units size_in_units
-            (EachAt-found place (IsCuttable m size) (blocks_of content.pools) is.found (record { size_is = is.size_is; free = is.free })) good.pools_good;
-        lists_count = length-link_gap (unlink place size content.lists) (length-unlink content.lists good.lists_count place size) (place + m) (size - m);
-        listed = lists-cut owner m place content good is;
-        blocks_few = few-cut owner m place content good is room;
-      }
+      let more : List (Block A) = cut owner place m size in
+      let all : Block A → Bool = λ block. true in
+      let none : place - place ≡ 0 = omega arith in
+      let same : aligned owner place m place size content ≡ allocated owner place m size content = aligned_here owner m place size content in
+      let counted = count_by-replaced place more (blocks_of content.pools) all is.found in
+      let few : used_records (allocated owner place m size content) + 1 ≡ used_records content + length more = omega (
+        arith,
+        ap length (blocks_of-replaced place more content.pools),
+        counted,
+        count_all (replaced place more (blocks_of content.pools)),
+        count_all (blocks_of content.pools),
+        count_all more,
+      ) in
+      let fits : used_records (allocated owner place m size content) ≤ content.records = elim (cases_lt m size) [
+        | inl larger ↦ omega (arith, few, length-cut_most owner place m size, room larger)
+        | inr whole ↦ omega (arith, few, length-cut owner place m size ∙ ap (λ b. cond b 1 2) (eq-eqb (size - m) 0 (omega (arith, whole))), good.blocks_few)
+      ] in
+      let P : Content A → Type 0 = λ x. IsGood x in
+      subst P same (aligned_is_good owner place m place content good is.once (omega arith) (omega (arith, none, is.holds)) positive in_units (ap (λ g. g % unit) none) (omega (arith, ap used_records same, fits)))
 
   -- what malloc answers with is good
   allocate_is_good : (owner : A) (m place : ℕ) (content : Content A) (new : ℕ × Content A) → IsGood content → pick m content.lists ≡ Some place → 0 < m → m % unit ≡ 0
       → allocate owner place m (size_at place (blocks_of content.pools)) content ≡ Ok new → IsGood new.1
   allocate_is_good owner m place content new good h positive in_units e =
       let size : ℕ = size_at place (blocks_of content.pools) in
-      let go : (b : Bool) → (nat_lt m size && nat_le content.records (used_records content)) ≡ b
-      → cond b (Err TableFull) (Ok (place, allocated owner place m size content)) ≡ Ok new → IsGood new.1
-      = λ b. elim b as (λ b. (nat_lt m size && nat_le content.records (used_records content)) ≡ b
-      → cond b (Err TableFull) (Ok (place, allocated owner place m size content)) ≡ Ok new → IsGood new.1) [
-        | true ↦ λ t f. absurd (cc)
-        | false ↦ λ t f.
+      elim (cases_Bool (nat_lt m size && nat_le content.records (used_records content))) [
+        | inl full ↦ let refused : allocate owner place m size content ≡ Err TableFull = rw full refl in absurd (cc)
+        | inr t ↦
+            let served : allocate owner place m size content ≡ Ok (place, allocated owner place m size content) = rw t refl in
             let room : m < size → used_records content < content.records = λ larger. elim (and_cases _ _ t) [
               | inl not_larger ↦ absurd (omega (arith, larger, ltb-false m size not_larger))
               | inr some_left ↦ leb-false _ _ some_left
@@ -193,8 +154,7 @@ module _ {A : Type 0} where
             let same : (place, allocated owner place m size content) ≡ new = cc in
             let P : ℕ × Content A → Type 0 = λ x. IsGood x.1 in
             subst P same (allocated_is_good owner m place content good h positive in_units room)
-      ] in
-      go _ refl e
+      ]
 
   picked_is_good : (owner : A) (m : ℕ) (content : Content A) (new : ℕ × Content A) (place : Option ℕ) → pick m content.lists ≡ place → IsGood content → 0 < m → m % unit ≡ 0
       → malloc_picked owner m place content ≡ Ok new → IsGood new.1

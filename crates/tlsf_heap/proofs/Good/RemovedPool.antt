@@ -12,8 +12,7 @@ use Rattle.tlsf_heap.specs.Pools.{is_based, is_unused, without_pool, remove_foun
 use Rattle.tlsf_heap.specs.Good.{Covers, IsGoodPool, AreGoodPools, times, is_listed, IsGood}
 use Rattle.tlsf_heap.proofs.Counts.{one_if, count-cons, count_all}
 use Rattle.tlsf_heap.proofs.Content.Blocks.{Ascends-pools}
-use Rattle.tlsf_heap.proofs.Content.FreeLists.{listed_at, times-unlink, length-unlink}
-use Rattle.tlsf_heap.proofs.Good.Calls.{found_stands}
+use Rattle.tlsf_heap.proofs.Content.FreeLists.{found_stands, listed_at, times-unlink, length-unlink}
 use Rattle.tlsf_heap.proofs.Meaning.BlockSpots.{count-blocks, at_most_one}
 use Rattle.tlsf_heap.proofs.Meaning.FreeFirst.{listed_few}
 use Rattle.tlsf_heap.specs.GoodSlots.{is_slot, slot_times, HasGoodSlots}

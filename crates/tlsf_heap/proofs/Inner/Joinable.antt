@@ -9,7 +9,7 @@ use Rattle.tlsf_heap.specs.Inner.Edits.{unlinked}
 use Rattle.tlsf_heap.specs.Inner.At.{AreCovered}
 use Rattle.tlsf_heap.specs.Inner.States.{is_state_free}
 use Rattle.tlsf_heap.specs.Inner.Chains.{joined}
-use Rattle.tlsf_heap.specs.Inner.Nodes.{Status, InUse, Listed, Loose, Node, turned, block_of, pool_of, is_listed, left}
+use Rattle.tlsf_heap.specs.Inner.Nodes.{Status, InUse, Listed, Loose, Node, Area, nodes_of, turned, block_of, pool_of, is_listed, left}
 use Rattle.tlsf_heap.specs.Inner.Spots.{Spot, laid, filled}
 use Rattle.tlsf_heap.specs.Inner.Joined.{is_loose, past, listed_first, left_by, grown_in_front, grown_behind}
 use Rattle.tlsf_heap.specs.Inner.Represents.{InPool, in_pool, pool_views, state_of, first_slot, AreChains, Represents}
@@ -24,86 +24,51 @@ use Rattle.tlsf_heap.proofs.Inner.Unlinked.{unlinked_laid, prev_free_used, next_
 use Rattle.tlsf_heap.proofs.Inner.Join.{join_laid}
 use Rattle.tlsf_heap.proofs.Meaning.Covered.{node_whole, covered_refilled, covers_both}
 
-loose_unlisted : (status : Status) → status ≡ Loose → is_listed status ≡ false
-loose_unlisted status is = ap is_listed is
-
--- two nodes side by side, of which one is listed
-module _ (cells : Cells) (count : ℕ) (spot : Spot) (front node : Node) (nodes : List Node) (lists : List (List Node)) (taken : List ℕ) (node_loose : node.status ≡ Loose) where
-  abbrev beyond : Spot
-  beyond = record spot { before = turned Listed front ∷ spot.before }
-
-  abbrev out : Cells
-  out = unlinked (class front.size) front.slot cells
-
-  module _ (was : Represents cells (laid count spot (turned Listed front ∷ node ∷ nodes) lists taken)) (covered : AreCovered 0 (map pool_of (filled spot (turned Listed front ∷ node ∷ nodes)))) where
-    unlinked_was : Represents (unlinked (class front.size) front.slot cells) (laid count spot (turned Loose front ∷ node ∷ nodes) (left (turned Listed front) lists) taken)
-    unlinked_was = unlinked_laid cells count spot (turned Listed front) (node ∷ nodes) lists taken was
-
-    covered_after : AreCovered 0 (map pool_of (filled spot (record front { size = front.size + node.size; status = Loose } ∷ nodes)))
-    covered_after = covered_refilled spot (turned Listed front ∷ node ∷ nodes) (record front { size = front.size + node.size; status = Loose } ∷ nodes) (λ from to c. covers_both Loose (turned Listed front) node nodes from to c) covered
-
-    pub front_laid : Represents (joined front.slot node.slot front.slot front.size cells) (laid count spot (record front { size = front.size + node.size; status = Loose } ∷ nodes) (left (turned Listed front) lists) taken)
-    front_laid = join_laid (unlinked (class front.size) front.slot cells) count spot (turned Loose front) node nodes (left (turned Listed front) lists) taken unlinked_was refl (loose_unlisted node.status node_loose)
-
-    pub front_joinable : IsJoinable front.slot node.slot front.slot front.size cells.records (unlinked (class front.size) front.slot cells).records
-    front_joinable =
-        let whole : IsWhole (block_of (turned Listed front)) = node_whole spot (turned Listed front) (node ∷ nodes) covered in
-        let both : IsWhole (block_of (record front { size = front.size + node.size; status = Loose })) = node_whole spot (record front { size = front.size + node.size; status = Loose }) nodes covered_after in
-        let records : List Record = (unlinked (class front.size) front.slot cells).records in
-        let here : AtNode records spot (turned Loose front) (node ∷ nodes) taken = at_node records spot (turned Loose front) (node ∷ nodes) taken unlinked_was.chains in
-        let there : AtNode records (record spot { before = turned Loose front ∷ spot.before }) node nodes taken = at_node records (record spot { before = turned Loose front ∷ spot.before }) node nodes taken unlinked_was.chains in
-        record {
-          some = whole.positive;
-          whole = whole.in_units;
-          most = whole.at_most;
-          within = (at_node cells.records spot (turned Listed front) (node ∷ nodes) taken was.chains).below;
-          prev_used = prev_free_used cells count spot (turned Listed front) (node ∷ nodes) lists taken was;
-          next_used = next_free_used cells count spot (turned Listed front) (node ∷ nodes) lists taken was;
-          front_used = node_is_used records spot (turned Loose front) (node ∷ nodes) taken here;
-          behind_used = node_is_used records (record spot { before = turned Loose front ∷ spot.before }) node nodes taken there;
-          last_used = next_used records (record spot { before = turned Loose front ∷ spot.before }) node nodes taken there;
-          fits = omega (arith, both.at_most, ap (λ (v : InPool). v.size) here.says, ap (λ (v : InPool). v.size) there.says);
-        }
-
--- the same where the node in front isn't listed and the one behind is
-module _ (cells : Cells) (count : ℕ) (spot : Spot) (node behind : Node) (nodes : List Node) (lists : List (List Node)) (taken : List ℕ) (unlisted : is_listed node.status ≡ false)
-    (was : Represents cells (laid count spot (node ∷ turned Listed behind ∷ nodes) lists taken)) (covered : AreCovered 0 (map pool_of (filled spot (node ∷ turned Listed behind ∷ nodes)))) where
-  abbrev next_spot : Spot
-  next_spot = record spot { before = node ∷ spot.before }
-
-  back_unlinked : Represents (unlinked (class behind.size) behind.slot cells) (laid count spot (node ∷ turned Loose behind ∷ nodes) (left (turned Listed behind) lists) taken)
-  back_unlinked = unlinked_laid cells count next_spot (turned Listed behind) nodes lists taken was
-
-  back_covered : AreCovered 0 (map pool_of (filled spot (record node { size = node.size + behind.size } ∷ nodes)))
-  back_covered = covered_refilled spot (node ∷ turned Listed behind ∷ nodes) (record node { size = node.size + behind.size } ∷ nodes) (λ from to c. covers_both node.status node (turned Listed behind) nodes from to c) covered
-
-  pub back_laid : Represents (joined node.slot behind.slot behind.slot behind.size cells) (laid count spot (record node { size = node.size + behind.size } ∷ nodes) (left (turned Listed behind) lists) taken)
-  back_laid = join_laid (unlinked (class behind.size) behind.slot cells) count spot node (turned Loose behind) nodes (left (turned Listed behind) lists) taken back_unlinked unlisted refl
-
-  pub back_joinable : IsJoinable node.slot behind.slot behind.slot behind.size cells.records (unlinked (class behind.size) behind.slot cells).records
-  back_joinable =
-      let whole : IsWhole (block_of (turned Listed behind)) = node_whole next_spot (turned Listed behind) nodes covered in
-      let both : IsWhole (block_of (record node { size = node.size + behind.size })) = node_whole spot (record node { size = node.size + behind.size }) nodes back_covered in
-      let records : List Record = (unlinked (class behind.size) behind.slot cells).records in
-      let here : AtNode records spot node (turned Loose behind ∷ nodes) taken = at_node records spot node (turned Loose behind ∷ nodes) taken back_unlinked.chains in
-      let there : AtNode records next_spot (turned Loose behind) nodes taken = at_node records next_spot (turned Loose behind) nodes taken back_unlinked.chains in
-      record {
-        some = whole.positive;
-        whole = whole.in_units;
-        most = whole.at_most;
-        within = (at_node cells.records next_spot (turned Listed behind) nodes taken was.chains).below;
-        prev_used = prev_free_used cells count next_spot (turned Listed behind) nodes lists taken was;
-        next_used = next_free_used cells count next_spot (turned Listed behind) nodes lists taken was;
-        front_used = node_is_used records spot node (turned Loose behind ∷ nodes) taken here;
-        behind_used = node_is_used records next_spot (turned Loose behind) nodes taken there;
-        last_used = next_used records next_spot (turned Loose behind) nodes taken there;
-        fits = omega (arith, both.at_most, ap (λ (v : InPool). v.size) here.says, ap (λ (v : InPool). v.size) there.says);
-      }
-
 -- what a step leads to
 pub record Joins (slot behind listed size result : ℕ) (status : Status) (cells : Cells) (after : At) : Type 0 where
   pub ready : IsJoinable slot behind listed size cells.records (unlinked (class size) listed cells).records
   pub leads : StandsAt result status (joined slot behind listed size cells) after
+
+-- two nodes side by side, of which one was listed and leaves its list
+module _ (cells : Cells) (count : ℕ) (listed_spot : Spot) (listed : Node) (listed_nodes : List Node) (spot : Spot) (front behind : Node) (nodes : List Node) (lists : List (List Node)) (taken : List ℕ)
+    (was : Represents cells (laid count listed_spot (turned Listed listed ∷ listed_nodes) lists taken)) (covered : AreCovered 0 (map pool_of (filled listed_spot (turned Listed listed ∷ listed_nodes))))
+    (side_by_side : filled listed_spot (turned Loose listed ∷ listed_nodes) ≡ filled spot (front ∷ behind ∷ nodes)) (front_unlisted : is_listed front.status ≡ false) (behind_unlisted : is_listed behind.status ≡ false)
+    (covered_after : AreCovered 0 (map pool_of (filled spot (record front { size = front.size + behind.size } ∷ nodes)))) where
+  unlinked_was : Represents (unlinked (class listed.size) listed.slot cells) (laid count spot (front ∷ behind ∷ nodes) (left (turned Listed listed) lists) taken)
+  unlinked_was =
+      let P : List Area → Type 0 = λ areas. Represents (unlinked (class listed.size) listed.slot cells) (record { count = count; areas = areas; lists = left (turned Listed listed) lists; taken = taken }) in
+      subst P side_by_side (unlinked_laid cells count listed_spot (turned Listed listed) listed_nodes lists taken was)
+
+  joinable : IsJoinable front.slot behind.slot listed.slot listed.size cells.records (unlinked (class listed.size) listed.slot cells).records
+  joinable =
+      let whole : IsWhole (block_of (turned Listed listed)) = node_whole listed_spot (turned Listed listed) listed_nodes covered in
+      let both : IsWhole (block_of (record front { size = front.size + behind.size })) = node_whole spot (record front { size = front.size + behind.size }) nodes covered_after in
+      let records : List Record = (unlinked (class listed.size) listed.slot cells).records in
+      let next_spot : Spot = record spot { before = front ∷ spot.before } in
+      let here : AtNode records spot front (behind ∷ nodes) taken = at_node records spot front (behind ∷ nodes) taken unlinked_was.chains in
+      let there : AtNode records next_spot behind nodes taken = at_node records next_spot behind nodes taken unlinked_was.chains in
+      record {
+        some = whole.positive;
+        whole = whole.in_units;
+        most = whole.at_most;
+        within = (at_node cells.records listed_spot (turned Listed listed) listed_nodes taken was.chains).below;
+        prev_used = prev_free_used cells count listed_spot (turned Listed listed) listed_nodes lists taken was;
+        next_used = next_free_used cells count listed_spot (turned Listed listed) listed_nodes lists taken was;
+        front_used = node_is_used records spot front (behind ∷ nodes) taken here;
+        behind_used = node_is_used records next_spot behind nodes taken there;
+        last_used = next_used records next_spot behind nodes taken there;
+        fits = omega (arith, both.at_most, ap (λ (v : InPool). v.size) here.says, ap (λ (v : InPool). v.size) there.says);
+      }
+
+  joins_sides : (status : Status) → front.status ≡ status → count_by (λ node. is_loose node.status) (nodes_of (filled spot nodes)) ≡ 0
+      → Joins front.slot behind.slot listed.slot listed.size front.slot status cells (record { count = count; spot = spot; node = record front { size = front.size + behind.size }; nodes = nodes; lists = left (turned Listed listed) lists; taken = taken })
+  joins_sides status status_is settled = record {
+    ready = joinable;
+    leads = (
+      join_laid (unlinked (class listed.size) listed.slot cells) count spot front behind nodes (left (turned Listed listed) lists) taken unlinked_was front_unlisted behind_unlisted,
+      record { slot_is = refl; status_is = status_is; others_settled = settled; covered = covered_after },
+    );
+  }
 
 -- the node in front is free
 module _ (cells : Cells) (at : At) (front : Node) (before : List Node) where
@@ -114,42 +79,18 @@ module _ (cells : Cells) (at : At) (front : Node) (before : List Node) where
   joins_seen slot stands =
       let spot : Spot = record at.spot { before = before } in
       let loose : Node → Bool = λ node. is_loose node.status in
-      record {
-        ready = front_joinable cells at.count spot front at.node at.nodes at.lists at.taken stands.1.status_is stands.0 stands.1.covered;
-        leads = (
-          front_laid cells at.count spot front at.node at.nodes at.lists at.taken stands.1.status_is stands.0 stands.1.covered,
-          record {
-            slot_is = refl;
-            status_is = refl;
-            others_settled = omega (
-              arith,
-              stands.1.others_settled,
-              count-filled loose (record spot { before = turned Listed front ∷ before }) at.nodes,
-              count-filled loose spot at.nodes,
-              count-cons loose (turned Listed front) before,
-            );
-            covered = covered_after cells at.count spot front at.node at.nodes at.lists at.taken stands.1.status_is stands.0 stands.1.covered;
-          },
-        );
-      }
+      let covered_after = covered_refilled spot (turned Listed front ∷ at.node ∷ at.nodes) (record front { size = front.size + at.node.size; status = Loose } ∷ at.nodes) (λ from to c. covers_both Loose (turned Listed front) at.node at.nodes from to c) stands.1.covered in
+      let settled : count_by loose (nodes_of (filled spot at.nodes)) ≡ 0 = omega (arith, stands.1.others_settled, count-filled loose (record spot { before = turned Listed front ∷ before }) at.nodes, count-filled loose spot at.nodes, count-cons loose (turned Listed front) before) in
+      joins_sides cells at.count spot front (at.node ∷ at.nodes) spot (turned Loose front) at.node at.nodes at.lists at.taken stands.0 stands.1.covered refl refl (ap is_listed stands.1.status_is) covered_after Loose refl settled
 
 -- the node behind is free
 module _ (cells : Cells) (at : At) (behind : Node) (nodes : List Node) where
   joins_behind : (slot : ℕ) (status : Status) → is_listed status ≡ false → StandsAt slot status cells (record at { nodes = turned Listed behind ∷ nodes }) → Joins at.node.slot behind.slot behind.slot behind.size at.node.slot status cells (next_joined (record at { nodes = turned Listed behind ∷ nodes }))
   joins_behind slot status unlisted stands =
       let loose : Node → Bool = λ node. is_loose node.status in
-      record {
-        ready = back_joinable cells at.count at.spot at.node behind nodes at.lists at.taken (ap is_listed stands.1.status_is ∙ unlisted) stands.0 stands.1.covered;
-        leads = (
-          back_laid cells at.count at.spot at.node behind nodes at.lists at.taken (ap is_listed stands.1.status_is ∙ unlisted) stands.0 stands.1.covered,
-          record {
-            slot_is = refl;
-            status_is = stands.1.status_is;
-            others_settled = omega (arith, stands.1.others_settled, count-filled loose at.spot (turned Listed behind ∷ nodes), count-filled loose at.spot nodes, count-cons loose (turned Listed behind) nodes);
-            covered = back_covered cells at.count at.spot at.node behind nodes at.lists at.taken (ap is_listed stands.1.status_is ∙ unlisted) stands.0 stands.1.covered;
-          },
-        );
-      }
+      let covered_after = covered_refilled at.spot (at.node ∷ turned Listed behind ∷ nodes) (record at.node { size = at.node.size + behind.size } ∷ nodes) (λ from to c. covers_both at.node.status at.node (turned Listed behind) nodes from to c) stands.1.covered in
+      let settled : count_by loose (nodes_of (filled at.spot nodes)) ≡ 0 = omega (arith, stands.1.others_settled, count-filled loose at.spot (turned Listed behind ∷ nodes), count-filled loose at.spot nodes, count-cons loose (turned Listed behind) nodes) in
+      joins_sides cells at.count (record at.spot { before = at.node ∷ at.spot.before }) behind nodes at.spot at.node (turned Loose behind) nodes at.lists at.taken stands.0 stands.1.covered refl (ap is_listed stands.1.status_is ∙ unlisted) refl covered_after status stands.1.status_is settled
 
 -- the first of some nodes, which has this slot, and what its record says
 pub record Neighbour (records : List Record) (slot : ℕ) (nodes : List Node) : Type 0 where

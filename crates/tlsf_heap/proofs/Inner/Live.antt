@@ -1,5 +1,5 @@
 -- The live block that a pointer is of, as a node at its spot, and what is left once it was freed.
-use Rattle.std.proofs.Common.{◌≡◌, ◌≢◌, ℕ, Bool, true, false, ◌&&◌, ◌∷◌, map, refl, sym, ap, ◌∙◌, subst, arith, count_by, inl, inr}
+use Rattle.std.proofs.Common.{◌≡◌, ◌≢◌, ℕ, Bool, true, false, ◌&&◌, [], ◌∷◌, map, refl, sym, ap, ◌∙◌, subst, arith, count_by, inl, inr}
 use Rattle.std.specs.Prelude.{◌==◌}
 use Rattle.std.specs.List.{list_any}
 use Rattle.std.proofs.lemmas.Bool.{cases_Bool, eq-eqb, eqb-true, and_parts, false≢true}
@@ -61,6 +61,29 @@ settled_free : (status : Status) → is_loose status ≡ false → state_of stat
 settled_free InUse settled free = absurd (cc)
 settled_free Listed settled free = refl
 settled_free Loose settled free = absurd (false≢true (sym settled))
+
+-- new cells that represent a layout in which no node is loose
+pub stands_with : (new : Cells) (slot : ℕ) (status : Status) (at : At) (content : Content ℕ) → StandsAt slot status new at → is_loose status ≡ false → at.taken ≡ [] → content_by (layout_at at) ≡ content → IsGood content → Stands new × (content_of new ≡ content)
+stands_with new slot status at content after settled none is good =
+    let loose : Node → Bool = λ n. is_loose n.status in
+    let P : Content ℕ → Type 0 = λ x. IsGood x in (
+      record {
+        layout = layout_at at;
+        represented = after.0;
+        settled = omega (
+          arith,
+          after.1.others_settled,
+          count-filled loose at.spot (at.node ∷ at.nodes),
+          count-filled loose at.spot at.nodes,
+          count-cons loose at.node at.nodes,
+          ap (λ s. one_if (is_loose s)) after.1.status_is,
+          ap one_if settled,
+        );
+        none_taken = none;
+        good = subst P (sym is) good;
+      },
+      content_is new (layout_at at) after.0 ∙ is,
+    )
 
 module _ (cells : Cells) (stands : Stands cells) where
   -- a node that is found, where no node is loose
@@ -162,23 +185,9 @@ module _ (cells : Cells) (stands : Stands cells) where
       let all_told : Told (areas_at at) at.lists = told_of cells (layout_at at) was good in
       let others = node.stands.1.others_settled in
       let is : content_by (layout_at (at_freed at)) ≡ after_free at.node.place (content_by (layout_at at)) =
-      freed_is at.spot at.node at.nodes at.lists all_told at.count at.taken at.taken (omega (arith, others, count-filled loose at.spot at.nodes)) (omega (arith, others, count-filled loose at.spot at.nodes)) in
+      freed_is at.spot at.node at.nodes at.lists all_told at.count at.taken at.taken node.stands.1.status_is (omega (arith, others, count-filled loose at.spot at.nodes)) (omega (arith, others, count-filled loose at.spot at.nodes)) good in
       let stood : content_of cells ≡ content_by (layout_at at) = stood_for cells stands ∙ ap content_by node.layout_is in
       let all : content_by (layout_at (at_freed at)) ≡ after_free place (content_of cells) = is ∙ ap (λ p. after_free p (content_by (layout_at at))) node.place_is ∙ ap (after_free place) (sym stood) in
       let Q : Content ℕ → Type 0 = λ x. IsGood x in
-      let R : Content ℕ → Type 0 = λ x. IsGood (after_free place x) in (
-        record {
-          layout = layout_at (at_freed at);
-          represented = after.0;
-          settled = omega (
-            arith,
-            after.1.others_settled,
-            count-filled loose (at_freed at).spot ((at_freed at).node ∷ (at_freed at).nodes),
-            count-filled loose (at_freed at).spot (at_freed at).nodes,
-            count-cons loose (at_freed at).node (at_freed at).nodes,
-          );
-          none_taken = ap (λ (l : Layout). l.taken) (sym node.layout_is) ∙ stands.none_taken;
-          good = subst Q (sym all) (freed_is_good (λ owner. owner == slot) place (content_of cells) (subst Q (sym (stood_for cells stands)) stands.good) live);
-        },
-        content_is new (layout_at (at_freed at)) after.0 ∙ all,
-      )
+      stands_with new (at_freed at).node.slot Listed (at_freed at) (after_free place (content_of cells)) after refl (ap (λ (l : Layout). l.taken) (sym node.layout_is) ∙ stands.none_taken) all
+      (freed_is_good (λ owner. owner == slot) place (content_of cells) (subst Q (sym (stood_for cells stands)) stands.good) live)

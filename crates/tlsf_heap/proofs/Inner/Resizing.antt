@@ -20,8 +20,8 @@ use Rattle.tlsf_heap.proofs.Inner.Plugs.{count-filled}
 use Rattle.tlsf_heap.proofs.Inner.Sums.{all_records}
 use Rattle.tlsf_heap.proofs.Inner.Followed.{stood_for, records_are}
 use Rattle.tlsf_heap.proofs.Inner.Steps.{size_read, slot_used}
-use Rattle.tlsf_heap.proofs.Inner.Served.{used_is, stands_with}
-use Rattle.tlsf_heap.proofs.Inner.Live.{NodeAt, told_of, live_at}
+use Rattle.tlsf_heap.proofs.Inner.Served.{used_is}
+use Rattle.tlsf_heap.proofs.Inner.Live.{NodeAt, told_of, live_at, stands_with}
 use Rattle.tlsf_heap.proofs.Meaning.Places.{Told, alone}
 use Rattle.tlsf_heap.proofs.Meaning.NodeBlocks.{back_is, size_is}
 use Rattle.tlsf_heap.proofs.Meaning.Freed.{NoneLoose, listed_is_free}

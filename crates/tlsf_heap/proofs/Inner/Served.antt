@@ -1,7 +1,7 @@
 -- What stands after a free block was taken, whole or in part, and that it is what malloc gives.
-use Rattle.std.proofs.Common.{◌≡◌, ℕ, ◌%◌, ◌<◌, ◌≤◌, Bool, true, false, cond, ◌&&◌, eqb, List, [], ◌∷◌, length, map, refl, sym, ap, ◌∙◌, subst, arith, count_by, Some, Ok, Err, inl, inr}
+use Rattle.std.proofs.Common.{◌≡◌, ℕ, ◌+◌, ◌-◌, ◌++◌, ◌%◌, ◌<◌, ◌≤◌, Bool, true, false, cond, ◌&&◌, eqb, List, [], ◌∷◌, length, map, refl, sym, ap, ◌∙◌, subst, arith, count_by, Some, Ok, Err, inl, inr}
 use Rattle.std.specs.Prelude.{nat_lt, nat_le}
-use Rattle.std.proofs.lemmas.Bool.{cases_lt, eq-eqb, lt-ltb, le-ltb, le-leb, lt-leb, and_left, and_right}
+use Rattle.std.proofs.lemmas.Bool.{ne_eqb, cases_lt, eq-eqb, lt-ltb, le-ltb, le-leb, lt-leb, and_left, and_right}
 use Rattle.std.proofs.lemmas.List.{length-map}
 use Rattle.tlsf_class.specs.Classes.{unit}
 use Rattle.tlsf_store.specs.declared.records.State.TheVariants.{Free}
@@ -14,23 +14,23 @@ use Rattle.tlsf_heap.specs.Content.{Block, Content, blocks_of, size_at, used_rec
 use Rattle.tlsf_heap.specs.Lists.{pick}
 use Rattle.tlsf_heap.specs.Malloc.{allocated, malloc_picked}
 use Rattle.tlsf_heap.specs.Good.{IsGood}
-use Rattle.tlsf_heap.specs.Inner.Nodes.{Status, InUse, Listed, Loose, Node, Layout, turned, owner_of, block_of, pool_of, content_by, nodes_of, has_slot}
+use Rattle.tlsf_heap.specs.Inner.Nodes.{Status, InUse, Listed, Loose, Node, Layout, turned, owner_of, block_of, pool_of, content_by, nodes_of, has_slot, gap_nodes, entered_gap}
 use Rattle.tlsf_heap.specs.Inner.Spots.{filled}
-use Rattle.tlsf_heap.specs.Inner.Joined.{is_loose}
 use Rattle.tlsf_heap.specs.Inner.Represents.{Represents}
 use Rattle.tlsf_heap.specs.Inner.Following.{content_of, Stands}
-use Rattle.tlsf_heap.specs.Inner.At.{At, areas_at, layout_at, StandsAt, at_taken, at_cut}
+use Rattle.tlsf_heap.specs.Inner.At.{At, areas_at, layout_at, StandsAt, at_taken, at_cut, at_trimmed}
 use Rattle.tlsf_heap.proofs.Good.Calls.{picked, allocated_is_good}
+use Rattle.tlsf_heap.specs.Inner.Joined.{is_loose}
 use Rattle.tlsf_heap.proofs.Counts.{one_if, count-cons, count-map}
 use Rattle.tlsf_heap.proofs.Inner.Plugs.{count-filled}
 use Rattle.tlsf_heap.proofs.Inner.Sums.{all_records}
-use Rattle.tlsf_heap.proofs.Inner.Followed.{content_is, stood_for, records_are}
+use Rattle.tlsf_heap.proofs.Inner.Followed.{stood_for, records_are}
 use Rattle.tlsf_heap.proofs.Inner.Chains.{uses_most}
 use Rattle.tlsf_heap.proofs.Inner.Steps.{slot_used}
-use Rattle.tlsf_heap.proofs.Inner.Live.{NodeAt, told_of}
+use Rattle.tlsf_heap.proofs.Inner.Live.{NodeAt, told_of, stands_with}
 use Rattle.tlsf_heap.proofs.Meaning.Places.{Told, alone, blocks_of_areas}
 use Rattle.tlsf_heap.proofs.Meaning.NodeBlocks.{size_is}
-use Rattle.tlsf_heap.proofs.Meaning.Allocated.{whole_is, part_is}
+use Rattle.tlsf_heap.proofs.Meaning.Aligned.{allocated_is}
 
 -- a content of nodes uses a record for each
 pub used_is : (layout : Layout) → used_records (content_by layout) ≡ length (nodes_of layout.areas)
@@ -62,39 +62,7 @@ no_room cells stands none =
       ap (λ (xs : List ℕ). length xs) stands.none_taken,
     )
 
--- new cells that represent a layout in which no node is loose
-pub stands_with : (new : Cells) (slot : ℕ) (status : Status) (at : At) (content : Content ℕ) → StandsAt slot status new at → is_loose status ≡ false → at.taken ≡ [] → content_by (layout_at at) ≡ content → IsGood content → Stands new × (content_of new ≡ content)
-stands_with new slot status at content after settled none is good =
-    let loose : Node → Bool = λ n. is_loose n.status in
-    let P : Content ℕ → Type 0 = λ x. IsGood x in (
-      record {
-        layout = layout_at at;
-        represented = after.0;
-        settled = omega (
-          arith,
-          after.1.others_settled,
-          count-filled loose at.spot (at.node ∷ at.nodes),
-          count-filled loose at.spot at.nodes,
-          count-cons loose at.node at.nodes,
-          ap (λ s. one_if (is_loose s)) after.1.status_is,
-          ap one_if settled,
-        );
-        none_taken = none;
-        good = subst P (sym is) good;
-      },
-      content_is new (layout_at at) after.0 ∙ is,
-    )
-
 module _ (cells : Cells) (stands : Stands cells) (place slot asked : ℕ) (by : NodeAt place slot Listed cells stands.layout) (some : 0 < asked) (whole : asked % unit ≡ 0) (found : pick asked (content_of cells).lists ≡ Some place) where
-  abbrev at : At
-  at = by.at
-
-  abbrev node : Node
-  node = turned Listed by.at.node
-
-  abbrev content : Content ℕ
-  content = content_of cells
-
   good : IsGood (content_of cells)
   good = let P : Content ℕ → Type 0 = λ x. IsGood x in subst P (sym (stood_for cells stands)) stands.good
 
@@ -144,23 +112,32 @@ module _ (cells : Cells) (stands : Stands cells) (place slot asked : ℕ) (by : 
       ∙ ap (λ s. allocated s by.at.node.place bytes by.at.node.size (content_of cells)) by.stands.1.slot_is
       ∙ ap (λ p. allocated slot p bytes by.at.node.size (content_of cells)) by.place_is
 
+  -- what stands where the node keeps the bytes asked for
+  served : (new : Cells) (rest s : ℕ) (status : Status) (left_at : At) → StandsAt s status new left_at → is_loose status ≡ false → left_at.taken ≡ by.at.taken → layout_at left_at ≡ layout_at (at_trimmed rest asked (at_taken by.at))
+      → (asked < by.at.node.size → used_records (content_of cells) < (content_of cells).records) → Stands new × (malloc_picked slot asked (Some place) (content_of cells) ≡ Ok (place, content_of new))
+  served new rest s status left_at after settled kept same_left room =
+      let given = gives room in
+      let is : content_by (layout_at left_at) ≡ allocated slot place asked by.at.node.size (content_of cells) =
+      ap content_by same_left ∙ allocated_is by.at.count by.at.spot (turned Listed by.at.node) by.at.nodes by.at.lists told rest asked by.at.taken by.at.taken ∙ renamed asked in
+      let after_all = stands_with new s status left_at (allocated slot place asked by.at.node.size (content_of cells)) after settled (kept ∙ none) is given.1 in
+      (after_all.0, given.0 ∙ ap (λ x. Ok (place, x)) (sym after_all.1))
+
   pub whole_stands : (new : Cells) → StandsAt slot InUse new (at_taken by.at) → asked ≡ by.at.node.size → Stands new × (malloc_picked slot asked (Some place) (content_of cells) ≡ Ok (place, content_of new))
   whole_stands new after all =
-      let given = gives (λ larger. absurd (omega (arith, larger, all))) in
-      let is : content_by (layout_at (at_taken by.at)) ≡ allocated slot place asked by.at.node.size (content_of cells) =
-      whole_is by.at.count by.at.spot (turned Listed by.at.node) by.at.nodes by.at.lists told by.at.taken by.at.taken
-      ∙ renamed by.at.node.size ∙ ap (λ n. allocated slot place n by.at.node.size (content_of cells)) (sym all) in
-      let after_all = stands_with new slot InUse (at_taken by.at) (allocated slot place asked by.at.node.size (content_of cells)) after refl none is given.1 in
-      (after_all.0, given.0 ∙ ap (λ x. Ok (place, x)) (sym after_all.1))
+      let nothing : 0 ≡ by.at.node.size - asked = omega (arith, all) in
+      let of : ℕ → ℕ → Layout = λ bytes more. layout_at (record (at_taken by.at) {
+        node = record (turned InUse by.at.node) { size = bytes };
+        nodes = gap_nodes 0 (by.at.node.place + bytes) more ++ by.at.nodes;
+        lists = entered_gap 0 (by.at.node.place + bytes) more (at_taken by.at).lists;
+      }) in
+      let same_left : of by.at.node.size 0 ≡ of asked (by.at.node.size - asked) = λ i. of (sym all i) (nothing i) in
+      served new 0 slot InUse (at_taken by.at) after refl refl same_left (λ larger. absurd (omega (arith, larger, all)))
 
   pub part_stands : (new : Cells) (rest : ℕ) → StandsAt rest Listed new (at_cut rest asked (at_taken by.at)) → asked < by.at.node.size → used_records (content_of cells) < (content_of cells).records
       → Stands new × (malloc_picked slot asked (Some place) (content_of cells) ≡ Ok (place, content_of new))
   part_stands new rest after less room =
-      let given = gives (λ larger. room) in
-      let is : content_by (layout_at (at_cut rest asked (at_taken by.at))) ≡ allocated slot place asked by.at.node.size (content_of cells) =
-      part_is by.at.count by.at.spot (turned Listed by.at.node) by.at.nodes by.at.lists told rest asked by.at.taken by.at.taken less ∙ renamed asked in
-      let after_all = stands_with new rest Listed (at_cut rest asked (at_taken by.at)) (allocated slot place asked by.at.node.size (content_of cells)) after refl none is given.1 in
-      (after_all.0, given.0 ∙ ap (λ x. Ok (place, x)) (sym after_all.1))
+      let some = ne_eqb (by.at.node.size - asked) 0 (λ e. omega (arith, e, less)) in
+      served new rest rest Listed (at_cut rest asked (at_taken by.at)) after refl refl (rw some refl) (λ larger. room)
 
   pub full_refused : vacant_count cells.records ≡ 0 → asked < by.at.node.size → (owner : ℕ) → malloc_picked owner asked (Some place) (content_of cells) ≡ Err TableFull
   full_refused no_vacant less owner =

@@ -1,10 +1,10 @@
--- What a layout stands for after the node at a spot was carved for an alignment.
+-- What a layout stands for after the node at a spot was carved: for an alignment, or as malloc cuts it.
 use Rattle.std.proofs.Common.{◌≡◌, ℕ, ◌+◌, ◌-◌, List, [], ◌∷◌, ◌++◌, length, map, refl, sym, ap, ◌∙◌, arith, true, false, cond}
 use Rattle.std.proofs.lemmas.List.{map-append, append_assoc}
 use Rattle.tlsf_class.specs.Classes.{classes}
 use Rattle.tlsf_heap.specs.Content.{Pool, Content}
 use Rattle.tlsf_heap.specs.Lists.{unlink}
-use Rattle.tlsf_heap.specs.Malloc.{gap, link_gap, replaced_in, cut}
+use Rattle.tlsf_heap.specs.Malloc.{gap, link_gap, replaced_in, cut, allocated}
 use Rattle.tlsf_heap.specs.Memalign.{aligned}
 use Rattle.tlsf_heap.specs.Inner.Nodes.{Node, InUse, Listed, turned, block_of, pool_of, content_by, left, gap_nodes, entered_gap, entered}
 use Rattle.tlsf_heap.specs.Inner.Spots.{Spot, filled}
@@ -14,6 +14,8 @@ use Rattle.tlsf_heap.proofs.Meaning.Places.{Told, alone, alike, by_places, place
 use Rattle.tlsf_heap.proofs.Meaning.NodeBlocks.{pools_replaced}
 use Rattle.tlsf_heap.proofs.Meaning.Resized.{gap_is, gap_entered}
 use Rattle.std.specs.Prelude.{◌==◌}
+use Rattle.std.proofs.Math.Nat.{sub-zero}
+use Rattle.tlsf_heap.proofs.Meaning.Carved.{aligned_here}
 
 module _ (count : ℕ) (spot : Spot) (node : Node) (nodes : List Node) (lists : List (List Node)) (told : Told (filled spot (turned Listed node ∷ nodes)) lists) where
   abbrev pools : List (Pool ℕ)
@@ -64,3 +66,15 @@ module _ (count : ℕ) (spot : Spot) (node : Node) (nodes : List Node) (lists : 
       full_gap slot place size ls full =
           let gap_node : Node = record { slot = slot; place = place; size = size; status = Listed } in
           elim (size == 0) as (λ b. length (cond b ls (entered gap_node ls)) ≡ classes) [ true ↦ full | false ↦ length-entered gap_node ls full ]
+
+  -- with no gap in front it is taken as malloc takes it: whole, or cut to m bytes
+  pub allocated_is : (rest m : ℕ) (taken kept : List ℕ) → content_by (layout_at (at_trimmed rest m (at_taken (old_at kept)))) ≡ allocated node.slot node.place m node.size (content_by (layout_at (old_at taken)))
+  allocated_is rest m taken kept =
+      let here : node.place + 0 ≡ node.place = omega arith in
+      let all : node.size - 0 ≡ node.size = sub-zero node.size in
+      let of : ℕ → ℕ → Content ℕ = λ place size. content_by (layout_at (at_trimmed rest m (record (at_taken (old_at kept)) { node = record (turned InUse node) { place = place; size = size } }))) in
+      let same : of (node.place + 0) (node.size - 0) ≡ of node.place node.size = λ i. of (here i) (all i) in
+      sym same
+      ∙ aligned_is node.slot rest 0 m taken kept
+      ∙ ap (λ start. aligned node.slot start m node.place node.size (content_by (layout_at (old_at taken)))) here
+      ∙ aligned_here node.slot m node.place node.size (content_by (layout_at (old_at taken)))

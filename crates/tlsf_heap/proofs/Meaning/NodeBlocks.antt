@@ -3,12 +3,12 @@ use Rattle.std.proofs.Common.{◌≡◌, ℕ, List, ◌∷◌, ◌++◌, map, sy
 use Rattle.std.proofs.lemmas.List.{map-append}
 use Rattle.tlsf_heap.specs.Content.{Block, blocks_of, is_at, size_at}
 use Rattle.tlsf_heap.specs.Malloc.{replaced_in}
-use Rattle.tlsf_heap.specs.Free.{previous_of, next_of, first_in_pools}
+use Rattle.tlsf_heap.specs.Free.{next_of, first_in_pools}
 use Rattle.tlsf_heap.specs.Inner.Nodes.{Node, Area, block_of, pool_of, nodes_of, has_place}
 use Rattle.tlsf_heap.specs.Inner.Spots.{plug, Spot, filled}
 use Rattle.tlsf_heap.proofs.Counts.{count-map}
 use Rattle.tlsf_heap.proofs.Inner.Plugs.{map-plug}
-use Rattle.tlsf_heap.proofs.Meaning.BlockSpots.{BlockSpot, first_of, filled_pools, IsAlone, replaced_at, front_at, back_at, size_here}
+use Rattle.tlsf_heap.proofs.Meaning.BlockSpots.{BlockSpot, first_of, filled_pools, IsAlone, replaced_at, back_at, size_here}
 use Rattle.tlsf_heap.proofs.Meaning.Places.{blocks_of_areas, Alone}
 
 -- the same spot among blocks
@@ -42,10 +42,7 @@ module _ (spot : Spot) (node : Node) (nodes : List Node) (alone : Alone spot nod
       ∙ ap (filled_pools (block_spot spot)) (sym (map-append block_of news nodes))
       ∙ sym (pools_are spot (news ++ nodes))
 
-  -- the block in front of it is that of the nearest node, the one behind it that of the next
-  pub front_is : first_in_pools (previous_of node.place) (map pool_of (filled spot (node ∷ nodes))) ≡ first_block spot.before
-  front_is = ap (first_in_pools (previous_of node.place)) (pools_are spot (node ∷ nodes)) ∙ front_at (block_spot spot) (block_of node) (map block_of nodes) block_alone
-
+  -- the block behind it is that of the next node
   pub back_is : first_in_pools (next_of node.place) (map pool_of (filled spot (node ∷ nodes))) ≡ first_block nodes
   back_is = ap (first_in_pools (next_of node.place)) (pools_are spot (node ∷ nodes)) ∙ back_at (block_spot spot) (block_of node) (map block_of nodes) block_alone
 

@@ -1,20 +1,19 @@
 -- A live block that gets another size in its place keeps a content good.
-use Rattle.std.proofs.Common.{◌≡◌, ℕ, ◌+◌, ◌-◌, ◌%◌, ◌<◌, ◌≤◌, Bool, true, false, ◌&&◌, List, ◌∷◌, ◌++◌, length, map, refl, ap, ◌∙◌, subst, arith, count_by, IsTrue, not, Option, Some, ◌≢◌, suc, cond, sym, None, inl, inr, length-append, []}
+use Rattle.std.proofs.Common.{◌≡◌, ℕ, ◌+◌, ◌-◌, ◌%◌, ◌<◌, ◌≤◌, Bool, true, false, ◌&&◌, List, ◌∷◌, ◌++◌, length, map, refl, ap, ◌∙◌, subst, arith, count_by, Option, Some, ◌≢◌, cond, sym, None, inl, inr, length-append, []}
 use Rattle.std.specs.Prelude.{◌==◌, ◌||◌, is_some, nat_lt, nat_le}
 use Rattle.tlsf_class.specs.Classes.{unit, classes, class}
 use Rattle.tlsf_heap.specs.Content.{Block, Content, blocks_of, is_free, is_at, size_at, Pool}
 use Rattle.tlsf_heap.specs.Lists.{list_of}
-use Rattle.tlsf_heap.specs.Malloc.{gap, link_gap, cut, replaced_in}
+use Rattle.tlsf_heap.specs.Malloc.{link_gap, cut, replaced_in}
 use Rattle.tlsf_heap.specs.Free.{if_free, free_next, unlink_block, without_block, size_of, is_owned_by, is_live}
 use Rattle.tlsf_heap.specs.Realloc.{fits_in_place, resized}
 use Rattle.tlsf_heap.specs.Good.{Covers, NoFreeNeighbours, times, is_listed, IsGood}
 use Rattle.tlsf_heap.proofs.Content.Blocks.{Ascends-pools}
-use Rattle.tlsf_heap.proofs.Content.FreeLists.{times-link_gap, length-link_gap}
+use Rattle.tlsf_heap.proofs.Content.FreeLists.{count_listed-cut, times-link_gap, length-link_gap}
 use Rattle.tlsf_heap.proofs.Counts.{one_if, count-cons, count-append, count_all, any_counts}
-use Rattle.tlsf_heap.proofs.Good.Calls.{count_listed-cut}
 use Rattle.tlsf_heap.proofs.Meaning.BlockSpots.{BlockSpot, filled_pools, count-filled_pools, at_most_one, IsAlone, block_alone, replaced_at, back_at, size_here, LocatedBlock, located_block}
 use Rattle.tlsf_heap.proofs.Meaning.FreeFirst.{past_free, free_first, few_past, past_apart, count_past, times-unlink_block, length-unlink_block, covers_behind, without_next, next_once}
-use Rattle.tlsf_heap.proofs.Meaning.Gaps.{covers_gap, apart_gap}
+use Rattle.tlsf_heap.proofs.Meaning.Gaps.{covers_cut, apart_cut, length-cut_most}
 use Rattle.tlsf_heap.proofs.Meaning.Refilled.{refilled_is_good}
 use Rattle.std.proofs.lemmas.Bool.{cases_Bool, eqb-true, and_parts, or_cases, ltb-true, ltb-false, leb-true}
 use Rattle.tlsf_heap.proofs.Meaning.FreedIsGood.{owned_is_live}
@@ -36,19 +35,10 @@ module _ {A : Type 0} where
     new_lists = link_gap (block.place + m) (size - m) (unlink_block next lists)
 
     covers : m ≤ size → (from to : ℕ) → Covers from to (block ∷ blocks) → Covers from to news
-    covers fits from to c =
-        let one = covers_behind block blocks from to c in
-        let P : ℕ → Type 0 = λ p. Covers (from + m) to (gap p (size - m) ++ past_free blocks) in
-        let Q : ℕ → Type 0 = λ n. Covers n to (past_free blocks) in
-        let ends : from + size ≡ from + m + (size - m) = omega (arith, fits) in
-        let begins : from + m ≡ block.place + m = omega (arith, c.0) in
-        let rest_whole : (size - m) % unit ≡ 0 = omega (arith, one.2, whole, fits) in
-        (c.0, some, whole, subst P begins (covers_gap (from + m) to (size - m) (past_free blocks) rest_whole (subst Q ends one.3)))
+    covers fits from to c = let one = covers_behind block blocks from to c in covers_cut owner from to block.place m size (past_free blocks) c.0 some whole fits one.2 one.3
 
     apart : (was : Bool) → NoFreeNeighbours was (block ∷ blocks) → NoFreeNeighbours was news
-    apart was n =
-        let P : Bool → Type 0 = λ f. NoFreeNeighbours f blocks in
-        (elim was as (λ w. IsTrue (not (w && false))) [ true ↦ refl | false ↦ refl ], apart_gap (block.place + m) (size - m) (past_free blocks) (past_apart blocks (subst P live n.1)))
+    apart was n = let P : Bool → Type 0 = λ f. NoFreeNeighbours f blocks in apart_cut owner block.place m size was (past_free blocks) (past_apart blocks (subst P live n.1))
 
     listed : length lists ≡ classes → ((other : Block A) → next ≡ Some other → times other.place (list_of (class other.size) lists) ≡ 1) → (q p : ℕ)
         → times p (list_of q new_lists) + count_by (is_listed q p) (block ∷ blocks) ≡ times p (list_of q lists) + count_by (is_listed q p) news
@@ -119,11 +109,6 @@ module _ {A : Type 0} where
       past_length [] = refl
       past_length (b ∷ others) = elim (is_free b) as (λ f. length (cond f others (b ∷ others)) + cond (is_some (cond f (Some b) None)) 1 0 ≡ length (b ∷ others)) [ true ↦ omega arith | false ↦ omega arith ]
 
-      cut_length : length (cut owner block.place m size) ≤ 2
-      cut_length =
-          let rest : Block A = record { place = block.place + m; size = size - m; owner = None } in
-          elim ((size - m) == 0) as (λ b. suc (length (cond b [] (rest ∷ []))) ≤ 2) [ true ↦ omega arith | false ↦ omega arith ]
-
       few_after : (is_some next || nat_lt (length (blocks_of old.pools)) records) ≡ true → length (blocks_of (filled_pools spot news)) ≤ records
       few_after room =
           let all : Block A → Bool = λ b. true in
@@ -135,8 +120,8 @@ module _ {A : Type 0} where
           let both = length-append (cut owner block.place m size) (past_free blocks) in
           let past = past_length blocks in
           elim (or_cases (is_some next) (nat_lt (length (blocks_of old.pools)) records) room) [
-            | inl there ↦ omega (arith, before, behind, parts, old_count, new_count, both, past, ap {B = ℕ} (λ b. cond b 1 0) there, cut_length, count_all (block ∷ blocks), good.blocks_few)
-            | inr left ↦ omega (arith, before, behind, parts, old_count, new_count, both, past, cut_length, count_all (block ∷ blocks), ltb-true (length (blocks_of old.pools)) records left)
+            | inl there ↦ omega (arith, before, behind, parts, old_count, new_count, both, past, ap {B = ℕ} (λ b. cond b 1 0) there, length-cut_most owner block.place m size, count_all (block ∷ blocks), good.blocks_few)
+            | inr left ↦ omega (arith, before, behind, parts, old_count, new_count, both, past, length-cut_most owner block.place m size, count_all (block ∷ blocks), ltb-true (length (blocks_of old.pools)) records left)
           ]
 
       resized_good : m ≤ size → (is_some next || nat_lt (length (blocks_of old.pools)) records) ≡ true → IsGood (resized owner block.place m old)
