@@ -19,6 +19,8 @@ pub mod Joinable
 pub mod Steps
 pub mod Live
 pub mod Resizing
+pub mod Gapped
+pub mod Carving
 pub mod Allotted
 pub mod Served
 pub mod Picked

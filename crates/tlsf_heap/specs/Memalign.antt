@@ -28,6 +28,10 @@ size_asked align m = if nat_le align unit then m else (m + align) - unit
 abbrev pub carved : {A : Type 0} → A → (start m place size : ℕ) → List (Block A)
 carved owner start m place size = gap place (start - place) ++ cut owner start m (size - (start - place))
 
+-- how many records a gap of these bytes takes
+abbrev pub gap_records : ℕ → ℕ
+gap_records bytes = if bytes == 0 then 0 else 1
+
 -- the block at the place, which has this size, leaves its list and is carved; the gap enters its list, and then what
 -- is left
 abbrev pub aligned : {A : Type 0} → A → (start m place size : ℕ) → Content A → Content A

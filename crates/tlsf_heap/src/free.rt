@@ -126,7 +126,7 @@ fn join(store: &mut Store, first: Slot, second: Slot, listed: Slot, size: u32)
 }
 
 /// The block, which is free and in no list, enters its class's list. At most 11 touches.
-fn enter(store: &mut Store, slot: Slot)
+pub(crate) fn enter(store: &mut Store, slot: Slot)
     requires { (at : At) × StandsAt slot Loose store.old.cells at }
     ensures leads { (at : At) → StandsAt slot Loose store.old.cells at → StandsAt slot Listed store.new.cells (at_listed at) }
     ensures touches { AtMost 11 store.old.touches store.new.touches }

@@ -14,6 +14,7 @@ mod free_lists;
 mod heap;
 mod heaped;
 mod malloc;
+mod memalign;
 mod plain_heap;
 mod pointer;
 mod pool_entry;

@@ -69,7 +69,7 @@ pub(crate) fn allocate(store: &mut Store, asked: u32) -> Result<Ptr, Refusal>
 
 /// The first block of the first list that isn't empty, at or above the class from which each block holds
 /// `asked` bytes. At most four touches.
-fn pick(store: &mut Store, asked: u32) -> Option<Slot>
+pub(crate) fn pick(store: &mut Store, asked: u32) -> Option<Slot>
     requires stands { Stands store.old.cells }
     requires whole { asked % unit ≡ 0 }
     requires some { 0 < asked }
@@ -130,7 +130,7 @@ fn take_part(store: &mut Store, slot: Slot, rest: Slot, bytes: u32, size: u32)
 }
 
 /// A free block of `size` bytes leaves its class's list and is live. At most ten touches.
-fn take_whole(store: &mut Store, slot: Slot, size: u32)
+pub(crate) fn take_whole(store: &mut Store, slot: Slot, size: u32)
     requires { (at : At) × StandsAt slot Listed store.old.cells at × (size ≡ at.node.size) }
     ensures leads { (at : At) → StandsAt slot Listed store.old.cells at → size ≡ at.node.size → StandsAt slot InUse store.new.cells (at_taken at) }
     ensures touches { AtMost 10 store.old.touches store.new.touches }

@@ -139,3 +139,27 @@ start_is align m place is whole =
         | inr none ↦ start_here align m place some whole (omega (arith, none))
       ]
     ]
+
+-- above the unit they are of whole units
+whole_above : (k : ℕ) → unit < 2 ^ k → 2 ^ k % unit ≡ 0
+whole_above zero above = absurd (omega (arith, above))
+whole_above (suc zero) above = absurd (omega (arith, above))
+whole_above (suc (suc zero)) above = absurd (omega (arith, above))
+whole_above (suc (suc (suc zero))) above = refl
+whole_above (suc (suc (suc (suc k)))) above =
+    let P : ℕ → Type 0 = λ n. 2 ^ n % 8 ≡ 0 in
+    let as_sum : 3 + suc k ≡ suc (suc (suc (suc k))) = omega arith in
+    subst P as_sum (whole_power (suc k))
+
+-- and so is what is asked of the lists
+pub asked_whole : (align m : ℕ) → is_alignment align ≡ true → m % unit ≡ 0 → 0 < m → (size_asked align m % unit ≡ 0) × (0 < size_asked align m)
+asked_whole align m is whole some = elim (cases_Bool (nat_le align unit)) [
+  | inl few ↦ rw few (whole, some)
+  | inr more ↦
+      let above = leb-false align unit more in
+      let at = Any-from_list_any (λ power. 2 ^ power == align) (range_with_len 0 alignments) is in
+      let power : 2 ^ at.1 ≡ align = eqb-true (2 ^ at.1) align at.4 in
+      let P : ℕ → Type 0 = λ n. unit < n → n % unit ≡ 0 in
+      let align_whole = subst P power (whole_above at.1) above in
+      rw more (omega (arith, whole, align_whole, above), omega (arith, some, above))
+]

@@ -1,0 +1,115 @@
+-- A live node that leaves a gap of its first bytes: the steps from one node of two neighbours to the other, and what they come to.
+use Rattle.std.proofs.Common.{◌≡◌, ℕ, ◌+◌, ◌-◌, ◌%◌, ◌<◌, Bool, true, false, cond, List, [], ◌∷◌, ◌++◌, length, map, refl, sym, ap, ◌∙◌, subst, arith, count_by, Some}
+use Rattle.std.specs.Prelude.{◌==◌}
+use Rattle.std.proofs.lemmas.Bool.{ne_eqb, eq-eqb}
+use Rattle.tlsf_class.specs.Classes.{unit}
+use Rattle.tlsf_store.specs.declared.records.State.TheVariants.{Free, Live}
+use Rattle.tlsf_store.specs.Records.{blank, record_at}
+use Rattle.tlsf_store.specs.Cells.{Cells, with_taken}
+use Rattle.tlsf_heap.specs.Inner.Edits.{IsUsed}
+use Rattle.tlsf_heap.specs.Inner.Chains.{split, with_state}
+use Rattle.tlsf_heap.specs.Inner.Nodes.{Status, InUse, Listed, Loose, Node, Layout, turned, rest_node, pool_of, nodes_of, entered}
+use Rattle.tlsf_heap.specs.Inner.Spots.{Spot, filled}
+use Rattle.tlsf_heap.specs.Inner.Joined.{is_loose}
+use Rattle.tlsf_heap.specs.Inner.Represents.{Represents}
+use Rattle.tlsf_heap.specs.Inner.At.{At, AreCovered, layout_at, StandsAt, at_turned, with_slot, at_split, at_listed, at_gapped}
+use Rattle.tlsf_heap.proofs.Counts.{one_if, count-cons}
+use Rattle.tlsf_heap.proofs.Inner.Plugs.{count-filled}
+use Rattle.tlsf_heap.proofs.Inner.Steps.{turned_stands}
+use Rattle.tlsf_heap.proofs.Inner.Allotted.{slot_stands, split_stands}
+
+module _ (cells : Cells) (at : At) (first second : Node) (before nodes : List Node) where
+  abbrev loose : Node → Bool
+  loose node = is_loose node.status
+
+  -- at the first of two neighbours, and at the second
+  abbrev at_first : At
+  at_first = record at { spot = record at.spot { before = before }; node = first; nodes = second ∷ nodes }
+
+  abbrev at_second : At
+  at_second = record at { spot = record at.spot { before = first ∷ before }; node = second; nodes = nodes }
+
+  pub stepped_back : (slot other : ℕ) (status was : Status) → StandsAt other was cells at_second → is_loose was ≡ false → first.slot ≡ slot → first.status ≡ status → StandsAt slot status cells at_first
+  stepped_back slot other status was stands settled slot_is status_is = (
+    stands.0,
+    record {
+      slot_is = slot_is;
+      status_is = status_is;
+      others_settled = omega (
+        arith,
+        stands.1.others_settled,
+        count-filled loose (record at.spot { before = first ∷ before }) nodes,
+        count-filled loose (record at.spot { before = before }) (second ∷ nodes),
+        count-cons loose first before,
+        count-cons loose second nodes,
+        ap (λ s. one_if (is_loose s)) stands.1.status_is,
+        ap one_if settled,
+      );
+      covered = stands.1.covered;
+    },
+  )
+
+  pub stepped_on : (slot other : ℕ) (status was : Status) → StandsAt other was cells at_first → is_loose was ≡ false → second.slot ≡ slot → second.status ≡ status → StandsAt slot status cells at_second
+  stepped_on slot other status was stands settled slot_is status_is = (
+    stands.0,
+    record {
+      slot_is = slot_is;
+      status_is = status_is;
+      others_settled = omega (
+        arith,
+        stands.1.others_settled,
+        count-filled loose (record at.spot { before = first ∷ before }) nodes,
+        count-filled loose (record at.spot { before = before }) (second ∷ nodes),
+        count-cons loose first before,
+        count-cons loose second nodes,
+        ap (λ s. one_if (is_loose s)) stands.1.status_is,
+        ap one_if settled,
+      );
+      covered = stands.1.covered;
+    },
+  )
+
+module _ (slot live bytes : ℕ) (at : At) where
+  -- the node of the first bytes, and the live one behind it
+  abbrev first_node : Node
+  first_node = record at.node { size = bytes }
+
+  abbrev live_node : Node
+  live_node = turned InUse (rest_node live bytes at.node)
+
+  -- at the first node, which is live still
+  abbrev pub at_front : At
+  at_front = record at { node = record at.node { size = bytes }; nodes = turned InUse (rest_node live bytes at.node) ∷ at.nodes }
+
+  -- it was split, and what is behind is live
+  pub front_stands : (cells : Cells) → StandsAt slot InUse cells (with_slot live at) → 0 < bytes → bytes < at.node.size → bytes % unit ≡ 0 → StandsAt slot InUse (with_state live Live (split slot live bytes cells)) at_front
+  front_stands cells stands some less whole =
+      let cut = split_stands cells slot live at stands bytes some less whole in
+      stepped_back (with_state live Live (split slot live bytes cells)) at (record at.node { size = bytes }) (turned InUse (rest_node live bytes at.node)) at.spot.before at.nodes slot live InUse InUse
+      (turned_stands (split slot live bytes cells) live Loose (at_split live bytes at) cut InUse refl refl) refl stands.1.slot_is stands.1.status_is
+
+  -- the first node entered its list: the gap is left
+  pub gapped_stands : (cells : Cells) → at.node.slot ≡ slot → at.node.status ≡ InUse → 0 < bytes → StandsAt slot Listed cells (at_listed (at_turned Loose at_front)) → StandsAt live InUse cells (at_gapped live bytes at)
+  gapped_stands cells slot_is status_is some stands =
+      let gap : Node = record { slot = at.node.slot; place = at.node.place; size = bytes; status = Listed } in
+      let moved = stepped_on cells (record at { lists = entered gap at.lists }) gap (turned InUse (rest_node live bytes at.node)) at.spot.before at.nodes live slot InUse Listed stands refl refl refl in
+      let none : (bytes == 0) ≡ false = ne_eqb bytes 0 (λ e. omega (arith, e, some)) in
+      let P : Bool → Type 0 = λ b. StandsAt live InUse cells (record at {
+        spot = record at.spot { before = cond b [] (gap ∷ []) ++ at.spot.before };
+        node = turned InUse (rest_node live bytes at.node);
+        lists = cond b at.lists (entered gap at.lists);
+      }) in
+      let Q : Status → Type 0 = λ s. StandsAt live InUse cells (record at {
+        spot = record at.spot { before = cond (bytes == 0) [] (gap ∷ []) ++ at.spot.before };
+        node = record { slot = live; place = at.node.place + bytes; size = at.node.size - bytes; status = s };
+        lists = cond (bytes == 0) at.lists (entered gap at.lists);
+      }) in
+      subst Q (sym status_is) (subst P (sym none) moved)
+
+-- no bytes: nothing changes
+pub gapped_none : (cells : Cells) (slot : ℕ) (at : At) → StandsAt slot InUse cells at → StandsAt slot InUse cells (at_gapped slot 0 at)
+gapped_none cells slot at stands =
+    let P : ℕ → ℕ → ℕ → Type 0 = λ s p n. StandsAt slot InUse cells (record at { node = record at.node { slot = s; place = p; size = n } }) in
+    let place : at.node.place ≡ at.node.place + 0 = omega arith in
+    let size : at.node.size ≡ at.node.size - 0 = omega arith in
+    subst (λ n. P slot (at.node.place + 0) n) size (subst (λ p. P slot p at.node.size) place (subst (λ s. P s at.node.place at.node.size) stands.1.slot_is stands))

@@ -1,0 +1,159 @@
+//! memalign: the block picked is carved, so that a live block begins at a multiple of an alignment.
+
+ghost use Rattle.std.specs.Prelude.{◌≡◌, ℕ, true, ◌+◌, ◌-◌, ◌%◌, ◌^◌, ◌<◌, ◌≤◌, Some, Ok, Err, length, IfOk, IfErr, OnErr};
+ghost use Rattle.std.specs.Int.{next_multiple_of};
+ghost use Rattle.tlsf_class.specs.Classes.{unit, greatest_size};
+ghost use Rattle.tlsf_store.specs.declared.records.State.TheVariants.{Free};
+ghost use Rattle.tlsf_store.specs.Records.{blank, record_at, vacant_count};
+ghost use Rattle.tlsf_heap.specs.Touches.{AtMost};
+ghost use Rattle.tlsf_heap.specs.Content.{blocks_of};
+ghost use Rattle.tlsf_heap.specs.Lists.{pick as picked};
+ghost use Rattle.tlsf_heap.specs.Memalign.{is_alignment as is_one, size_asked as asked_size, gap_records, memalign as served, memalign_picked};
+ghost use Rattle.tlsf_heap.specs.GoodSlots.{slot_times};
+ghost use Rattle.tlsf_heap.specs.Inner.Following.{Stands, content_of};
+ghost use Rattle.tlsf_heap.specs.Inner.Nodes.{InUse};
+ghost use Rattle.tlsf_heap.specs.Inner.At.{At, StandsAt, at_gapped};
+
+use crate::chains::{set_state, split};
+use crate::free::enter;
+use crate::malloc::{pick, take_whole, trim};
+use crate::{Ptr, Refusal};
+use tlsf_class::{UNIT, round};
+use tlsf_store::{Slot, State, Store};
+
+/// The greatest alignment, in bytes.
+const GREATEST_ALIGNMENT: u64 = 1 << 29;
+
+/// A live block of `n` bytes, rounded up to the unit, that begins at a multiple of the alignment. At most 56
+/// touches.
+///
+/// # Errors
+///
+/// As `Heap::memalign`.
+pub(crate) fn memalign(store: &mut Store, align: u64, n: u64) -> Result<Ptr, Refusal>
+    requires { Stands store.old.cells }
+    ensures stands { Stands store.new.cells }
+    ensures ok { IfOk result (λ ptr. served ptr.slot align n (content_of store.old.cells) ≡ Ok (ptr.place, content_of store.new.cells)) }
+    ensures slot_below { IfOk result (λ ptr. ptr.slot < (content_of store.old.cells).records) }
+    ensures slot_new { IfOk result (λ ptr. slot_times ptr.slot (blocks_of (content_of store.old.cells).pools) ≡ 0) }
+    ensures refused { IfErr result (λ refusal. (slot : ℕ) → served slot align n (content_of store.old.cells) ≡ Err refusal) }
+    ensures cells { OnErr result (store.new.cells ≡ store.old.cells) }
+    ensures touches { AtMost 56 store.old.touches store.new.touches }
+{
+    if !is_alignment(align) {
+        return Err(Refusal::BadAlign);
+    }
+    if n == 0 {
+        return Err(Refusal::ZeroSize);
+    }
+    let Some(asked) = round(n) else {
+        return Err(Refusal::NoFit);
+    };
+    let align = align as u32;
+    let Some(slot) = pick(store, size_asked(align, asked)) else {
+        return Err(Refusal::NoFit);
+    };
+    carve(store, slot, align, asked)
+}
+
+/// The block picked is carved: a live block of `asked` bytes begins at the least multiple of the alignment
+/// at or above its place. At most 52 touches.
+///
+/// # Errors
+///
+/// `TableFull` where the gap and what is left behind need more records than are vacant; then nothing is changed.
+fn carve(store: &mut Store, slot: Slot, align: u32, asked: u32) -> Result<Ptr, Refusal>
+    requires stands { Stands store.old.cells }
+    requires is { is_one align ≡ true }
+    requires whole { asked % unit ≡ 0 }
+    requires some { 0 < asked }
+    requires free { (record_at store.old.cells.records slot).state ≡ Free }
+    requires found { picked (asked_size align asked) (content_of store.old.cells).lists ≡ Some (record_at store.old.cells.records slot).place }
+    ensures stands { Stands store.new.cells }
+    ensures ok { IfOk result (λ ptr. memalign_picked ptr.slot align asked (Some (record_at store.old.cells.records slot).place) (content_of store.old.cells) ≡ Ok (ptr.place, content_of store.new.cells)) }
+    ensures slot_below { IfOk result (λ ptr. ptr.slot < (content_of store.old.cells).records) }
+    ensures slot_new { IfOk result (λ ptr. slot_times ptr.slot (blocks_of (content_of store.old.cells).pools) ≡ 0) }
+    ensures refused { IfErr result (λ refusal. (owner : ℕ) → memalign_picked owner align asked (Some (record_at store.old.cells.records slot).place) (content_of store.old.cells) ≡ Err refusal) }
+    ensures cells { OnErr result (store.new.cells ≡ store.old.cells) }
+    ensures touches { AtMost 52 store.old.touches store.new.touches }
+{
+    let block = store.read(slot);
+    let start = start_of(block.place, align);
+    let gap = start - block.place;
+    let left = block.size - gap;
+    if store.vacant() < records_for(gap) + records_for(left - asked) {
+        return Err(Refusal::TableFull);
+    }
+    take_whole(store, slot, block.size);
+    let live = leave_gap(store, slot, gap);
+    trim(store, live, asked);
+    Ok(Ptr::new(start, live.0))
+}
+
+/// How many records a free block of these bytes needs: none where there are no bytes.
+fn records_for(bytes: u32) -> u32
+    ensures { result ≡ gap_records bytes }
+{
+    if bytes == 0 { 0 } else { 1 }
+}
+
+/// Whether it is an alignment: a power of two, up to the greatest.
+fn is_alignment(align: u64) -> bool
+    ensures { result ≡ is_one align }
+{
+    align <= GREATEST_ALIGNMENT && align.is_power_of_two()
+}
+
+/// How many bytes are asked of the lists for `bytes`, so that each block of them holds these from some
+/// multiple of the alignment on.
+fn size_asked(align: u32, bytes: u32) -> u32
+    requires few { bytes ≤ greatest_size }
+    requires is { is_one align ≡ true }
+    ensures { result ≡ asked_size align bytes }
+{
+    if align <= UNIT {
+        bytes
+    } else {
+        bytes + (align - UNIT)
+    }
+}
+
+/// The least multiple of the alignment at or above a place.
+fn start_of(place: u32, align: u32) -> u32
+    requires some { 0 < align }
+    requires fits { next_multiple_of place align < 2 ^ 32 }
+    ensures { result ≡ next_multiple_of place align }
+{
+    let left = place % align;
+    if left == 0 {
+        place
+    } else {
+        place + (align - left)
+    }
+}
+
+/// A live block keeps what is behind its first bytes, under another slot. These are a free block, first in
+/// its class's list; where there are none, nothing changes. The answer is the live block's slot. At most 22
+/// touches.
+fn leave_gap(store: &mut Store, slot: Slot, bytes: u32) -> Slot
+    requires stands { (at : At) × StandsAt slot InUse store.old.cells at × (bytes < at.node.size) }
+    requires whole { bytes % unit ≡ 0 }
+    requires room { 0 < bytes → 0 < vacant_count store.old.cells.records }
+    ensures leads { (at : At) → StandsAt slot InUse store.old.cells at → StandsAt result InUse store.new.cells (at_gapped result bytes at) }
+    ensures same { bytes ≡ 0 → result ≡ slot }
+    ensures vacant { 0 < bytes → record_at store.old.cells.records result ≡ blank }
+    ensures below { result < length store.old.cells.records }
+    ensures touches { AtMost 22 store.old.touches store.new.touches }
+{
+    if bytes == 0 {
+        return slot;
+    }
+    let Some(live) = store.take_vacant() else {
+        unreachable!()
+    };
+    split(store, slot, live, bytes);
+    set_state(store, live, State::Live);
+    set_state(store, slot, State::Free);
+    enter(store, slot);
+    live
+}
