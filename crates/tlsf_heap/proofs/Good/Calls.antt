@@ -15,9 +15,10 @@ use Rattle.tlsf_heap.specs.Malloc.{gap, cut, replaced, allocated, allocate, mall
 use Rattle.tlsf_heap.specs.Free.{free_block}
 use Rattle.tlsf_heap.specs.Pools.{most_pools, end_of_places, created, add_pool, with_pool, can_be_pool, is_apart, in_order_of_base}
 use Rattle.tlsf_heap.specs.Good.{Covers, NoFreeNeighbours, IsGoodPool, AreGoodPools, IsGood, times, is_listed}
-use Rattle.tlsf_heap.proofs.Counts.{count-cons, count-append, count_all, one_if}
-use Rattle.tlsf_heap.proofs.Content.Blocks.{Found, found_listed, Ascends-pools, count_listed-none}
+use Rattle.tlsf_heap.proofs.Counts.{count-append, count_all}
+use Rattle.tlsf_heap.proofs.Content.Blocks.{Found, found_listed, Ascends-pools}
 use Rattle.tlsf_heap.proofs.Content.Replacing.{blocks_of-replaced, count_by-replaced, size_at-found}
+use Rattle.tlsf_heap.proofs.Meaning.FreeFirst.{listed_once}
 use Rattle.tlsf_heap.proofs.Meaning.Gaps.{length-cut, length-cut_most}
 use Rattle.tlsf_heap.proofs.Meaning.Carved.{aligned_is_good, aligned_here}
 use Rattle.tlsf_heap.specs.Memalign.{aligned}
@@ -80,17 +81,6 @@ pub record Picked {A : Type 0} (m place : ℕ) (content : Content A) : Type 0 wh
   pub once : times place (list_of (class (size_at place (blocks_of content.pools))) content.lists) ≡ 1
 
 module _ {A : Type 0} where
-  pub one_at_most : (number place : ℕ) (blocks : List (Block A)) (found : Found place blocks) → count_by (is_listed number place) blocks ≤ 1
-  one_at_most number place blocks found =
-      let kind : Block A → Bool = is_listed number place in
-      let before = ap (count_by kind) found.whole in
-      let one = count-append kind found.front (found.block ∷ found.back) in
-      let two = count-cons kind found.block found.back in
-      let front = count_listed-none number place found.front found.none_before in
-      let back = count_listed-none number place found.back found.none_behind in
-      let last : one_if (kind found.block) ≤ 1 = elim (kind found.block) as (λ b. one_if b ≤ 1) [ true ↦ omega arith | false ↦ omega arith ] in
-      omega (arith, before, one, two, front, back, last)
-
   pub picked : (m place : ℕ) (content : Content A) → IsGood content → pick m content.lists ≡ Some place → Picked m place content
   picked m place content good h =
       let stand = pick_stands m place content.lists h in
@@ -103,7 +93,7 @@ module _ {A : Type 0} where
       let of_class : class (size_at place (blocks_of content.pools)) ≡ number = ap class (sym size) ∙ block.2 in
       let all : AllByRecursion IsWhole (block.0.front ++ block.0.block ∷ block.0.back) =
       let P : List (Block A) → Type 0 = λ xs. AllByRecursion IsWhole xs in subst P block.0.whole (whole_in_pools 0 content.pools good.pools_good) in
-      let once : times place (list_of number content.lists) ≡ 1 = omega (arith, listed, counted, one_at_most number place (blocks_of content.pools) block.0) in
+      let once = listed_once content good number place below counted in
       record {
         found = block.0;
         free = block.1;

@@ -1,5 +1,5 @@
 -- free by the block's neighbours keeps a content good.
-use Rattle.std.proofs.Common.{◌≡◌, ℕ, ◌+◌, ◌<◌, ◌≤◌, Bool, true, false, cond, not, ◌&&◌, List, [], ◌∷◌, length, map, refl, sym, ap, ◌∙◌, subst, arith, count_by, IsTrue, Option, Some, None, inl, inr}
+use Rattle.std.proofs.Common.{◌≡◌, ℕ, ◌+◌, ◌≤◌, Bool, true, false, cond, not, ◌&&◌, List, [], ◌∷◌, length, map, refl, sym, ap, ◌∙◌, subst, arith, count_by, IsTrue, Option, Some, None, inl, inr}
 use Rattle.tlsf_class.proofs.ClassLaws.{class-lt}
 use Rattle.std.specs.Prelude.{is_none, ◌==◌}
 use Rattle.std.proofs.lemmas.Bool.{cases_eq, ne_eqb, eqb-true, and_parts, false≢true}
@@ -15,7 +15,7 @@ use Rattle.tlsf_heap.proofs.Content.Blocks.{Ascends-pools}
 use Rattle.tlsf_heap.proofs.Content.FreeLists.{times-link, length-link}
 use Rattle.tlsf_heap.proofs.Counts.{one_if, count-cons, count_all, any_counts}
 use Rattle.tlsf_heap.proofs.Meaning.BlockSpots.{BlockSpot, pool_at, filled_pools, around_blocks, count-filled_pools, LocatedBlock, located_block, at_most_one, IsAlone, block_alone, replaced_at, front_at, back_at, size_here}
-use Rattle.tlsf_heap.proofs.Meaning.FreeFirst.{length-plug, past_free, free_first, listed_of, apart_parts, apart_plugged, past_apart, past_live, count_past, listed_few, few_past, free_stands, times-unlink_block, length-unlink_block, covers_plug, pools_plug, merged_of, covers_behind, without_next}
+use Rattle.tlsf_heap.proofs.Meaning.FreeFirst.{length-plug, past_free, free_first, listed_of, apart_parts, apart_plugged, past_apart, past_live, count_past, listed_once, next_once, few_past, free_stands, times-unlink_block, length-unlink_block, covers_plug, pools_plug, merged_of, covers_behind, without_next}
 
 module _ {A : Type 0} where
   covers_merged : (before : List (Block A)) (block : Block A) (blocks : List (Block A)) (from to : ℕ) → Covers from to (plug before (block ∷ blocks)) → Covers from to (plug (past_free before) (merged_of (free_first before) block (free_first blocks) ∷ past_free blocks))
@@ -74,27 +74,18 @@ module _ {A : Type 0} where
     not_listed : (q p : ℕ) → one_if (is_listed q p block) ≡ 0
     not_listed q p = ap (λ b. one_if (b && (is_at p block && (class block.size == q)))) live
 
-    listed_most : (q p : ℕ) → q < classes → times p (list_of q lists) ≤ 1
-    listed_most q p within = omega (arith, good.listed q p within, once p, listed_few q p (blocks_of (filled_pools spot (block ∷ blocks))))
-
     -- each neighbour stands once in its list, also where the other left
     front_once : (other : Block A) → front ≡ Some other → times other.place (list_of (class other.size) lists) ≡ 1
-    front_once other is =
-        let number : ℕ = class other.size in
-        omega (arith, listed_most number other.place (class-lt other.size), good.listed number other.place (class-lt other.size), counts (is_listed number other.place), (free_stands spot.before other is).0)
+    front_once other is = listed_once old good (class other.size) other.place (class-lt other.size) (omega (arith, counts (is_listed (class other.size) other.place), (free_stands spot.before other is).0))
 
     back_once : (other : Block A) → back ≡ Some other → times other.place (list_of (class other.size) (unlink_block front lists)) ≡ 1
     back_once other is =
-        let number : ℕ = class other.size in
         let there = free_stands blocks other is in
         omega (
           arith,
-          times-unlink_block lists good.lists_count front front_once number other.place,
-          front_elsewhere number other.place there.1,
-          listed_most number other.place (class-lt other.size),
-          good.listed number other.place (class-lt other.size),
-          counts (is_listed number other.place),
-          there.0,
+          times-unlink_block lists good.lists_count front front_once (class other.size) other.place,
+          front_elsewhere (class other.size) other.place there.1,
+          next_once records spot block blocks lists good other is,
         )
       where
         front_elsewhere : (q p : ℕ) → 1 ≤ count_by (is_at p) blocks → listed_of q p front ≡ 0
