@@ -1,6 +1,6 @@
 -- What realloc gives a live block, case by case.
-use Rattle.std.proofs.Common.{◌≡◌, ◌≢◌, ℕ, ◌<◌, ◌≤◌, refl, arith, Bool, true, false, Option, Some, Ok, None, ap, cond, ◌∙◌, Result, Err, sym, inl, inr}
-use Rattle.std.specs.Prelude.{◌==◌, nat_lt, ◌⊎◌}
+use Rattle.std.proofs.Common.{◌≡◌, ◌≢◌, ℕ, ◌<◌, refl, arith, Bool, true, false, Option, Some, Ok, None, ap, cond, ◌∙◌, Result, Err, sym, inl, inr}
+use Rattle.std.specs.Prelude.{◌==◌, ◌⊎◌}
 use Rattle.std.proofs.lemmas.Bool.{eq-eqb, ne_eqb, lt-ltb, le-ltb, cases_Bool, cases_eq, cases_lt}
 use Rattle.tlsf_heap.specs.Content.{Content, blocks_of, size_at}
 use Rattle.tlsf_heap.specs.Malloc.{malloc_rounded, malloc}

@@ -1,5 +1,5 @@
 -- create, add_pool and malloc keep a content good.
-use Rattle.std.proofs.Common.{◌≡◌, ◌≢◌, ℕ, suc, ◌+◌, ◌-◌, ◌%◌, ◌<◌, ◌≤◌, Bool, true, false, cond, ◌&&◌, List, [], ◌∷◌, ◌++◌, length, refl, sym, ap, ◌∙◌, subst, arith, count_by, Option, Some, None, drop, option_and_then, inl, inr, length-append}
+use Rattle.std.proofs.Common.{◌≡◌, ◌≢◌, ℕ, suc, ◌+◌, ◌-◌, ◌%◌, ◌<◌, ◌≤◌, Bool, true, false, cond, ◌&&◌, List, [], ◌∷◌, ◌++◌, length, refl, sym, ap, ◌∙◌, subst, arith, count_by, Option, Some, None, drop, option_and_then, inl, inr}
 use Rattle.std.specs.Prelude.{◌==◌, Ok, Err, nat_lt, nat_le}
 use Rattle.std.specs.List.{AllByRecursion, list_all}
 use Rattle.std.proofs.lemmas.Bool.{cases_Bool, cases_lt, eq-eqb, ne_eqb, eqb-true, eqb-false, ltb-true, ltb-false, leb-true, leb-false, and_parts, and_cases, or_cases}
@@ -12,11 +12,13 @@ use Rattle.tlsf_heap.specs.declared.refusal.Refusal.TheVariants.{ZeroSize, Table
 use Rattle.tlsf_heap.specs.Content.{Block, Pool, Content, blocks_of, is_free, size_at, used_records}
 use Rattle.tlsf_heap.specs.Lists.{list_of, first_of_lists, pick}
 use Rattle.tlsf_heap.specs.Malloc.{gap, cut, replaced, allocated, allocate, malloc_picked, malloc_rounded, malloc}
+use Rattle.tlsf_heap.specs.Free.{free_block}
 use Rattle.tlsf_heap.specs.Pools.{most_pools, end_of_places, created, add_pool, with_pool, can_be_pool, is_apart, in_order_of_base}
 use Rattle.tlsf_heap.specs.Good.{Covers, NoFreeNeighbours, IsGoodPool, AreGoodPools, IsGood, times, is_listed}
-use Rattle.tlsf_heap.proofs.Counts.{count-cons, count-append, count_all, one_if}
-use Rattle.tlsf_heap.proofs.Content.Blocks.{Found, found_listed, Ascends-pools, count_listed-none}
+use Rattle.tlsf_heap.proofs.Counts.{count-append, count_all}
+use Rattle.tlsf_heap.proofs.Content.Blocks.{Found, found_listed, Ascends-pools}
 use Rattle.tlsf_heap.proofs.Content.Replacing.{blocks_of-replaced, count_by-replaced, size_at-found}
+use Rattle.tlsf_heap.proofs.Meaning.FreeFirst.{listed_once}
 use Rattle.tlsf_heap.proofs.Meaning.Gaps.{length-cut, length-cut_most}
 use Rattle.tlsf_heap.proofs.Meaning.Carved.{aligned_is_good, aligned_here}
 use Rattle.tlsf_heap.specs.Memalign.{aligned}
@@ -79,17 +81,6 @@ pub record Picked {A : Type 0} (m place : ℕ) (content : Content A) : Type 0 wh
   pub once : times place (list_of (class (size_at place (blocks_of content.pools))) content.lists) ≡ 1
 
 module _ {A : Type 0} where
-  pub one_at_most : (number place : ℕ) (blocks : List (Block A)) (found : Found place blocks) → count_by (is_listed number place) blocks ≤ 1
-  one_at_most number place blocks found =
-      let kind : Block A → Bool = is_listed number place in
-      let before = ap (count_by kind) found.whole in
-      let one = count-append kind found.front (found.block ∷ found.back) in
-      let two = count-cons kind found.block found.back in
-      let front = count_listed-none number place found.front found.none_before in
-      let back = count_listed-none number place found.back found.none_behind in
-      let last : one_if (kind found.block) ≤ 1 = elim (kind found.block) as (λ b. one_if b ≤ 1) [ true ↦ omega arith | false ↦ omega arith ] in
-      omega (arith, before, one, two, front, back, last)
-
   pub picked : (m place : ℕ) (content : Content A) → IsGood content → pick m content.lists ≡ Some place → Picked m place content
   picked m place content good h =
       let stand = pick_stands m place content.lists h in
@@ -102,7 +93,7 @@ module _ {A : Type 0} where
       let of_class : class (size_at place (blocks_of content.pools)) ≡ number = ap class (sym size) ∙ block.2 in
       let all : AllByRecursion IsWhole (block.0.front ++ block.0.block ∷ block.0.back) =
       let P : List (Block A) → Type 0 = λ xs. AllByRecursion IsWhole xs in subst P block.0.whole (whole_in_pools 0 content.pools good.pools_good) in
-      let once : times place (list_of number content.lists) ≡ 1 = omega (arith, listed, counted, one_at_most number place (blocks_of content.pools) block.0) in
+      let once = listed_once content good number place below counted in
       record {
         found = block.0;
         free = block.1;
@@ -190,16 +181,6 @@ module _ {A : Type 0} where
         omega (arith, one, two, count_by-pools kind pool pools)
   ]
 
-  length-pools : (pool : Pool A) (pools : List (Pool A)) → length (blocks_of (in_order_of_base pool pools)) ≡ length pool.blocks + length (blocks_of pools)
-  length-pools pool [] = length-append pool.blocks []
-  length-pools pool (other ∷ pools) = elim (nat_lt pool.base other.base) as (λ b. length (blocks_of (cond b (pool ∷ other ∷ pools) (other ∷ in_order_of_base pool pools))) ≡ length pool.blocks + length (blocks_of (other ∷ pools))) [
-    | true ↦ length-append pool.blocks (blocks_of (other ∷ pools))
-    | false ↦
-        let one = length-append other.blocks (blocks_of (in_order_of_base pool pools)) in
-        let two = length-append other.blocks (blocks_of pools) in
-        omega (arith, one, two, length-pools pool pools)
-  ]
-
   length-in_order : (pool : Pool A) (pools : List (Pool A)) → length (in_order_of_base pool pools) ≡ suc (length pools)
   length-in_order pool [] = refl
   length-in_order pool (other ∷ pools) = elim (nat_lt pool.base other.base) as (λ b. length (cond b (pool ∷ other ∷ pools) (other ∷ in_order_of_base pool pools)) ≡ suc (suc (length pools))) [
@@ -256,12 +237,6 @@ module _ {A : Type 0} where
         merged = subst Q (sym more) (refl, tt);
       }
 
-  length-gap : (place size : ℕ) (blocks : List (Block A)) → blocks ≡ gap place size → length blocks ≤ 1
-  length-gap place size blocks e =
-      let block : Block A = record { place = place; size = size; owner = None } in
-      let at_most : length (gap {A = A} place size) ≤ 1 = (elim (size == 0) as (λ b. length (cond b [] (block ∷ [])) ≤ 1) [ true ↦ omega arith | false ↦ omega arith ]) in
-      omega (arith, at_most, ap length e)
-
   -- a pool more keeps the content good
   pub with_pool_is_good : (base bytes : ℕ) (content : Content A) → IsGood content → can_be_pool base bytes ≡ true → list_all (is_apart base bytes) content.pools ≡ true
       → length content.pools < most_pools → used_records content < content.records → IsGood (with_pool base bytes content)
@@ -269,6 +244,8 @@ module _ {A : Type 0} where
       let pool : Pool A = record { base = base; bytes = bytes; blocks = gap base bytes } in
       let is : IsGoodPool pool = one_block base bytes can in
       let some : (bytes == 0) ≡ false = ne_eqb bytes 0 (λ e. absurd (omega (arith, e, is.least_bytes))) in
+      let all : Block A → Bool = λ block. true in
+      let one_block_more : length pool.blocks ≡ 1 = ap {B = ℕ} (λ b. length (cond b [] (free_block {A = A} base bytes ∷ []))) some in
       record {
         pools_few = omega (arith, length-in_order pool content.pools, few);
         pools_good = AreGoodPools-in_order 0 pool content.pools (omega arith) is apart good.pools_good;
@@ -279,7 +256,7 @@ module _ {A : Type 0} where
             let counted = count_by-pools (is_listed q p) pool content.pools in
             let one : count_by (is_listed q p) (gap {A = A} base bytes) ≡ listed_at q p base bytes = count_listed-gap A q p base bytes ∙ ap (λ b. cond b 0 (listed_at q p base bytes)) some in
             omega (arith, old, linked, counted, one));
-        blocks_few = omega (arith, length-pools pool content.pools, length-gap base bytes (gap base bytes) refl, room);
+        blocks_few = omega (arith, count_by-pools all pool content.pools, count_all (blocks_of (in_order_of_base pool content.pools)), count_all pool.blocks, count_all (blocks_of content.pools), one_block_more, room);
       }
 
   -- add_pool keeps a content good

@@ -20,7 +20,7 @@ use Rattle.tlsf_heap.specs.Good.{Covers, NoFreeNeighbours, AreGoodPools, IsGood,
 use Rattle.tlsf_heap.specs.Implied.{IsAligned, AreDisjoint, HasAlignedBlocks, HasDisjointBlocks, ListsFreeBlocks, ListsNothingElse, AreFreeBelow, NoneFits, HasFewRecords}
 use Rattle.tlsf_heap.proofs.Counts.{count-cons, count-append, one_if}
 use Rattle.tlsf_heap.proofs.Content.Blocks.{Ascends, Ascends-higher, Ascends-pools, found_listed}
-use Rattle.tlsf_heap.proofs.Good.Calls.{one_at_most as one_at_most_listed}
+use Rattle.tlsf_heap.proofs.Meaning.FreeFirst.{listed_once}
 
 -- lists of which none is the first that isn't empty are empty
 no_first : (lists : List (List ℕ)) → first_of_lists lists ≡ None → (k : ℕ) → list_of k lists ≡ []
@@ -144,8 +144,7 @@ module _ {A : Type 0} where
       let block : Block A = get_or blocks k d in
       let number : ℕ = class block.size in
       let some : 1 ≤ count_by (is_listed number block.place) blocks = counted_at (is_listed number block.place) blocks k d within (listed_itself block free) in
-      let found = found_listed number block.place 0 blocks (Ascends-pools 0 content.pools good.pools_good) some in
-      omega (arith, some, one_at_most_listed number block.place blocks found.0, good.listed number block.place (class-lt block.size))
+      listed_once content good number block.place (class-lt block.size) some
 
   -- and nothing else is
   pub lists_nothing_else : (content : Content A) → IsGood content → ListsNothingElse content

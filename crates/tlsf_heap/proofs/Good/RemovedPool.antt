@@ -7,14 +7,12 @@ use Rattle.tlsf_class.specs.Classes.{class}
 use Rattle.tlsf_class.proofs.ClassLaws.{class-lt}
 use Rattle.tlsf_heap.specs.declared.refusal.Refusal.TheVariants.{PoolInUse}
 use Rattle.tlsf_heap.specs.Content.{Block, Pool, Content, blocks_of, is_free}
-use Rattle.tlsf_heap.specs.Lists.{list_of}
 use Rattle.tlsf_heap.specs.Pools.{is_based, is_unused, without_pool, remove_found, remove_pool}
-use Rattle.tlsf_heap.specs.Good.{Covers, IsGoodPool, AreGoodPools, times, is_listed, IsGood}
+use Rattle.tlsf_heap.specs.Good.{Covers, IsGoodPool, AreGoodPools, is_listed, IsGood}
 use Rattle.tlsf_heap.proofs.Counts.{one_if, count-cons, count_all}
-use Rattle.tlsf_heap.proofs.Content.Blocks.{Ascends-pools}
 use Rattle.tlsf_heap.proofs.Content.FreeLists.{found_stands, listed_at, times-unlink, length-unlink}
-use Rattle.tlsf_heap.proofs.Meaning.BlockSpots.{count-blocks, at_most_one}
-use Rattle.tlsf_heap.proofs.Meaning.FreeFirst.{listed_few}
+use Rattle.tlsf_heap.proofs.Meaning.BlockSpots.{count-blocks}
+use Rattle.tlsf_heap.proofs.Meaning.FreeFirst.{listed_once}
 use Rattle.tlsf_heap.specs.GoodSlots.{is_slot, slot_times, HasGoodSlots}
 use Rattle.tlsf_heap.proofs.Good.Slots.{slots_fewer}
 
@@ -98,17 +96,7 @@ module _ {A : Type 0} where
       let number : ℕ = class pool.bytes in
       let own : (q p : ℕ) → one_if (is_listed q p one.0) ≡ listed_at q p pool.base pool.bytes = λ q p. found_stands q p pool.base pool.bytes one.0 one.2 one.3 one.4 in
       let here : listed_at number pool.base pool.base pool.bytes ≡ 1 = rw (eq-eqb pool.base pool.base refl, eq-eqb number number refl) refl in
-      let once : times pool.base (list_of number content.lists) ≡ 1 =
-      omega (
-        arith,
-        good.listed number pool.base (class-lt pool.bytes),
-        at_most_one 0 (blocks_of content.pools) (Ascends-pools 0 content.pools good.pools_good) pool.base,
-        listed_few number pool.base (blocks_of content.pools),
-        gone.left (is_listed number pool.base),
-        kinds (is_listed number pool.base),
-        own number pool.base,
-        here,
-      ) in
+      let once = listed_once content good number pool.base (class-lt pool.bytes) (omega (arith, gone.left (is_listed number pool.base), kinds (is_listed number pool.base), own number pool.base, here)) in
       let same : others {A = A} base content.pools ≡ others pool.base content.pools = ap (λ b. others {A = A} b content.pools) (sym gone.based) in
       let P : List (Pool A) → Type 0 = λ pools. IsGood (record content { pools = pools; lists = (without_pool pool content).lists }) in
       let all : Block A → Bool = λ b. true in

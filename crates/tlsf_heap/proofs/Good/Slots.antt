@@ -1,10 +1,10 @@
 -- create, add_pool, malloc and memalign keep the live slots distinct, and below the number of records.
-use Rattle.std.proofs.Common.{◌≡◌, ℕ, ◌+◌, ◌-◌, ◌<◌, Bool, true, false, cond, List, [], ◌∷◌, ◌++◌, refl, ap, subst, arith, count_by, Option, Some, None, inl, inr, ◌≤◌}
+use Rattle.std.proofs.Common.{◌≡◌, ℕ, ◌+◌, ◌-◌, ◌<◌, Bool, true, false, cond, List, [], ◌∷◌, ◌++◌, map, refl, ap, subst, arith, count_by, Option, Some, None, inl, inr, ◌≤◌}
 use Rattle.std.specs.Prelude.{◌==◌, is_none}
 use Rattle.std.proofs.lemmas.Bool.{cases_Bool, eqb-true, ne_eqb}
 use Rattle.tlsf_heap.specs.Content.{Block, Pool, Content, blocks_of, size_at}
 use Rattle.tlsf_heap.specs.Lists.{pick}
-use Rattle.tlsf_heap.specs.Malloc.{gap, cut, allocated}
+use Rattle.tlsf_heap.specs.Malloc.{gap, cut, replaced_in, allocated}
 use Rattle.tlsf_heap.specs.Memalign.{carved, aligned}
 use Rattle.tlsf_heap.specs.Pools.{created, with_pool}
 use Rattle.tlsf_heap.specs.Good.{IsGood}
@@ -84,29 +84,24 @@ module _ (owner m place : ℕ) (content : Content ℕ) (good : IsGood content) (
   abbrev size : ℕ
   size = size_at place (blocks_of content.pools)
 
-  -- the block that was picked was free, and now has the slot
-  slot_times-allocated : (slot : ℕ) → slot_times slot (blocks_of (allocated owner place m size content).pools) ≡ slot_times slot (blocks_of content.pools) + one_if (owner == slot)
-  slot_times-allocated slot =
+  -- the block that was picked was free, and gives way to others of which one has the slot
+  slots_replaced : (others : List (Block ℕ)) (lists : List (List ℕ)) → ((slot : ℕ) → slot_times slot others ≡ one_if (owner == slot)) → HasGoodSlots content → owner < content.records → slot_times owner (blocks_of content.pools) ≡ 0
+      → HasGoodSlots (record content { pools = map (replaced_in place others) content.pools; lists = lists })
+  slots_replaced others lists given slots within unused =
       let found = picked m place content good is in
-      let new = ap (count_by (has slot)) (blocks_of-replaced place (cut owner place m size) content.pools) in
-      let counted = count_by-replaced place (cut owner place m size) (blocks_of content.pools) (has slot) found.found in
-      let none = ap one_if (free_has_none slot found.found.block.owner found.free) in
-      omega (arith, new, counted, none, slot_times-cut slot owner place m size)
+      slots_given owner content (record content { pools = map (replaced_in place others) content.pools; lists = lists }) refl
+      (λ slot. omega (
+        arith,
+        ap (count_by (has slot)) (blocks_of-replaced place others content.pools),
+        count_by-replaced place others (blocks_of content.pools) (has slot) found.found,
+        ap one_if (free_has_none slot found.found.block.owner found.free),
+        given slot,
+      )) slots within unused
 
   -- a slot that no live block has, given to the block that was picked
   pub allocated_slots : HasGoodSlots content → owner < content.records → slot_times owner (blocks_of content.pools) ≡ 0 → HasGoodSlots (allocated owner place m size content)
-  allocated_slots slots within unused = slots_given owner content (allocated owner place m size content) refl slot_times-allocated slots within unused
+  allocated_slots slots within unused = slots_replaced (cut owner place m size) (allocated owner place m size content).lists (λ slot. slot_times-cut slot owner place m size) slots within unused
 
   -- the same where it was carved for an alignment
   pub aligned_slots : (start n : ℕ) → HasGoodSlots content → owner < content.records → slot_times owner (blocks_of content.pools) ≡ 0 → HasGoodSlots (aligned owner start n place size content)
-  aligned_slots start n slots within unused =
-      let found = picked m place content good is in
-      let more = carved owner start n place size in
-      slots_given owner content (aligned owner start n place size content) refl
-      (λ slot. omega (
-        arith,
-        ap (count_by (has slot)) (blocks_of-replaced place more content.pools),
-        count_by-replaced place more (blocks_of content.pools) (has slot) found.found,
-        ap one_if (free_has_none slot found.found.block.owner found.free),
-        slot_times-carved slot owner start n place size,
-      )) slots within unused
+  aligned_slots start n slots within unused = slots_replaced (carved owner start n place size) (aligned owner start n place size content).lists (λ slot. slot_times-carved slot owner start n place size) slots within unused

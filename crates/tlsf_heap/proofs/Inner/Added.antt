@@ -20,8 +20,8 @@ use Rattle.tlsf_heap.specs.Inner.Joined.{is_loose}
 use Rattle.tlsf_heap.specs.Inner.Following.{content_of, Stands}
 use Rattle.tlsf_heap.specs.Inner.Entering.{pool_node, pool_laid}
 use Rattle.tlsf_heap.proofs.Good.Calls.{add_pool_is_good}
-use Rattle.tlsf_heap.proofs.Inner.Followed.{content_is, stood_for}
-use Rattle.tlsf_heap.proofs.Inner.Standing.{apart_is, pools_length, records_are, used_are, content_is_good}
+use Rattle.tlsf_heap.proofs.Inner.Followed.{records_are, content_is, stood_for}
+use Rattle.tlsf_heap.proofs.Inner.Standing.{apart_is, pools_length, used_are, content_is_good}
 use Rattle.tlsf_heap.proofs.Meaning.Entered.{count-with_area, pool_laid_is}
 
 -- what can be a pool's bytes are some
@@ -51,7 +51,7 @@ module _ (cells : Cells) (stands : Stands cells) (base bytes : ℕ) where
 
       pub refused_records : vacant_count cells.records ≡ 0 → add_pool base bytes (content_of cells) ≡ Err TableFull
       refused_records none =
-          let none_left : nat_le (content_of cells).records (used_records (content_of cells)) ≡ true = le-leb _ _ (omega (arith, none, used_are cells stands, records_are cells stands)) in
+          let none_left : nat_le (content_of cells).records (used_records (content_of cells)) ≡ true = le-leb _ _ (omega (arith, none, used_are cells stands, records_are cells)) in
           rw (allowed_is ∙ allowed, some_more, none_left) refl
 
       -- where a record is vacant
@@ -59,7 +59,7 @@ module _ (cells : Cells) (stands : Stands cells) (base bytes : ℕ) where
         is_added : add_pool base bytes (content_of cells) ≡ Ok (with_pool base bytes (content_of cells))
         is_added =
             let some_left : nat_le (content_of cells).records (used_records (content_of cells)) ≡ false =
-            lt-leb _ _ (omega (arith, used_are cells stands, records_are cells stands, vacant_count-take cells.records slot (blank_in Free) within vacant (λ e. cc))) in
+            lt-leb _ _ (omega (arith, used_are cells stands, records_are cells, vacant_count-take cells.records slot (blank_in Free) within vacant (λ e. cc))) in
             rw (allowed_is ∙ allowed, some_more, some_left) refl
 
         pub pool_added : (new : Cells) → Represents new (pool_laid (record { base = base; bytes = bytes; first = slot }) stands.layout) → Stands new × (add_pool base bytes (content_of cells) ≡ Ok (content_of new))

@@ -1,5 +1,5 @@
 -- What stands after a free block was carved for an alignment, and that it is what memalign gives.
-use Rattle.std.proofs.Common.{◌≡◌, ℕ, ◌+◌, ◌-◌, ◌%◌, ◌<◌, ◌≤◌, Bool, true, false, cond, List, [], ◌∷◌, ◌++◌, length, map, refl, sym, ap, ◌∙◌, subst, arith, count_by, length-append, Option, Some, None, Ok, Err}
+use Rattle.std.proofs.Common.{◌≡◌, ℕ, ◌+◌, ◌-◌, ◌%◌, ◌<◌, ◌≤◌, Bool, true, false, cond, List, [], ◌∷◌, ◌++◌, length, map, refl, sym, ap, ◌∙◌, subst, arith, count_by, length-append, Some, None, Ok, Err}
 use Rattle.std.specs.Prelude.{◌==◌, nat_lt}
 use Rattle.std.specs.Int.{next_multiple_of}
 use Rattle.std.proofs.lemmas.Bool.{lt-ltb, le-ltb, ne_eqb}
@@ -9,20 +9,21 @@ use Rattle.tlsf_store.specs.Cells.{Cells}
 use Rattle.tlsf_heap.specs.declared.refusal.Refusal.TheVariants.{TableFull}
 use Rattle.tlsf_heap.specs.Content.{Block, Content, blocks_of, size_at, used_records}
 use Rattle.tlsf_heap.specs.Lists.{pick}
-use Rattle.tlsf_heap.specs.Malloc.{gap, cut}
+use Rattle.tlsf_heap.specs.Malloc.{gap}
 use Rattle.tlsf_heap.specs.Memalign.{is_alignment, size_asked, gap_records, carved, aligned, if_recorded, memalign_picked}
 use Rattle.tlsf_heap.specs.Good.{IsGood}
 use Rattle.tlsf_heap.specs.Inner.Nodes.{InUse, Listed, Node, Layout, turned, pool_of, content_by, nodes_of, owner_of, block_of, has_slot, gap_nodes}
 use Rattle.tlsf_heap.specs.Inner.Spots.{filled}
 use Rattle.tlsf_heap.specs.Inner.Represents.{Represents, uses_in}
 use Rattle.tlsf_heap.specs.Inner.Following.{content_of, Stands}
-use Rattle.tlsf_heap.specs.Inner.At.{At, layout_at, StandsAt, at_taken, at_trimmed, at_gapped, areas_at}
-use Rattle.tlsf_heap.proofs.Counts.{count_all, one_if, count-cons, count-append, count-map}
+use Rattle.tlsf_heap.specs.Inner.At.{layout_at, StandsAt, at_taken, at_trimmed, at_gapped, areas_at}
+use Rattle.tlsf_heap.proofs.Counts.{count_all, count-cons, count-append, count-map}
 use Rattle.tlsf_heap.proofs.Content.Replacing.{blocks_of-replaced, count_by-replaced}
 use Rattle.tlsf_heap.proofs.Inner.Sums.{all_records}
 use Rattle.tlsf_heap.proofs.Inner.Followed.{stood_for}
 use Rattle.tlsf_heap.proofs.Inner.Live.{NodeAt, told_of, stands_with, free_at}
-use Rattle.tlsf_heap.proofs.Inner.Served.{used_is, owners_few}
+use Rattle.tlsf_heap.proofs.Inner.Served.{used_is}
+use Rattle.tlsf_heap.proofs.Inner.Standing.{owners_few}
 use Rattle.tlsf_heap.proofs.Meaning.Places.{Told, alone, blocks_of_areas}
 use Rattle.tlsf_heap.proofs.Meaning.NodeBlocks.{size_is}
 use Rattle.tlsf_heap.proofs.Meaning.Aligned.{aligned_is}

@@ -1,22 +1,18 @@
 -- A live node that leaves a gap of its first bytes: the steps from one node of two neighbours to the other, and what they come to.
-use Rattle.std.proofs.Common.{◌≡◌, ℕ, ◌+◌, ◌-◌, ◌%◌, ◌<◌, Bool, true, false, cond, List, [], ◌∷◌, ◌++◌, length, map, refl, sym, ap, ◌∙◌, subst, arith, count_by, Some}
+use Rattle.std.proofs.Common.{◌≡◌, ℕ, ◌+◌, ◌-◌, ◌%◌, ◌<◌, Bool, false, cond, List, [], ◌∷◌, ◌++◌, refl, sym, ap, subst, arith}
 use Rattle.std.specs.Prelude.{◌==◌}
-use Rattle.std.proofs.lemmas.Bool.{ne_eqb, eq-eqb}
+use Rattle.std.proofs.lemmas.Bool.{ne_eqb}
 use Rattle.tlsf_class.specs.Classes.{unit}
-use Rattle.tlsf_store.specs.declared.records.State.TheVariants.{Free, Live}
-use Rattle.tlsf_store.specs.Records.{blank, record_at}
-use Rattle.tlsf_store.specs.Cells.{Cells, with_taken}
-use Rattle.tlsf_heap.specs.Inner.Edits.{IsUsed}
+use Rattle.tlsf_store.specs.declared.records.State.TheVariants.{Live}
+use Rattle.tlsf_store.specs.Cells.{Cells}
 use Rattle.tlsf_heap.specs.Inner.Chains.{split, with_state}
-use Rattle.tlsf_heap.specs.Inner.Nodes.{Status, InUse, Listed, Loose, Node, Layout, turned, rest_node, pool_of, nodes_of, entered}
-use Rattle.tlsf_heap.specs.Inner.Spots.{Spot, filled}
+use Rattle.tlsf_heap.specs.Inner.Nodes.{Status, InUse, Listed, Loose, Node, turned, rest_node, entered}
 use Rattle.tlsf_heap.specs.Inner.Joined.{is_loose}
-use Rattle.tlsf_heap.specs.Inner.Represents.{Represents}
-use Rattle.tlsf_heap.specs.Inner.At.{At, AreCovered, layout_at, StandsAt, at_turned, with_slot, at_split, at_listed, at_gapped}
+use Rattle.tlsf_heap.specs.Inner.At.{At, StandsAt, at_turned, with_slot, at_split, at_listed, at_gapped}
 use Rattle.tlsf_heap.proofs.Counts.{one_if, count-cons}
 use Rattle.tlsf_heap.proofs.Inner.Plugs.{count-filled}
 use Rattle.tlsf_heap.proofs.Inner.Steps.{turned_stands}
-use Rattle.tlsf_heap.proofs.Inner.Allotted.{slot_stands, split_stands}
+use Rattle.tlsf_heap.proofs.Inner.Allotted.{split_stands}
 
 module _ (cells : Cells) (at : At) (first second : Node) (before nodes : List Node) where
   abbrev loose : Node → Bool

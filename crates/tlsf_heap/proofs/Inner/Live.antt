@@ -6,11 +6,11 @@ use Rattle.std.proofs.lemmas.Bool.{cases_Bool, eq-eqb, eqb-true, and_parts, fals
 use Rattle.tlsf_store.specs.declared.records.State.TheVariants.{Free, Live}
 use Rattle.tlsf_store.specs.Records.{record_at}
 use Rattle.tlsf_store.specs.Cells.{Cells}
-use Rattle.tlsf_heap.specs.Content.{Block, Content, blocks_of, is_at}
+use Rattle.tlsf_heap.specs.Content.{Block, Content, blocks_of, is_at, size_at}
 use Rattle.tlsf_heap.specs.Good.{times, IsGood}
 use Rattle.tlsf_heap.specs.Free.{is_owned_by, is_live}
 use Rattle.tlsf_heap.specs.Free.{after_free}
-use Rattle.tlsf_heap.specs.Inner.Nodes.{Status, InUse, Listed, Loose, Node, Layout, owner_of, block_of, pool_of, content_by, nodes_of, has_slot, has_place}
+use Rattle.tlsf_heap.specs.Inner.Nodes.{Status, InUse, Listed, Loose, Node, Layout, turned, owner_of, block_of, pool_of, content_by, nodes_of, has_slot, has_place}
 use Rattle.tlsf_heap.specs.Inner.Spots.{filled}
 use Rattle.tlsf_heap.specs.Inner.Represents.{InPool, state_of, uses_in, Represents}
 use Rattle.tlsf_heap.specs.Inner.Joined.{is_loose}
@@ -20,9 +20,11 @@ use Rattle.tlsf_heap.proofs.Counts.{one_if, count-cons, any_counts, counts_any, 
 use Rattle.tlsf_heap.proofs.Inner.Plugs.{count-filled}
 use Rattle.tlsf_heap.proofs.Inner.Chains.{AtNode, at_node, uses_most}
 use Rattle.tlsf_heap.proofs.Inner.Followed.{content_is, stood_for}
+use Rattle.tlsf_heap.proofs.Inner.Standing.{content_is_good}
 use Rattle.tlsf_heap.proofs.Inner.Located.{Located, located}
 use Rattle.tlsf_heap.proofs.Inner.Steps.{place_read}
-use Rattle.tlsf_heap.proofs.Meaning.Places.{Told, places_once, blocks_of_areas}
+use Rattle.tlsf_heap.proofs.Meaning.Places.{Told, alone, places_once, blocks_of_areas}
+use Rattle.tlsf_heap.proofs.Meaning.NodeBlocks.{size_is}
 use Rattle.tlsf_heap.proofs.Meaning.Covered.{covered_good}
 use Rattle.tlsf_heap.proofs.Meaning.Freed.{freed_is}
 use Rattle.tlsf_heap.proofs.Meaning.FreedIsGood.{freed_is_good}
@@ -56,6 +58,31 @@ told_of cells layout was good = record {
   slots = λ q. omega (arith, was.chains.once q, uses_most (record_at cells.records q).state);
   places = places_once layout good;
 }
+
+-- what is known of a node at its spot, in the status that it has
+module _ (cells : Cells) (stands : Stands cells) (place slot : ℕ) (status : Status) (by : NodeAt place slot status cells stands.layout) where
+  -- the layout with the node in this status
+  node_laid : stands.layout ≡ layout_at (record by.at { node = turned status by.at.node })
+  node_laid = by.layout_is ∙ ap (λ s. layout_at (record by.at { node = turned s by.at.node })) by.stands.1.status_is
+
+  pub node_stood : content_of cells ≡ content_by (layout_at (record by.at { node = turned status by.at.node }))
+  node_stood = stood_for cells stands ∙ ap content_by node_laid
+
+  pub node_good : IsGood (content_by (layout_at (record by.at { node = turned status by.at.node })))
+  node_good = let P : Layout → Type 0 = λ l. IsGood (content_by l) in subst P node_laid stands.good
+
+  pub node_told : Told (filled by.at.spot (turned status by.at.node ∷ by.at.nodes)) by.at.lists
+  node_told = let P : Layout → Type 0 = λ l. Represents cells l in told_of cells (layout_at (record by.at { node = turned status by.at.node })) (subst P node_laid stands.represented) node_good
+
+  -- its size is that of the block at the place
+  pub node_size : size_at place (blocks_of (content_of cells).pools) ≡ by.at.node.size
+  node_size =
+      ap (λ (x : Content ℕ). size_at place (blocks_of x.pools)) node_stood
+      ∙ ap (λ p. size_at p (blocks_of (map pool_of (filled by.at.spot (turned status by.at.node ∷ by.at.nodes))))) (sym by.place_is)
+      ∙ size_is by.at.spot (turned status by.at.node) by.at.nodes (alone by.at.spot (turned status by.at.node) by.at.nodes node_told.places)
+
+  pub node_taken : by.at.taken ≡ []
+  node_taken = ap (λ (l : Layout). l.taken) (sym by.layout_is) ∙ stands.none_taken
 
 settled_free : (status : Status) → is_loose status ≡ false → state_of status ≡ Free → status ≡ Listed
 settled_free InUse settled free = absurd (cc)
@@ -177,17 +204,12 @@ module _ (cells : Cells) (stands : Stands cells) where
   pub freed_stands : (place slot : ℕ) (new : Cells) (node : NodeAt place slot InUse cells stands.layout) → is_live (λ owner. owner == slot) place (blocks_of (content_of cells).pools) ≡ true
       → StandsAt (at_freed node.at).node.slot Listed new (at_freed node.at) → Stands new × (content_of new ≡ after_free place (content_of cells))
   freed_stands place slot new node live after =
-      let at : At = node.at in
-      let P : Layout → Type 0 = λ l. IsGood (content_by l) in
-      let good : IsGood (content_by (layout_at at)) = subst P node.layout_is stands.good in
-      let was = node.stands.0 in
+      let at : At = record node.at { node = turned InUse node.at.node } in
       let loose : Node → Bool = λ n. is_loose n.status in
-      let all_told : Told (areas_at at) at.lists = told_of cells (layout_at at) was good in
       let others = node.stands.1.others_settled in
-      let is : content_by (layout_at (at_freed at)) ≡ after_free at.node.place (content_by (layout_at at)) =
-      freed_is at.spot at.node at.nodes at.lists all_told at.count at.taken at.taken node.stands.1.status_is (omega (arith, others, count-filled loose at.spot at.nodes)) (omega (arith, others, count-filled loose at.spot at.nodes)) good in
-      let stood : content_of cells ≡ content_by (layout_at at) = stood_for cells stands ∙ ap content_by node.layout_is in
-      let all : content_by (layout_at (at_freed at)) ≡ after_free place (content_of cells) = is ∙ ap (λ p. after_free p (content_by (layout_at at))) node.place_is ∙ ap (after_free place) (sym stood) in
-      let Q : Content ℕ → Type 0 = λ x. IsGood x in
-      stands_with new (at_freed at).node.slot Listed (at_freed at) (after_free place (content_of cells)) after refl (ap (λ (l : Layout). l.taken) (sym node.layout_is) ∙ stands.none_taken) all
-      (freed_is_good (λ owner. owner == slot) place (content_of cells) (subst Q (sym (stood_for cells stands)) stands.good) live)
+      let is : content_by (layout_at (at_freed node.at)) ≡ after_free place (content_of cells) =
+      freed_is at.spot at.node at.nodes at.lists (node_told cells stands place slot InUse node) at.count at.taken at.taken refl (omega (arith, others, count-filled loose at.spot at.nodes)) (omega (arith, others, count-filled loose at.spot at.nodes)) (node_good cells stands place slot InUse node)
+      ∙ ap (λ p. after_free p (content_by (layout_at at))) node.place_is
+      ∙ ap (after_free place) (sym (node_stood cells stands place slot InUse node)) in
+      stands_with new (at_freed node.at).node.slot Listed (at_freed node.at) (after_free place (content_of cells)) after refl (node_taken cells stands place slot InUse node) is
+      (freed_is_good (λ owner. owner == slot) place (content_of cells) (content_is_good cells stands) live)

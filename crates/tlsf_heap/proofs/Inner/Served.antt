@@ -1,5 +1,5 @@
 -- What stands after a free block was taken, whole or in part, and that it is what malloc gives.
-use Rattle.std.proofs.Common.{◌≡◌, ℕ, ◌+◌, ◌-◌, ◌++◌, ◌%◌, ◌<◌, ◌≤◌, Bool, true, false, cond, ◌&&◌, eqb, List, [], ◌∷◌, length, map, refl, sym, ap, ◌∙◌, subst, arith, count_by, Some, Ok, Err, inl, inr}
+use Rattle.std.proofs.Common.{◌≡◌, ℕ, ◌+◌, ◌-◌, ◌++◌, ◌%◌, ◌<◌, ◌≤◌, Bool, true, false, cond, ◌&&◌, ◌∷◌, length, refl, sym, ap, ◌∙◌, subst, arith, Some, Ok, Err, inl, inr}
 use Rattle.std.specs.Prelude.{nat_lt, nat_le}
 use Rattle.std.proofs.lemmas.Bool.{ne_eqb, cases_lt, eq-eqb, lt-ltb, le-ltb, le-leb, lt-leb, and_left, and_right}
 use Rattle.std.proofs.lemmas.List.{length-map}
@@ -14,22 +14,19 @@ use Rattle.tlsf_heap.specs.Content.{Block, Content, blocks_of, size_at, used_rec
 use Rattle.tlsf_heap.specs.Lists.{pick}
 use Rattle.tlsf_heap.specs.Malloc.{allocated, malloc_picked}
 use Rattle.tlsf_heap.specs.Good.{IsGood}
-use Rattle.tlsf_heap.specs.Inner.Nodes.{Status, InUse, Listed, Loose, Node, Layout, turned, owner_of, block_of, pool_of, content_by, nodes_of, has_slot, gap_nodes, entered_gap}
-use Rattle.tlsf_heap.specs.Inner.Spots.{filled}
-use Rattle.tlsf_heap.specs.Inner.Represents.{Represents}
+use Rattle.tlsf_heap.specs.Inner.Nodes.{Status, InUse, Listed, Node, Layout, turned, owner_of, block_of, content_by, nodes_of, has_slot, gap_nodes, entered_gap}
 use Rattle.tlsf_heap.specs.Inner.Following.{content_of, Stands}
 use Rattle.tlsf_heap.specs.Inner.At.{At, areas_at, layout_at, StandsAt, at_taken, at_cut, at_trimmed}
 use Rattle.tlsf_heap.proofs.Good.Calls.{picked, allocated_is_good}
 use Rattle.tlsf_heap.specs.Inner.Joined.{is_loose}
 use Rattle.tlsf_heap.proofs.Counts.{one_if, count-cons, count-map}
 use Rattle.tlsf_heap.proofs.Inner.Plugs.{count-filled}
-use Rattle.tlsf_heap.proofs.Inner.Sums.{all_records}
 use Rattle.tlsf_heap.proofs.Inner.Followed.{stood_for, records_are}
 use Rattle.tlsf_heap.proofs.Inner.Chains.{uses_most}
 use Rattle.tlsf_heap.proofs.Inner.Steps.{slot_used}
-use Rattle.tlsf_heap.proofs.Inner.Live.{NodeAt, told_of, stands_with}
-use Rattle.tlsf_heap.proofs.Meaning.Places.{Told, alone, blocks_of_areas}
-use Rattle.tlsf_heap.proofs.Meaning.NodeBlocks.{size_is}
+use Rattle.tlsf_heap.proofs.Inner.Live.{NodeAt, node_stood, node_told, node_size, node_taken, stands_with}
+use Rattle.tlsf_heap.proofs.Inner.Standing.{used_are, content_is_good, owners_few}
+use Rattle.tlsf_heap.proofs.Meaning.Places.{blocks_of_areas}
 use Rattle.tlsf_heap.proofs.Meaning.Aligned.{allocated_is}
 
 -- a content of nodes uses a record for each
@@ -38,58 +35,17 @@ used_is layout = ap length (blocks_of_areas layout.areas) ∙ length-map (nodes_
 
 -- where a record is vacant, or none is
 pub room_left : (cells : Cells) (stands : Stands cells) (rest : ℕ) → rest < length cells.records → record_at cells.records rest ≡ blank → used_records (content_of cells) < (content_of cells).records
-room_left cells stands rest within vacant =
-    omega (
-      arith,
-      ap used_records (stood_for cells stands),
-      ap (λ (x : Content ℕ). x.records) (stood_for cells stands),
-      used_is stands.layout,
-      all_records cells stands.layout stands.represented,
-      stands.represented.count,
-      vacant_count-take cells.records rest (blank_in Free) within vacant (λ e. absurd (cc)),
-    )
+room_left cells stands rest within vacant = omega (arith, used_are cells stands, records_are cells, vacant_count-take cells.records rest (blank_in Free) within vacant (λ e. absurd (cc)))
 
-pub no_room : (cells : Cells) (stands : Stands cells) → vacant_count cells.records ≡ 0 → (content_of cells).records ≤ used_records (content_of cells)
-no_room cells stands none =
-    omega (
-      arith,
-      none,
-      ap used_records (stood_for cells stands),
-      ap (λ (x : Content ℕ). x.records) (stood_for cells stands),
-      used_is stands.layout,
-      all_records cells stands.layout stands.represented,
-      stands.represented.count,
-      ap (λ (xs : List ℕ). length xs) stands.none_taken,
-    )
+no_room : (cells : Cells) (stands : Stands cells) → vacant_count cells.records ≡ 0 → (content_of cells).records ≤ used_records (content_of cells)
+no_room cells stands none = omega (arith, none, used_are cells stands, records_are cells)
 
 module _ (cells : Cells) (stands : Stands cells) (place slot asked : ℕ) (by : NodeAt place slot Listed cells stands.layout) (some : 0 < asked) (whole : asked % unit ≡ 0) (found : pick asked (content_of cells).lists ≡ Some place) where
-  good : IsGood (content_of cells)
-  good = let P : Content ℕ → Type 0 = λ x. IsGood x in subst P (sym (stood_for cells stands)) stands.good
-
-  -- the layout with the node as a listed one
-  same : stands.layout ≡ layout_at (record by.at { node = turned Listed by.at.node })
-  same = by.layout_is ∙ ap (λ s. layout_at (record by.at { node = turned s by.at.node })) by.stands.1.status_is
-
-  stood : content_of cells ≡ content_by (layout_at (record by.at { node = turned Listed by.at.node }))
-  stood = stood_for cells stands ∙ ap content_by same
-
-  told : Told (filled by.at.spot (turned Listed by.at.node ∷ by.at.nodes)) by.at.lists
-  told =
-      let P : Layout → Type 0 = λ l. Represents cells l in
-      let Q : Layout → Type 0 = λ l. IsGood (content_by l) in
-      told_of cells (layout_at (record by.at { node = turned Listed by.at.node })) (subst P same stands.represented) (subst Q same stands.good)
-
   size_there : size_at place (blocks_of (content_of cells).pools) ≡ by.at.node.size
-  size_there =
-      ap (λ (x : Content ℕ). size_at place (blocks_of x.pools)) stood
-      ∙ ap (λ p. size_at p (blocks_of (map pool_of (filled by.at.spot (turned Listed by.at.node ∷ by.at.nodes))))) (sym by.place_is)
-      ∙ size_is by.at.spot (turned Listed by.at.node) by.at.nodes (alone by.at.spot (turned Listed by.at.node) by.at.nodes told.places)
+  size_there = node_size cells stands place slot Listed by
 
   pub holds : asked ≤ by.at.node.size
-  holds = omega (arith, (picked asked place (content_of cells) good found).holds, size_there)
-
-  none : by.at.taken ≡ []
-  none = ap (λ (l : Layout). l.taken) (sym by.layout_is) ∙ stands.none_taken
+  holds = omega (arith, (picked asked place (content_of cells) (content_is_good cells stands) found).holds, size_there)
 
   -- what malloc gives, where a rest has a record
   gives : (asked < by.at.node.size → used_records (content_of cells) < (content_of cells).records)
@@ -102,13 +58,13 @@ module _ (cells : Cells) (stands : Stands cells) (place slot asked : ℕ) (by : 
       ]) in (
         ap (λ n. cond (nat_lt asked n && nat_le (content_of cells).records (used_records (content_of cells))) (Err TableFull) (Ok (place, allocated slot place asked n (content_of cells)))) size_there
             ∙ ap (λ b. cond b (Err TableFull) (Ok (place, allocated slot place asked by.at.node.size (content_of cells)))) served,
-        subst P size_there (allocated_is_good slot asked place (content_of cells) good found some whole (λ larger. room (omega (arith, larger, size_there)))),
+        subst P size_there (allocated_is_good slot asked place (content_of cells) (content_is_good cells stands) found some whole (λ larger. room (omega (arith, larger, size_there)))),
       )
 
   -- the block taken is the slot's, at its place
   renamed : (bytes : ℕ) → allocated by.at.node.slot by.at.node.place bytes by.at.node.size (content_by (layout_at (record by.at { node = turned Listed by.at.node }))) ≡ allocated slot place bytes by.at.node.size (content_of cells)
   renamed bytes =
-      ap (λ x. allocated by.at.node.slot by.at.node.place bytes by.at.node.size x) (sym stood)
+      ap (λ x. allocated by.at.node.slot by.at.node.place bytes by.at.node.size x) (sym (node_stood cells stands place slot Listed by))
       ∙ ap (λ s. allocated s by.at.node.place bytes by.at.node.size (content_of cells)) by.stands.1.slot_is
       ∙ ap (λ p. allocated slot p bytes by.at.node.size (content_of cells)) by.place_is
 
@@ -118,8 +74,8 @@ module _ (cells : Cells) (stands : Stands cells) (place slot asked : ℕ) (by : 
   served new rest s status left_at after settled kept same_left room =
       let given = gives room in
       let is : content_by (layout_at left_at) ≡ allocated slot place asked by.at.node.size (content_of cells) =
-      ap content_by same_left ∙ allocated_is by.at.count by.at.spot (turned Listed by.at.node) by.at.nodes by.at.lists told rest asked by.at.taken by.at.taken ∙ renamed asked in
-      let after_all = stands_with new s status left_at (allocated slot place asked by.at.node.size (content_of cells)) after settled (kept ∙ none) is given.1 in
+      ap content_by same_left ∙ allocated_is by.at.count by.at.spot (turned Listed by.at.node) by.at.nodes by.at.lists (node_told cells stands place slot Listed by) rest asked by.at.taken by.at.taken ∙ renamed asked in
+      let after_all = stands_with new s status left_at (allocated slot place asked by.at.node.size (content_of cells)) after settled (kept ∙ node_taken cells stands place slot Listed by) is given.1 in
       (after_all.0, given.0 ∙ ap (λ x. Ok (place, x)) (sym after_all.1))
 
   pub whole_stands : (new : Cells) → StandsAt slot InUse new (at_taken by.at) → asked ≡ by.at.node.size → Stands new × (malloc_picked slot asked (Some place) (content_of cells) ≡ Ok (place, content_of new))
@@ -147,16 +103,6 @@ module _ (cells : Cells) (stands : Stands cells) (place slot asked : ℕ) (by : 
       ∙ ap (λ b. cond b (Err TableFull) (Ok (place, allocated owner place asked by.at.node.size (content_of cells)))) refused
 
 -- the slot of a listed node is of no live block
-owned_few : (slot : ℕ) (status : Status) (q : ℕ) → one_if (is_slot slot (owner_of status q)) ≤ one_if (eqb q slot)
-owned_few slot InUse q = omega arith
-owned_few slot Listed q = omega arith
-owned_few slot Loose q = omega arith
-
-pub owners_few : (slot : ℕ) (nodes : List Node) → count_by (λ node. is_slot slot (owner_of node.status node.slot)) nodes ≤ count_by (has_slot slot) nodes
-owners_few slot [] = omega arith
-owners_few slot (node ∷ nodes) =
-    omega (arith, count-cons (λ n. is_slot slot (owner_of n.status n.slot)) node nodes, count-cons (has_slot slot) node nodes, owned_few slot node.status node.slot, owners_few slot nodes)
-
 pub slot_new : (cells : Cells) (stands : Stands cells) (place slot : ℕ) → NodeAt place slot Listed cells stands.layout → slot_times slot (blocks_of (content_of cells).pools) ≡ 0
 slot_new cells stands place slot by =
     let at : At = by.at in

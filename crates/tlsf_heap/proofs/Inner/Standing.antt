@@ -1,5 +1,5 @@
 -- What is read off cells that stand: their entries, how many records are in use, and that their content is good.
-use Rattle.std.proofs.Common.{◌≡◌, ℕ, ◌+◌, ◌≤◌, Bool, false, ◌&&◌, eqb, List, [], ◌∷◌, length, map, refl, sym, ap, ◌∙◌, subst, arith, count_by}
+use Rattle.std.proofs.Common.{◌≡◌, ℕ, ◌+◌, ◌≤◌, false, ◌&&◌, eqb, List, [], ◌∷◌, length, map, refl, sym, ap, ◌∙◌, subst, arith, count_by}
 use Rattle.std.specs.List.{list_all}
 use Rattle.std.proofs.lemmas.List.{length-map, get_or_past}
 use Rattle.tlsf_store.specs.declared.records.Record.{Record}
@@ -31,10 +31,14 @@ ranges_areas : (areas : List Area) → map entry_range (entries_in areas) ≡ ma
 ranges_areas [] = refl
 ranges_areas (area ∷ areas) = ap (λ ranges. (area.entry.base, area.entry.bytes) ∷ ranges) (ranges_areas areas)
 
+-- a live block's slot is that of its node
 owner_is : (slot q : ℕ) (status : Status) → one_if (is_slot slot (owner_of status q)) ≤ one_if (eqb q slot)
 owner_is slot q InUse = omega arith
 owner_is slot q Listed = omega arith
 owner_is slot q Loose = omega arith
+
+pub owners_few : (slot : ℕ) (nodes : List Node) → count_by (λ node. is_slot slot (owner_of node.status node.slot)) nodes ≤ count_by (has_slot slot) nodes
+owners_few slot nodes = omega (arith, count_apart (λ (node : Node). is_slot slot (owner_of node.status node.slot)) (λ node. false) (has_slot slot) (λ node. omega (arith, owner_is slot node.slot node.status)) nodes)
 
 module _ (cells : Cells) (stands : Stands cells) where
   pub entries_are : entries_of cells.pools ≡ entries_in stands.layout.areas
@@ -51,9 +55,6 @@ module _ (cells : Cells) (stands : Stands cells) where
   -- the entries tell where the pools are
   pub ranges_are : map entry_range (entries_of cells.pools) ≡ map range_of (content_of cells).pools
   ranges_are = ap (map entry_range) entries_are ∙ ranges_areas stands.layout.areas ∙ sym (ap (λ content. map range_of content.pools) (stood_for cells stands))
-
-  pub records_are : (content_of cells).records ≡ length cells.records
-  records_are = ap (λ content. content.records) (stood_for cells stands) ∙ sym stands.represented.count
 
   -- each record is of a block, or vacant
   pub used_are : used_records (content_of cells) + vacant_count cells.records ≡ length cells.records
@@ -74,14 +75,8 @@ module _ (cells : Cells) (stands : Stands cells) where
   pub slots_are_good : HasGoodSlots (content_of cells)
   slots_are_good =
       let areas : List Area = stands.layout.areas in
-      let owned : ℕ → Node → Bool = λ slot node. is_slot slot (owner_of node.status node.slot) in
-      let few : (slot : ℕ) → slot_times slot (blocks_of (map pool_of areas)) ≤ count_by (has_slot slot) (nodes_of areas) = (λ slot.
-      omega (
-        arith,
-        ap (slot_times slot) (blocks_of_areas areas),
-        count-map (λ (block : Block ℕ). is_slot slot block.owner) block_of (nodes_of areas),
-        count_apart (owned slot) (λ node. false) (has_slot slot) (λ node. omega (arith, owner_is slot node.slot node.status)) (nodes_of areas),
-      )) in
+      let few : (slot : ℕ) → slot_times slot (blocks_of (map pool_of areas)) ≤ count_by (has_slot slot) (nodes_of areas) =
+      λ slot. omega (arith, ap (slot_times slot) (blocks_of_areas areas), count-map (λ (block : Block ℕ). is_slot slot block.owner) block_of (nodes_of areas), owners_few slot (nodes_of areas)) in
       let P : Content ℕ → Type 0 = λ x. HasGoodSlots x in
       subst P (sym (stood_for cells stands)) (record {
         distinct = λ slot. omega (arith, few slot, stands.represented.chains.once slot, uses_most (record_at cells.records slot).state);

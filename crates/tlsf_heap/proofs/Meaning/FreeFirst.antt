@@ -1,9 +1,9 @@
 -- The first of some blocks, where it is free, and the blocks without it; and blocks in front of others.
-use Rattle.std.proofs.Common.{◌≡◌, ℕ, ◌+◌, ◌≤◌, Bool, true, false, cond, not, ◌&&◌, List, [], ◌∷◌, length, refl, sym, ap, ◌∙◌, subst, arith, count_by, IsTrue, Option, Some, None, inl, inr}
+use Rattle.std.proofs.Common.{◌≡◌, ℕ, ◌+◌, ◌<◌, ◌≤◌, Bool, true, false, cond, not, ◌&&◌, List, [], ◌∷◌, length, refl, sym, ap, ◌∙◌, subst, arith, count_by, IsTrue, Option, Some, None, inl, inr}
 use Rattle.std.specs.Prelude.{◌==◌, if◌then◌else◌}
 use Rattle.std.proofs.lemmas.Bool.{cases_Bool, eq-eqb, false≢true}
 use Rattle.tlsf_class.specs.Classes.{classes, class}
-use Rattle.tlsf_heap.specs.Content.{Block, Pool, is_free, is_at, blocks_of}
+use Rattle.tlsf_heap.specs.Content.{Block, Pool, Content, is_free, is_at, blocks_of}
 use Rattle.tlsf_heap.specs.Lists.{list_of}
 use Rattle.tlsf_heap.specs.Good.{Covers, NoFreeNeighbours, AreGoodPools, times, is_listed, IsGood}
 use Rattle.tlsf_heap.specs.Free.{if_free, unlink_block, size_of, start_of, without_block}
@@ -94,6 +94,11 @@ module _ {A : Type 0} where
       one true true false = omega arith
       one true true true = omega arith
 
+  -- of a good content, a place that is listed stands once in its list
+  pub listed_once : (content : Content A) → IsGood content → (number place : ℕ) → number < classes → 1 ≤ count_by (is_listed number place) (blocks_of content.pools) → times place (list_of number content.lists) ≡ 1
+  listed_once content good number place within some =
+      omega (arith, good.listed number place within, at_most_one 0 (blocks_of content.pools) (Ascends-pools 0 content.pools good.pools_good) place, listed_few number place (blocks_of content.pools), some)
+
   pub few_past : (kind : Block A → Bool) (blocks : List (Block A)) → count_by kind (past_free blocks) ≤ count_by kind blocks
   few_past kind [] = omega arith
   few_past kind (block ∷ blocks) = elim (is_free block) as (λ b. count_by kind (cond b blocks (block ∷ blocks)) ≤ count_by kind (block ∷ blocks)) [
@@ -175,16 +180,6 @@ module _ {A : Type 0} where
   pub next_once : (records : ℕ) (spot : BlockSpot A) (block : Block A) (blocks : List (Block A)) (lists : List (List ℕ)) → IsGood (record { records = records; pools = filled_pools spot (block ∷ blocks); lists = lists })
       → (other : Block A) → free_first blocks ≡ Some other → times other.place (list_of (class other.size) lists) ≡ 1
   next_once records spot block blocks lists good other is =
-      let number : ℕ = class other.size in
-      let all : List (Block A) = blocks_of (filled_pools spot (block ∷ blocks)) in
-      let kind : Block A → Bool = is_listed number other.place in
-      let there = free_stands blocks other is in
-      omega (
-        arith,
-        good.listed number other.place (class-lt other.size),
-        at_most_one 0 all (Ascends-pools 0 (filled_pools spot (block ∷ blocks)) good.pools_good) other.place,
-        listed_few number other.place all,
-        count-filled_pools kind spot (block ∷ blocks),
-        count-cons kind block blocks,
-        there.0,
-      )
+      let kind : Block A → Bool = is_listed (class other.size) other.place in
+      listed_once (record { records = records; pools = filled_pools spot (block ∷ blocks); lists = lists }) good (class other.size) other.place (class-lt other.size)
+      (omega (arith, count-filled_pools kind spot (block ∷ blocks), count-cons kind block blocks, (free_stands blocks other is).0))

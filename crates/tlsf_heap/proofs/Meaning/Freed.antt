@@ -13,8 +13,8 @@ use Rattle.tlsf_heap.specs.Inner.Joined.{is_loose, listed_first, past, left_by, 
 use Rattle.tlsf_heap.proofs.Counts.{one_if, count-cons}
 use Rattle.tlsf_heap.proofs.Inner.Lists.{length-left}
 use Rattle.tlsf_heap.proofs.Meaning.BlockSpots.{filled_pools}
-use Rattle.tlsf_heap.proofs.Meaning.Places.{Told, Alike, alike, alike-left, by_places, places-entered, places-left}
-use Rattle.tlsf_heap.proofs.Meaning.NodeBlocks.{block_spot, pools_are, first_block}
+use Rattle.tlsf_heap.proofs.Meaning.Places.{block_spot, pools_are, Told, Alike, alike, alike-left, by_places, places-entered, places-left}
+use Rattle.tlsf_heap.proofs.Meaning.NodeBlocks.{first_block}
 use Rattle.tlsf_heap.proofs.Meaning.FreeFirst.{past_free, free_first, merged_of}
 use Rattle.tlsf_heap.proofs.Meaning.FreedIsGood.{after_is}
 

@@ -16,7 +16,7 @@ use Rattle.tlsf_heap.proofs.Content.FreeLists.{times-link, length-link}
 use Rattle.tlsf_heap.proofs.Good.Calls.{Covers-le}
 use Rattle.tlsf_heap.proofs.Counts.{one_if, count-cons, count_all, any_counts}
 use Rattle.tlsf_heap.proofs.Meaning.BlockSpots.{BlockSpot, pool_at, filled_pools, around_blocks, count-filled_pools, LocatedBlock, located_block, at_most_one, IsAlone, block_alone, replaced_at, front_at, back_at, size_here}
-use Rattle.tlsf_heap.proofs.Meaning.FreeFirst.{length-plug, past_free, free_first, listed_of, apart_parts, apart_plugged, past_apart, past_live, count_past, listed_few, few_past, free_stands, times-unlink_block, length-unlink_block, covers_plug, pools_plug, merged_of, covers_behind, without_next}
+use Rattle.tlsf_heap.proofs.Meaning.FreeFirst.{length-plug, past_free, free_first, listed_of, apart_parts, apart_plugged, past_apart, past_live, count_past, listed_once, next_once, few_past, free_stands, times-unlink_block, length-unlink_block, covers_plug, pools_plug, merged_of, covers_behind, without_next}
 
 module _ {A : Type 0} where
   good_behind : (from : ℕ) (front pools : List (Pool A)) → AreGoodPools from (plug front pools) → (place : ℕ) × AreGoodPools place pools
@@ -84,27 +84,18 @@ module _ {A : Type 0} where
     not_listed : (q p : ℕ) → one_if (is_listed q p block) ≡ 0
     not_listed q p = ap (λ b. one_if (b && (is_at p block && (class block.size == q)))) live
 
-    listed_most : (q p : ℕ) → q < classes → times p (list_of q lists) ≤ 1
-    listed_most q p within = omega (arith, good.listed q p within, once p, listed_few q p (blocks_of (filled_pools spot (block ∷ blocks))))
-
     -- each neighbour stands once in its list, also where the other left
     front_once : (other : Block A) → front ≡ Some other → times other.place (list_of (class other.size) lists) ≡ 1
-    front_once other is =
-        let number : ℕ = class other.size in
-        omega (arith, listed_most number other.place (class-lt other.size), good.listed number other.place (class-lt other.size), counts (is_listed number other.place), (free_stands spot.before other is).0)
+    front_once other is = listed_once old good (class other.size) other.place (class-lt other.size) (omega (arith, counts (is_listed (class other.size) other.place), (free_stands spot.before other is).0))
 
     back_once : (other : Block A) → back ≡ Some other → times other.place (list_of (class other.size) (unlink_block front lists)) ≡ 1
     back_once other is =
-        let number : ℕ = class other.size in
         let there = free_stands blocks other is in
         omega (
           arith,
-          times-unlink_block lists good.lists_count front front_once number other.place,
-          front_elsewhere number other.place there.1,
-          listed_most number other.place (class-lt other.size),
-          good.listed number other.place (class-lt other.size),
-          counts (is_listed number other.place),
-          there.0,
+          times-unlink_block lists good.lists_count front front_once (class other.size) other.place,
+          front_elsewhere (class other.size) other.place there.1,
+          next_once records spot block blocks lists good other is,
         )
       where
         front_elsewhere : (q p : ℕ) → 1 ≤ count_by (is_at p) blocks → listed_of q p front ≡ 0

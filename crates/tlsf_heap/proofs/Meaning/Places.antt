@@ -8,12 +8,12 @@ use Rattle.tlsf_heap.specs.Content.{Block, blocks_of, is_at}
 use Rattle.tlsf_heap.specs.Lists.{list_of as places_of, without, link, unlink}
 use Rattle.tlsf_heap.specs.Good.{IsGood}
 use Rattle.tlsf_heap.specs.Inner.Nodes.{Node, Area, Layout, block_of, pool_of, content_by, nodes_of, has_slot, has_place, list_of, is_listed_in, without_slot, left, entered}
-use Rattle.tlsf_heap.specs.Inner.Spots.{Spot, filled}
+use Rattle.tlsf_heap.specs.Inner.Spots.{plug, Spot, filled}
 use Rattle.tlsf_heap.specs.Inner.Represents.{Agree}
 use Rattle.tlsf_heap.proofs.Content.Blocks.{Ascends-pools}
-use Rattle.tlsf_heap.proofs.Meaning.BlockSpots.{at_most_one}
+use Rattle.tlsf_heap.proofs.Meaning.BlockSpots.{BlockSpot, filled_pools, at_most_one, IsAlone, block_alone}
 use Rattle.tlsf_heap.proofs.Counts.{one_if, count-cons, count_either, count_and, count-map}
-use Rattle.tlsf_heap.proofs.Inner.Plugs.{around, count-filled}
+use Rattle.tlsf_heap.proofs.Inner.Plugs.{count-filled, map-plug}
 use Rattle.tlsf_heap.proofs.Inner.Lists.{count-left_same, count-left_other}
 
 -- no two nodes begin at one place, or have one slot
@@ -40,18 +40,26 @@ pub record Told (areas : List Area) (lists : List (List Node)) : Type 0 where
   pub slots : SlotsOnce areas
   pub places : PlacesOnce areas
 
--- the node at a spot begins where none of the others does
-pub record Alone (spot : Spot) (node : Node) (nodes : List Node) : Type 0 where
-  pub outside : around (has_place node.place) spot ≡ 0
-  pub behind : count_by (has_place node.place) nodes ≡ 0
+-- the same spot among blocks
+abbrev pub block_spot : Spot → BlockSpot ℕ
+block_spot spot = record { pools_before = map pool_of spot.areas_before; base = spot.entry.base; bytes = spot.entry.bytes; before = map block_of spot.before; pools_behind = map pool_of spot.areas_behind }
 
-pub alone : (spot : Spot) (node : Node) (nodes : List Node) → PlacesOnce (filled spot (node ∷ nodes)) → Alone spot node nodes
+pub pools_are : (spot : Spot) (nodes : List Node) → map pool_of (filled spot nodes) ≡ filled_pools (block_spot spot) (map block_of nodes)
+pools_are spot nodes =
+    map-plug pool_of spot.areas_before (record { entry = spot.entry; nodes = plug spot.before nodes } ∷ spot.areas_behind)
+    ∙ ap (λ blocks. plug (map pool_of spot.areas_before) (record { base = spot.entry.base; bytes = spot.entry.bytes; blocks = blocks } ∷ map pool_of spot.areas_behind)) (map-plug block_of spot.before nodes)
+
+-- the block of a node at a spot begins where no other does
+pub alone : (spot : Spot) (node : Node) (nodes : List Node) → PlacesOnce (filled spot (node ∷ nodes)) → IsAlone (block_spot spot) (block_of node) (map block_of nodes)
 alone spot node nodes once =
-    let all = once node.place in
-    let parts = count-filled (has_place node.place) spot (node ∷ nodes) in
-    let here = count-cons (has_place node.place) node nodes in
-    let own = ap one_if (eq-eqb node.place node.place refl) in
-    record { outside = omega (arith, all, parts, here, own); behind = omega (arith, all, parts, here, own) }
+    block_alone (block_spot spot) (block_of node) (map block_of nodes)
+    (λ place. omega (
+      arith,
+      once place,
+      ap (λ pools. count_by (is_at place) (blocks_of pools)) (pools_are spot (node ∷ nodes)),
+      ap (count_by (is_at place)) (blocks_of_areas (filled spot (node ∷ nodes))),
+      count-map (is_at place) block_of (nodes_of (filled spot (node ∷ nodes))),
+    ))
 
 -- whether the two tests differ
 abbrev pub differ : Bool → Bool → Bool

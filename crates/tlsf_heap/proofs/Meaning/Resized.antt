@@ -12,8 +12,7 @@ use Rattle.tlsf_heap.specs.Inner.Spots.{Spot, filled, laid}
 use Rattle.tlsf_heap.specs.Inner.Joined.{listed_first, past, left_by, grown_behind}
 use Rattle.tlsf_heap.proofs.Meaning.BlockSpots.{filled_pools}
 use Rattle.tlsf_heap.proofs.Meaning.FreeFirst.{past_free}
-use Rattle.tlsf_heap.proofs.Meaning.Places.{Told, by_places, places-entered}
-use Rattle.tlsf_heap.proofs.Meaning.NodeBlocks.{block_spot, pools_are}
+use Rattle.tlsf_heap.proofs.Meaning.Places.{block_spot, pools_are, Told, by_places, places-entered}
 use Rattle.tlsf_heap.proofs.Meaning.Freed.{NoneLoose, listed_is_free, past_is, full_front, lists_back}
 use Rattle.tlsf_heap.proofs.Meaning.ResizedIsGood.{resized_is}
 use Rattle.std.specs.Prelude.{◌==◌}

@@ -1,25 +1,9 @@
 //! Rows of blocks that get another size.
 
+use super::rows::has_rows;
 use crate::*;
 use std::alloc::Global;
 use std::process::Abort;
-
-/// Whether these are the rows of the pool at 0: place, size, and whether it is live.
-fn has_rows(heap: &mut Heap, wanted: &[(u32, u32, bool)]) -> bool {
-    let Ok(mut cursor) = heap.first(0) else {
-        return false;
-    };
-    for (place, size, used) in wanted {
-        let Some((row, next)) = heap.row(cursor) else {
-            return false;
-        };
-        if (row.place, row.size, row.used) != (*place, *size, *used) {
-            return false;
-        }
-        cursor = next;
-    }
-    heap.row(cursor).is_none()
-}
 
 /// A heap with a pool of so many bytes from 0 on, where memory isn't refused.
 fn with_pool(rt: &impl Abort, alloc: Global, records: u32, bytes: u64) -> Heap {
@@ -33,9 +17,9 @@ fn grow_and_shrink_in_place(rt: HostRuntime) {
     let mut heap = with_pool(&rt, rt.alloc(), 4, 1024);
     let ptr = heap.malloc(100).expect(&rt, "a block");
     assert_eq!(rt; heap.realloc(Some(ptr), 200), Ok(Some(ptr)));
-    assert!(rt; has_rows(&mut heap, &[(0, 200, true), (200, 824, false)]));
+    assert!(rt; has_rows(&mut heap, 0, &[(0, 200, true), (200, 824, false)]));
     assert_eq!(rt; heap.realloc(Some(ptr), 8), Ok(Some(ptr)));
-    assert!(rt; has_rows(&mut heap, &[(0, 8, true), (8, 1016, false)]));
+    assert!(rt; has_rows(&mut heap, 0, &[(0, 8, true), (8, 1016, false)]));
     assert_eq!(rt; heap.realloc(Some(ptr), 1), Ok(Some(ptr)));
     assert_eq!(rt; heap.block_size(ptr), Ok(8));
 }
@@ -45,16 +29,18 @@ fn realloc_moves(rt: HostRuntime) {
     let mut heap = with_pool(&rt, rt.alloc(), 4, 1024);
     let first = heap.malloc(100).expect(&rt, "a block");
     let second = heap.malloc(1).expect(&rt, "a block");
-    let moved = heap.realloc(Some(first), 200).expect(&rt, "a block");
-    assert!(rt; moved.map(|ptr| ptr.place()) == Some(112));
-    assert!(rt; moved.map(|ptr| ptr.slot()) != Some(second.slot()));
+    let Ok(Some(moved)) = heap.realloc(Some(first), 200) else {
+        panic!(rt; "no block");
+    };
+    assert_eq!(rt; moved.place(), 112);
+    assert_ne!(rt; moved.slot(), second.slot());
     let rows = [
         (0, 104, false),
         (104, 8, true),
         (112, 200, true),
         (312, 712, false),
     ];
-    assert!(rt; has_rows(&mut heap, &rows));
+    assert!(rt; has_rows(&mut heap, 0, &rows));
     assert_eq!(rt; heap.block_size(first), Err(Refusal::BadPointer));
     assert_eq!(rt; heap.realloc(Some(first), 8), Err(Refusal::BadPointer));
 }
@@ -75,11 +61,13 @@ fn realloc_to_zero(rt: HostRuntime) {
     assert_eq!(rt; heap.free(ptr), Ok(()));
     assert_eq!(rt; heap.free(ptr), Err(Refusal::BadPointer));
     assert_eq!(rt; heap.realloc(None, 0), Err(Refusal::ZeroSize));
-    let given = heap.realloc(None, 100).expect(&rt, "a block");
-    assert!(rt; given.map(|ptr| ptr.place()) == Some(0));
-    assert_eq!(rt; heap.realloc(given, 0), Ok(None));
-    assert!(rt; has_rows(&mut heap, &[(0, 1024, false)]));
-    assert_eq!(rt; heap.realloc(given, 0), Err(Refusal::BadPointer));
+    let Ok(Some(given)) = heap.realloc(None, 100) else {
+        panic!(rt; "no block");
+    };
+    assert_eq!(rt; given.place(), 0);
+    assert_eq!(rt; heap.realloc(Some(given), 0), Ok(None));
+    assert!(rt; has_rows(&mut heap, 0, &[(0, 1024, false)]));
+    assert_eq!(rt; heap.realloc(Some(given), 0), Err(Refusal::BadPointer));
 }
 
 #[test]
@@ -89,7 +77,7 @@ fn realloc_grows_over_freed(rt: HostRuntime) {
     let other = heap.malloc(8).expect(&rt, "a block");
     assert_eq!(rt; heap.free(other), Ok(()));
     assert_eq!(rt; heap.realloc(Some(ptr), 64), Ok(Some(ptr)));
-    assert!(rt; has_rows(&mut heap, &[(0, 64, true)]));
+    assert!(rt; has_rows(&mut heap, 0, &[(0, 64, true)]));
     assert_eq!(rt; heap.block_size(ptr), Ok(64));
 }
 
@@ -102,7 +90,7 @@ fn refused_moves(rt: HostRuntime) {
     for n in [128, 1_073_741_817, u64::MAX] {
         assert_eq!(rt; heap.realloc(Some(first), n), Err(Refusal::NoFit));
     }
-    assert!(rt; has_rows(&mut heap, &[(0, 8, true), (8, 8, true), (16, 48, false)]));
+    assert!(rt; has_rows(&mut heap, 0, &[(0, 8, true), (8, 8, true), (16, 48, false)]));
     assert_eq!(rt; heap.block_size(first), Ok(8));
     assert_eq!(rt;
         heap.block_size(Ptr::new(0, second.slot())),
@@ -122,7 +110,7 @@ fn shrunk_beside_a_live_block(rt: HostRuntime) {
     let second = heap.malloc(40).expect(&rt, "a block");
     assert_eq!(rt; heap.realloc(Some(first), 8), Ok(Some(first)));
     let rows = [(0, 8, true), (8, 16, false), (24, 40, true)];
-    assert!(rt; has_rows(&mut heap, &rows));
+    assert!(rt; has_rows(&mut heap, 0, &rows));
     assert_eq!(rt; heap.realloc(Some(second), 8), Ok(Some(second)));
-    assert!(rt; has_rows(&mut heap, &rows));
+    assert!(rt; has_rows(&mut heap, 0, &rows));
 }

@@ -37,7 +37,7 @@ impl Seen {
 }
 
 /// A block of a pool: its place, its size, and whether it is live.
-type Block = (u32, u32, bool);
+pub(crate) type Block = (u32, u32, bool);
 
 /// A heap of so many records, what is asked of it with what it answers, and the rows of its pools in the
 /// end, each under its base.
@@ -70,7 +70,7 @@ fn request(ask: Ask, given: &Vec<Ptr>) -> Request {
 }
 
 /// Whether these are the rows of the pool at a base.
-fn has_rows<H: Heaped>(heap: &mut H, base: u64, wanted: &[Block]) -> bool {
+pub(crate) fn has_rows<H: Heaped>(heap: &mut H, base: u64, wanted: &[Block]) -> bool {
     let Ok(mut cursor) = heap.first(base) else {
         return false;
     };

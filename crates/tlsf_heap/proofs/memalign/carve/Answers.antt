@@ -1,17 +1,16 @@
-use Rattle.std.proofs.Common.{◌≡◌, ℕ, ◌+◌, ◌-◌, ◌<◌, ◌≤◌, true, sym, ap, ◌∙◌, subst, arith, Option, Some, Ok, Err, inl, inr}
+use Rattle.std.proofs.Common.{◌≡◌, ℕ, ◌+◌, ◌-◌, ◌<◌, ◌≤◌, ap, ◌∙◌, subst, arith, Some, Ok, inl, inr}
 use Rattle.std.proofs.lemmas.Bool.{cases_lt}
 use Rattle.std.specs.Int.{next_multiple_of}
-use Rattle.tlsf_store.specs.declared.records.Record.{Record}
 use Rattle.tlsf_store.specs.Records.{record_at, vacant_count}
 use Rattle.tlsf_store.specs.Cells.{Cells}
 use Rattle.tlsf_heap.specs.Memalign.{gap_records, memalign_picked}
-use Rattle.tlsf_heap.specs.Inner.Nodes.{InUse, Listed}
+use Rattle.tlsf_heap.specs.Inner.Nodes.{InUse}
 use Rattle.tlsf_heap.specs.Inner.Following.{Stands, content_of}
-use Rattle.tlsf_heap.specs.Inner.At.{At, StandsAt, at_taken, at_gapped, at_trimmed}
+use Rattle.tlsf_heap.specs.Inner.At.{StandsAt, at_taken, at_gapped, at_trimmed}
 use Rattle.tlsf_heap.proofs.Inner.Followed.{records_are}
 use Rattle.tlsf_heap.proofs.Inner.Steps.{size_read}
-use Rattle.tlsf_heap.proofs.Inner.Served.{slot_below, slot_new}
-use Rattle.tlsf_heap.proofs.Inner.Carving.{CarveKnown, known, gap_of_some, carved_full, carved_stands, vacant_new, vacant_taken, vacant_after}
+use Rattle.tlsf_heap.proofs.Inner.Served.{slot_new}
+use Rattle.tlsf_heap.proofs.Inner.Carving.{known, gap_of_some, carved_full, carved_stands, vacant_new, vacant_taken, vacant_after}
 use Rattle.tlsf_heap.proofs.memalign.carve.Goals as goal
 
 pub start_of-start-requires-clause-fits : goal.start_of-start-requires-clause-fits

@@ -1,4 +1,4 @@
-use Rattle.std.proofs.Common.{◌≡◌, ℕ, ◌%◌, ◌<◌, length, refl, sym, ap, ◌∙◌, subst, arith, Option, Some}
+use Rattle.std.proofs.Common.{◌≡◌, ℕ, ◌%◌, ◌<◌, length, refl, arith, Option, Some}
 use Rattle.tlsf_store.specs.Records.{blank, record_at}
 use Rattle.tlsf_store.specs.declared.records.State.TheVariants.{Free, Live}
 use Rattle.tlsf_store.specs.Cells.{Cells, with_taken}
@@ -54,11 +54,12 @@ set_state-requires-2-clause-used c =
 
 pub enter-requires : goal.enter-requires
 enter-requires c =
-    let at : At = c.requires.stands.0 in
-    (at_turned Loose (at_front c.args.slot c.in-Some.live c.args.bytes at),
-    freed c.set_state.new.store.cells c.set_state-2.new.store.cells c.args.slot c.in-Some.live c.args.bytes at
-    (front c.take_vacant.new.self.cells c.split.new.store.cells c.set_state.new.store.cells c.args.slot c.in-Some.live c.args.bytes at (spared c.args.store.now.cells c.take_vacant.new.self.cells c.take_vacant.result c.args.slot c.in-Some.live at c.requires.stands.1 c.in-Some.is c.take_vacant.ensures.taken c.in-Some.ensures.within c.in-Some.ensures.vacant) (grind (arith, c.if-bytes-eq0.false)) c.requires.stands.2 c.requires.whole c.split.ensures.cells c.set_state.ensures.cells)
-    c.set_state-2.ensures.cells)
+    let at : At = c.requires.stands.0 in (
+      at_turned Loose (at_front c.args.slot c.in-Some.live c.args.bytes at),
+      freed c.set_state.new.store.cells c.set_state-2.new.store.cells c.args.slot c.in-Some.live c.args.bytes at
+          (front c.take_vacant.new.self.cells c.split.new.store.cells c.set_state.new.store.cells c.args.slot c.in-Some.live c.args.bytes at (spared c.args.store.now.cells c.take_vacant.new.self.cells c.take_vacant.result c.args.slot c.in-Some.live at c.requires.stands.1 c.in-Some.is c.take_vacant.ensures.taken c.in-Some.ensures.within c.in-Some.ensures.vacant) (grind (arith, c.if-bytes-eq0.false)) c.requires.stands.2 c.requires.whole c.split.ensures.cells c.set_state.ensures.cells)
+          c.set_state-2.ensures.cells,
+    )
 
 pub returns-clause-leads : goal.returns-clause-leads
 returns-clause-leads c at stands =
