@@ -14,7 +14,7 @@ ghost use Rattle.tlsf_heap.specs.Inner.Nodes.{InUse};
 ghost use Rattle.tlsf_heap.specs.Inner.Joined.{listed_first};
 ghost use Rattle.tlsf_heap.specs.Inner.At.{At, StandsAt};
 
-use crate::free::{is_free, is_live, join_next, release};
+use crate::free::{free, is_free, is_live, join_next, release};
 use crate::malloc::{allocate, malloc, trim};
 use crate::{Ptr, Refusal};
 use tlsf_class::round;
@@ -60,12 +60,14 @@ fn reallocate(store: &mut Store, ptr: Ptr, n: u64) -> Result<Option<Ptr>, Refusa
     ensures cells { OnErr result (store.new.cells ≡ store.old.cells) }
     ensures touches { AtMost 87 store.old.touches store.new.touches }
 {
+    if n == 0 {
+        return match free(store, ptr) {
+            Ok(()) => Ok(None),
+            Err(refusal) => Err(refusal),
+        };
+    }
     if !is_live(store, ptr) {
         return Err(Refusal::BadPointer);
-    }
-    if n == 0 {
-        release(store, Slot(ptr.slot()));
-        return Ok(None);
     }
     let Some(asked) = round(n) else {
         return Err(Refusal::NoFit);
