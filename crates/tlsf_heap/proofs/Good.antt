@@ -3,5 +3,6 @@ pub mod Calls
 pub mod Slots
 pub mod SlotsLeft
 pub mod Implied
+pub mod AlignedImplied
 pub mod RemovedPool
 pub mod Realloc

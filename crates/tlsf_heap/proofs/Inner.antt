@@ -30,4 +30,6 @@ pub mod RowsRead
 pub mod Entered
 pub mod Added
 pub mod EntryLists
+pub mod Areas
+pub mod Removed
 mod Rows

@@ -4,6 +4,7 @@ use Rattle.tlsf_class.specs.Classes.{unit, classes, low, class, need}
 use Rattle.tlsf_class.specs.Rounding.{round}
 use Rattle.tlsf_heap.specs.Content.{Block, Content, blocks_of, is_free}
 use Rattle.tlsf_heap.specs.Lists.{list_of}
+use Rattle.tlsf_heap.specs.Memalign.{size_asked}
 use Rattle.tlsf_heap.specs.Good.{times, is_listed}
 
 -- place and size are multiples of the unit
@@ -38,6 +39,10 @@ AreFreeBelow bytes blocks = All (λ block. IsTrue (is_free block) → block.size
 abbrev pub NoneFits : {A : Type 0} → ℕ → Content A → Type 0
 NoneFits n content = (m c : ℕ) → round n ≡ Some m → need m ≡ Some c → AreFreeBelow (low c) (blocks_of content.pools)
 
+-- the same of the bytes that are asked of the lists for an alignment
+abbrev pub NoneFitsAligned : {A : Type 0} → ℕ → ℕ → Content A → Type 0
+NoneFitsAligned align n content = (m c : ℕ) → round n ≡ Some m → need (size_asked align m) ≡ Some c → AreFreeBelow (low c) (blocks_of content.pools)
+
 -- how many blocks are live
 abbrev pub live_blocks : {A : Type 0} → Content A → ℕ
 live_blocks content = count_by (λ block. not (is_free block)) (blocks_of content.pools)
@@ -45,3 +50,7 @@ live_blocks content = count_by (λ block. not (is_free block)) (blocks_of conten
 -- there are at most two records for each live block, and one for each pool
 abbrev pub HasFewRecords : {A : Type 0} → Content A → Type 0
 HasFewRecords content = content.records ≤ 2 * live_blocks content + length content.pools
+
+-- the same, and one more
+abbrev pub HasFewRecordsAndOne : {A : Type 0} → Content A → Type 0
+HasFewRecordsAndOne content = content.records ≤ 2 * live_blocks content + length content.pools + 1

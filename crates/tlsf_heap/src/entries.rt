@@ -1,6 +1,6 @@
 //! The pool entries of a store, in order of base.
 
-ghost use Rattle.std.specs.Prelude.{◌≡◌, ◌+◌, ◌<◌, ◌≤◌, ◌++◌, [], length, map, All, ◌∷◌};
+ghost use Rattle.std.specs.Prelude.{◌≡◌, ◌≢◌, ◌+◌, ◌<◌, ◌≤◌, ◌++◌, [], length, map, All, ◌∷◌, IfSome, IfNone, slice_index_or};
 ghost use Rattle.std.specs.List.{list_all};
 ghost use Rattle.arrayvec.specs.ArrayVec.{array_vec_len};
 ghost use Rattle.tlsf_store.specs.Cells.{most_pools};
@@ -83,6 +83,19 @@ pub(crate) fn place_for(entries: &[PoolEntry], base: u32) -> usize
         }
     }
     entries.len()
+}
+
+/// The number of the pool that begins at `base`, if there is one.
+pub(crate) fn number_of(entries: &[PoolEntry], base: u64) -> Option<usize>
+    ensures found { IfSome result (λ number. (number < length entries.now) × ((d : _) → (slice_index_or entries.now number d).base ≡ base)) }
+    ensures none { IfNone result (All (λ entry. entry.base ≢ base) entries.now) }
+{
+    for (number, entry) in entries.iter().enumerate() {
+        if u64::from(entry.base) == base {
+            return Some(number);
+        }
+    }
+    None
 }
 
 /// Where the pools of the entries begin and how many bytes they have.

@@ -4,8 +4,10 @@ use crate::add_pool::add_pool;
 use crate::entries::{entries, pool_ranges};
 use crate::free::free;
 use crate::malloc::malloc;
+use crate::memalign::memalign;
 use crate::readings::{block_size, first, row};
 use crate::realloc::realloc;
+use crate::remove_pool::remove_pool;
 use crate::{Cursor, Heaped, Ptr, Refusal, Row};
 use arrayvec::ArrayVec;
 use std::alloc::Global;
@@ -34,22 +36,23 @@ impl Model for Heap {
 }
 
 impl Heap {
-    ghost use Rattle.std.specs.Prelude.{◌≡◌, ◌≢◌, ℕ, ◌+◌, ◌<◌, ◌≤◌, ◌==◌, ◌⊎◌, ◌↔◌, [], ◌∷◌, map, Ok, Err, IfOk, IfErr, IfSome, IfNone, OnOk, OnErr};
+    ghost use Rattle.std.specs.Prelude.{◌≡◌, ◌≢◌, ℕ, ◌+◌, ◌%◌, ◌<◌, ◌≤◌, ◌==◌, ◌⊎◌, ◌↔◌, [], ◌∷◌, map, Ok, Err, IfOk, IfErr, IfSome, IfNone, OnOk, OnErr};
     ghost use Rattle.tlsf_store.specs.declared.errors.StoreError.TheVariants.{BadCount};
     ghost use Rattle.tlsf_store.specs.Records.{most_records};
     ghost use Rattle.tlsf_heap.specs.Good.{IsGood};
     ghost use Rattle.tlsf_heap.specs.GoodSlots.{HasGoodSlots, slot_times};
     ghost use Rattle.tlsf_heap.specs.Content.{blocks_of};
     ghost use Rattle.tlsf_heap.specs.Malloc.{malloc as served};
+    ghost use Rattle.tlsf_heap.specs.Memalign.{memalign as aligned};
     ghost use Rattle.tlsf_heap.specs.Free.{free as freed};
     ghost use Rattle.tlsf_heap.specs.Realloc.{realloc as reallocated};
     ghost use Rattle.tlsf_heap.specs.BlockSize.{block_size as sized};
     ghost use Rattle.tlsf_heap.specs.Pointer.{place_and_slot, slot_of};
     ghost use Rattle.tlsf_heap.specs.Rows.{rows_from};
     ghost use Rattle.tlsf_heap.specs.Readings.{rows_behind, is_at_row};
-    ghost use Rattle.tlsf_heap.specs.Pools.{created, add_pool as added};
+    ghost use Rattle.tlsf_heap.specs.Pools.{created, add_pool as added, remove_pool as removed};
     ghost use Rattle.tlsf_heap.specs.Counted.{range_of};
-    ghost use Rattle.tlsf_heap.specs.Implied.{NoneFits, HasFewRecords, HasAlignedBlocks, HasDisjointBlocks, ListsFreeBlocks, ListsNothingElse};
+    ghost use Rattle.tlsf_heap.specs.Implied.{NoneFits, NoneFitsAligned, HasFewRecords, HasFewRecordsAndOne, HasAlignedBlocks, HasDisjointBlocks, ListsFreeBlocks, ListsNothingElse};
     ghost use Rattle.tlsf_heap.specs.declared.refusal.Refusal.TheVariants.{NoFit, TableFull};
 
     /// A heap of this many records, from 1 to 65,535, with no pool. It takes memory once, for its
@@ -90,6 +93,23 @@ impl Heap {
         add_pool(&mut self.store, base, bytes)
     }
 
+    /// The pool that begins at the place `base` is gone. At most 64 touches.
+    ///
+    /// # Errors
+    ///
+    /// `NoPool` where no pool begins there; `PoolInUse` unless the pool is one free block.
+    pub fn remove_pool(&mut self, base: u64) -> Result<(), Refusal>
+        ensures ok { OnOk result (removed base self.old.content ≡ Ok self.new.content) }
+        ensures refused { IfErr result (λ refusal. removed base self.old.content ≡ Err refusal) }
+        ensures never_memory { result ≢ Err Refusal.OutOfMemory }
+        ensures unchanged { OnErr result (self.new.content ≡ self.old.content) }
+        ensures others { OnErr result (self.new.rows ≡ self.old.rows) }
+        ensures floor { self.old.touches ≤ self.new.touches }
+        ensures bound { self.new.touches ≤ self.old.touches + 64 }
+    {
+        remove_pool(&mut self.store, base)
+    }
+
     /// A live block of at least `n` bytes: the first of the first list that isn't empty, at or above the
     /// class from which each block holds `n` bytes, rounded up to the unit. What is left of it behind
     /// these bytes is a free block. At most 96 touches.
@@ -113,6 +133,35 @@ impl Heap {
         ensures bound { self.new.touches ≤ self.old.touches + 96 }
     {
         malloc(&mut self.store, n)
+    }
+
+    /// A live block of at least `n` bytes, rounded up to the unit, that begins at a multiple of `align`. It is
+    /// carved from the first of the first list that isn't empty, at or above the class from which each block
+    /// holds `n` bytes, rounded up, and for an alignment above the unit `align` less the unit more. What is left
+    /// in front of it and behind it are free blocks; the one in front enters its list first. At most 160
+    /// touches.
+    ///
+    /// # Errors
+    ///
+    /// `BadAlign` where `align` isn't a power of two from 1 to 2^29; `ZeroSize` where `n` is 0; `NoFit` where no
+    /// such block is there, or `n` is above the greatest size: each free block is smaller than that class then,
+    /// if there is one; `TableFull` where the blocks in front and behind need more records than are left: there
+    /// are at most two records a live block, one a pool and one more then.
+    pub fn memalign(&mut self, align: u64, n: u64) -> Result<Ptr, Refusal>
+        ensures ok { IfOk result (λ ptr. aligned ptr.slot align n self.old.content ≡ Ok (ptr.place, self.new.content)) }
+        ensures multiple { IfOk result (λ ptr. ptr.place % align ≡ 0) }
+        ensures slot_below { IfOk result (λ ptr. ptr.slot < self.old.content.records) }
+        ensures slot_new { IfOk result (λ ptr. slot_times ptr.slot (blocks_of self.old.content.pools) ≡ 0) }
+        ensures refused { IfErr result (λ refusal. (slot : ℕ) → aligned slot align n self.old.content ≡ Err refusal) }
+        ensures no_fit { result ≡ Err NoFit → NoneFitsAligned align n self.old.content }
+        ensures table_full { result ≡ Err TableFull → HasFewRecordsAndOne self.old.content }
+        ensures never_memory { result ≢ Err Refusal.OutOfMemory }
+        ensures unchanged { OnErr result (self.new.content ≡ self.old.content) }
+        ensures others { OnErr result (self.new.rows ≡ self.old.rows) }
+        ensures floor { self.old.touches ≤ self.new.touches }
+        ensures bound { self.new.touches ≤ self.old.touches + 160 }
+    {
+        memalign(&mut self.store, align, n)
     }
 
     /// The block becomes free. It and its free neighbours in the pool are one free block then, the first

@@ -22,6 +22,7 @@ mod pools;
 mod readings;
 mod realloc;
 mod refusal;
+mod remove_pool;
 mod request;
 mod row;
 mod runs;

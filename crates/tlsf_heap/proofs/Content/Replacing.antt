@@ -1,10 +1,10 @@
 -- The block at a place gives way to others: what is counted; and the size at a place.
-use Rattle.std.proofs.Common.{◌≡◌, ℕ, ◌+◌, Bool, true, cond, List, [], ◌∷◌, ◌++◌, map, refl, sym, ap, ◌∙◌, arith, count_by, find, Some, option_map, unwrap_or}
+use Rattle.std.proofs.Common.{◌≡◌, ℕ, ◌+◌, Bool, true, cond, List, [], ◌∷◌, ◌++◌, length, map, refl, sym, ap, ◌∙◌, arith, count_by, find, Some, option_map, unwrap_or}
 use Rattle.std.proofs.lemmas.Grind.{flat_map-append}
 use Rattle.std.proofs.lemmas.Bool.{eq-eqb}
 use Rattle.tlsf_heap.specs.Content.{Block, Pool, blocks_of, is_at, size_at}
 use Rattle.tlsf_heap.specs.Malloc.{replaced, replaced_in}
-use Rattle.tlsf_heap.proofs.Counts.{count-cons, count-append, one_if}
+use Rattle.tlsf_heap.proofs.Counts.{count-cons, count-append, count_all, one_if}
 use Rattle.tlsf_heap.proofs.Content.Blocks.{NoneAt, Found}
 
 module _ {A : Type 0} where
@@ -53,3 +53,16 @@ module _ {A : Type 0} where
   blocks_of-replaced place others [] = refl
   blocks_of-replaced place others (pool ∷ pools) =
       ap (λ xs. replaced place others pool.blocks ++ xs) (blocks_of-replaced place others pools) ∙ sym (replaced-append place others pool.blocks (blocks_of pools))
+
+  -- how many blocks there are then
+  pub length-replaced : (place : ℕ) (others : List (Block A)) (pools : List (Pool A)) → Found place (blocks_of pools) → length (blocks_of (map (replaced_in place others) pools)) + 1 ≡ length (blocks_of pools) + length others
+  length-replaced place others pools found =
+      let all : Block A → Bool = λ block. true in
+      omega (
+        arith,
+        ap length (blocks_of-replaced place others pools),
+        count_by-replaced place others (blocks_of pools) all found,
+        count_all (replaced place others (blocks_of pools)),
+        count_all (blocks_of pools),
+        count_all others,
+      )

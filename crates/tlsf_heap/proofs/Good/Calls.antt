@@ -11,13 +11,13 @@ use Rattle.tlsf_class.proofs.RoundingLaws.{round-Some}
 use Rattle.tlsf_heap.specs.declared.refusal.Refusal.TheVariants.{ZeroSize, TableFull, BadPool, PoolsFull}
 use Rattle.tlsf_heap.specs.Content.{Block, Pool, Content, blocks_of, is_free, size_at, used_records}
 use Rattle.tlsf_heap.specs.Lists.{list_of, first_of_lists, pick}
-use Rattle.tlsf_heap.specs.Malloc.{gap, cut, replaced, allocated, allocate, malloc_picked, malloc_rounded, malloc}
+use Rattle.tlsf_heap.specs.Malloc.{gap, cut, allocated, allocate, malloc_picked, malloc_rounded, malloc}
 use Rattle.tlsf_heap.specs.Free.{free_block}
 use Rattle.tlsf_heap.specs.Pools.{most_pools, end_of_places, created, add_pool, with_pool, can_be_pool, is_apart, in_order_of_base}
 use Rattle.tlsf_heap.specs.Good.{Covers, NoFreeNeighbours, IsGoodPool, AreGoodPools, IsGood, times, is_listed}
 use Rattle.tlsf_heap.proofs.Counts.{count-append, count_all}
 use Rattle.tlsf_heap.proofs.Content.Blocks.{Found, found_listed, Ascends-pools}
-use Rattle.tlsf_heap.proofs.Content.Replacing.{blocks_of-replaced, count_by-replaced, size_at-found}
+use Rattle.tlsf_heap.proofs.Content.Replacing.{length-replaced, size_at-found}
 use Rattle.tlsf_heap.proofs.Meaning.FreeFirst.{listed_once}
 use Rattle.tlsf_heap.proofs.Meaning.Gaps.{length-cut, length-cut_most}
 use Rattle.tlsf_heap.proofs.Meaning.Carved.{aligned_is_good, aligned_here}
@@ -110,18 +110,9 @@ module _ {A : Type 0} where
       let is = picked m place content good h in
       let size : ℕ = size_at place (blocks_of content.pools) in
       let more : List (Block A) = cut owner place m size in
-      let all : Block A → Bool = λ block. true in
       let none : place - place ≡ 0 = omega arith in
       let same : aligned owner place m place size content ≡ allocated owner place m size content = aligned_here owner m place size content in
-      let counted = count_by-replaced place more (blocks_of content.pools) all is.found in
-      let few : used_records (allocated owner place m size content) + 1 ≡ used_records content + length more = omega (
-        arith,
-        ap length (blocks_of-replaced place more content.pools),
-        counted,
-        count_all (replaced place more (blocks_of content.pools)),
-        count_all (blocks_of content.pools),
-        count_all more,
-      ) in
+      let few : used_records (allocated owner place m size content) + 1 ≡ used_records content + length more = length-replaced place more content.pools is.found in
       let fits : used_records (allocated owner place m size content) ≤ content.records = elim (cases_lt m size) [
         | inl larger ↦ omega (arith, few, length-cut_most owner place m size, room larger)
         | inr whole ↦ omega (arith, few, length-cut owner place m size ∙ ap (λ b. cond b 1 2) (eq-eqb (size - m) 0 (omega (arith, whole))), good.blocks_few)

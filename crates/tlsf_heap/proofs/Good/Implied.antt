@@ -67,7 +67,7 @@ module _ {A : Type 0} where
   )
 
   -- where nothing is picked for m bytes, the free blocks are smaller than the class needed
-  none_picked : (m c : ℕ) (content : Content A) → IsGood content → pick m content.lists ≡ None → need m ≡ Some c → AreFreeBelow (low c) (blocks_of content.pools)
+  pub none_picked : (m c : ℕ) (content : Content A) → IsGood content → pick m content.lists ≡ None → need m ≡ Some c → AreFreeBelow (low c) (blocks_of content.pools)
   none_picked m c content good none is =
       All-from_recursion (λ block. IsTrue (is_free block) → block.size < low c) (blocks_of content.pools)
       (below_class c (blocks_of content.pools) (need-lt m c is)
@@ -176,7 +176,8 @@ module _ {A : Type 0} where
       of false is behind = omega (arith, behind, count, ap (λ b. one_if (not b)) is, one_at_most after)
       of true is behind = omega (arith, behind, count, ap one_if is, ap (λ b. one_if (not b)) is, none_after after (is_free block) n.0 is)
 
-  few_blocks : (pools : List (Pool A)) (from : ℕ) → AreGoodPools from pools → length (blocks_of pools) ≤ 2 * count_by is_used (blocks_of pools) + length pools
+  -- there are at most two blocks a live one, and one a pool
+  pub few_blocks : (pools : List (Pool A)) (from : ℕ) → AreGoodPools from pools → length (blocks_of pools) ≤ 2 * count_by is_used (blocks_of pools) + length pools
   few_blocks [] from g = omega arith
   few_blocks (pool ∷ pools) from g =
       omega (arith, few_free false pool.blocks g.1.merged, few_blocks pools (pool.base + pool.bytes) g.2, length-append pool.blocks (blocks_of pools), count-append is_used pool.blocks (blocks_of pools))

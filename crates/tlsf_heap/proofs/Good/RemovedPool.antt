@@ -1,7 +1,7 @@
 -- remove_pool keeps a content good.
-use Rattle.std.proofs.Common.{◌≡◌, ℕ, ◌+◌, ◌<◌, ◌≤◌, Bool, true, false, cond, not, List, [], ◌∷◌, length, refl, sym, ap, ◌∙◌, subst, arith, count_by, filter, find, Option, Some, None, Ok, Err, inl, inr}
+use Rattle.std.proofs.Common.{◌≡◌, ◌≢◌, ℕ, ◌+◌, ◌<◌, ◌≤◌, Bool, true, false, cond, not, List, [], ◌∷◌, ◌++◌, length, refl, sym, ap, ◌∙◌, subst, arith, count_by, filter, find, Option, Some, None, Ok, Err, inl, inr}
 use Rattle.std.specs.Prelude.{◌==◌}
-use Rattle.std.specs.List.{list_all}
+use Rattle.std.specs.List.{AllByRecursion, list_all}
 use Rattle.std.proofs.lemmas.Bool.{cases_Bool, eq-eqb, eqb-true, ne_eqb, and_parts}
 use Rattle.tlsf_class.specs.Classes.{class}
 use Rattle.tlsf_class.proofs.ClassLaws.{class-lt}
@@ -40,6 +40,28 @@ module _ {A : Type 0} (base : ℕ) where
   all_others from (pool ∷ pools) above g =
       let apart : is_based base pool ≡ false = ne_eqb pool.base base (λ e. absurd (omega (arith, e, above, g.0))) in
       rw apart (ap (λ ps. pool ∷ ps) (all_others (pool.base + pool.bytes) pools (omega (arith, above, g.0)) g.2))
+
+  -- pools that stand behind others begin above them
+  begins_above : (from : ℕ) (before behind : List (Pool A)) (pool : Pool A) → AreGoodPools from (before ++ pool ∷ behind) → from ≤ pool.base
+  begins_above from [] behind pool g = g.0
+  begins_above from (other ∷ before) behind pool g = omega (arith, g.0, begins_above (other.base + other.bytes) before behind pool g.2)
+
+  -- the one pool that begins at the base is found, and the others are those before and behind it
+  pub found_among : (from : ℕ) (before behind : List (Pool A)) (pool : Pool A) → AreGoodPools from (before ++ pool ∷ behind) → pool.base ≡ base
+      → (find (is_based base) (before ++ pool ∷ behind) ≡ Some pool) × (others (before ++ pool ∷ behind) ≡ before ++ behind)
+  found_among from [] behind pool g here =
+      let at : is_based base pool ≡ true = eq-eqb pool.base base here in
+      (rw at refl, rw at (all_others (pool.base + pool.bytes) behind (omega (arith, here, g.1.least_bytes)) g.2))
+  found_among from (other ∷ before) behind pool g here =
+      let above = begins_above (other.base + other.bytes) before behind pool g.2 in
+      let apart : is_based base other ≡ false = ne_eqb other.base base (λ e. absurd (omega (arith, e, above, here, g.1.least_bytes))) in
+      let rest = found_among (other.base + other.bytes) before behind pool g.2 here in
+      (rw apart rest.0, rw apart (ap (λ pools. other ∷ pools) rest.1))
+
+  -- where none begins at the base, none is found
+  pub none_found : (pools : List (Pool A)) → AllByRecursion (λ pool. pool.base ≢ base) pools → find (is_based base) pools ≡ None
+  none_found [] none = refl
+  none_found (pool ∷ pools) none = rw (ne_eqb pool.base base none.0) (none_found pools none.1)
 
   -- the pool found, and what is left without it
   pub record IsRemoved (pool : Pool A) (pools : List (Pool A)) : Type 0 where

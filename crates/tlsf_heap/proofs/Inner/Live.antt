@@ -114,28 +114,39 @@ stands_with new slot status at content after settled none is good =
 
 module _ (cells : Cells) (stands : Stands cells) where
   -- a node that is found, where no node is loose
-  node_at : (test : Node → Bool) (place slot : ℕ) (status : Status) (found : Located test stands.layout.areas) → found.node.slot ≡ slot → found.node.status ≡ status → found.node.place ≡ place → NodeAt place slot status cells stands.layout
-  node_at test place slot status found slot_is status_is place_is =
-      let layout : Layout = stands.layout in
-      let at : At = record { count = layout.count; spot = found.spot; node = found.node; nodes = found.nodes; lists = layout.lists; taken = layout.taken } in
-      let same : layout ≡ layout_at at = ap (λ areas. record layout { areas = areas }) found.whole in
+  abbrev pub at_found : (test : Node → Bool) → Located test stands.layout.areas → At
+  at_found test found = record { count = stands.layout.count; spot = found.spot; node = found.node; nodes = found.nodes; lists = stands.layout.lists; taken = stands.layout.taken }
+
+  pub found_laid : (test : Node → Bool) (found : Located test stands.layout.areas) → stands.layout ≡ layout_at (at_found test found)
+  found_laid test found = ap (λ areas. record stands.layout { areas = areas }) found.whole
+
+  pub found_stands : (test : Node → Bool) (slot : ℕ) (status : Status) (found : Located test stands.layout.areas) → found.node.slot ≡ slot → found.node.status ≡ status → StandsAt slot status cells (at_found test found)
+  found_stands test slot status found slot_is status_is =
+      let at : At = at_found test found in
       let loose : Node → Bool = λ node. is_loose node.status in
       let P : Layout → Type 0 = λ l. Represents cells l in
-      let settled = ap (λ areas. count_by loose (nodes_of areas)) (sym found.whole) ∙ stands.settled in
-      record {
-        at = at;
-        stands = (
-          subst P same stands.represented,
-          record {
-            slot_is = slot_is;
-            status_is = status_is;
-            others_settled = omega (arith, settled, count-filled loose found.spot (found.node ∷ found.nodes), count-filled loose found.spot found.nodes, count-cons loose found.node found.nodes);
-            covered = covered_good 0 (map pool_of (areas_at at)) (let Q : Layout → Type 0 = λ l. IsGood (content_by l) in (subst Q same stands.good).pools_good);
-          },
-        );
-        place_is = place_is;
-        layout_is = same;
-      }
+      let Q : Layout → Type 0 = λ l. IsGood (content_by l) in
+      let settled = ap (λ areas. count_by loose (nodes_of areas)) (sym found.whole) ∙ stands.settled in (
+        subst P (found_laid test found) stands.represented,
+        record {
+          slot_is = slot_is;
+          status_is = status_is;
+          others_settled = omega (arith, settled, count-filled loose found.spot (found.node ∷ found.nodes), count-filled loose found.spot found.nodes, count-cons loose found.node found.nodes);
+          covered = covered_good 0 (map pool_of (areas_at at)) (subst Q (found_laid test found) stands.good).pools_good;
+        },
+      )
+
+  not_loose : (test : Node → Bool) (found : Located test stands.layout.areas) → is_loose found.node.status ≡ false
+  not_loose test found =
+      let loose : Node → Bool = λ node. is_loose node.status in
+      let all = ap (λ areas. count_by loose (nodes_of areas)) (sym found.whole) ∙ stands.settled in
+      elim (cases_Bool (is_loose found.node.status)) [
+        | inl is ↦ absurd (omega (arith, all, count-filled loose found.spot (found.node ∷ found.nodes), count-cons loose found.node found.nodes, ap one_if is))
+        | inr isnt ↦ isnt
+      ]
+
+  node_at : (test : Node → Bool) (place slot : ℕ) (status : Status) (found : Located test stands.layout.areas) → found.node.slot ≡ slot → found.node.status ≡ status → found.node.place ≡ place → NodeAt place slot status cells stands.layout
+  node_at test place slot status found slot_is status_is place_is = record { at = at_found test found; stands = found_stands test slot status found slot_is status_is; place_is = place_is; layout_is = found_laid test found }
 
   told : (place slot : ℕ) → is_live (λ owner. owner == slot) place (blocks_of (content_of cells).pools) ≡ list_any (is_live_node place slot) (nodes_of stands.layout.areas)
   told place slot =
@@ -171,23 +182,22 @@ module _ (cells : Cells) (stands : Stands cells) where
       (omega (arith, ap (λ areas. count_by test (nodes_of areas)) found.whole, count-filled test found.spot (found.node ∷ found.nodes), count-cons test found.node found.nodes, ap one_if passes))
 
   -- a free block is a listed node
-  pub free_at : (slot : ℕ) → (record_at cells.records slot).state ≡ Free → NodeAt (record_at cells.records slot).place slot Listed cells stands.layout
-  free_at slot free =
-      let none : times slot stands.layout.taken ≡ 0 = ap (times slot) stands.none_taken in
-      let found : Located (has_slot slot) stands.layout.areas = located (has_slot slot) stands.layout.areas (omega (arith, stands.represented.chains.once slot, none, ap uses_in free)) in
+  pub found_listed : (slot : ℕ) (found : Located (has_slot slot) stands.layout.areas) → (record_at cells.records slot).state ≡ Free → (found.node.status ≡ Listed) × (found.node.place ≡ (record_at cells.records slot).place)
+  found_listed slot found free =
       let own : found.node.slot ≡ slot = eqb-true found.node.slot slot found.passes in
       let P : Layout → Type 0 = λ l. Represents cells l in
       let was : Represents cells (record stands.layout { areas = filled found.spot (found.node ∷ found.nodes) }) = subst P (ap (λ areas. record stands.layout { areas = areas }) found.whole) stands.represented in
       let here : AtNode cells.records found.spot found.node found.nodes stands.layout.taken = at_node cells.records found.spot found.node found.nodes stands.layout.taken was.chains in
       let state : state_of found.node.status ≡ Free = sym (ap (λ (v : InPool). v.state) here.says) ∙ ap (λ q. (record_at cells.records q).state) own ∙ free in
       let place : found.node.place ≡ (record_at cells.records slot).place = sym (ap (λ (v : InPool). v.place) here.says) ∙ ap (λ q. (record_at cells.records q).place) own in
-      let loose : Node → Bool = λ node. is_loose node.status in
-      let all = ap (λ areas. count_by loose (nodes_of areas)) (sym found.whole) ∙ stands.settled in
-      let settled : is_loose found.node.status ≡ false = (elim (cases_Bool (is_loose found.node.status)) [
-        | inl is ↦ absurd (omega (arith, all, count-filled loose found.spot (found.node ∷ found.nodes), count-cons loose found.node found.nodes, ap one_if is))
-        | inr isnt ↦ isnt
-      ]) in
-      node_at (has_slot slot) (record_at cells.records slot).place slot Listed found own (settled_free found.node.status settled state) place
+      (settled_free found.node.status (not_loose (has_slot slot) found) state, place)
+
+  pub free_at : (slot : ℕ) → (record_at cells.records slot).state ≡ Free → NodeAt (record_at cells.records slot).place slot Listed cells stands.layout
+  free_at slot free =
+      let none : times slot stands.layout.taken ≡ 0 = ap (times slot) stands.none_taken in
+      let found : Located (has_slot slot) stands.layout.areas = located (has_slot slot) stands.layout.areas (omega (arith, stands.represented.chains.once slot, none, ap uses_in free)) in
+      let is = found_listed slot found free in
+      node_at (has_slot slot) (record_at cells.records slot).place slot Listed found (eqb-true found.node.slot slot found.passes) is.0 is.1
 
   pub not_live : (place slot : ℕ) → ((record_at cells.records slot).state ≡ Live → (record_at cells.records slot).place ≢ place) → is_live (λ owner. owner == slot) place (blocks_of (content_of cells).pools) ≡ false
   not_live place slot isnt = elim (cases_Bool (is_live (λ owner. owner == slot) place (blocks_of (content_of cells).pools))) [

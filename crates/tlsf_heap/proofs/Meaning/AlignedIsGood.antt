@@ -1,4 +1,4 @@
--- memalign keeps a content good.
+-- memalign keeps a content good, and gives a multiple of the alignment.
 use Rattle.std.proofs.Common.{◌≡◌, ℕ, ◌+◌, ◌-◌, ◌%◌, ◌<◌, ◌≤◌, true, ◌∷◌, length, refl, sym, ap, ◌∙◌, subst, arith, get_or, length-append, Option, Some, None, Ok, Err, inl, inr}
 use Rattle.std.specs.Prelude.{◌==◌, nat_lt}
 use Rattle.std.specs.Int.{next_multiple_of}
@@ -9,8 +9,8 @@ use Rattle.tlsf_heap.specs.Content.{Block, Content, blocks_of, size_at, used_rec
 use Rattle.tlsf_heap.specs.Lists.{pick}
 use Rattle.tlsf_class.specs.Rounding.{round}
 use Rattle.tlsf_class.proofs.RoundingLaws.{round-Some}
-use Rattle.tlsf_heap.specs.declared.refusal.Refusal.TheVariants.{ZeroSize, TableFull, BadAlign}
-use Rattle.tlsf_heap.specs.Memalign.{is_alignment, size_asked, aligned, if_recorded, memalign_picked, memalign_rounded, memalign}
+use Rattle.tlsf_heap.specs.Memalign.{is_alignment, size_asked, memalign}
+use Rattle.tlsf_heap.proofs.Content.MemalignCases.{IsPicked, memalign_given}
 use Rattle.tlsf_heap.specs.Good.{IsGood}
 use Rattle.tlsf_heap.proofs.Good.Calls.{Picked, picked}
 use Rattle.tlsf_heap.proofs.Good.Implied.{has_aligned_blocks}
@@ -39,37 +39,21 @@ module _ {A : Type 0} where
       let start = start_is align m place is (picked_whole (size_asked align m) place content good there) in
       record { start = start; fits = omega (arith, start.fits, there.holds); picked = there }
 
-  picked_is_good : (owner : A) (align m : ℕ) (content : Content A) (new : ℕ × Content A) (place : Option ℕ) → pick (size_asked align m) content.lists ≡ place → IsGood content → is_alignment align ≡ true → 0 < m → m % unit ≡ 0
-      → memalign_picked owner align m place content ≡ Ok new → IsGood new.1
-  picked_is_good owner align m content new None found good is some whole e = absurd (cc)
-  picked_is_good owner align m content new (Some place) found good is some whole e =
-      let carved_so = carving align m place content good is found in
-      let start : ℕ = next_multiple_of place align in
-      let after : Content A = aligned owner start m place (size_at place (blocks_of content.pools)) content in
-      elim (cases_Bool (nat_lt after.records (used_records after))) [
-        | inl full ↦ let refused : if_recorded start after ≡ Err TableFull = rw full refl in absurd (cc)
-        | inr room ↦
-            let given : if_recorded start after ≡ Ok (start, after) = rw room refl in
-            let same : (start, after) ≡ new = cc in
-            let P : ℕ × Content A → Type 0 = λ x. IsGood x.1 in
-            subst P same (aligned_is_good owner start m place content good carved_so.picked.once carved_so.start.begins carved_so.fits some whole carved_so.start.gap_whole (ltb-false _ _ room))
-      ]
-
-  rounded_is_good : (owner : A) (align n : ℕ) (content : Content A) (new : ℕ × Content A) (m : Option ℕ) → round n ≡ m → IsGood content → is_alignment align ≡ true → 0 < n → memalign_rounded owner align m content ≡ Ok new → IsGood new.1
-  rounded_is_good owner align n content new None rounds good is some e = absurd (cc)
-  rounded_is_good owner align n content new (Some m) rounds good is some e =
-      let holds = round-Some n m rounds in
-      picked_is_good owner align m content new (pick (size_asked align m) content.lists) refl good is (omega (arith, holds.least, some)) holds.whole e
-
   -- memalign keeps a content good
   pub memalign_is_good : (owner : A) (align n : ℕ) (content : Content A) (new : ℕ × Content A) → IsGood content → memalign owner align n content ≡ Ok new → IsGood new.1
-  memalign_is_good owner align n content new good e = elim (cases_Bool (is_alignment align)) [
-    | inr bad ↦ let refused : memalign owner align n content ≡ Err BadAlign = rw bad refl in absurd (cc)
-    | inl is ↦ elim (cases_Bool (n == 0)) [
-      | inl zero_bytes ↦ let refused : memalign owner align n content ≡ Err ZeroSize = rw (is, zero_bytes) refl in absurd (cc)
-      | inr some_bytes ↦
-          let asked : memalign owner align n content ≡ memalign_rounded owner align (round n) content = rw (is, some_bytes) refl in
-          let positive = eqb-false n 0 some_bytes in
-          rounded_is_good owner align n content new (round n) refl good is (grind arith) (sym asked ∙ e)
-    ]
-  ]
+  memalign_is_good owner align n content new good e =
+      let given = memalign_given owner align n content new e in
+      let p : IsPicked owner align n content = given.0 in
+      let carved_so = carving align p.asked p.place content good p.is p.found in
+      let holds = round-Some n p.asked p.rounds in
+      let positive : 0 < p.asked = omega (arith, holds.least, holds.some) in
+      let P : ℕ × Content A → Type 0 = λ x. IsGood x.1 in
+      subst P given.1
+      (aligned_is_good owner (next_multiple_of p.place align) p.asked p.place content good carved_so.picked.once carved_so.start.begins carved_so.fits positive holds.whole carved_so.start.gap_whole given.2)
+
+  -- the place given is a multiple of the alignment
+  pub memalign_multiple : (owner : A) (align n : ℕ) (content : Content A) (new : ℕ × Content A) → IsGood content → memalign owner align n content ≡ Ok new → new.0 % align ≡ 0
+  memalign_multiple owner align n content new good e =
+      let given = memalign_given owner align n content new e in
+      let p : IsPicked owner align n content = given.0 in
+      ap (λ (x : ℕ × Content A). x.0 % align) (sym given.1) ∙ (carving align p.asked p.place content good p.is p.found).start.multiple

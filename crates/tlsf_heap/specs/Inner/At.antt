@@ -9,7 +9,7 @@ use Rattle.tlsf_heap.specs.Content.{Pool}
 use Rattle.tlsf_heap.specs.Good.{Covers}
 use Rattle.tlsf_heap.specs.Pools.{end_of_places}
 use Rattle.tlsf_heap.specs.Inner.Nodes.{Status, InUse, Listed, Loose, Node, Area, Layout, turned, rest_node, pool_of, nodes_of, left, entered, gap_nodes, entered_gap}
-use Rattle.tlsf_heap.specs.Inner.Spots.{Spot, filled, laid}
+use Rattle.tlsf_heap.specs.Inner.Spots.{Spot, plug, filled, laid}
 use Rattle.tlsf_heap.specs.Inner.Joined.{is_loose, listed_first, past, left_by, grown_in_front, grown_behind, spot_past}
 use Rattle.tlsf_heap.specs.Inner.Represents.{Represents}
 
@@ -100,6 +100,10 @@ at_gapped live bytes at = record at {
 -- a node in use became free, one with the free ones beside it, and listed
 abbrev pub at_freed : At → At
 at_freed at = at_listed (next_joined (previous_joined (at_turned Loose at)))
+
+-- the layout without the node's area, whose node left its list
+abbrev pub without_area : At → Layout
+without_area at = record { count = at.count; areas = plug at.spot.areas_before at.spot.areas_behind; lists = left (turned Listed at.node) at.lists; taken = at.taken }
 
 -- the cells represent the layout, and the node has this slot and this status
 abbrev pub StandsAt : ℕ → Status → Cells → At → Type 0

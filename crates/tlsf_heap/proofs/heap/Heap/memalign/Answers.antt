@@ -1,0 +1,35 @@
+use Rattle.std.proofs.Common.{◌≡◌, ℕ, ◌%◌, Ok, Err}
+use Rattle.std.proofs.lemmas.Result.{IfErr-at_err}
+use Rattle.tlsf_heap.specs.declared.refusal.Refusal.{Refusal}
+use Rattle.tlsf_heap.specs.declared.refusal.Refusal.TheVariants.{NoFit, TableFull, OutOfMemory}
+use Rattle.tlsf_heap.specs.Pointer.{Pointer}
+use Rattle.tlsf_heap.specs.Memalign.{memalign}
+use Rattle.tlsf_heap.specs.Inner.Following.{content_of}
+use Rattle.tlsf_heap.proofs.Inner.Standing.{content_is_good}
+use Rattle.tlsf_heap.proofs.Content.Results.{if_ok}
+use Rattle.tlsf_heap.proofs.Good.AlignedImplied.{aligned_no_fit, aligned_full, aligned_lacks_none}
+use Rattle.tlsf_heap.proofs.Meaning.AlignedIsGood.{memalign_multiple}
+use Rattle.tlsf_heap.proofs.heap.Heap.memalign.Goals as goal
+
+-- where memalign is refused, so is it under slot 0
+refused : (c : goal.After-memalign) → (refusal : Refusal) → c.memalign.result ≡ Err refusal → memalign 0 c.args.align c.args.n (content_of c.self.inside.store.cells) ≡ Err refusal
+refused c refusal is = IfErr-at_err (λ why. (slot : ℕ) → memalign slot c.args.align c.args.n (content_of c.self.inside.store.cells) ≡ Err why) is c.memalign.ensures.refused 0
+
+pub returns-clause-multiple : goal.returns-clause-multiple
+returns-clause-multiple c =
+    if_ok c.memalign.result
+    (λ (ptr : Pointer). memalign ptr.slot c.args.align c.args.n (content_of c.self.inside.store.cells) ≡ Ok (ptr.place, content_of c.memalign.new.store.cells))
+    (λ ptr. ptr.place % c.args.align ≡ 0)
+    (λ ptr e. memalign_multiple ptr.slot c.args.align c.args.n (content_of c.self.inside.store.cells) (ptr.place, content_of c.memalign.new.store.cells) (content_is_good c.self.inside.store.cells c.self.invariant) e)
+    c.memalign.ensures.ok
+
+pub returns-clause-no_fit : goal.returns-clause-no_fit
+returns-clause-no_fit c = λ is.
+    rw (← c.self.view_is) (aligned_no_fit 0 c.args.align c.args.n (content_of c.self.inside.store.cells) (content_is_good c.self.inside.store.cells c.self.invariant) (refused c NoFit is))
+
+pub returns-clause-table_full : goal.returns-clause-table_full
+returns-clause-table_full c = λ is.
+    rw (← c.self.view_is) (aligned_full 0 c.args.align c.args.n (content_of c.self.inside.store.cells) (content_is_good c.self.inside.store.cells c.self.invariant) (refused c TableFull is))
+
+pub returns-clause-never_memory : goal.returns-clause-never_memory
+returns-clause-never_memory c = λ is. aligned_lacks_none 0 c.args.align c.args.n (content_of c.self.inside.store.cells) (content_is_good c.self.inside.store.cells c.self.invariant) (refused c OutOfMemory is)

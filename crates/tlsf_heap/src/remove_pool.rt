@@ -1,0 +1,70 @@
+//! remove_pool: a pool that is one free block leaves.
+
+ghost use Rattle.std.specs.Prelude.{◌≡◌, ◌<◌, ◌≤◌, ◌&&◌, [], length, is_none, All, Ok, Err, OnOk, OnErr, IfErr};
+ghost use Rattle.tlsf_store.specs.Cells.{most_pools};
+ghost use Rattle.tlsf_heap.specs.Touches.{AtMost};
+ghost use Rattle.tlsf_heap.specs.Pools.{remove_pool as removed};
+ghost use Rattle.tlsf_heap.specs.Inner.States.{is_state_free};
+ghost use Rattle.tlsf_heap.specs.Inner.Nodes.{Listed};
+ghost use Rattle.tlsf_heap.specs.Inner.Spots.{plug};
+ghost use Rattle.tlsf_heap.specs.Inner.Entering.{entries_in};
+ghost use Rattle.tlsf_heap.specs.Inner.Represents.{Represents};
+ghost use Rattle.tlsf_heap.specs.Inner.At.{At, StandsAt, without_area};
+ghost use Rattle.tlsf_heap.specs.Inner.Following.{Stands, content_of};
+
+use crate::Refusal;
+use crate::entries::{entries, number_of, set_entries};
+use crate::free::is_free;
+use crate::malloc::take_whole;
+use crate::pool_entry::PoolEntry;
+use tlsf_store::{Record, Slot, Store};
+
+/// The pool that begins at `base` leaves the store, and its one free block its class's list. At most 30 touches.
+///
+/// # Errors
+///
+/// As `Heap::remove_pool`.
+pub(crate) fn remove_pool(store: &mut Store, base: u64) -> Result<(), Refusal>
+    requires { Stands store.old.cells }
+    ensures stands { Stands store.new.cells }
+    ensures ok { OnOk result (removed base (content_of store.old.cells) ≡ Ok (content_of store.new.cells)) }
+    ensures refused { IfErr result (λ refusal. removed base (content_of store.old.cells) ≡ Err refusal) }
+    ensures cells { OnErr result (store.new.cells ≡ store.old.cells) }
+    ensures touches { AtMost 30 store.old.touches store.new.touches }
+{
+    let mut entries = entries(store);
+    let Some(number) = number_of(entries.as_slice(), base) else {
+        return Err(Refusal::NoPool);
+    };
+    let entry = entries.remove(number);
+    let slot = Slot(entry.first);
+    let block = store.read(slot);
+    let size = block.size;
+    if !is_alone(block) {
+        return Err(Refusal::PoolInUse);
+    }
+    drop_pool(store, slot, size, entries.as_slice());
+    Ok(())
+}
+
+/// Whether the first block of a pool is free, and the only one.
+fn is_alone(block: Record) -> bool
+    ensures { result ≡ (is_state_free block.state && is_none block.next) }
+{
+    is_free(block.state) && block.next.is_none()
+}
+
+/// The one free block of a pool, of `size` bytes, leaves its class's list, its record is vacant, and these are
+/// the entries. At most 21 touches.
+fn drop_pool(store: &mut Store, slot: Slot, size: u32, entries: &[PoolEntry])
+    requires stands { (at : At) × StandsAt slot Listed store.old.cells at × (size ≡ at.node.size) }
+    requires count { length store.old.cells.pools ≡ most_pools }
+    requires few { length entries.now ≤ most_pools }
+    requires below { All (λ entry. entry.first < length store.old.cells.records) entries.now }
+    ensures leads { (at : At) → StandsAt slot Listed store.old.cells at → size ≡ at.node.size → at.spot.before ≡ [] → at.nodes ≡ [] → entries.now ≡ entries_in (plug at.spot.areas_before at.spot.areas_behind) → Represents store.new.cells (without_area at) }
+    ensures touches { AtMost 21 store.old.touches store.new.touches }
+{
+    take_whole(store, slot, size);
+    store.give_vacant(slot);
+    set_entries(store, entries);
+}
