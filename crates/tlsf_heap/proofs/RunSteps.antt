@@ -24,7 +24,7 @@ run-more lacks (first ∷ requests) (given ∷ answers) request answer old mid n
 step_lacks_none : (lacks : Type 0) → (lacks → ⊥) → (request : Request) (answer : Answer) (old new : Content ℕ) → Step lacks request answer old new → answer ≢ Refused OutOfMemory
 step_lacks_none lacks none request answer old new step is =
     let P : Answer → Type 0 = λ answer. Step lacks request answer old new in
-    none ((subst P is step).2 refl)
+    none ((subst P is step).2 refl).0
 
 pub run_lacks_none : (lacks : Type 0) → (lacks → ⊥) → (requests : List Request) (answers : List Answer) (old new : Content ℕ) (before after : ℕ)
     → Run lacks requests answers old new before after → All (λ answer. answer ≢ Refused OutOfMemory) answers

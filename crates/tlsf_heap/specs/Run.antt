@@ -1,60 +1,115 @@
 -- Requests and their answers, one after the other.
-use Rattle.std.specs.Prelude.{◌≡◌, ◌≢◌, ℕ, ◌+◌, ◌<◌, ◌≤◌, ◌==◌, List, [], ◌∷◌, Ok, Err}
+use Rattle.std.specs.Prelude.{◌≡◌, ◌≢◌, ℕ, Bool, true, false, ◌+◌, ◌<◌, ◌≤◌, ◌==◌, List, [], ◌∷◌, Option, Some, IfSome, Result, Ok, Err}
 use Rattle.tlsf_heap.specs.declared.request.Request.{Request}
-use Rattle.tlsf_heap.specs.declared.request.Request.TheVariants.{AddPool, Malloc, Free}
+use Rattle.tlsf_heap.specs.declared.request.Request.TheVariants.{AddPool, RemovePool, Malloc, Memalign, Free, Realloc, BlockSize}
 use Rattle.tlsf_heap.specs.declared.answer.Answer.{Answer}
 use Rattle.tlsf_heap.specs.declared.answer.Answer.TheVariants.{Done, Given, Moved, Size, Refused}
 use Rattle.tlsf_heap.specs.declared.refusal.Refusal.{Refusal}
 use Rattle.tlsf_heap.specs.declared.refusal.Refusal.TheVariants.{OutOfMemory}
-use Rattle.tlsf_heap.specs.Pointer.{Pointer}
+use Rattle.tlsf_heap.specs.Pointer.{Pointer, place_and_slot, slot_of}
 use Rattle.tlsf_heap.specs.Content.{Content, blocks_of}
 use Rattle.tlsf_heap.specs.GoodSlots.{slot_times}
 use Rattle.tlsf_heap.specs.Malloc.{malloc}
+use Rattle.tlsf_heap.specs.Memalign.{memalign}
 use Rattle.tlsf_heap.specs.Free.{free}
-use Rattle.tlsf_heap.specs.Pools.{add_pool}
+use Rattle.tlsf_heap.specs.Realloc.{realloc}
+use Rattle.tlsf_heap.specs.BlockSize.{block_size}
+use Rattle.tlsf_heap.specs.Pools.{add_pool, remove_pool}
 
--- the pointer of a new live block of at least n bytes: its slot was of no live block
-pub record IsServed (n : ℕ) (pointer : Pointer) (old new : Content ℕ) : Type 0 where
-  pub served : malloc pointer.slot n old ≡ Ok (pointer.place, new)
+-- the pointer of a new live block, known by its slot, as the call gives it: the slot was of no live block
+pub record IsServed (call : ℕ → Content ℕ → Result (ℕ × Content ℕ) Refusal) (pointer : Pointer) (old new : Content ℕ) : Type 0 where
+  pub served : call pointer.slot old ≡ Ok (pointer.place, new)
   pub slot_below : pointer.slot < old.records
   pub slot_new : slot_times pointer.slot (blocks_of old.pools) ≡ 0
+
+-- the pointer after realloc, none where the block was freed: the same, or with a slot that was of no live block
+pub record IsMoved (pointer : Option Pointer) (n : ℕ) (given : Option Pointer) (old new : Content ℕ) : Type 0 where
+  pub moved : realloc (λ a b. a == b) (slot_of given) (place_and_slot pointer) n old ≡ Ok (place_and_slot given, new)
+  pub slot_below : IfSome given (λ p. p.slot < old.records)
+  pub slot_new : IfSome given (λ p. pointer ≢ Some p → slot_times p.slot (blocks_of old.pools) ≡ 0)
 
 -- the request is done, and answers nothing more
 abbrev pub Does : Request → Content ℕ → Content ℕ → Type 0
 Does (AddPool base bytes) old new = add_pool base bytes old ≡ Ok new
+Does (RemovePool base) old new = remove_pool base old ≡ Ok new
 Does (Malloc n) old new = ⊥
+Does (Memalign align n) old new = ⊥
 Does (Free pointer) old new = free (λ slot. slot == pointer.slot) pointer.place old ≡ Ok new
+Does (Realloc pointer n) old new = ⊥
+Does (BlockSize pointer) old new = ⊥
 
 -- the request is given a block
 abbrev pub Gives : Request → Pointer → Content ℕ → Content ℕ → Type 0
 Gives (AddPool base bytes) pointer old new = ⊥
-Gives (Malloc n) pointer old new = IsServed n pointer old new
+Gives (RemovePool base) pointer old new = ⊥
+Gives (Malloc n) pointer old new = IsServed (λ slot. malloc slot n) pointer old new
+Gives (Memalign align n) pointer old new = IsServed (λ slot. memalign slot align n) pointer old new
 Gives (Free freed) pointer old new = ⊥
+Gives (Realloc of n) pointer old new = ⊥
+Gives (BlockSize of) pointer old new = ⊥
+
+-- the request is told where the block is now
+abbrev pub Moves : Request → Option Pointer → Content ℕ → Content ℕ → Type 0
+Moves (AddPool base bytes) given old new = ⊥
+Moves (RemovePool base) given old new = ⊥
+Moves (Malloc n) given old new = ⊥
+Moves (Memalign align n) given old new = ⊥
+Moves (Free pointer) given old new = ⊥
+Moves (Realloc pointer n) given old new = IsMoved pointer n given old new
+Moves (BlockSize pointer) given old new = ⊥
+
+-- the request is told a size
+abbrev pub Tells : Request → ℕ → Content ℕ → Content ℕ → Type 0
+Tells (AddPool base bytes) size old new = ⊥
+Tells (RemovePool base) size old new = ⊥
+Tells (Malloc n) size old new = ⊥
+Tells (Memalign align n) size old new = ⊥
+Tells (Free pointer) size old new = ⊥
+Tells (Realloc pointer n) size old new = ⊥
+Tells (BlockSize pointer) size old new = (block_size (λ slot. slot == pointer.slot) pointer.place old ≡ Ok size) × (new ≡ old)
 
 -- the request is to be refused, whatever slot a block were given
 abbrev pub IsRefused : Request → Refusal → Content ℕ → Type 0
 IsRefused (AddPool base bytes) refusal content = add_pool base bytes content ≡ Err refusal
+IsRefused (RemovePool base) refusal content = remove_pool base content ≡ Err refusal
 IsRefused (Malloc n) refusal content = (slot : ℕ) → malloc slot n content ≡ Err refusal
+IsRefused (Memalign align n) refusal content = (slot : ℕ) → memalign slot align n content ≡ Err refusal
 IsRefused (Free pointer) refusal content = free (λ slot. slot == pointer.slot) pointer.place content ≡ Err refusal
+IsRefused (Realloc pointer n) refusal content = (slot : ℕ) → realloc (λ a b. a == b) slot (place_and_slot pointer) n content ≡ Err refusal
+IsRefused (BlockSize pointer) refusal content = block_size (λ slot. slot == pointer.slot) pointer.place content ≡ Err refusal
+
+-- whether the request changes nothing, and so needs no memory
+abbrev pub is_reading : Request → Bool
+is_reading (AddPool base bytes) = false
+is_reading (RemovePool base) = false
+is_reading (Malloc n) = false
+is_reading (Memalign align n) = false
+is_reading (Free pointer) = false
+is_reading (Realloc pointer n) = false
+is_reading (BlockSize pointer) = true
 
 -- some heap may lack memory
 abbrev pub MayLack : {H : Type 0} → (H → Type 0) → Type 0
 MayLack {H} lacks = (heap : H) × lacks heap
 
 -- one request and its answer: a refusal changes nothing; want of memory alone needs no other reason, and
--- comes only where memory may be lacking
+-- comes only where memory may be lacking, and never for a reading
 abbrev pub Step : (lacks : Type 0) → Request → Answer → Content ℕ → Content ℕ → Type 0
 Step lacks request Done old new = Does request old new
 Step lacks request (Given pointer) old new = Gives request pointer old new
-Step lacks request (Moved pointer) old new = ⊥
-Step lacks request (Size bytes) old new = ⊥
-Step lacks request (Refused refusal) old new = (new ≡ old) × (refusal ≢ OutOfMemory → IsRefused request refusal old) × (refusal ≡ OutOfMemory → lacks)
+Step lacks request (Moved given) old new = Moves request given old new
+Step lacks request (Size bytes) old new = Tells request bytes old new
+Step lacks request (Refused refusal) old new = (new ≡ old) × (refusal ≢ OutOfMemory → IsRefused request refusal old) × (refusal ≡ OutOfMemory → lacks × (is_reading request ≡ false))
 
 -- how often the table is touched for a request, at most
 abbrev pub most_touches : Request → ℕ
 most_touches (AddPool base bytes) = 64
+most_touches (RemovePool base) = 64
 most_touches (Malloc n) = 96
+most_touches (Memalign align n) = 160
 most_touches (Free pointer) = 96
+most_touches (Realloc pointer n) = 256
+most_touches (BlockSize pointer) = 4
 
 -- each request has its answer, each on the content that the one before left; the count of touches never
 -- falls, and rises by no more than the request may

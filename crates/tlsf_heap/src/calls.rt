@@ -26,12 +26,28 @@ impl Heaped for Heap {
         Heap::add_pool(self, base, bytes)
     }
 
+    fn remove_pool(&mut self, base: u64) -> Result<(), Refusal> {
+        Heap::remove_pool(self, base)
+    }
+
     fn malloc(&mut self, n: u64) -> Result<Ptr, Refusal> {
         Heap::malloc(self, n)
     }
 
+    fn memalign(&mut self, align: u64, n: u64) -> Result<Ptr, Refusal> {
+        Heap::memalign(self, align, n)
+    }
+
     fn free(&mut self, ptr: Ptr) -> Result<(), Refusal> {
         Heap::free(self, ptr)
+    }
+
+    fn realloc(&mut self, ptr: Option<Ptr>, n: u64) -> Result<Option<Ptr>, Refusal> {
+        Heap::realloc(self, ptr, n)
+    }
+
+    fn block_size(&mut self, ptr: Ptr) -> Result<u32, Refusal> {
+        Heap::block_size(self, ptr)
     }
 
     fn pools(&mut self) -> ArrayVec<(u64, u64), MOST_POOLS> {

@@ -215,6 +215,7 @@ impl Heap {
     pub fn block_size(&mut self, ptr: Ptr) -> Result<u32, Refusal>
         ensures ok { IfOk result (λ bytes. sized (λ slot. slot == ptr.slot) ptr.place self.old.content ≡ Ok bytes) }
         ensures refused { IfErr result (λ refusal. sized (λ slot. slot == ptr.slot) ptr.place self.old.content ≡ Err refusal) }
+        ensures never_memory { result ≢ Err Refusal.OutOfMemory }
         ensures others { self.new.rows ≡ self.old.rows }
         ensures unchanged { self.new.content ≡ self.old.content }
         ensures floor { self.old.touches ≤ self.new.touches }

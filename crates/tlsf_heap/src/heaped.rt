@@ -1,14 +1,18 @@
 //! What every heap does.
 
-ghost use Rattle.std.specs.Prelude.{◌≡◌, ◌≢◌, ℕ, ◌+◌, ◌<◌, ◌≤◌, ◌==◌, ◌⊎◌, ◌↔◌, List, [], ◌∷◌, map, Ok, Err, IfOk, IfErr, OnOk, OnErr, IfSome, IfNone};
+ghost use Rattle.std.specs.Prelude.{◌≡◌, ◌≢◌, ℕ, ◌+◌, ◌<◌, ◌≤◌, ◌==◌, ◌⊎◌, ◌↔◌, List, [], ◌∷◌, map, Some, Ok, Err, IfOk, IfErr, OnOk, OnErr, IfSome, IfNone};
 ghost use Rattle.tlsf_store.specs.declared.errors.StoreError.TheVariants.{BadCount};
 ghost use Rattle.tlsf_store.specs.Records.{most_records};
 ghost use Rattle.tlsf_heap.specs.declared.cursor.Cursor.{Cursor};
 ghost use Rattle.tlsf_heap.specs.declared.row.Row.{Row};
 ghost use Rattle.tlsf_heap.specs.Content.{Content, blocks_of};
-ghost use Rattle.tlsf_heap.specs.Pools.{created, add_pool as added};
+ghost use Rattle.tlsf_heap.specs.Pools.{created, add_pool as added, remove_pool as removed};
 ghost use Rattle.tlsf_heap.specs.Malloc.{malloc as served};
+ghost use Rattle.tlsf_heap.specs.Memalign.{memalign as aligned};
 ghost use Rattle.tlsf_heap.specs.Free.{free as freed};
+ghost use Rattle.tlsf_heap.specs.Realloc.{realloc as reallocated};
+ghost use Rattle.tlsf_heap.specs.BlockSize.{block_size as sized};
+ghost use Rattle.tlsf_heap.specs.Pointer.{place_and_slot, slot_of};
 ghost use Rattle.tlsf_heap.specs.Good.{IsGood};
 ghost use Rattle.tlsf_heap.specs.GoodSlots.{HasGoodSlots, slot_times};
 ghost use Rattle.tlsf_heap.specs.Counted.{range_of};
@@ -22,8 +26,8 @@ use tlsf_store::{MOST_POOLS, StoreError};
 /// A heap of pools of blocks. Each call is a step on its content; a refused call leaves the content as
 /// it was. A refusal and a reading leave each cursor where it stands.
 ///
-/// A heap that may lack memory may answer `OutOfMemory` to `add_pool`, `malloc` and `free` in place of any
-/// answer. Contracts alone see whether it may, its content, and how often it has touched its table of
+/// A heap that may lack memory may answer `OutOfMemory` to each call that changes it, in place of any answer.
+/// Contracts alone see whether it may, its content, and how often it has touched its table of
 /// records.
 pub trait Heaped: Drop {
     // The pools, their blocks and the free lists.
@@ -69,6 +73,22 @@ pub trait Heaped: Drop {
         ensures floor { touches self.old ≤ touches self.new }
         ensures bound { touches self.new ≤ touches self.old + 64 };
 
+    /// The pool that begins at the place `base` is gone. At most 64 touches.
+    ///
+    /// # Errors
+    ///
+    /// `NoPool` where no pool begins there; `PoolInUse` unless the pool is one free block; `OutOfMemory` where
+    /// memory is refused, which it may lack.
+    fn remove_pool(&mut self, base: u64) -> Result<(), Refusal>
+        ensures ok { OnOk result (removed base (content self.old) ≡ Ok (content self.new)) }
+        ensures refused { IfErr result (λ refusal. refusal ≢ Refusal.OutOfMemory → removed base (content self.old) ≡ Err refusal) }
+        ensures memory { IfErr result (λ refusal. refusal ≡ Refusal.OutOfMemory → lacks self.old) }
+        ensures unchanged { OnErr result (content self.new ≡ content self.old) }
+        ensures others_stand { OnErr result ((other : Cursor) → stands self.old other → stands self.new other) }
+        ensures others { OnErr result ((other : Cursor) → rest self.new other ≡ rest self.old other) }
+        ensures floor { touches self.old ≤ touches self.new }
+        ensures bound { touches self.new ≤ touches self.old + 64 };
+
     /// A live block of at least `n` bytes, with a slot that no other live block has. At most 96 touches.
     ///
     /// # Errors
@@ -88,6 +108,27 @@ pub trait Heaped: Drop {
         ensures floor { touches self.old ≤ touches self.new }
         ensures bound { touches self.new ≤ touches self.old + 96 };
 
+    /// A live block of at least `n` bytes that begins at a multiple of `align`, with a slot that no other live
+    /// block has. At most 160 touches.
+    ///
+    /// # Errors
+    ///
+    /// `BadAlign` where `align` isn't a power of two from 1 to 2^29; `ZeroSize` where `n` is 0; `NoFit` where no
+    /// list that may be searched has a block, or `n` is above the greatest size; `TableFull` where the blocks in
+    /// front and behind need more records than are left; `OutOfMemory` where memory is refused, which it may
+    /// lack.
+    fn memalign(&mut self, align: u64, n: u64) -> Result<Ptr, Refusal>
+        ensures ok { IfOk result (λ ptr. aligned ptr.slot align n (content self.old) ≡ Ok (ptr.place, content self.new)) }
+        ensures slot_below { IfOk result (λ ptr. ptr.slot < (content self.old).records) }
+        ensures slot_new { IfOk result (λ ptr. slot_times ptr.slot (blocks_of (content self.old).pools) ≡ 0) }
+        ensures refused { IfErr result (λ refusal. refusal ≢ Refusal.OutOfMemory → (slot : ℕ) → aligned slot align n (content self.old) ≡ Err refusal) }
+        ensures memory { IfErr result (λ refusal. refusal ≡ Refusal.OutOfMemory → lacks self.old) }
+        ensures unchanged { OnErr result (content self.new ≡ content self.old) }
+        ensures others_stand { OnErr result ((other : Cursor) → stands self.old other → stands self.new other) }
+        ensures others { OnErr result ((other : Cursor) → rest self.new other ≡ rest self.old other) }
+        ensures floor { touches self.old ≤ touches self.new }
+        ensures bound { touches self.new ≤ touches self.old + 160 };
+
     /// The live block with the pointer's place and slot becomes free, and is joined with its free
     /// neighbours. At most 96 touches.
     ///
@@ -104,6 +145,40 @@ pub trait Heaped: Drop {
         ensures others { OnErr result ((other : Cursor) → rest self.new other ≡ rest self.old other) }
         ensures floor { touches self.old ≤ touches self.new }
         ensures bound { touches self.new ≤ touches self.old + 96 };
+
+    /// The block with room for `n` bytes, in its place where it can have them, else under a new pointer; none
+    /// for 0 bytes, for then it is freed. Without a pointer it is `malloc`. At most 256 touches.
+    ///
+    /// # Errors
+    ///
+    /// `BadPointer` where no live block has both the pointer's place and its slot; as `malloc` without a
+    /// pointer, or where the block has to move; `OutOfMemory` where memory is refused, which it may lack.
+    fn realloc(&mut self, ptr: Option<Ptr>, n: u64) -> Result<Option<Ptr>, Refusal>
+        ensures ok { IfOk result (λ given. reallocated (λ a b. a == b) (slot_of given) (place_and_slot ptr) n (content self.old) ≡ Ok (place_and_slot given, content self.new)) }
+        ensures slot_below { IfOk result (λ given. IfSome given (λ p. p.slot < (content self.old).records)) }
+        ensures slot_new { IfOk result (λ given. IfSome given (λ p. ptr ≢ Some p → slot_times p.slot (blocks_of (content self.old).pools) ≡ 0)) }
+        ensures refused { IfErr result (λ refusal. refusal ≢ Refusal.OutOfMemory → (slot : ℕ) → reallocated (λ a b. a == b) slot (place_and_slot ptr) n (content self.old) ≡ Err refusal) }
+        ensures memory { IfErr result (λ refusal. refusal ≡ Refusal.OutOfMemory → lacks self.old) }
+        ensures unchanged { OnErr result (content self.new ≡ content self.old) }
+        ensures others_stand { OnErr result ((other : Cursor) → stands self.old other → stands self.new other) }
+        ensures others { OnErr result ((other : Cursor) → rest self.new other ≡ rest self.old other) }
+        ensures floor { touches self.old ≤ touches self.new }
+        ensures bound { touches self.new ≤ touches self.old + 256 };
+
+    /// The size of a live block, in bytes. At most four touches.
+    ///
+    /// # Errors
+    ///
+    /// `BadPointer` where no live block has both the pointer's place and its slot.
+    fn block_size(&mut self, ptr: Ptr) -> Result<u32, Refusal>
+        ensures ok { IfOk result (λ bytes. sized (λ slot. slot == ptr.slot) ptr.place (content self.old) ≡ Ok bytes) }
+        ensures refused { IfErr result (λ refusal. sized (λ slot. slot == ptr.slot) ptr.place (content self.old) ≡ Err refusal) }
+        ensures never_memory { result ≢ Err Refusal.OutOfMemory }
+        ensures others_stand { (other : Cursor) → stands self.old other → stands self.new other }
+        ensures others { (other : Cursor) → rest self.new other ≡ rest self.old other }
+        ensures unchanged { content self.new ≡ content self.old }
+        ensures floor { touches self.old ≤ touches self.new }
+        ensures bound { touches self.new ≤ touches self.old + 4 };
 
     /// Where each pool begins and how many bytes it has, in order of base. At most eight touches.
     fn pools(&mut self) -> ArrayVec<(u64, u64), MOST_POOLS>

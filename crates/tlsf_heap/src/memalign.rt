@@ -98,7 +98,7 @@ fn records_for(bytes: u32) -> u32
 }
 
 /// Whether it is an alignment: a power of two, up to the greatest.
-fn is_alignment(align: u64) -> bool
+pub(crate) fn is_alignment(align: u64) -> bool
     ensures { result ≡ is_one align }
 {
     align <= GREATEST_ALIGNMENT && align.is_power_of_two()
@@ -106,7 +106,7 @@ fn is_alignment(align: u64) -> bool
 
 /// How many bytes are asked of the lists for `bytes`, so that each block of them holds these from some
 /// multiple of the alignment on.
-fn size_asked(align: u32, bytes: u32) -> u32
+pub(crate) fn size_asked(align: u32, bytes: u32) -> u32
     requires few { bytes ≤ greatest_size }
     requires is { is_one align ≡ true }
     ensures { result ≡ asked_size align bytes }
@@ -119,7 +119,7 @@ fn size_asked(align: u32, bytes: u32) -> u32
 }
 
 /// The least multiple of the alignment at or above a place.
-fn start_of(place: u32, align: u32) -> u32
+pub(crate) fn start_of(place: u32, align: u32) -> u32
     requires some { 0 < align }
     requires fits { next_multiple_of place align < 2 ^ 32 }
     ensures { result ≡ next_multiple_of place align }

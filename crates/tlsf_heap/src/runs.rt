@@ -18,12 +18,28 @@ fn answer<H: Heaped>(heap: &mut H, request: Request) -> Answer
             Ok(()) => Answer::Done,
             Err(refusal) => Answer::Refused(refusal),
         },
+        Request::RemovePool(base) => match heap.remove_pool(base) {
+            Ok(()) => Answer::Done,
+            Err(refusal) => Answer::Refused(refusal),
+        },
         Request::Malloc(n) => match heap.malloc(n) {
+            Ok(ptr) => Answer::Given(ptr),
+            Err(refusal) => Answer::Refused(refusal),
+        },
+        Request::Memalign(align, n) => match heap.memalign(align, n) {
             Ok(ptr) => Answer::Given(ptr),
             Err(refusal) => Answer::Refused(refusal),
         },
         Request::Free(ptr) => match heap.free(ptr) {
             Ok(()) => Answer::Done,
+            Err(refusal) => Answer::Refused(refusal),
+        },
+        Request::Realloc(ptr, n) => match heap.realloc(ptr, n) {
+            Ok(ptr) => Answer::Moved(ptr),
+            Err(refusal) => Answer::Refused(refusal),
+        },
+        Request::BlockSize(ptr) => match heap.block_size(ptr) {
+            Ok(bytes) => Answer::Size(bytes),
             Err(refusal) => Answer::Refused(refusal),
         },
     }

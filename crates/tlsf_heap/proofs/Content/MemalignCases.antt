@@ -1,13 +1,36 @@
 -- What memalign gives, case by case, and why it is refused.
-use Rattle.std.proofs.Common.{◌≡◌, ◌≢◌, ℕ, ◌<◌, ◌≤◌, true, cond, not, refl, sym, ap, ◌∙◌, Option, Some, None, Ok, Err, inl, inr}
+use Rattle.std.proofs.Common.{◌≡◌, ◌≢◌, ℕ, ◌+◌, ◌-◌, ◌<◌, ◌≤◌, true, false, cond, arith, List, [], ◌∷◌, length, length-append, not, refl, sym, ap, ◌∙◌, Option, Some, None, Ok, Err, inl, inr}
 use Rattle.std.specs.Prelude.{◌==◌, ◌⊎◌, nat_lt}
 use Rattle.std.specs.Int.{next_multiple_of}
 use Rattle.std.proofs.lemmas.Bool.{ne_eqb, eq-eqb, cases_Bool, cases_eq, ltb-true, ltb-false}
 use Rattle.tlsf_class.specs.Rounding.{round}
 use Rattle.tlsf_heap.specs.declared.refusal.Refusal.TheVariants.{ZeroSize, NoFit, TableFull, BadAlign}
-use Rattle.tlsf_heap.specs.Content.{Content, blocks_of, size_at, used_records}
+use Rattle.tlsf_heap.specs.Content.{Block, Content, blocks_of, size_at, used_records}
 use Rattle.tlsf_heap.specs.Lists.{pick}
-use Rattle.tlsf_heap.specs.Memalign.{is_alignment, size_asked, aligned, if_recorded, memalign_picked, memalign_rounded, memalign}
+use Rattle.tlsf_heap.specs.Malloc.{gap}
+use Rattle.tlsf_heap.specs.Memalign.{is_alignment, size_asked, gap_records, carved, aligned, if_recorded, memalign_picked, memalign_rounded, memalign}
+use Rattle.tlsf_heap.proofs.Content.Blocks.{Found}
+use Rattle.tlsf_heap.proofs.Content.Replacing.{length-replaced}
+
+-- a gap is one block, or none
+pub length-gap : (A : Type 0) (place size : ℕ) → length (gap {A = A} place size) ≡ gap_records size
+length-gap A place size = elim (size == 0) as (λ b. length (cond {A = List (Block A)} b [] (record { place = place; size = size; owner = None } ∷ [])) ≡ cond b 0 1) [ true ↦ refl | false ↦ refl ]
+
+pub few_gap : (size : ℕ) → gap_records size ≤ 1
+few_gap size = elim (size == 0) as (λ b. cond b 0 1 ≤ 1) [ true ↦ omega arith | false ↦ omega arith ]
+
+-- how many blocks there are once the one at the place is carved
+pub used_aligned : {A : Type 0} (owner : A) (start m place size : ℕ) (content : Content A) → Found place (blocks_of content.pools)
+    → used_records (aligned owner start m place size content) ≡ used_records content + (gap_records (start - place) + gap_records ((size - (start - place)) - m))
+used_aligned {A} owner start m place size content found =
+    let live : Block A = record { place = start; size = m; owner = Some owner } in
+    omega (
+      arith,
+      length-replaced place (carved owner start m place size) content.pools found,
+      length-append (gap place (start - place)) (live ∷ gap (start + m) ((size - (start - place)) - m)),
+      length-gap A place (start - place),
+      length-gap A (start + m) ((size - (start - place)) - m),
+    )
 
 module _ {A : Type 0} (owner : A) (align n : ℕ) (content : Content A) where
   -- an alignment, and some bytes

@@ -1,21 +1,14 @@
 -- What a refusal of memalign implies of the free blocks and of the number of records.
 use Rattle.std.proofs.Common.{◌≡◌, ◌≢◌, ℕ, ◌+◌, ◌<◌, ◌≤◌, ◌-◌, ◌++◌, ◌∷◌, List, Bool, true, false, cond, length, length-append, refl, sym, ◌∙◌, arith, [], Ok, Err, Some, None, inl, inr}
-use Rattle.std.specs.Prelude.{◌==◌}
 use Rattle.std.specs.Int.{next_multiple_of}
 use Rattle.tlsf_heap.specs.declared.refusal.Refusal.TheVariants.{NoFit, TableFull, OutOfMemory}
 use Rattle.tlsf_heap.specs.Content.{Block, Content, blocks_of, size_at, used_records}
-use Rattle.tlsf_heap.specs.Malloc.{gap, cut}
 use Rattle.tlsf_heap.specs.Memalign.{size_asked, memalign}
 use Rattle.tlsf_heap.specs.Good.{IsGood}
 use Rattle.tlsf_heap.specs.Implied.{NoneFitsAligned, HasFewRecordsAndOne}
 use Rattle.tlsf_heap.proofs.Good.Calls.{picked}
 use Rattle.tlsf_heap.proofs.Good.Implied.{none_picked, few_blocks}
-use Rattle.tlsf_heap.proofs.Content.Replacing.{length-replaced}
-use Rattle.tlsf_heap.proofs.Content.MemalignCases.{IsPicked, carving_of, memalign_cases}
-use Rattle.tlsf_heap.proofs.Meaning.Gaps.{length-cut_most}
-
-length-gap : (A : Type 0) (place size : ℕ) → length (gap {A = A} place size) ≤ 1
-length-gap A place size = elim (size == 0) as (λ b. length (cond {A = List (Block A)} b [] (record { place = place; size = size; owner = None } ∷ [])) ≤ 1) [ true ↦ omega arith | false ↦ omega arith ]
+use Rattle.tlsf_heap.proofs.Content.MemalignCases.{few_gap, used_aligned, IsPicked, carving_of, memalign_cases}
 
 module _ {A : Type 0} where
   module _ (owner : A) (align n : ℕ) (content : Content A) (good : IsGood content) where
@@ -33,16 +26,13 @@ module _ {A : Type 0} where
     too_many : (p : IsPicked owner align n content) → content.records < used_records (carving_of owner align n content p) → HasFewRecordsAndOne content
     too_many p over =
         let size : ℕ = size_at p.place (blocks_of content.pools) in
-        let start : ℕ = next_multiple_of p.place align in
-        let front : List (Block A) = gap p.place (start - p.place) in
-        let live : List (Block A) = cut owner start p.asked (size - (start - p.place)) in
+        let front : ℕ = next_multiple_of p.place align - p.place in
         omega (
           arith,
           over,
-          length-replaced p.place (front ++ live) content.pools (picked (size_asked align p.asked) p.place content good p.found).found,
-          length-append front live,
-          length-gap A p.place (start - p.place),
-          length-cut_most owner start p.asked (size - (start - p.place)),
+          used_aligned owner (next_multiple_of p.place align) p.asked p.place size content (picked (size_asked align p.asked) p.place content good p.found).found,
+          few_gap front,
+          few_gap ((size - front) - p.asked),
           few_blocks content.pools 0 good.pools_good,
         )
 

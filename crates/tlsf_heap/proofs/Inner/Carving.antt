@@ -18,6 +18,7 @@ use Rattle.tlsf_heap.specs.Inner.Represents.{Represents, uses_in}
 use Rattle.tlsf_heap.specs.Inner.Following.{content_of, Stands}
 use Rattle.tlsf_heap.specs.Inner.At.{layout_at, StandsAt, at_taken, at_trimmed, at_gapped, areas_at}
 use Rattle.tlsf_heap.proofs.Counts.{count_all, count-cons, count-append, count-map}
+use Rattle.tlsf_heap.proofs.Content.MemalignCases.{used_aligned}
 use Rattle.tlsf_heap.proofs.Content.Replacing.{blocks_of-replaced, count_by-replaced}
 use Rattle.tlsf_heap.proofs.Inner.Sums.{all_records}
 use Rattle.tlsf_heap.proofs.Inner.Followed.{stood_for}
@@ -35,9 +36,6 @@ use Rattle.tlsf_heap.proofs.Inner.Plugs.{count-filled}
 use Rattle.tlsf_store.specs.declared.records.State.TheVariants.{Free}
 use Rattle.tlsf_heap.specs.Pools.{end_of_places}
 use Rattle.tlsf_heap.proofs.Inner.Steps.{size_read, whole_at}
-
-length-gap : (place size : ℕ) → length (gap {A = ℕ} place size) ≡ gap_records size
-length-gap place size = elim (size == 0) as (λ b. length (cond {A = List (Block ℕ)} b [] (record { place = place; size = size; owner = None } ∷ [])) ≡ cond b 0 1) [ true ↦ refl | false ↦ refl ]
 
 module _ (cells : Cells) (stands : Stands cells) (place slot align asked : ℕ) (by : NodeAt place slot Listed cells stands.layout) (is : is_alignment align ≡ true) (some : 0 < asked) (whole : asked % unit ≡ 0)
     (found : pick (size_asked align asked) (content_of cells).lists ≡ Some place) where
@@ -76,21 +74,7 @@ module _ (cells : Cells) (stands : Stands cells) (place slot align asked : ℕ) 
 
   -- how many blocks there are after
   used_after : (owner : ℕ) → used_records (aligned owner start asked place by.at.node.size (content_of cells)) ≡ used_records (content_of cells) + (gap_records front + gap_records left_over)
-  used_after owner =
-      let all : Block ℕ → Bool = λ b. true in
-      let others : List (Block ℕ) = carved owner start asked place by.at.node.size in
-      let live : Block ℕ = record { place = start; size = asked; owner = Some owner } in
-      omega (
-        arith,
-        count_all (blocks_of (aligned owner start asked place by.at.node.size (content_of cells)).pools),
-        ap (count_by all) (blocks_of-replaced place others (content_of cells).pools),
-        count_by-replaced place others (blocks_of (content_of cells).pools) all carves.picked.found,
-        count_all (blocks_of (content_of cells).pools),
-        count_all others,
-        length-append (gap {A = ℕ} place front) (live ∷ gap (start + asked) left_over),
-        length-gap place front,
-        length-gap (start + asked) left_over,
-      )
+  used_after owner = used_aligned owner start asked place by.at.node.size (content_of cells) carves.picked.found
 
   vacant_there : used_records (content_of cells) + vacant_count cells.records ≡ (content_of cells).records
   vacant_there =

@@ -19,12 +19,12 @@ use Rattle.tlsf_heap.proofs.Meaning.BlockSpots.{BlockSpot, pool_at, filled_pools
 use Rattle.tlsf_heap.proofs.Meaning.FreeFirst.{length-plug, past_free, free_first, listed_of, apart_parts, apart_plugged, past_apart, past_live, count_past, listed_once, next_once, few_past, free_stands, times-unlink_block, length-unlink_block, covers_plug, pools_plug, merged_of, covers_behind, without_next}
 
 module _ {A : Type 0} where
-  good_behind : (from : ℕ) (front pools : List (Pool A)) → AreGoodPools from (plug front pools) → (place : ℕ) × AreGoodPools place pools
+  pub good_behind : (from : ℕ) (front pools : List (Pool A)) → AreGoodPools from (plug front pools) → (place : ℕ) × AreGoodPools place pools
   good_behind from [] pools g = (from, g)
   good_behind from (pool ∷ front) pools g = let rest = good_behind from front (pool ∷ pools) g in (pool.base + pool.bytes, rest.1.2)
 
   -- blocks behind others cover the rest
-  within_plug : (front blocks : List (Block A)) (from to : ℕ) → Covers from to (plug front blocks) → (place : ℕ) × (from ≤ place) × Covers place to blocks
+  pub within_plug : (front blocks : List (Block A)) (from to : ℕ) → Covers from to (plug front blocks) → (place : ℕ) × (from ≤ place) × Covers place to blocks
   within_plug [] blocks from to c = (from, omega arith, c)
   within_plug (block ∷ front) blocks from to c = let rest = within_plug front (block ∷ blocks) from to c in (rest.0 + block.size, omega (arith, rest.1), rest.2.3)
 

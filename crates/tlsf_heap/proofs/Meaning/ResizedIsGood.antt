@@ -1,22 +1,24 @@
 -- A live block that gets another size in its place keeps a content good.
 use Rattle.std.proofs.Common.{◌≡◌, ℕ, ◌+◌, ◌-◌, ◌%◌, ◌<◌, ◌≤◌, Bool, true, false, ◌&&◌, List, ◌∷◌, ◌++◌, length, map, refl, ap, ◌∙◌, subst, arith, count_by, Option, Some, ◌≢◌, cond, sym, None, inl, inr, length-append, []}
 use Rattle.std.specs.Prelude.{◌==◌, ◌||◌, is_some, nat_lt, nat_le}
-use Rattle.tlsf_class.specs.Classes.{unit, classes, class}
+use Rattle.tlsf_class.specs.Classes.{unit, classes, class, greatest_size}
 use Rattle.tlsf_heap.specs.Content.{Block, Content, blocks_of, is_free, is_at, size_at, Pool}
 use Rattle.tlsf_heap.specs.Lists.{list_of}
 use Rattle.tlsf_heap.specs.Malloc.{link_gap, cut, replaced_in}
 use Rattle.tlsf_heap.specs.Free.{if_free, free_next, unlink_block, without_block, size_of, is_owned_by, is_live}
-use Rattle.tlsf_heap.specs.Realloc.{fits_in_place, resized}
+use Rattle.tlsf_heap.specs.Realloc.{size_with_next, fits_in_place, resized}
+use Rattle.tlsf_heap.specs.Pools.{end_of_places}
+use Rattle.tlsf_heap.proofs.Good.Calls.{Covers-le}
 use Rattle.tlsf_heap.specs.Good.{Covers, NoFreeNeighbours, times, is_listed, IsGood}
 use Rattle.tlsf_heap.proofs.Content.Blocks.{Ascends-pools}
 use Rattle.tlsf_heap.proofs.Content.FreeLists.{count_listed-cut, times-link_gap, length-link_gap}
 use Rattle.tlsf_heap.proofs.Counts.{one_if, count-cons, count-append, count_all, any_counts}
-use Rattle.tlsf_heap.proofs.Meaning.BlockSpots.{BlockSpot, filled_pools, count-filled_pools, at_most_one, IsAlone, block_alone, replaced_at, back_at, size_here, LocatedBlock, located_block}
+use Rattle.tlsf_heap.proofs.Meaning.BlockSpots.{BlockSpot, pool_at, filled_pools, count-filled_pools, at_most_one, IsAlone, block_alone, replaced_at, back_at, size_here, LocatedBlock, located_block}
 use Rattle.tlsf_heap.proofs.Meaning.FreeFirst.{past_free, free_first, few_past, past_apart, count_past, times-unlink_block, length-unlink_block, covers_behind, without_next, next_once}
 use Rattle.tlsf_heap.proofs.Meaning.Gaps.{covers_cut, apart_cut, length-cut_most}
 use Rattle.tlsf_heap.proofs.Meaning.Refilled.{refilled_is_good}
 use Rattle.std.proofs.lemmas.Bool.{cases_Bool, eqb-true, and_parts, or_cases, ltb-true, ltb-false, leb-true}
-use Rattle.tlsf_heap.proofs.Meaning.FreedIsGood.{owned_is_live}
+use Rattle.tlsf_heap.proofs.Meaning.FreedIsGood.{owned_is_live, good_behind, within_plug}
 use Rattle.tlsf_heap.specs.GoodSlots.{is_slot, HasGoodSlots}
 use Rattle.tlsf_heap.proofs.Good.Slots.{slot_times-append, slot_times-cut, slots_fewer}
 
@@ -169,6 +171,40 @@ module _ {A : Type 0} where
       let room = fits_room owner m at.block at.blocks content.lists (owned_is_live is_meant at.block.owner parts.1) some whole content.records at.spot g f (λ e. o (e ∙ sym size_is)) in
       resized_good owner m at.block at.blocks content.lists (owned_is_live is_meant at.block.owner parts.1) some whole content.records at.spot g room.0 room.1 in
       subst P (sym at.whole) (λ g. subst Q (eqb-true at.block.place place parts.0) (here g)) good fits other
+
+  -- the bytes of a block at its spot and the free one behind it
+  module _ (records : ℕ) (spot : BlockSpot A) (block : Block A) (blocks : List (Block A)) (lists : List (List ℕ)) (good : IsGood (record { records = records; pools = filled_pools spot (block ∷ blocks); lists = lists })) where
+    abbrev both : ℕ
+    both = block.size + size_of (free_first blocks)
+
+    both_is : size_with_next block.place (record { records = records; pools = filled_pools spot (block ∷ blocks); lists = lists }) ≡ both
+    both_is =
+        let once = at_most_one 0 (blocks_of (filled_pools spot (block ∷ blocks))) (Ascends-pools 0 (filled_pools spot (block ∷ blocks)) good.pools_good) in
+        let alone : IsAlone spot block blocks = block_alone spot block blocks once in
+        omega (arith, size_here spot block blocks alone, ap (λ o. size_of (if_free o)) (back_at spot block blocks alone))
+
+    both_there : (both % unit ≡ 0) × (both ≤ greatest_size) × (block.place + both ≤ end_of_places)
+    both_there =
+        let pool = (good_behind 0 spot.pools_before (pool_at spot (block ∷ blocks) ∷ spot.pools_behind) good.pools_good).1.1 in
+        let end : ℕ = spot.base + spot.bytes in
+        let at = within_plug spot.before (block ∷ blocks) spot.base end pool.covered in
+        let all = covers_behind block blocks at.0 end at.2 in
+        let most = Covers-le (at.0 + both) end (past_free blocks) all.3 in
+        (all.2, omega (arith, at.1, most, pool.most_bytes), omega (arith, all.0, most, pool.ends))
+
+  pub size_with_next_whole : (is_meant : A → Bool) (place : ℕ) (content : Content A) → IsGood content → is_live is_meant place (blocks_of content.pools) ≡ true
+      → (size_with_next place content % unit ≡ 0) × (size_with_next place content ≤ greatest_size) × (place + size_with_next place content ≤ end_of_places)
+  size_with_next_whole is_meant place content good live =
+      let test : Block A → Bool = λ block. is_at place block && is_owned_by is_meant block.owner in
+      let at : LocatedBlock test content.pools = located_block test content.pools (any_counts test (blocks_of content.pools) live) in
+      let of : List (Pool A) → Content A = λ pools. record content { pools = pools } in
+      let all : List (Pool A) = filled_pools at.spot (at.block ∷ at.blocks) in
+      let Whole : ℕ → Content A → Type 0 = λ p x. (size_with_next p x % unit ≡ 0) × (size_with_next p x ≤ greatest_size) × (p + size_with_next p x ≤ end_of_places) in
+      let P : List (Pool A) → Type 0 = λ pools. IsGood (of pools) → Whole place (of pools) in
+      let Q : ℕ → Type 0 = λ p. Whole p (of all) in
+      let R : ℕ → Type 0 = λ n. (n % unit ≡ 0) × (n ≤ greatest_size) × (at.block.place + n ≤ end_of_places) in
+      let here : IsGood (of all) → Q at.block.place = λ g. subst R (sym (both_is content.records at.spot at.block at.blocks content.lists g)) (both_there content.records at.spot at.block at.blocks content.lists g) in
+      subst P (sym at.whole) (λ g. subst Q (eqb-true at.block.place place (and_parts _ _ at.passes).0) (here g)) good
 
 -- a live block keeps its slot in place
 pub resized_slots : (known place m : ℕ) (content : Content ℕ) → IsGood content → is_live (λ owner. owner == known) place (blocks_of content.pools) ≡ true → 0 < m → m % unit ≡ 0 → HasGoodSlots content → HasGoodSlots (resized known place m content)

@@ -2,8 +2,6 @@
 use Rattle.std.proofs.Common.{◌≡◌, ℕ, ◌+◌, ◌-◌, ◌%◌, ◌<◌, ◌≤◌, true, false, cond, [], ◌∷◌, map, refl, sym, ap, ◌∙◌, subst, arith, Option, Some, None, count_by}
 use Rattle.std.specs.Prelude.{◌==◌}
 use Rattle.tlsf_class.specs.Classes.{unit}
-use Rattle.tlsf_class.specs.Rounding.{round}
-use Rattle.tlsf_class.proofs.RoundingLaws.{round-Some}
 use Rattle.tlsf_heap.specs.Content.{Block, Content, blocks_of, is_free, size_at, used_records}
 use Rattle.tlsf_heap.specs.Lists.{link, unlink, pick}
 use Rattle.tlsf_heap.specs.Malloc.{replaced_in, cut, allocated}
@@ -26,16 +24,14 @@ pub record IsCut (place asked size : ℕ) (content : Plain) : Type 0 where
   pub ends : place + size ≤ end_of_places
   pub some_free : 1 ≤ count_by is_free (blocks_of content.pools)
 
-pub is_cut : (n : ℕ) {asked place size : ℕ} {content : Plain} {round_gave pick_gave : Option ℕ} → IsPlain content → round_gave ≡ round n → round_gave ≡ Some asked → pick_gave ≡ pick asked content.lists → pick_gave ≡ Some place
-    → size ≡ size_at place (blocks_of content.pools) → IsCut place asked size content
-is_cut n {asked} {place} {size} {content} plain rounds rounded picks gave same =
-    let is = sym picks ∙ gave in
-    let of = picked asked place content plain.good is in
+pub is_cut : {asked place size : ℕ} {content : Plain} {pick_gave : Option ℕ} → IsPlain content → asked % unit ≡ 0 → 0 < asked → pick_gave ≡ pick asked content.lists → pick_gave ≡ Some place → size ≡ size_at place (blocks_of content.pools)
+    → IsCut place asked size content
+is_cut {asked} {place} {size} {content} plain in_units positive picks gave same =
+    let of = picked asked place content plain.good (sym picks ∙ gave) in
     let whole = of.whole in
     let all : of.found.block.size ≡ size = of.size_is ∙ sym same in
-    let r = round-Some n asked (sym rounds ∙ rounded) in
     record {
-      asked_size = record { positive = omega (arith, r.some, r.least); in_units = r.whole; at_most = omega (arith, of.holds, of.size_is, whole.at_most) };
+      asked_size = record { positive = positive; in_units = in_units; at_most = omega (arith, of.holds, of.size_is, whole.at_most) };
       whole_size = record { positive = omega (arith, whole.positive, all); in_units = ap (λ k. k % unit) (sym all) ∙ whole.in_units; at_most = omega (arith, whole.at_most, all) };
       within = omega (arith, of.holds, same);
       ends = omega (arith, whole.ends, all, of.found.here);
@@ -51,13 +47,12 @@ rest_size place asked size content is some = record {
 }
 
 -- the plain heap keeps what it keeps where the block picked is cut
-pub allocated_is_plain : (slot n place asked size : ℕ) (content : Plain) → IsPlain content → round n ≡ Some asked → pick asked content.lists ≡ Some place → size ≡ size_at place (blocks_of content.pools)
+pub allocated_is_plain : (slot place asked size : ℕ) (content : Plain) → IsPlain content → asked % unit ≡ 0 → 0 < asked → pick asked content.lists ≡ Some place → size ≡ size_at place (blocks_of content.pools)
     → (asked < size → used_records content < content.records) → slot < content.records → slot_times slot (blocks_of content.pools) ≡ 0 → IsPlain (allocated slot place asked size content)
-allocated_is_plain slot n place asked size content plain rounded is same room below new =
-    let r = round-Some n asked rounded in
+allocated_is_plain slot place asked size content plain in_units positive is same room below new =
     let P : ℕ → Type 0 = λ s. IsPlain (allocated slot place asked s content) in
     subst P (sym same) (record {
-      good = allocated_is_good slot asked place content plain.good is (omega (arith, r.some, r.least)) r.whole (λ larger. room (omega (arith, larger, same)));
+      good = allocated_is_good slot asked place content plain.good is positive in_units (λ larger. room (omega (arith, larger, same)));
       slots = allocated_slots slot asked place content plain.good is plain.slots below new;
       records_few = plain.records_few;
     })

@@ -26,14 +26,14 @@ impl Model for Content {
 }
 
 impl Content {
-    ghost use Rattle.std.specs.Prelude.{◌≡◌, ◌<◌, ◌≤◌, ◌+◌, ◌^◌, ◌%◌, ◌==◌, length, map, find, count_by, nat_le, nat_lt, position, IfOk, IfSome, OnOk};
+    ghost use Rattle.std.specs.Prelude.{◌≡◌, ◌<◌, ◌≤◌, ◌+◌, ◌^◌, ◌%◌, ◌==◌, not, length, map, filter, find, count_by, option_map, nat_le, nat_lt, position, IfOk, IfSome, OnOk};
     ghost use Rattle.std.specs.List.{list_any, list_all};
     ghost use Rattle.tlsf_class.specs.Classes.{unit};
     ghost use Rattle.tlsf_heap.specs.Content.{blocks_of, is_free, is_at, size_at, used_records};
     ghost use Rattle.tlsf_heap.specs.Lists.{link, unlink, pick};
     ghost use Rattle.tlsf_heap.specs.Malloc.{replaced_in};
     ghost use Rattle.tlsf_heap.specs.Free.{is_live, free_previous, free_next, unlink_block, without_block};
-    ghost use Rattle.tlsf_heap.specs.Pools.{created, with_pool, is_apart, end_of_places};
+    ghost use Rattle.tlsf_heap.specs.Pools.{created, with_pool, is_apart, end_of_places, is_based, is_unused};
     ghost use Rattle.tlsf_heap.specs.GoodSlots.{is_slot, slot_times};
     ghost use Rattle.tlsf_heap.specs.PlainHeap.{IsSize, link_block, blocks_among, blocks_from, first_of};
 
@@ -63,16 +63,32 @@ impl Content {
         })
     }
 
-    /// Whether each record is in use.
-    pub fn is_full(&self) -> bool
+    /// How many records are in use: one a block.
+    fn used_records(&self) -> usize
         requires { used_records self.now < 2 ^ 64 }
-        ensures { result ≡ nat_le self.now.records (used_records self.now) }
+        ensures { result ≡ used_records self.now }
     {
         let mut count = 0;
         for pool in &self.pools {
             count += pool.blocks.len();
         }
-        count >= usize::from(self.records)
+        count
+    }
+
+    /// Whether each record is in use.
+    pub fn is_full(&self) -> bool
+        requires { used_records self.now < 2 ^ 64 }
+        ensures { result ≡ nat_le self.now.records (used_records self.now) }
+    {
+        self.used_records() >= usize::from(self.records)
+    }
+
+    /// Whether there are more blocks than records.
+    pub fn has_too_many(&self) -> bool
+        requires { used_records self.now < 2 ^ 64 }
+        ensures { result ≡ nat_lt self.now.records (used_records self.now) }
+    {
+        self.used_records() > usize::from(self.records)
     }
 
     /// The first block that begins at the place.
@@ -236,6 +252,34 @@ impl Content {
         let place = self.first_behind(base).unwrap_or(self.pools.len());
         self.pools.insert(place, pool)?;
         self.link(base, bytes)
+    }
+
+    /// The bytes of the first pool that begins at `base`, and whether it is one free block.
+    pub fn pool_at(&self, base: u64) -> Option<(u32, bool)>
+        ensures { result ≡ option_map (λ pool. (pool.bytes, is_unused pool)) (find (is_based base) self.now.pools) }
+    {
+        for pool in &self.pools {
+            if pool.is_based(base) {
+                return Some((pool.bytes, pool.is_unused()));
+            }
+        }
+        None
+    }
+
+    /// The pools that begin at the place `base` are gone, and the block of `bytes` bytes there from its list.
+    pub fn remove_pool(&mut self, base: u32, bytes: u32) -> Result<(), AllocError>
+        requires { IsSize bytes }
+        ensures { OnOk result (self.new ≡ record self.old { pools = filter (λ pool. not (is_based base pool)) self.old.pools; lists = unlink base bytes self.old.lists }) }
+    {
+        self.unlink(base, bytes);
+        let mut pools = Vec::new(*self.pools.allocator());
+        for pool in &self.pools {
+            if !pool.is_based(u64::from(base)) {
+                pools.push(pool.clone()?)?;
+            }
+        }
+        self.pools = pools;
+        Ok(())
     }
 
     /// The blocks of a pool from one on, which has so many in front of it, in all pools.

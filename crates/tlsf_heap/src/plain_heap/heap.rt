@@ -1,5 +1,9 @@
-use super::block::Block;
 use super::content::Content;
+use super::free::freed;
+use super::malloc::allocate;
+use super::memalign::carve;
+use super::realloc::resize;
+use crate::memalign::is_alignment;
 use crate::pools::can_be_pool;
 use crate::{Cursor, Heaped, Ptr, Refusal, Row};
 use arrayvec::ArrayVec;
@@ -27,6 +31,43 @@ impl Model for PlainHeap {
     ghost view = { λ h. h.content };
 
     ghost invariant = { λ h. IsPlain h.content };
+}
+
+impl PlainHeap {
+    ghost use Rattle.std.specs.Prelude.{◌≡◌, ◌≢◌, ℕ, ◌<◌, ◌==◌, Some, Ok, Err, IfOk, IfErr, IfSome, OnErr};
+    ghost use Rattle.tlsf_heap.specs.Content.{blocks_of};
+    ghost use Rattle.tlsf_heap.specs.GoodSlots.{slot_times};
+    ghost use Rattle.tlsf_heap.specs.Pointer.{place_and_slot, slot_of};
+    ghost use Rattle.tlsf_heap.specs.Realloc.{realloc as reallocated};
+
+    /// The block with another size; none where no byte is asked for, for then it is freed.
+    ///
+    /// # Errors
+    ///
+    /// As `Heaped::realloc`.
+    fn reallocate(&mut self, ptr: Ptr, n: u64) -> Result<Option<Ptr>, Refusal>
+        ensures ok { IfOk result (λ given. reallocated (λ a b. a == b) (slot_of given) (Some (ptr.place, ptr.slot)) n self.old ≡ Ok (place_and_slot given, self.new)) }
+        ensures slot_below { IfOk result (λ given. IfSome given (λ p. p.slot < self.old.records)) }
+        ensures slot_new { IfOk result (λ given. IfSome given (λ p. ptr ≢ p → slot_times p.slot (blocks_of self.old.pools) ≡ 0)) }
+        ensures refused { IfErr result (λ refusal. refusal ≢ Refusal.OutOfMemory → (slot : ℕ) → reallocated (λ a b. a == b) slot (Some (ptr.place, ptr.slot)) n self.old ≡ Err refusal) }
+        ensures unchanged { OnErr result (self.new ≡ self.old) }
+    {
+        if !self.content.is_live(ptr.place(), ptr.slot()) {
+            return Err(Refusal::BadPointer);
+        }
+        if n == 0 {
+            self.content = freed(&self.content, ptr)?;
+            return Ok(None);
+        }
+        let asked = round(n).ok_or(Refusal::NoFit)?;
+        match resize(&self.content, ptr, asked) {
+            Ok((next, new)) => {
+                self.content = next;
+                Ok(Some(new))
+            }
+            Err(refusal) => Err(refusal),
+        }
+    }
 }
 
 /// It has no table to touch. Each call that changes it may lack memory.
@@ -71,51 +112,65 @@ impl Heaped for PlainHeap {
         Ok(())
     }
 
+    fn remove_pool(&mut self, base: u64) -> Result<(), Refusal> {
+        let Some((bytes, is_unused)) = self.content.pool_at(base) else {
+            return Err(Refusal::NoPool);
+        };
+        if !is_unused {
+            return Err(Refusal::PoolInUse);
+        }
+        let mut next = self.content.copy()?;
+        next.remove_pool(base as u32, bytes)?;
+        self.content = next;
+        Ok(())
+    }
+
     fn malloc(&mut self, n: u64) -> Result<Ptr, Refusal> {
         if n == 0 {
             return Err(Refusal::ZeroSize);
         }
         let asked = round(n).ok_or(Refusal::NoFit)?;
-        let place = self.content.pick(asked).ok_or(Refusal::NoFit)?;
-        let size = self.content.size_at(place);
-        if asked < size && self.content.is_full() {
-            return Err(Refusal::TableFull);
-        }
-        let slot = self.content.least_slot();
-        let live = Block {
-            place,
-            size: asked,
-            owner: Some(slot),
-        };
-        let rest = Block::gap(u64::from(place) + u64::from(asked), size - asked);
-        let mut next = self.content.copy()?;
-        next.unlink(place, size);
-        next.link_gap(&rest)?;
-        next.replace(place, &[Some(live), rest])?;
+        let (next, ptr) = allocate(&self.content, asked)?;
         self.content = next;
-        Ok(Ptr::new(place, slot))
+        Ok(ptr)
+    }
+
+    fn memalign(&mut self, align: u64, n: u64) -> Result<Ptr, Refusal> {
+        if !is_alignment(align) {
+            return Err(Refusal::BadAlign);
+        }
+        if n == 0 {
+            return Err(Refusal::ZeroSize);
+        }
+        let asked = round(n).ok_or(Refusal::NoFit)?;
+        let (next, ptr) = carve(&self.content, align as u32, asked)?;
+        self.content = next;
+        Ok(ptr)
     }
 
     fn free(&mut self, ptr: Ptr) -> Result<(), Refusal> {
-        let place = ptr.place();
-        if !self.content.is_live(place, ptr.slot()) {
+        if !self.content.is_live(ptr.place(), ptr.slot()) {
             return Err(Refusal::BadPointer);
         }
-        let previous = self.content.free_previous(place);
-        let next = self.content.free_next(place);
-        let start = Block::start_of(&previous, place);
-        let size = self.content.size_at(place);
-        let merged = Block::free(
-            start,
-            Block::size_of(&previous) + size + Block::size_of(&next),
-        );
-        let mut after = self.content.copy()?;
-        after.remove(previous)?;
-        after.remove(next)?;
-        after.replace(place, &[Some(merged)])?;
-        after.link(merged.place, merged.size)?;
-        self.content = after;
+        self.content = freed(&self.content, ptr)?;
         Ok(())
+    }
+
+    fn realloc(&mut self, ptr: Option<Ptr>, n: u64) -> Result<Option<Ptr>, Refusal> {
+        match ptr {
+            Some(ptr) => self.reallocate(ptr, n),
+            None => match self.malloc(n) {
+                Ok(new) => Ok(Some(new)),
+                Err(refusal) => Err(refusal),
+            },
+        }
+    }
+
+    fn block_size(&mut self, ptr: Ptr) -> Result<u32, Refusal> {
+        if !self.content.is_live(ptr.place(), ptr.slot()) {
+            return Err(Refusal::BadPointer);
+        }
+        Ok(self.content.size_at(ptr.place()))
     }
 
     fn pools(&mut self) -> ArrayVec<(u64, u64), MOST_POOLS> {

@@ -36,10 +36,12 @@ impl Clone for Pool {
 
 impl Pool {
     ghost use Rattle.std.specs.Prelude.{◌≡◌, IfOk};
-    ghost use Rattle.std.specs.List.{list_any};
+    ghost use Rattle.std.specs.List.{list_any, list_all};
+    ghost use Rattle.tlsf_heap.specs.Content.{is_free};
     ghost use Rattle.tlsf_heap.specs.GoodSlots.{is_slot};
     ghost use Rattle.tlsf_heap.specs.Free.{previous_of, next_of};
     ghost use Rattle.tlsf_heap.specs.Malloc.{gap, replaced_in};
+    ghost use Rattle.tlsf_heap.specs.Pools.{is_based, is_unused};
     ghost use Rattle.tlsf_heap.specs.PlainHeap.{IsSize};
 
     /// A pool that is one free block.
@@ -54,6 +56,27 @@ impl Pool {
             bytes,
             blocks,
         })
+    }
+
+    /// Whether it begins at the place.
+    pub fn is_based(&self, base: u64) -> bool
+        ensures { result ≡ is_based base self.now }
+    {
+        u64::from(self.base) == base
+    }
+
+    /// Whether each of its blocks is free.
+    fn is_free(&self) -> bool
+        ensures { result ≡ list_all is_free self.now.blocks }
+    {
+        self.blocks.iter().all(|block| block.owner.is_none())
+    }
+
+    /// Whether it is one free block.
+    pub fn is_unused(&self) -> bool
+        ensures { result ≡ is_unused self.now }
+    {
+        self.blocks.len() == 1 && self.is_free()
     }
 
     /// Whether a live block of it has the slot.

@@ -1,7 +1,7 @@
 use Rattle.std.proofs.Common.{arith, ap, length}
 use Rattle.tlsf_heap.specs.Content.{blocks_of}
 use Rattle.tlsf_heap.proofs.Plain.Pools.{blocks_so_far}
-use Rattle.tlsf_heap.proofs.plain_heap.content.Content.is_full.Goals as goal
+use Rattle.tlsf_heap.proofs.plain_heap.content.Content.used_records.Goals as goal
 
 pub overflow_add-count : goal.overflow_add-count
 overflow_add-count c =

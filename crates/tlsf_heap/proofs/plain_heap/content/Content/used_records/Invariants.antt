@@ -1,6 +1,6 @@
 use Rattle.std.proofs.Common.{◌≡◌, take, length}
 use Rattle.tlsf_heap.specs.Content.{blocks_of}
-use Rattle.tlsf_heap.proofs.plain_heap.content.Content.is_full.Given as goal
+use Rattle.tlsf_heap.proofs.plain_heap.content.Content.used_records.Given as goal
 
 -- the blocks of the pools so far are counted
 abbrev pub invariant-loop-pool : goal.invariant-loop-pool

@@ -1,0 +1,47 @@
+//! malloc on plain lists.
+
+ghost use Rattle.std.specs.Prelude.{◌≡◌, ◌≢◌, ℕ, ◌%◌, ◌<◌, Some, Ok, Err, IfOk, IfErr};
+ghost use Rattle.tlsf_class.specs.Classes.{unit};
+ghost use Rattle.tlsf_heap.specs.Content.{blocks_of};
+ghost use Rattle.tlsf_heap.specs.Malloc.{malloc_rounded};
+ghost use Rattle.tlsf_heap.specs.GoodSlots.{slot_times};
+ghost use Rattle.tlsf_heap.specs.PlainHeap.{IsPlain};
+
+use super::block::Block;
+use super::content::Content;
+use crate::{Ptr, Refusal};
+
+/// The content in which the block picked is cut to a live one of `asked` bytes, and its pointer.
+///
+/// # Errors
+///
+/// `NoFit` where none is picked; `TableFull` where a rest would be left and each record is in use;
+/// `OutOfMemory` where memory is refused.
+pub fn allocate(content: &Content, asked: u32) -> Result<(Content, Ptr), Refusal>
+    requires plain { IsPlain content.now }
+    requires whole { asked % unit ≡ 0 }
+    requires some { 0 < asked }
+    ensures plain { IfOk result (λ given. IsPlain given.0) }
+    ensures ok { IfOk result (λ given. malloc_rounded given.1.slot (Some asked) content.now ≡ Ok (given.1.place, given.0)) }
+    ensures slot_below { IfOk result (λ given. given.1.slot < content.now.records) }
+    ensures slot_new { IfOk result (λ given. slot_times given.1.slot (blocks_of content.now.pools) ≡ 0) }
+    ensures refused { IfErr result (λ refusal. refusal ≢ Refusal.OutOfMemory → (slot : ℕ) → malloc_rounded slot (Some asked) content.now ≡ Err refusal) }
+{
+    let place = content.pick(asked).ok_or(Refusal::NoFit)?;
+    let size = content.size_at(place);
+    if asked < size && content.is_full() {
+        return Err(Refusal::TableFull);
+    }
+    let slot = content.least_slot();
+    let live = Block {
+        place,
+        size: asked,
+        owner: Some(slot),
+    };
+    let rest = Block::gap(u64::from(place) + u64::from(asked), size - asked);
+    let mut next = content.copy()?;
+    next.unlink(place, size);
+    next.link_gap(&rest)?;
+    next.replace(place, &[Some(live), rest])?;
+    Ok((next, Ptr::new(place, slot)))
+}

@@ -1,0 +1,57 @@
+//! memalign on plain lists.
+
+ghost use Rattle.std.specs.Prelude.{◌≡◌, ◌≢◌, ℕ, true, ◌%◌, ◌<◌, ◌≤◌, Some, Ok, Err, IfOk, IfErr};
+ghost use Rattle.tlsf_class.specs.Classes.{unit, greatest_size};
+ghost use Rattle.tlsf_heap.specs.Content.{blocks_of};
+ghost use Rattle.tlsf_heap.specs.Memalign.{is_alignment as is_one, memalign_rounded};
+ghost use Rattle.tlsf_heap.specs.GoodSlots.{slot_times};
+ghost use Rattle.tlsf_heap.specs.PlainHeap.{IsPlain};
+
+use super::block::Block;
+use super::content::Content;
+use crate::memalign::{size_asked, start_of};
+use crate::{Ptr, Refusal};
+
+/// The content in which the block picked is carved, and the pointer of the live block of `asked` bytes that
+/// begins at a multiple of the alignment.
+///
+/// # Errors
+///
+/// `NoFit` where none is picked; `TableFull` where it would have more blocks than records; `OutOfMemory` where
+/// memory is refused.
+pub fn carve(content: &Content, align: u32, asked: u32) -> Result<(Content, Ptr), Refusal>
+    requires plain { IsPlain content.now }
+    requires is { is_one align ≡ true }
+    requires whole { asked % unit ≡ 0 }
+    requires some { 0 < asked }
+    requires most { asked ≤ greatest_size }
+    ensures plain { IfOk result (λ given. IsPlain given.0) }
+    ensures ok { IfOk result (λ given. memalign_rounded given.1.slot align (Some asked) content.now ≡ Ok (given.1.place, given.0)) }
+    ensures slot_below { IfOk result (λ given. given.1.slot < content.now.records) }
+    ensures slot_new { IfOk result (λ given. slot_times given.1.slot (blocks_of content.now.pools) ≡ 0) }
+    ensures refused { IfErr result (λ refusal. refusal ≢ Refusal.OutOfMemory → (slot : ℕ) → memalign_rounded slot align (Some asked) content.now ≡ Err refusal) }
+{
+    let place = content
+        .pick(size_asked(align, asked))
+        .ok_or(Refusal::NoFit)?;
+    let size = content.size_at(place);
+    let start = start_of(place, align);
+    let front = start - place;
+    let slot = content.least_slot();
+    let live = Block {
+        place: start,
+        size: asked,
+        owner: Some(slot),
+    };
+    let gap = Block::gap(u64::from(place), front);
+    let rest = Block::gap(u64::from(start) + u64::from(asked), size - front - asked);
+    let mut next = content.copy()?;
+    next.unlink(place, size);
+    next.link_gap(&gap)?;
+    next.link_gap(&rest)?;
+    next.replace(place, &[gap, Some(live), rest])?;
+    if next.has_too_many() {
+        return Err(Refusal::TableFull);
+    }
+    Ok((next, Ptr::new(start, slot)))
+}
