@@ -1,7 +1,6 @@
 //! Rows of the heap.
 
 mod random;
-mod resizing;
 mod rows;
 
 use super::*;

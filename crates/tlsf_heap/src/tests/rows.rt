@@ -8,30 +8,62 @@ use std::alloc::Global;
 enum Ask {
     /// A pool from a place on, of so many bytes.
     Pool(u64, u64),
+    /// That the pool from a place on is gone.
+    RemovePool(u64),
     /// A block of so many bytes.
     Malloc(u64),
+    /// A block at a multiple of an alignment, of so many bytes.
+    Memalign(u64, u64),
     /// The block that was given last at this place becomes free, live or not.
     Free(u32),
     /// A pointer that was never given becomes free.
     FreeOf(Ptr),
+    /// The block that was given last at this place gets so many bytes.
+    Realloc(u32, u64),
+    /// A new block of so many bytes, by realloc.
+    ReallocNone(u64),
+    /// The size of the block that was given last at this place.
+    Size(u32),
 }
 
 /// What an answer shows but for the slot, which a heap chooses.
 #[derive(Clone, Copy, PartialEq, Eq)]
 enum Seen {
     Done,
+    /// A new pointer, of a block at this place.
     At(u32),
+    /// The pointer that was asked with.
+    Kept,
+    /// No pointer: the block is freed.
+    Gone,
+    Bytes(u32),
     Refused(Refusal),
     Other,
 }
 
 impl Seen {
-    fn of(answer: Option<&Answer>) -> Seen {
+    fn of(request: Request, answer: Option<&Answer>) -> Seen {
         match answer {
             Some(Answer::Done) => Seen::Done,
             Some(Answer::Given(ptr)) => Seen::At(ptr.place()),
+            Some(Answer::Moved(Some(ptr))) => Seen::moved(request, *ptr),
+            Some(Answer::Moved(None)) => Seen::Gone,
+            Some(Answer::Size(bytes)) => Seen::Bytes(*bytes),
             Some(Answer::Refused(refusal)) => Seen::Refused(*refusal),
-            _ => Seen::Other,
+            None => Seen::Other,
+        }
+    }
+
+    fn moved(request: Request, ptr: Ptr) -> Seen {
+        match request {
+            Request::Realloc(Some(old), _) => {
+                if old == ptr {
+                    Seen::Kept
+                } else {
+                    Seen::At(ptr.place())
+                }
+            }
+            _ => Seen::At(ptr.place()),
         }
     }
 }
@@ -63,9 +95,14 @@ fn given_at(given: &Vec<Ptr>, place: u32) -> Ptr {
 fn request(ask: Ask, given: &Vec<Ptr>) -> Request {
     match ask {
         Ask::Pool(base, bytes) => Request::AddPool(base, bytes),
+        Ask::RemovePool(base) => Request::RemovePool(base),
         Ask::Malloc(n) => Request::Malloc(n),
+        Ask::Memalign(align, n) => Request::Memalign(align, n),
         Ask::Free(place) => Request::Free(given_at(given, place)),
         Ask::FreeOf(ptr) => Request::Free(ptr),
+        Ask::Realloc(place, n) => Request::Realloc(Some(given_at(given, place)), n),
+        Ask::ReallocNone(n) => Request::Realloc(None, n),
+        Ask::Size(place) => Request::BlockSize(given_at(given, place)),
     }
 }
 
@@ -99,13 +136,23 @@ fn answered<H: Heaped>(
     given: &mut Vec<Ptr>,
     ask: Ask,
 ) -> Result<Seen, StoreError> {
-    let answers = run(alloc, heap, &[request(ask, given)])?;
-    if let Some(Answer::Given(ptr)) = answers.first() {
-        if given.push(*ptr).is_err() {
+    let asked = request(ask, given);
+    let answers = run(alloc, heap, &[asked])?;
+    if let Some(ptr) = pointer_in(answers.first()) {
+        if given.push(ptr).is_err() {
             return Err(StoreError::OutOfMemory);
         }
     }
-    Ok(Seen::of(answers.first()))
+    Ok(Seen::of(asked, answers.first()))
+}
+
+/// The pointer that an answer gives.
+fn pointer_in(answer: Option<&Answer>) -> Option<Ptr> {
+    match answer {
+        Some(Answer::Given(ptr)) => Some(*ptr),
+        Some(Answer::Moved(ptr)) => *ptr,
+        _ => None,
+    }
 }
 
 /// Whether a heap answers as the case says, and has its rows then.
@@ -258,11 +305,180 @@ fn full_table(rt: HostRuntime) {
             (Ask::Pool(0, 64), Seen::Done),
             (Ask::Malloc(8), Seen::Refused(Refusal::TableFull)),
             (Ask::Malloc(64), Seen::At(0)),
+            (Ask::Realloc(0, 8), Seen::Kept),
+            (Ask::Size(0), Seen::Bytes(64)),
         ],
         pools: &[(0, &[(0, 64, true)])],
     };
     assert!(rt; both_hold(rt.alloc(), &full));
     assert!(rt; both_hold(rt.alloc(), &whole));
+}
+
+#[test]
+fn pool_limits(rt: HostRuntime) {
+    let pool_limits = Case {
+        records: 4,
+        steps: &[
+            (Ask::Pool(4_294_967_232, 64), Seen::Done),
+            (
+                Ask::Pool(4_294_967_240, 64),
+                Seen::Refused(Refusal::BadPool),
+            ),
+            (Ask::Pool(4, 64), Seen::Refused(Refusal::BadPool)),
+            (Ask::Pool(0, 0), Seen::Refused(Refusal::BadPool)),
+            (
+                Ask::Pool(4_294_967_168, 72),
+                Seen::Refused(Refusal::BadPool),
+            ),
+            (Ask::RemovePool(8), Seen::Refused(Refusal::NoPool)),
+            (Ask::Malloc(8), Seen::At(4_294_967_232)),
+            (
+                Ask::RemovePool(4_294_967_232),
+                Seen::Refused(Refusal::PoolInUse),
+            ),
+            (Ask::Free(4_294_967_232), Seen::Done),
+            (Ask::RemovePool(4_294_967_232), Seen::Done),
+            (Ask::Malloc(8), Seen::Refused(Refusal::NoFit)),
+        ],
+        pools: &[],
+    };
+    assert!(rt; both_hold(rt.alloc(), &pool_limits));
+}
+
+#[test]
+fn memalign_rows(rt: HostRuntime) {
+    let gap_and_rest = Case {
+        records: 4,
+        steps: &[
+            (Ask::Pool(8, 256), Seen::Done),
+            (Ask::Memalign(64, 32), Seen::At(64)),
+            (Ask::Memalign(3, 0), Seen::Refused(Refusal::BadAlign)),
+            (
+                Ask::Memalign(1_073_741_824, 8),
+                Seen::Refused(Refusal::BadAlign),
+            ),
+            (Ask::Memalign(8, 0), Seen::Refused(Refusal::ZeroSize)),
+        ],
+        pools: &[(8, &[(8, 56, false), (64, 32, true), (96, 168, false)])],
+    };
+    let needs_records = Case {
+        records: 2,
+        steps: &[
+            (Ask::Pool(8, 256), Seen::Done),
+            (Ask::Memalign(64, 32), Seen::Refused(Refusal::TableFull)),
+            (Ask::Memalign(64, 200), Seen::At(64)),
+        ],
+        pools: &[(8, &[(8, 56, false), (64, 200, true)])],
+    };
+    assert!(rt; both_hold(rt.alloc(), &gap_and_rest));
+    assert!(rt; both_hold(rt.alloc(), &needs_records));
+}
+
+#[test]
+fn realloc_in_place(rt: HostRuntime) {
+    let grow = Case {
+        records: 4,
+        steps: &[
+            (Ask::Pool(0, 1024), Seen::Done),
+            (Ask::Malloc(100), Seen::At(0)),
+            (Ask::Realloc(0, 200), Seen::Kept),
+        ],
+        pools: &[(0, &[(0, 200, true), (200, 824, false)])],
+    };
+    let and_shrink = Case {
+        records: 4,
+        steps: &[
+            (Ask::Pool(0, 1024), Seen::Done),
+            (Ask::Malloc(100), Seen::At(0)),
+            (Ask::Realloc(0, 200), Seen::Kept),
+            (Ask::Realloc(0, 8), Seen::Kept),
+            (Ask::Realloc(0, 1), Seen::Kept),
+            (Ask::Size(0), Seen::Bytes(8)),
+        ],
+        pools: &[(0, &[(0, 8, true), (8, 1016, false)])],
+    };
+    let grows_over_freed = Case {
+        records: 3,
+        steps: &[
+            (Ask::Pool(0, 64), Seen::Done),
+            (Ask::Malloc(8), Seen::At(0)),
+            (Ask::Malloc(8), Seen::At(8)),
+            (Ask::Free(8), Seen::Done),
+            (Ask::Realloc(0, 64), Seen::Kept),
+        ],
+        pools: &[(0, &[(0, 64, true)])],
+    };
+    // Before a live block, and then with no record left.
+    let shrinks = Case {
+        records: 3,
+        steps: &[
+            (Ask::Pool(0, 64), Seen::Done),
+            (Ask::Malloc(24), Seen::At(0)),
+            (Ask::Malloc(40), Seen::At(24)),
+            (Ask::Realloc(0, 8), Seen::Kept),
+            (Ask::Realloc(24, 8), Seen::Kept),
+            (Ask::Size(24), Seen::Bytes(40)),
+        ],
+        pools: &[(0, &[(0, 8, true), (8, 16, false), (24, 40, true)])],
+    };
+    assert!(rt; both_hold(rt.alloc(), &grow));
+    assert!(rt; both_hold(rt.alloc(), &and_shrink));
+    assert!(rt; both_hold(rt.alloc(), &grows_over_freed));
+    assert!(rt; both_hold(rt.alloc(), &shrinks));
+}
+
+#[test]
+fn realloc_elsewhere(rt: HostRuntime) {
+    let moves = Case {
+        records: 4,
+        steps: &[
+            (Ask::Pool(0, 1024), Seen::Done),
+            (Ask::Malloc(100), Seen::At(0)),
+            (Ask::Malloc(1), Seen::At(104)),
+            (Ask::Realloc(0, 200), Seen::At(112)),
+            (Ask::Size(0), Seen::Refused(Refusal::BadPointer)),
+            (Ask::Realloc(0, 8), Seen::Refused(Refusal::BadPointer)),
+        ],
+        pools: &[(
+            0,
+            &[
+                (0, 104, false),
+                (104, 8, true),
+                (112, 200, true),
+                (312, 712, false),
+            ],
+        )],
+    };
+    let to_zero = Case {
+        records: 4,
+        steps: &[
+            (Ask::Pool(0, 1024), Seen::Done),
+            (Ask::ReallocNone(0), Seen::Refused(Refusal::ZeroSize)),
+            (Ask::ReallocNone(100), Seen::At(0)),
+            (Ask::Realloc(0, 0), Seen::Gone),
+            (Ask::Realloc(0, 0), Seen::Refused(Refusal::BadPointer)),
+        ],
+        pools: &[(0, &[(0, 1024, false)])],
+    };
+    let refused = Case {
+        records: 4,
+        steps: &[
+            (Ask::Pool(0, 64), Seen::Done),
+            (Ask::Malloc(8), Seen::At(0)),
+            (Ask::Malloc(8), Seen::At(8)),
+            (Ask::Realloc(0, 128), Seen::Refused(Refusal::NoFit)),
+            (
+                Ask::Realloc(0, 1_073_741_817),
+                Seen::Refused(Refusal::NoFit),
+            ),
+            (Ask::Realloc(0, u64::MAX), Seen::Refused(Refusal::NoFit)),
+            (Ask::Size(0), Seen::Bytes(8)),
+        ],
+        pools: &[(0, &[(0, 8, true), (8, 8, true), (16, 48, false)])],
+    };
+    assert!(rt; both_hold(rt.alloc(), &moves));
+    assert!(rt; both_hold(rt.alloc(), &to_zero));
+    assert!(rt; both_hold(rt.alloc(), &refused));
 }
 
 #[test]
@@ -328,10 +544,10 @@ fn runs_at_once<H: Heaped>(alloc: Global) -> Result<bool, StoreError> {
         Seen::Refused(Refusal::NoFit),
         Seen::At(112),
     ];
-    let same = answers
-        .iter()
-        .zip(wanted.iter())
-        .all(|(answer, wanted)| Seen::of(Some(answer)) == *wanted);
+    let same = answers.iter().zip(wanted.iter()).all(|(answer, wanted)| Seen::of(
+        Request::Malloc(0),
+        Some(answer),
+    ) == *wanted);
     let rows = [(0, 104, true), (104, 8, true), (112, 912, true)];
     Ok(same && answers.len() == 7 && has_rows(&mut heap, 0, &rows))
 }
