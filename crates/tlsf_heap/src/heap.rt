@@ -6,6 +6,7 @@ use crate::free::free;
 use crate::malloc::malloc;
 use crate::readings::{block_size, first, row};
 use crate::realloc::realloc;
+use crate::walk::walk;
 use crate::{Cursor, Heaped, Ptr, Refusal, Row};
 use arrayvec::ArrayVec;
 use std::alloc::Global;
@@ -47,6 +48,7 @@ impl Heap {
     ghost use Rattle.tlsf_heap.specs.Pointer.{place_and_slot, slot_of};
     ghost use Rattle.tlsf_heap.specs.Rows.{rows_from};
     ghost use Rattle.tlsf_heap.specs.Readings.{rows_behind, is_at_row};
+    ghost use Rattle.tlsf_heap.specs.Walk.{IsWalk, walk_touches};
     ghost use Rattle.tlsf_heap.specs.Pools.{created, add_pool as added};
     ghost use Rattle.tlsf_heap.specs.Counted.{range_of};
     ghost use Rattle.tlsf_heap.specs.Implied.{NoneFits, HasFewRecords, HasAlignedBlocks, HasDisjointBlocks, ListsFreeBlocks, ListsNothingElse};
@@ -217,6 +219,24 @@ impl Heap {
         ensures no_touch { IfNone result (self.new.touches ≡ self.old.touches) }
     {
         row(&mut self.store, cursor)
+    }
+
+    /// Calls `visit` at each row of the pool that begins at the place `base`, once and in order. At most four
+    /// touches, and four more for each row.
+    ///
+    /// # Errors
+    ///
+    /// `NoPool` where no pool begins there: `visit` isn't called then.
+    pub fn walk<F: FnMut(Row)>(&mut self, base: u64, mut visit: F) -> Result<(), Refusal>
+        requires { F.IsAlwaysCallable visit }
+        ensures ok { OnOk result ((last : F) × IsWalk (λ p x q. F.step p x tt q) base self.old.content.pools visit last) }
+        ensures refused { IfErr result (λ refusal. rows_from base self.old.content.pools ≡ Err refusal) }
+        ensures others { self.new.rows ≡ self.old.rows }
+        ensures unchanged { self.new.content ≡ self.old.content }
+        ensures floor { self.old.touches ≤ self.new.touches }
+        ensures bound { self.new.touches ≤ self.old.touches + walk_touches (rows_from base self.old.content.pools) }
+    {
+        walk(&mut self.store, base, &mut visit)
     }
 
     /// Says what every heap keeps, and does nothing. Its pools are covered by their blocks end to end, and

@@ -28,6 +28,7 @@ mod runs;
 mod search;
 #[cfg(test)]
 mod tests;
+mod walk;
 
 pub use crate::answer::Answer;
 pub use crate::cursor::Cursor;

@@ -3,6 +3,7 @@
 mod random;
 mod resizing;
 mod rows;
+mod walking;
 
 use super::*;
 use std::alloc::Global;
