@@ -1,6 +1,7 @@
 //! The heap.
 
 use crate::add_pool::add_pool;
+use crate::check::check;
 use crate::entries::{entries, pool_ranges};
 use crate::free::free;
 use crate::malloc::malloc;
@@ -35,7 +36,7 @@ impl Model for Heap {
 }
 
 impl Heap {
-    ghost use Rattle.std.specs.Prelude.{◌≡◌, ◌≢◌, ℕ, ◌+◌, ◌<◌, ◌≤◌, ◌==◌, ◌⊎◌, ◌↔◌, [], ◌∷◌, map, Ok, Err, IfOk, IfErr, IfSome, IfNone, OnOk, OnErr};
+    ghost use Rattle.std.specs.Prelude.{◌≡◌, ◌≢◌, true, ℕ, ◌+◌, ◌<◌, ◌≤◌, ◌==◌, ◌⊎◌, ◌↔◌, [], ◌∷◌, map, Ok, Err, IfOk, IfErr, IfSome, IfNone, OnOk, OnErr};
     ghost use Rattle.tlsf_store.specs.declared.errors.StoreError.TheVariants.{BadCount};
     ghost use Rattle.tlsf_store.specs.Records.{most_records};
     ghost use Rattle.tlsf_heap.specs.Good.{IsGood};
@@ -237,6 +238,21 @@ impl Heap {
         ensures bound { self.new.touches ≤ self.old.touches + walk_touches (rows_from base self.old.content.pools) }
     {
         walk(&mut self.store, base, &mut visit)
+    }
+
+    /// Whether the table of records is that of a heap: it always is, and the answer is `true`. The blocks of each
+    /// pool are linked both ways and cover it end to end, each of a positive number of units, with no two free
+    /// ones side by side; the list of each class is linked both ways and has free blocks of that class alone; the
+    /// bitmaps agree with the lists; there are as many free blocks in lists as in pools, and as many blocks and
+    /// vacant records as records. Each record in use is read, and each list, bitmap word and pool entry: how
+    /// many touches that takes isn't promised.
+    pub fn check(&mut self) -> bool
+        ensures whole { result ≡ true }
+        ensures others { self.new.rows ≡ self.old.rows }
+        ensures unchanged { self.new.content ≡ self.old.content }
+        ensures floor { self.old.touches ≤ self.new.touches }
+    {
+        check(&mut self.store)
     }
 
     /// Says what every heap keeps, and does nothing. Its pools are covered by their blocks end to end, and

@@ -7,6 +7,7 @@ mod answer;
 mod bitmaps;
 mod calls;
 mod chains;
+mod check;
 mod cursor;
 mod entries;
 mod free;
