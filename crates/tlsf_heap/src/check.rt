@@ -6,7 +6,7 @@ mod lists;
 #[cfg(test)]
 mod tests;
 
-ghost use Rattle.std.specs.Prelude.{◌≡◌, ◌+◌, ◌≤◌, true, length};
+ghost use Rattle.std.specs.Prelude.{◌≡◌, ◌+◌, ◌≤◌, ◌↔◌, IsTrue, true, length};
 ghost use Rattle.tlsf_store.specs.Records.{vacant_count};
 ghost use Rattle.tlsf_heap.specs.Inner.Following.{Stands};
 
@@ -33,7 +33,7 @@ pub(crate) fn check(store: &mut Store) -> bool
 
 /// Whether the lists have as many blocks as are free, and each record is of a block or vacant.
 fn adds_up(store: &mut Store, chains: Tally, listed: u32) -> bool
-    ensures sound { listed ≡ chains.free → vacant_count store.old.cells.records + chains.blocks ≡ length store.old.cells.records → result ≡ true }
+    ensures value { IsTrue result ↔ ((listed ≡ chains.free) × (vacant_count store.old.cells.records + chains.blocks ≡ length store.old.cells.records)) }
     ensures cells { store.new.cells ≡ store.old.cells }
     ensures floor { store.old.touches ≤ store.new.touches }
 {

@@ -10,7 +10,8 @@ use crate::readings::{first, row};
 use crate::{Refusal, Row};
 use tlsf_store::Store;
 
-/// Visits each row of the pool that begins at `base`, in order. Four touches, and one more for each row.
+/// Visits each row of the pool that begins at `base`, in order. At most four touches, and four more for each
+/// row.
 ///
 /// # Errors
 ///

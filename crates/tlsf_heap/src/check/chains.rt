@@ -1,6 +1,6 @@
 //! Whether the chain of each pool's blocks is whole.
 
-ghost use Rattle.std.specs.Prelude.{◌≡◌, ◌+◌, ◌<◌, ◌≤◌, true, List, length, IfSome, Some};
+ghost use Rattle.std.specs.Prelude.{◌≡◌, ◌+◌, ◌<◌, ◌≤◌, ◌↔◌, IsTrue, List, length, IfSome, Some};
 ghost use Rattle.tlsf_store.specs.Records.{most_records};
 ghost use Rattle.tlsf_store.specs.Cells.{most_pools};
 ghost use Rattle.tlsf_heap.specs.Inner.Following.{Stands};
@@ -123,7 +123,7 @@ impl Front {
 
     /// Whether the block stands behind it, and can do so.
     fn is_before(&self, block: &Record) -> bool
-        ensures { Follows self.now block.now → result ≡ true }
+        ensures { IsTrue result ↔ Follows self.now block.now }
     {
         let can_be = match block.state {
             State::Vacant => false,

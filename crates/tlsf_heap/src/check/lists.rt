@@ -1,6 +1,6 @@
 //! Whether the free list of each class is whole.
 
-ghost use Rattle.std.specs.Prelude.{◌≡◌, ◌<◌, ◌≤◌, ◌*◌, true, length, count_by, IfSome, Some};
+ghost use Rattle.std.specs.Prelude.{◌≡◌, ◌<◌, ◌≤◌, ◌*◌, ◌↔◌, IsTrue, length, count_by, IfSome, Some};
 ghost use Rattle.tlsf_class.specs.Classes.{classes};
 ghost use Rattle.tlsf_store.specs.Records.{most_records};
 ghost use Rattle.tlsf_heap.specs.Inner.Following.{Stands};
@@ -48,7 +48,7 @@ fn tally_list(store: &mut Store, class: Class) -> Option<u32>
 
 /// Whether the block stands behind the one before it in its list, if there is one, and is free and of the class.
 fn is_behind(previous: Option<Slot>, block: &Record, class: Class) -> bool
-    ensures { block.now.prev_free ≡ previous → is_free_of class block.now ≡ true → result ≡ true }
+    ensures { IsTrue result ↔ ((block.now.prev_free ≡ previous) × IsTrue (is_free_of class block.now)) }
 {
     block.prev_free == previous
         && block.state == State::Free

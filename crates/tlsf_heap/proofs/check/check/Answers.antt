@@ -27,5 +27,7 @@ returns-then-has_true_bitmaps-clause-sound c = λ stands.
     let chains = same_tally _ _ (sym c.in-Some.is ∙ c.tally_chains.ensures.sound stands) in
     let same = c.has_true_bitmaps.ensures.cells ∙ c.tally_lists.ensures.cells ∙ c.tally_chains.ensures.cells in
     let Q : Cells → Type 0 = λ x. vacant_count x.records + c.in-Some.chains.blocks ≡ length x.records in
-    c.adds_up.ensures.sound (listed ∙ all_listed cells stands ∙ sym (ap (λ (t : Tally). t.free) chains))
-    (subst Q (sym same) (ap (λ (t : Tally). vacant_count cells.records + t.blocks) chains ∙ all_counted cells stands))
+    c.adds_up.ensures.value.1 (
+      listed ∙ all_listed cells stands ∙ sym (ap (λ (t : Tally). t.free) chains),
+      subst Q (sym same) (ap (λ (t : Tally). vacant_count cells.records + t.blocks) chains ∙ all_counted cells stands),
+    )

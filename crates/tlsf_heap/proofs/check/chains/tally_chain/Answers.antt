@@ -16,7 +16,7 @@ returns-then-tally-count-clause-sound c = λ nodes whole.
       | then-tally-count-via-then-tally-count w ↦
           absurd (omega (arith, fewer _ _ _ _ _ _ _ _ c.in-Some.is read left.0 left.1, w.if-tally-count.true, c.records-count.ensures.value, whole.few))
       | then-tally-count-via-else-tally-count+then-not-is_before w ↦
-          absurd (false≢true (sym w.if-not-is_before.true ∙ w.is_before.ensures (follows_so _ _ _ _ _ _ _ _ c.in-Some.is read left.0 left.1)))
+          absurd (false≢true (sym w.if-not-is_before.true ∙ w.is_before.ensures.1 (follows_so _ _ _ _ _ _ _ _ c.in-Some.is read left.0 left.1)))
     ]
 
 pub loop-next-preserved : goal.loop-next-preserved

@@ -30,7 +30,7 @@ returns-then-blocks-count-clause-sound c = λ stands.
       | then-blocks-count-via-then-blocks-count w ↦
           absurd (omega (arith, step.fewer, w.if-blocks-count.true, c.records-count.ensures.value, list_few c.args.store.now.cells stands.layout stands.represented c.args.class))
       | then-blocks-count-via-else-blocks-count+then-not-is_behind w ↦
-          absurd (false≢true (sym w.if-not-is_behind.true ∙ w.is_behind.ensures (rw read step.prev) (rw read step.free)))
+          absurd (false≢true (sym w.if-not-is_behind.true ∙ w.is_behind.ensures.1 (rw read step.prev, rw read step.free)))
     ]
 
 pub loop-next-preserved : goal.loop-next-preserved
