@@ -12,3 +12,4 @@ pub mod Chains
 pub mod Edits
 pub mod Entries
 pub mod States
+pub mod Checks

@@ -1,6 +1,7 @@
 //! The heap.
 
 use crate::add_pool::add_pool;
+use crate::check::check;
 use crate::entries::{entries, pool_ranges};
 use crate::free::free;
 use crate::malloc::malloc;
@@ -8,6 +9,7 @@ use crate::memalign::memalign;
 use crate::readings::{block_size, first, row};
 use crate::realloc::realloc;
 use crate::remove_pool::remove_pool;
+use crate::walk::walk;
 use crate::{Cursor, Heaped, Ptr, Refusal, Row};
 use arrayvec::ArrayVec;
 use std::alloc::Global;
@@ -36,7 +38,7 @@ impl Model for Heap {
 }
 
 impl Heap {
-    ghost use Rattle.std.specs.Prelude.{◌≡◌, ◌≢◌, ℕ, ◌+◌, ◌%◌, ◌<◌, ◌≤◌, ◌==◌, ◌⊎◌, ◌↔◌, [], ◌∷◌, map, Ok, Err, IfOk, IfErr, IfSome, IfNone, OnOk, OnErr};
+    ghost use Rattle.std.specs.Prelude.{◌≡◌, ◌≢◌, true, ℕ, ◌+◌, ◌%◌, ◌<◌, ◌≤◌, ◌==◌, ◌⊎◌, ◌↔◌, [], ◌∷◌, map, Ok, Err, IfOk, IfErr, IfSome, IfNone, OnOk, OnErr};
     ghost use Rattle.tlsf_store.specs.declared.errors.StoreError.TheVariants.{BadCount};
     ghost use Rattle.tlsf_store.specs.Records.{most_records};
     ghost use Rattle.tlsf_heap.specs.Good.{IsGood};
@@ -50,6 +52,7 @@ impl Heap {
     ghost use Rattle.tlsf_heap.specs.Pointer.{place_and_slot, slot_of};
     ghost use Rattle.tlsf_heap.specs.Rows.{rows_from};
     ghost use Rattle.tlsf_heap.specs.Readings.{rows_behind, is_at_row};
+    ghost use Rattle.tlsf_heap.specs.Walk.{IsWalk, walk_touches};
     ghost use Rattle.tlsf_heap.specs.Pools.{created, add_pool as added, remove_pool as removed};
     ghost use Rattle.tlsf_heap.specs.Counted.{range_of};
     ghost use Rattle.tlsf_heap.specs.Implied.{NoneFits, NoneFitsAligned, HasFewRecords, HasFewRecordsAndOne, HasAlignedBlocks, HasDisjointBlocks, ListsFreeBlocks, ListsNothingElse};
@@ -267,6 +270,39 @@ impl Heap {
         ensures no_touch { IfNone result (self.new.touches ≡ self.old.touches) }
     {
         row(&mut self.store, cursor)
+    }
+
+    /// Calls `visit` at each row of the pool that begins at the place `base`, once and in order. At most four
+    /// touches, and four more for each row.
+    ///
+    /// # Errors
+    ///
+    /// `NoPool` where no pool begins there: `visit` isn't called then.
+    pub fn walk<F: FnMut(Row)>(&mut self, base: u64, mut visit: F) -> Result<(), Refusal>
+        requires { F.IsAlwaysCallable visit }
+        ensures ok { OnOk result ((last : F) × IsWalk (λ p x q. F.step p x tt q) base self.old.content.pools visit last) }
+        ensures refused { IfErr result (λ refusal. rows_from base self.old.content.pools ≡ Err refusal) }
+        ensures others { self.new.rows ≡ self.old.rows }
+        ensures unchanged { self.new.content ≡ self.old.content }
+        ensures floor { self.old.touches ≤ self.new.touches }
+        ensures bound { self.new.touches ≤ self.old.touches + walk_touches (rows_from base self.old.content.pools) }
+    {
+        walk(&mut self.store, base, &mut visit)
+    }
+
+    /// Whether the table of records is that of a heap: it always is, and the answer is `true`. The blocks of each
+    /// pool are linked both ways and cover it end to end, each of a positive number of units, with no two free
+    /// ones side by side; the list of each class is linked both ways and has free blocks of that class alone; the
+    /// bitmaps agree with the lists; there are as many free blocks in lists as in pools, and as many blocks and
+    /// vacant records as records. Each record in use is read, and each list, bitmap word and pool entry: how
+    /// many touches that takes isn't promised.
+    pub fn check(&mut self) -> bool
+        ensures whole { result ≡ true }
+        ensures others { self.new.rows ≡ self.old.rows }
+        ensures unchanged { self.new.content ≡ self.old.content }
+        ensures floor { self.old.touches ≤ self.new.touches }
+    {
+        check(&mut self.store)
     }
 
     /// Says what every heap keeps, and does nothing. Its pools are covered by their blocks end to end, and

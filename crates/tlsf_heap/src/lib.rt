@@ -7,6 +7,7 @@ mod answer;
 mod bitmaps;
 mod calls;
 mod chains;
+mod check;
 mod cursor;
 mod entries;
 mod free;
@@ -29,6 +30,7 @@ mod runs;
 mod search;
 #[cfg(test)]
 mod tests;
+mod walk;
 
 pub use crate::answer::Answer;
 pub use crate::cursor::Cursor;

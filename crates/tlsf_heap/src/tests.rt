@@ -2,6 +2,7 @@
 
 mod random;
 mod rows;
+mod walking;
 
 use super::*;
 use std::alloc::Global;

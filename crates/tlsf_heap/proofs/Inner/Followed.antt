@@ -76,7 +76,7 @@ module _ (cells : Cells) (layout : Layout) (was : Represents cells layout) where
   pub few : length (nodes_of layout.areas) ≤ length cells.records
   few = omega (arith, all_records cells layout was)
 
-  list_few : (number : ℕ) → length (list_of number layout.lists) ≤ length cells.records
+  pub list_few : (number : ℕ) → length (list_of number layout.lists) ≤ length cells.records
   list_few number =
       let all : Node → Bool = λ node. true in
       omega (arith, few, count_all (list_of number layout.lists), was.agree number all, count_by-le-length (λ node. is_listed_in number node && true) (nodes_of layout.areas))
