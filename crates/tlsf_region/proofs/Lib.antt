@@ -3,3 +3,4 @@ pub mod Ranges
 pub mod Ends
 pub mod Sizes
 pub mod Room
+pub mod Loans

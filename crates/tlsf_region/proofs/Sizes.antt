@@ -1,5 +1,5 @@
 -- The size of a live block of a region, which ends within its bytes.
-use Rattle.std.proofs.Common.{◌≡◌, ℕ, ◌+◌, ◌≤◌, true, List, length, refl, sym, subst, arith, Option, Some, None, Result, Ok, Err, IfOk, IfSome, inl, inr}
+use Rattle.std.proofs.Common.{◌≡◌, ℕ, ◌+◌, ◌<◌, ◌≤◌, true, List, length, refl, sym, subst, arith, Option, Some, None, Result, Ok, Err, IfOk, IfSome, inl, inr}
 use Rattle.std.specs.Prelude.{◌==◌}
 use Rattle.std.specs.Result.{result_ok}
 use Rattle.std.proofs.lemmas.Bool.{cases_Bool}
@@ -11,7 +11,7 @@ use Rattle.tlsf_heap.specs.Free.{is_live}
 use Rattle.tlsf_heap.specs.Good.{IsGood}
 use Rattle.tlsf_heap.specs.Pointer.{Pointer}
 use Rattle.tlsf_region.specs.Region.{IsWithin}
-use Rattle.tlsf_region.proofs.Ends.{below_in_pools, live_is_below}
+use Rattle.tlsf_region.proofs.Ends.{below_in_pools, live_is_below, live_is_positive}
 
 -- where block_size gives a size, the pointer is live, and it is the block's size
 pub size_is : (ptr : Pointer) (content : Content ℕ) (size : ℕ) → block_size (λ slot. slot == ptr.slot) ptr.place content ≡ Ok size
@@ -48,3 +48,11 @@ size_is_below result ptr content bytes good within ok size is = of size (size_to
     of : (size : Option ℕ) → IfSome size (λ size. block_size (λ slot. slot == ptr.slot) ptr.place content ≡ Ok size) → IfSome size (λ size. ptr.place + size ≤ length bytes)
     of None told = tt
     of (Some size) told = size_is_within ptr content bytes size good within told
+
+pub size_is_positive : (result : Result ℕ Refusal) (ptr : Pointer) (content : Content ℕ) → IsGood content → IfOk result (λ size. block_size (λ slot. slot == ptr.slot) ptr.place content ≡ Ok size)
+    → (size : Option ℕ) → size ≡ result_ok result → IfSome size (λ size. 0 < size)
+size_is_positive result ptr content good ok size is = of size (size_told result ptr content ok size is)
+  where
+    of : (size : Option ℕ) → IfSome size (λ size. block_size (λ slot. slot == ptr.slot) ptr.place content ≡ Ok size) → IfSome size (λ size. 0 < size)
+    of None told = tt
+    of (Some size) told = let is = size_is ptr content size told in omega (arith, is.1, live_is_positive (λ slot. slot == ptr.slot) ptr.place content.pools good.pools_good is.0)

@@ -1,6 +1,6 @@
 -- What contracts see of a region: its heap's content, how often its store was touched, and the rows from each slot
 -- on; and its bytes.
-use Rattle.std.specs.Prelude.{ℕ, ◌+◌, ◌≤◌, List, [], ◌∷◌, length, map, ⊤}
+use Rattle.std.specs.Prelude.{◌≡◌, ℕ, ◌+◌, ◌≤◌, List, [], ◌∷◌, length, map, ⊤}
 use Rattle.tlsf_heap.specs.declared.row.Row.{Row}
 use Rattle.tlsf_heap.specs.Content.{Content}
 use Rattle.tlsf_heap.specs.Counted.{Counted, range_of}
@@ -25,3 +25,10 @@ EndBelow place (range ∷ ranges) = (range.0 + range.1 ≤ place) × EndBelow pl
 pub record IsWithin (content : Content ℕ) (bytes : List ℕ) : Type 0 where
   pub places : length bytes ≤ end_of_places
   pub pools : EndBelow (length bytes) (map range_of content.pools)
+
+-- its heap was read, in at most so many touches
+pub record WasRead (most : ℕ) (old new : CountedRegion) : Type 0 where
+  pub content : new.content ≡ old.content
+  pub rows : new.rows ≡ old.rows
+  pub floor : old.touches ≤ new.touches
+  pub bound : new.touches ≤ old.touches + most

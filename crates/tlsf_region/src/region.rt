@@ -46,9 +46,9 @@ impl Region {
     ghost use Rattle.tlsf_heap.specs.declared.refusal.Refusal.TheVariants.{NoFit, TableFull};
     ghost use Rattle.tlsf_region.specs.Pools.{add_pool_within};
     ghost use Rattle.tlsf_region.specs.Realloc.{bytes_after_realloc};
-    ghost use Rattle.tlsf_region.specs.Region.{IsWithin};
-    ghost use Rattle.tlsf_region.specs.Bytes.{live_bytes};
-    ghost use Rattle.tlsf_region.specs.Lends.{ends_read};
+    ghost use Rattle.tlsf_region.specs.Region.{IsWithin, WasRead};
+    ghost use Rattle.tlsf_region.specs.Bytes.{block_bytes, live_bytes};
+    ghost use Rattle.tlsf_region.specs.Lends.{ends_read, lends_from, lends_block};
     ghost use Rattle.std.specs.Borrow.{sem};
     ghost use Rattle.std.specs.Option.{option_map};
     ghost use Rattle.tlsf_region.specs.declared.region_error.RegionError.TheVariants.{BadCount, BadLength};
@@ -206,6 +206,7 @@ impl Region {
     fn live_size(&mut self, ptr: Ptr) -> Option<u32>
         ensures some { IfSome result (λ size. sized (λ slot. slot == ptr.slot) ptr.place self.old.content ≡ Ok size) }
         ensures within { IfSome result (λ size. ptr.place + size ≤ length self.old.bytes) }
+        ensures positive { IfSome result (λ size. 0 < size) }
         ensures none { IfNone result (is_live (λ slot. slot == ptr.slot) ptr.place (blocks_of self.old.content.pools) ≡ false) }
         ensures good { IsGood self.old.content }
         ensures ends { IsWithin self.old.content self.old.bytes }
@@ -219,6 +220,28 @@ impl Region {
         self.heap.block_size(ptr).ok()
     }
 
+    /// How many bytes the pointer's block has, and 0 where it names no live block: no block is empty. At
+    /// most four touches.
+    fn lent_len(&mut self, ptr: Ptr) -> u32
+        ensures some { 0 < result → sized (λ slot. slot == ptr.slot) ptr.place self.old.content ≡ Ok result }
+        ensures within { 0 < result → ptr.place + result ≤ length self.old.bytes }
+        ensures none { result ≡ 0 → is_live (λ slot. slot == ptr.slot) ptr.place (blocks_of self.old.content.pools) ≡ false }
+        ensures read { WasRead 4 self.old self.new }
+        ensures bytes { self.new.bytes ≡ self.old.bytes }
+    {
+        self.live_size(ptr).unwrap_or(0)
+    }
+
+    /// Lends the `len` bytes from the pointer's place on.
+    fn lend(&mut self, ptr: Ptr, len: u32) -> &mut [u8]
+        requires { ptr.place + len ≤ length self.old.bytes }
+        ensures* writes_back { sem 𝓛 (lends_from self.entry ptr.place result) }
+        ensures lent { result.now ≡ block_bytes ptr.place len self.old.bytes }
+    {
+        let start = ptr.place() as usize;
+        self.bytes.slice_mut(start..start + len as usize)
+    }
+
     /// The bytes of a live block, as many as its size, to read; none where the pointer names no live block.
     /// At most four touches.
     pub fn bytes(&mut self, ptr: Ptr) -> Option<&[u8]>
@@ -228,6 +251,19 @@ impl Region {
         let size = self.live_size(ptr)?;
         let start = ptr.place() as usize;
         Some(&self.bytes[start..start + size as usize])
+    }
+
+    /// The bytes of a live block, as many as its size, to write; none where the pointer names no live block.
+    /// What is written through them changes these bytes alone. At most four touches.
+    pub fn bytes_mut(&mut self, ptr: Ptr) -> Option<&mut [u8]>
+        ensures* writes_back { sem 𝓛 (lends_block self.entry ptr result) }
+        ensures lent { option_map (λ block. block.now) result ≡ live_bytes ptr self.old.content self.old.bytes }
+    {
+        let len = self.lent_len(ptr);
+        if len == 0 {
+            return None;
+        }
+        Some(self.lend(ptr, len))
     }
 
     /// Where each pool begins and how many bytes it has, in order of base. At most eight touches.
