@@ -22,11 +22,20 @@ fn refused(alloc: Global, len: u64, records: u32) -> Option<RegionError> {
 fn errors_in_order(rt: HostRuntime) {
     let above = (1 << 32) + 1;
     for records in [0, 65_536] {
-        assert_eq!(rt; refused(rt.alloc(), 8, records), Some(RegionError::BadCount));
-        assert_eq!(rt; refused(rt.alloc(), above, records), Some(RegionError::BadCount));
+        assert_eq!(rt;
+            refused(rt.alloc(), 8, records),
+            Some(RegionError::BadCount)
+        );
+        assert_eq!(rt;
+            refused(rt.alloc(), above, records),
+            Some(RegionError::BadCount)
+        );
     }
     for records in [1, 65_535] {
-        assert_eq!(rt; refused(rt.alloc(), above, records), Some(RegionError::BadLength));
+        assert_eq!(rt;
+            refused(rt.alloc(), above, records),
+            Some(RegionError::BadLength)
+        );
         assert_eq!(rt; refused(rt.alloc(), 8, records), None);
     }
     assert_eq!(rt; refused(rt.alloc(), 0, 1), None);
@@ -54,15 +63,15 @@ fn pools_within_the_bytes(rt: HostRuntime) {
 /// Writes 0, 1, 2 and so on over the bytes of a block.
 fn count_up(block: &mut [u8]) {
     for index in 0..block.len() {
-        block[index] = index as u8;
+        block[index] = (index % 256) as u8;
     }
 }
 
 /// Whether the bytes are 0, 1, 2 and so on below `count`, and then zeros.
 fn counts_up_to(block: &[u8], count: usize) -> bool {
     for index in 0..block.len() {
-        let wanted = if index < count { index as u8 } else { 0 };
-        if block[index] != wanted {
+        let wanted = if index < count { index % 256 } else { 0 };
+        if block[index] as usize != wanted {
             return false;
         }
     }
