@@ -1,17 +1,19 @@
--- Where the pools lie: malloc, free and realloc leave it, and add_pool adds to it.
-use Rattle.std.proofs.Common.{◌≡◌, ℕ, ◌+◌, ◌≤◌, Bool, true, false, cond, not, List, [], ◌∷◌, map, length, refl, sym, ap, ◌∙◌, subst, Option, Some, None, Result, Ok, Err, IfOk, OnOk, OnErr}
+-- Where the pools lie: malloc, memalign, free and realloc leave it; add_pool and remove_pool leave where the others do.
+use Rattle.std.proofs.Common.{◌≡◌, ℕ, ◌+◌, ◌≤◌, Bool, true, false, cond, not, List, [], ◌∷◌, map, length, refl, sym, ap, ◌∙◌, subst, Option, Some, None, Result, Ok, Err, IfOk, OnOk, OnErr, filter, find}
 use Rattle.std.specs.Prelude.{◌==◌, nat_lt, nat_le, ◌&&◌}
 use Rattle.std.specs.List.{list_all}
+use Rattle.std.specs.Int.{next_multiple_of}
 use Rattle.tlsf_class.specs.Rounding.{round}
 use Rattle.tlsf_heap.specs.declared.refusal.Refusal.{Refusal}
-use Rattle.tlsf_heap.specs.declared.refusal.Refusal.TheVariants.{ZeroSize, TableFull, BadPointer, BadPool, PoolsFull}
+use Rattle.tlsf_heap.specs.declared.refusal.Refusal.TheVariants.{ZeroSize, TableFull, BadPointer, BadPool, PoolsFull, BadAlign, PoolInUse}
 use Rattle.tlsf_heap.specs.Content.{Block, Pool, Content, blocks_of, size_at, used_records}
 use Rattle.tlsf_heap.specs.Counted.{range_of}
 use Rattle.tlsf_heap.specs.Lists.{pick}
 use Rattle.tlsf_heap.specs.Malloc.{gap, replaced_in, cut, allocated, malloc_picked, malloc_rounded, malloc}
 use Rattle.tlsf_heap.specs.Free.{is_live, free_next, without_block, after_free, free}
 use Rattle.tlsf_heap.specs.Realloc.{fits_in_place, resized, moved, realloc_sized, realloc_rounded, given_anew, realloc}
-use Rattle.tlsf_heap.specs.Pools.{end_of_places, most_pools, can_be_pool, is_apart, in_order_of_base, with_pool, add_pool}
+use Rattle.tlsf_heap.specs.Memalign.{is_alignment, size_asked, aligned, memalign_picked, memalign_rounded, memalign}
+use Rattle.tlsf_heap.specs.Pools.{is_based, is_unused, without_pool, remove_found, remove_pool, end_of_places, most_pools, can_be_pool, is_apart, in_order_of_base, with_pool, add_pool}
 use Rattle.tlsf_region.specs.Region.{EndBelow, IsWithin}
 
 abbrev pub ranges : {A : Type 0} → Content A → List (ℕ × ℕ)
@@ -91,6 +93,39 @@ module _ {A : Type 0} where
       of None = tt
       of (Some m) = sized_ranges owner place known m content
 
+  -- memalign
+  memalign_picked_ranges : (owner : A) (align m : ℕ) (found : Option ℕ) (content : Content A) → IfOk (memalign_picked owner align m found content) (λ given. ranges given.1 ≡ ranges content)
+  memalign_picked_ranges owner align m None content = tt
+  memalign_picked_ranges owner align m (Some place) content =
+      let start = next_multiple_of place align in
+      let after = aligned owner start m place (size_at place (blocks_of content.pools)) content in
+      unless (nat_lt after.records (used_records after)) TableFull (Ok (start, after)) (λ given. ranges given.1 ≡ ranges content) (ranges-replaced place _ content.pools)
+
+  pub memalign_ranges : (owner : A) (align n : ℕ) (content : Content A) → IfOk (memalign owner align n content) (λ given. ranges given.1 ≡ ranges content)
+  memalign_ranges owner align n content =
+      let P : ℕ × Content A → Type 0 = λ given. ranges given.1 ≡ ranges content in
+      unless (not (is_alignment align)) BadAlign _ P (unless (n == 0) ZeroSize (memalign_rounded owner align (round n) content) P (of (round n)))
+    where
+      of : (m : Option ℕ) → IfOk (memalign_rounded owner align m content) (λ given. ranges given.1 ≡ ranges content)
+      of None = tt
+      of (Some m) = memalign_picked_ranges owner align m (pick (size_asked align m) content.lists) content
+
+  -- remove_pool
+  ends-filter : (end : ℕ) (test : Pool A → Bool) (pools : List (Pool A)) → EndBelow end (map range_of pools) → EndBelow end (map range_of (filter test pools))
+  ends-filter end test [] ends = tt
+  ends-filter end test (pool ∷ pools) ends = elim (test pool) as (λ b. EndBelow end (map range_of (cond b (pool ∷ filter test pools) (filter test pools)))) [
+    | true ↦ (ends.0, ends-filter end test pools ends.1)
+    | false ↦ ends-filter end test pools ends.1
+  ]
+
+  pub remove_pool_ends : (end base : ℕ) (content : Content A) → EndBelow end (ranges content) → IfOk (remove_pool base content) (λ after. EndBelow end (ranges after))
+  remove_pool_ends end base content ends = of (find (is_based base) content.pools)
+    where
+      of : (found : Option (Pool A)) → IfOk (remove_found found content) (λ after. EndBelow end (ranges after))
+      of None = tt
+      of (Some pool) =
+          by_test (is_unused pool) (Ok (without_pool pool content)) (Err PoolInUse) (λ after. EndBelow end (ranges after)) (λ e. ends-filter end (λ other. not (is_based pool.base other)) content.pools ends) (λ e. tt)
+
   -- add_pool
   ends_in_order : (end : ℕ) (pool : Pool A) (pools : List (Pool A)) → pool.base + pool.bytes ≤ end → EndBelow end (map range_of pools) → EndBelow end (map range_of (in_order_of_base pool pools))
   ends_in_order end pool [] below ends = (below, tt)
@@ -112,12 +147,10 @@ pub still_within : {X : Type 0} (result : Result X Refusal) (old new : Content �
 still_within (Ok x) old new bytes ok err within = record { places = within.places; pools = subst (EndBelow (length bytes)) (sym ok) within.pools }
 still_within (Err why) old new bytes ok err within = subst (λ content. IsWithin content bytes) (sym err) within
 
--- what add_pool leaves of a region
-pub add_pool_within_after : {X : Type 0} (result : Result X Refusal) (base count : ℕ) (old new : Content ℕ) (bytes : List ℕ) → base + count ≤ length bytes
-    → OnOk result (add_pool base count old ≡ Ok new) → OnErr result (new ≡ old) → IsWithin old bytes → IsWithin new bytes
-add_pool_within_after (Ok x) base count old new bytes below ok err within =
-    record { places = within.places; pools = subst (λ given. IfOk given (λ after. EndBelow (length bytes) (ranges after))) ok (add_pool_ends (length bytes) base count old below within.pools) }
-add_pool_within_after (Err why) base count old new bytes below ok err within = subst (λ content. IsWithin content bytes) (sym err) within
+-- what a call leaves that leaves each pool's end below the region's, or is refused
+pub ends_within : {X : Type 0} (result : Result X Refusal) (old new : Content ℕ) (bytes : List ℕ) → OnOk result (EndBelow (length bytes) (ranges new)) → OnErr result (new ≡ old) → IsWithin old bytes → IsWithin new bytes
+ends_within (Ok x) old new bytes ok err within = record { places = within.places; pools = ok }
+ends_within (Err why) old new bytes ok err within = subst (λ content. IsWithin content bytes) (sym err) within
 
 -- where the pools lie as they did, the region stays as it was to be
 pub within_kept : (old new : Content ℕ) (bytes : List ℕ) → ranges new ≡ ranges old → IsWithin old bytes → IsWithin new bytes
