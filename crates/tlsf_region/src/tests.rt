@@ -3,7 +3,7 @@
 use super::*;
 use std::alloc::Global;
 use std::process::Abort;
-use tlsf_heap::{Ptr, Refusal};
+use tlsf_heap::{Ptr, Refusal, Row};
 
 /// A region of so many bytes and records, where memory isn't refused.
 fn made(rt: &impl Abort, alloc: Global, len: u64, records: u32) -> Region {
@@ -118,4 +118,37 @@ fn another_slot(rt: HostRuntime) {
     assert!(rt; region.bytes(other).is_none());
     assert!(rt; region.bytes_mut(other).is_none());
     assert_eq!(rt; region.block_size(other), Err(Refusal::BadPointer));
+}
+
+/// Whether these are the region's pools.
+fn has_pools(region: &mut Region, ranges: &[(u64, u64)]) -> bool {
+    region.pools().as_slice() == ranges
+}
+
+/// The heap's readings, and a block that is freed lends no bytes.
+#[test]
+fn readings(rt: HostRuntime) {
+    let mut region = made(&rt, rt.alloc(), 64, 4);
+    assert_eq!(rt; region.add_pool(0, 64), Ok(()));
+    assert!(rt; has_pools(&mut region, &[(0, 64)]));
+    let Ok(p) = region.malloc(8) else {
+        panic!(rt; "no block");
+    };
+    assert_eq!(rt; region.block_size(p), Ok(8));
+    let Ok(cursor) = region.first(0) else {
+        panic!(rt; "no pool");
+    };
+    let Some((row, next)) = region.row(cursor) else {
+        panic!(rt; "no row");
+    };
+    let wanted = Row {
+        place: 0,
+        size: 8,
+        used: true,
+    };
+    assert_eq!(rt; row, wanted);
+    assert!(rt; region.row(next).is_some());
+    assert_eq!(rt; region.free(p), Ok(()));
+    assert!(rt; region.bytes(p).is_none());
+    assert_eq!(rt; region.free(p), Err(Refusal::BadPointer));
 }
