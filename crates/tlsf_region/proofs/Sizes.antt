@@ -1,5 +1,5 @@
 -- The size of a live block of a region, which ends within its bytes.
-use Rattle.std.proofs.Common.{◌≡◌, ℕ, ◌+◌, ◌<◌, ◌≤◌, true, List, length, refl, sym, subst, arith, Option, Some, None, Result, Ok, Err, IfOk, IfSome, inl, inr}
+use Rattle.std.proofs.Common.{◌≡◌, ℕ, ◌+◌, ◌<◌, ◌≤◌, true, List, length, refl, sym, subst, arith, Option, Some, None, Result, Ok, Err, IfOk, IfSome, inl, inr, drop}
 use Rattle.std.specs.Prelude.{◌==◌}
 use Rattle.std.specs.Result.{result_ok}
 use Rattle.std.proofs.lemmas.Bool.{cases_Bool}
@@ -10,7 +10,9 @@ use Rattle.tlsf_heap.specs.BlockSize.{block_size}
 use Rattle.tlsf_heap.specs.Free.{is_live}
 use Rattle.tlsf_heap.specs.Good.{IsGood}
 use Rattle.tlsf_heap.specs.Pointer.{Pointer}
+use Rattle.std.proofs.lemmas.List.{length-take, length-drop}
 use Rattle.tlsf_region.specs.Region.{IsWithin}
+use Rattle.tlsf_region.specs.Bytes.{block_bytes, live_bytes}
 use Rattle.tlsf_region.proofs.Ends.{below_in_pools, live_is_below, live_is_positive}
 
 -- where block_size gives a size, the pointer is live, and it is the block's size
@@ -56,3 +58,19 @@ size_is_positive result ptr content good ok size is = of size (size_told result 
     of : (size : Option ℕ) → IfSome size (λ size. block_size (λ slot. slot == ptr.slot) ptr.place content ≡ Ok size) → IfSome size (λ size. 0 < size)
     of None told = tt
     of (Some size) told = let is = size_is ptr content size told in omega (arith, is.1, live_is_positive (λ slot. slot == ptr.slot) ptr.place content.pools good.pools_good is.0)
+
+-- a live block has as many bytes as its size
+pub live_bytes_long : (ptr : Pointer) (content : Content ℕ) (bytes : List ℕ) → IsGood content → IsWithin content bytes
+    → IfSome (live_bytes ptr content bytes) (λ block. length block ≡ size_at ptr.place (blocks_of content.pools))
+live_bytes_long ptr content bytes good within =
+    let size : ℕ = size_at ptr.place (blocks_of content.pools) in
+    let P : Option (List ℕ) → Type 0 = λ o. IfSome o (λ block. length block ≡ size) in
+    elim (cases_Bool (is_live (λ slot. slot == ptr.slot) ptr.place (blocks_of content.pools))) [
+      | inl live ↦
+          let told : block_size (λ slot. slot == ptr.slot) ptr.place content ≡ Ok size = rw live refl in
+          let are : live_bytes ptr content bytes ≡ Some (block_bytes ptr.place size bytes) = rw live refl in
+          subst P (sym are) (omega (arith, size_is_within ptr content bytes size good within told, length-take size (drop ptr.place bytes), length-drop ptr.place bytes))
+      | inr stale ↦
+          let none : live_bytes ptr content bytes ≡ None = rw stale refl in
+          subst P (sym none) tt
+    ]

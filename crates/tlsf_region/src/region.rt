@@ -31,18 +31,18 @@ impl Model for Region {
 impl Region {
     ghost use Rattle.std.specs.Prelude.{◌≡◌, ◌≢◌, ℕ, false, ◌+◌, ◌<◌, ◌≤◌, ◌==◌, ◌⊎◌, ◌↔◌, [], ◌∷◌, map, replicate, length, Ok, Err, Some, IfOk, IfErr, IfSome, IfNone, OnOk, OnErr};
     ghost use Rattle.tlsf_heap.specs.Pools.{created, most_records, end_of_places};
-    ghost use Rattle.tlsf_heap.specs.Content.{blocks_of};
-    ghost use Rattle.tlsf_heap.specs.GoodSlots.{slot_times};
+    ghost use Rattle.tlsf_heap.specs.Content.{blocks_of, size_at};
+    ghost use Rattle.tlsf_heap.specs.GoodSlots.{HasGoodSlots, slot_times};
     ghost use Rattle.tlsf_heap.specs.Malloc.{malloc as served};
     ghost use Rattle.tlsf_heap.specs.Free.{free as freed, is_live};
     ghost use Rattle.tlsf_heap.specs.Good.{IsGood};
     ghost use Rattle.tlsf_heap.specs.Realloc.{realloc as reallocated};
     ghost use Rattle.tlsf_heap.specs.BlockSize.{block_size as sized};
-    ghost use Rattle.tlsf_heap.specs.Pointer.{place_and_slot, slot_of};
+    ghost use Rattle.tlsf_heap.specs.Pointer.{Pointer, place_and_slot, slot_of};
     ghost use Rattle.tlsf_heap.specs.Rows.{rows_from};
     ghost use Rattle.tlsf_heap.specs.Readings.{rows_behind, is_at_row};
     ghost use Rattle.tlsf_heap.specs.Counted.{range_of};
-    ghost use Rattle.tlsf_heap.specs.Implied.{NoneFits, HasFewRecords};
+    ghost use Rattle.tlsf_heap.specs.Implied.{NoneFits, HasFewRecords, HasAlignedBlocks, HasDisjointBlocks, ListsFreeBlocks, ListsNothingElse};
     ghost use Rattle.tlsf_heap.specs.declared.refusal.Refusal.TheVariants.{NoFit, TableFull};
     ghost use Rattle.tlsf_region.specs.Pools.{add_pool_within};
     ghost use Rattle.tlsf_region.specs.Realloc.{bytes_after_realloc};
@@ -311,5 +311,20 @@ impl Region {
         ensures no_touch { IfNone result (self.new.touches ≡ self.old.touches) }
     {
         self.heap.row(cursor)
+    }
+
+    /// Says what every region keeps, and does nothing: what every heap does; no pool ends above the bytes,
+    /// which are at most 2^32; and a live block has as many bytes as its size.
+    pub fn keeps_good(&self)
+        ensures good { IsGood self.now.content }
+        ensures slots { HasGoodSlots self.now.content }
+        ensures aligned { HasAlignedBlocks self.now.content }
+        ensures disjoint { HasDisjointBlocks self.now.content }
+        ensures listed_once { ListsFreeBlocks self.now.content }
+        ensures listed_alone { ListsNothingElse self.now.content }
+        ensures within { IsWithin self.now.content self.now.bytes }
+        ensures as_many { (ptr : Pointer) → IfSome (live_bytes ptr self.now.content self.now.bytes) (λ block. length block ≡ size_at ptr.place (blocks_of self.now.content.pools)) }
+    {
+        self.heap.keeps_good();
     }
 }
