@@ -1,0 +1,34 @@
+-- What contracts see of a region: its heap's content, how often its store was touched, and the rows from each slot
+-- on; and its bytes.
+use Rattle.std.specs.Prelude.{◌≡◌, ℕ, ◌+◌, ◌≤◌, List, [], ◌∷◌, length, map, ⊤}
+use Rattle.tlsf_heap.specs.declared.row.Row.{Row}
+use Rattle.tlsf_heap.specs.Content.{Content}
+use Rattle.tlsf_heap.specs.Counted.{Counted, range_of}
+use Rattle.tlsf_heap.specs.Pools.{end_of_places}
+
+pub record CountedRegion : Type 0 where
+  pub content : Content ℕ
+  pub touches : ℕ
+  pub rows : List (List Row)
+  pub bytes : List ℕ
+
+-- the same of a heap and bytes
+abbrev pub counted_region : Counted → List ℕ → CountedRegion
+counted_region heap bytes = record { content = heap.content; touches = heap.touches; rows = heap.rows; bytes = bytes }
+
+-- each of these pools, known by where it begins and its bytes, ends at or below the place
+abbrev pub EndBelow : ℕ → List (ℕ × ℕ) → Type 0
+EndBelow place [] = ⊤
+EndBelow place (range ∷ ranges) = (range.0 + range.1 ≤ place) × EndBelow place ranges
+
+-- there are at most as many bytes as places, and each pool ends at or below their end
+pub record IsWithin (content : Content ℕ) (bytes : List ℕ) : Type 0 where
+  pub places : length bytes ≤ end_of_places
+  pub pools : EndBelow (length bytes) (map range_of content.pools)
+
+-- its heap was read, in at most so many touches
+pub record WasRead (most : ℕ) (old new : CountedRegion) : Type 0 where
+  pub content : new.content ≡ old.content
+  pub rows : new.rows ≡ old.rows
+  pub floor : old.touches ≤ new.touches
+  pub bound : new.touches ≤ old.touches + most

@@ -1,0 +1,330 @@
+//! The region.
+
+use crate::RegionError;
+use crate::copied::take_along;
+use arrayvec::ArrayVec;
+use std::alloc::Global;
+use std::marker::Model;
+use tlsf_heap::{Cursor, END_OF_PLACES, Heap, MOST_POOLS, MOST_RECORDS, Ptr, Refusal, Row};
+
+/// Bytes with a heap over them. Places of blocks are places of these bytes, and a live block's bytes are
+/// lent by its pointer.
+///
+/// After a refusal the heap's content and the bytes are as they were. Only writes through a lent slice
+/// and a `realloc` that moves the block change any byte. No call after `create` takes memory.
+#[derive(Drop)]
+pub struct Region {
+    heap: Heap,
+    bytes: Vec<u8>,
+}
+
+impl Model for Region {
+    ghost use Rattle.tlsf_region.specs.Region.{CountedRegion, counted_region, IsWithin};
+
+    ghost Value = { CountedRegion };
+
+    ghost view = { λ r. counted_region r.heap r.bytes.items };
+
+    ghost invariant = { λ r. IsWithin r.heap.content r.bytes.items };
+}
+
+impl Region {
+    ghost use Rattle.std.specs.Prelude.{◌≡◌, ◌≢◌, ℕ, false, ◌+◌, ◌<◌, ◌≤◌, ◌==◌, ◌⊎◌, ◌↔◌, [], ◌∷◌, map, replicate, length, Ok, Err, Some, IfOk, IfErr, IfSome, IfNone, OnOk, OnErr};
+    ghost use Rattle.tlsf_heap.specs.Pools.{created, most_records, end_of_places};
+    ghost use Rattle.tlsf_heap.specs.Content.{blocks_of, size_at};
+    ghost use Rattle.tlsf_heap.specs.GoodSlots.{HasGoodSlots, slot_times};
+    ghost use Rattle.tlsf_heap.specs.Malloc.{malloc as served};
+    ghost use Rattle.tlsf_heap.specs.Free.{free as freed, is_live};
+    ghost use Rattle.tlsf_heap.specs.Good.{IsGood};
+    ghost use Rattle.tlsf_heap.specs.Realloc.{realloc as reallocated};
+    ghost use Rattle.tlsf_heap.specs.BlockSize.{block_size as sized};
+    ghost use Rattle.tlsf_heap.specs.Pointer.{Pointer, place_and_slot, slot_of};
+    ghost use Rattle.tlsf_heap.specs.Rows.{rows_from};
+    ghost use Rattle.tlsf_heap.specs.Readings.{rows_behind, is_at_row};
+    ghost use Rattle.tlsf_heap.specs.Counted.{range_of};
+    ghost use Rattle.tlsf_heap.specs.Implied.{NoneFits, HasFewRecords, HasAlignedBlocks, HasDisjointBlocks, ListsFreeBlocks, ListsNothingElse};
+    ghost use Rattle.tlsf_heap.specs.declared.refusal.Refusal.TheVariants.{NoFit, TableFull};
+    ghost use Rattle.tlsf_region.specs.Pools.{add_pool_within};
+    ghost use Rattle.tlsf_region.specs.Realloc.{bytes_after_realloc};
+    ghost use Rattle.tlsf_region.specs.Region.{IsWithin, WasRead};
+    ghost use Rattle.tlsf_region.specs.Bytes.{block_bytes, live_bytes};
+    ghost use Rattle.tlsf_region.specs.Lends.{ends_read, lends_from, lends_block};
+    ghost use Rattle.std.specs.Borrow.{sem};
+    ghost use Rattle.std.specs.Option.{option_map};
+    ghost use Rattle.tlsf_region.specs.declared.region_error.RegionError.TheVariants.{BadCount, BadLength};
+
+    /// A region of `len` bytes, at most 2^32, all 0, with a heap of this many records, from 1 to 65,535, and
+    /// no pool. It takes memory twice, for the heap's table and for the bytes.
+    ///
+    /// # Errors
+    ///
+    /// `BadCount` where the number of records isn't from 1 to 65,535; `BadLength` where `len` is above
+    /// 2^32; `OutOfMemory` where memory is refused.
+    pub fn create(alloc: Global, len: u64, records: u32) -> Result<Region, RegionError>
+        ensures made { IfOk result (λ region. region.content ≡ created records) }
+        ensures zeros { IfOk result (λ region. region.bytes ≡ replicate len 0) }
+        ensures untouched { IfOk result (λ region. region.touches ≡ 0) }
+        ensures bad_count { (result ≡ Err BadCount) ↔ ((records ≡ 0) ⊎ (most_records < records)) }
+        ensures bad_length { (result ≡ Err BadLength) ↔ ((0 < records) × (records ≤ most_records) × (end_of_places < len)) }
+    {
+        if records == 0 || records > MOST_RECORDS {
+            return Err(RegionError::BadCount);
+        }
+        if len > END_OF_PLACES {
+            return Err(RegionError::BadLength);
+        }
+        let Ok(heap) = Heap::create(alloc, records) else {
+            return Err(RegionError::OutOfMemory);
+        };
+        let Ok(bytes) = vec![in alloc; 0; len as usize] else {
+            return Err(RegionError::OutOfMemory);
+        };
+        Ok(Region { heap, bytes })
+    }
+
+    /// A pool of `bytes` bytes from the place `base` on, as one free block. At most 64 touches.
+    ///
+    /// # Errors
+    ///
+    /// `BadPool` where base or bytes isn't a multiple of the unit, bytes isn't from the unit to the
+    /// greatest size, the end is above the region's bytes, or the pool overlaps another; `PoolsFull`
+    /// where there are as many pools as there can be; `TableFull` where each record is in use: there are
+    /// at most two records a live block and one a pool then.
+    pub fn add_pool(&mut self, base: u64, bytes: u64) -> Result<(), Refusal>
+        ensures ok { OnOk result (add_pool_within (length self.old.bytes) base bytes self.old.content ≡ Ok self.new.content) }
+        ensures refused { IfErr result (λ refusal. add_pool_within (length self.old.bytes) base bytes self.old.content ≡ Err refusal) }
+        ensures table_full { result ≡ Err TableFull → HasFewRecords self.old.content }
+        ensures never_memory { result ≢ Err Refusal.OutOfMemory }
+        ensures unchanged { OnErr result (self.new.content ≡ self.old.content) }
+        ensures others { OnErr result (self.new.rows ≡ self.old.rows) }
+        ensures bytes { self.new.bytes ≡ self.old.bytes }
+        ensures floor { self.old.touches ≤ self.new.touches }
+        ensures bound { self.new.touches ≤ self.old.touches + 64 }
+    {
+        let len = self.bytes.len() as u64;
+        if base > len || bytes > len - base {
+            return Err(Refusal::BadPool);
+        }
+        self.heap.add_pool(base, bytes)
+    }
+
+    /// A live block of at least `n` bytes, as `Heap::malloc` gives it. Its bytes are those that were there.
+    /// At most 96 touches.
+    ///
+    /// # Errors
+    ///
+    /// `ZeroSize` for 0; `NoFit` where no such block is there, or `n` is above the greatest size;
+    /// `TableFull` where a rest would be left and each record is in use.
+    pub fn malloc(&mut self, n: u64) -> Result<Ptr, Refusal>
+        ensures ok { IfOk result (λ ptr. served ptr.slot n self.old.content ≡ Ok (ptr.place, self.new.content)) }
+        ensures slot_below { IfOk result (λ ptr. ptr.slot < self.old.content.records) }
+        ensures slot_new { IfOk result (λ ptr. slot_times ptr.slot (blocks_of self.old.content.pools) ≡ 0) }
+        ensures refused { IfErr result (λ refusal. (slot : ℕ) → served slot n self.old.content ≡ Err refusal) }
+        ensures no_fit { result ≡ Err NoFit → NoneFits n self.old.content }
+        ensures table_full { result ≡ Err TableFull → HasFewRecords self.old.content }
+        ensures never_memory { result ≢ Err Refusal.OutOfMemory }
+        ensures unchanged { OnErr result (self.new.content ≡ self.old.content) }
+        ensures others { OnErr result (self.new.rows ≡ self.old.rows) }
+        ensures bytes { self.new.bytes ≡ self.old.bytes }
+        ensures floor { self.old.touches ≤ self.new.touches }
+        ensures bound { self.new.touches ≤ self.old.touches + 96 }
+    {
+        self.heap.malloc(n)
+    }
+
+    /// The block becomes free, as `Heap::free` makes it. At most 96 touches.
+    ///
+    /// # Errors
+    ///
+    /// `BadPointer` unless a live block has both the pointer's place and its slot.
+    pub fn free(&mut self, ptr: Ptr) -> Result<(), Refusal>
+        ensures ok { OnOk result (freed (λ slot. slot == ptr.slot) ptr.place self.old.content ≡ Ok self.new.content) }
+        ensures refused { IfErr result (λ refusal. freed (λ slot. slot == ptr.slot) ptr.place self.old.content ≡ Err refusal) }
+        ensures never_memory { result ≢ Err Refusal.OutOfMemory }
+        ensures unchanged { OnErr result (self.new.content ≡ self.old.content) }
+        ensures others { OnErr result (self.new.rows ≡ self.old.rows) }
+        ensures bytes { self.new.bytes ≡ self.old.bytes }
+        ensures floor { self.old.touches ≤ self.new.touches }
+        ensures bound { self.new.touches ≤ self.old.touches + 96 }
+    {
+        self.heap.free(ptr)
+    }
+
+    /// The block with room for `n` bytes, as `Heap::realloc` gives it. A block that moves takes its bytes
+    /// along: they are the start of the new block then. Else no byte changes. At most 260 touches.
+    ///
+    /// # Errors
+    ///
+    /// `BadPointer` unless a live block has both the pointer's place and its slot; as `malloc` without a
+    /// pointer, or where the block has to move: then the old block is as it was.
+    pub fn realloc(&mut self, ptr: Option<Ptr>, n: u64) -> Result<Option<Ptr>, Refusal>
+        ensures ok { IfOk result (λ given. reallocated (λ a b. a == b) (slot_of given) (place_and_slot ptr) n self.old.content ≡ Ok (place_and_slot given, self.new.content)) }
+        ensures slot_below { IfOk result (λ given. IfSome given (λ p. p.slot < self.old.content.records)) }
+        ensures slot_new { IfOk result (λ given. IfSome given (λ p. ptr ≢ Some p → slot_times p.slot (blocks_of self.old.content.pools) ≡ 0)) }
+        ensures refused { IfErr result (λ refusal. (slot : ℕ) → reallocated (λ a b. a == b) slot (place_and_slot ptr) n self.old.content ≡ Err refusal) }
+        ensures table_full { result ≡ Err TableFull → HasFewRecords self.old.content }
+        ensures never_memory { result ≢ Err Refusal.OutOfMemory }
+        ensures unchanged { OnErr result (self.new.content ≡ self.old.content) }
+        ensures others { OnErr result (self.new.rows ≡ self.old.rows) }
+        ensures bytes { IfOk result (λ given. self.new.bytes ≡ bytes_after_realloc ptr given self.old.content self.old.bytes) }
+        ensures bytes_unchanged { OnErr result (self.new.bytes ≡ self.old.bytes) }
+        ensures floor { self.old.touches ≤ self.new.touches }
+        ensures bound { self.new.touches ≤ self.old.touches + 260 }
+    {
+        let Some(old) = ptr else {
+            return self.heap.realloc(None, n);
+        };
+        let Some(size) = self.live_size(old) else {
+            return Err(Refusal::BadPointer);
+        };
+        let Some(new) = self.heap.realloc(ptr, n)? else {
+            return Ok(None);
+        };
+        take_along(&mut self.bytes, old, new, size);
+        Ok(Some(new))
+    }
+
+    /// The size of a live block, in bytes. At most four touches.
+    ///
+    /// # Errors
+    ///
+    /// `BadPointer` unless a live block has both the pointer's place and its slot.
+    pub fn block_size(&mut self, ptr: Ptr) -> Result<u32, Refusal>
+        ensures ok { IfOk result (λ bytes. sized (λ slot. slot == ptr.slot) ptr.place self.old.content ≡ Ok bytes) }
+        ensures refused { IfErr result (λ refusal. sized (λ slot. slot == ptr.slot) ptr.place self.old.content ≡ Err refusal) }
+        ensures others { self.new.rows ≡ self.old.rows }
+        ensures unchanged { self.new.content ≡ self.old.content }
+        ensures bytes { self.new.bytes ≡ self.old.bytes }
+        ensures floor { self.old.touches ≤ self.new.touches }
+        ensures bound { self.new.touches ≤ self.old.touches + 4 }
+    {
+        self.heap.block_size(ptr)
+    }
+
+    /// The size of the live block that the pointer names, which ends within the bytes; none where it names
+    /// no live block. At most four touches.
+    fn live_size(&mut self, ptr: Ptr) -> Option<u32>
+        ensures some { IfSome result (λ size. sized (λ slot. slot == ptr.slot) ptr.place self.old.content ≡ Ok size) }
+        ensures within { IfSome result (λ size. ptr.place + size ≤ length self.old.bytes) }
+        ensures positive { IfSome result (λ size. 0 < size) }
+        ensures none { IfNone result (is_live (λ slot. slot == ptr.slot) ptr.place (blocks_of self.old.content.pools) ≡ false) }
+        ensures good { IsGood self.old.content }
+        ensures ends { IsWithin self.old.content self.old.bytes }
+        ensures others { self.new.rows ≡ self.old.rows }
+        ensures unchanged { self.new.content ≡ self.old.content }
+        ensures bytes { self.new.bytes ≡ self.old.bytes }
+        ensures floor { self.old.touches ≤ self.new.touches }
+        ensures bound { self.new.touches ≤ self.old.touches + 4 }
+    {
+        self.heap.keeps_good();
+        self.heap.block_size(ptr).ok()
+    }
+
+    /// How many bytes the pointer's block has, and 0 where it names no live block: no block is empty. At
+    /// most four touches.
+    fn lent_len(&mut self, ptr: Ptr) -> u32
+        ensures some { 0 < result → sized (λ slot. slot == ptr.slot) ptr.place self.old.content ≡ Ok result }
+        ensures within { 0 < result → ptr.place + result ≤ length self.old.bytes }
+        ensures none { result ≡ 0 → is_live (λ slot. slot == ptr.slot) ptr.place (blocks_of self.old.content.pools) ≡ false }
+        ensures read { WasRead 4 self.old self.new }
+        ensures bytes { self.new.bytes ≡ self.old.bytes }
+    {
+        self.live_size(ptr).unwrap_or(0)
+    }
+
+    /// Lends the `len` bytes from the pointer's place on.
+    fn lend(&mut self, ptr: Ptr, len: u32) -> &mut [u8]
+        requires { ptr.place + len ≤ length self.old.bytes }
+        ensures* writes_back { sem 𝓛 (lends_from self.entry ptr.place result) }
+        ensures lent { result.now ≡ block_bytes ptr.place len self.old.bytes }
+    {
+        let start = ptr.place() as usize;
+        self.bytes.slice_mut(start..start + len as usize)
+    }
+
+    /// The bytes of a live block, as many as its size, to read; none where the pointer names no live block.
+    /// At most four touches.
+    pub fn bytes(&mut self, ptr: Ptr) -> Option<&[u8]>
+        ensures lent { option_map (λ block. block.now) result ≡ live_bytes ptr self.old.content self.old.bytes }
+        ensures* after { sem 𝓛 (ends_read self.entry) }
+    {
+        let size = self.live_size(ptr)?;
+        let start = ptr.place() as usize;
+        Some(&self.bytes[start..start + size as usize])
+    }
+
+    /// The bytes of a live block, as many as its size, to write; none where the pointer names no live block.
+    /// What is written through them changes these bytes alone. At most four touches.
+    pub fn bytes_mut(&mut self, ptr: Ptr) -> Option<&mut [u8]>
+        ensures* writes_back { sem 𝓛 (lends_block self.entry ptr result) }
+        ensures lent { option_map (λ block. block.now) result ≡ live_bytes ptr self.old.content self.old.bytes }
+    {
+        let len = self.lent_len(ptr);
+        if len == 0 {
+            return None;
+        }
+        Some(self.lend(ptr, len))
+    }
+
+    /// Where each pool begins and how many bytes it has, in order of base. At most eight touches.
+    pub fn pools(&mut self) -> ArrayVec<(u64, u64), MOST_POOLS>
+        ensures value { result.items ≡ map range_of self.old.content.pools }
+        ensures others { self.new.rows ≡ self.old.rows }
+        ensures unchanged { self.new.content ≡ self.old.content }
+        ensures bytes { self.new.bytes ≡ self.old.bytes }
+        ensures floor { self.old.touches ≤ self.new.touches }
+        ensures bound { self.new.touches ≤ self.old.touches + 8 }
+    {
+        self.heap.pools()
+    }
+
+    /// The cursor at the first row of the pool that begins at the place `base`. At most four touches.
+    ///
+    /// # Errors
+    ///
+    /// `NoPool` where no pool begins there.
+    pub fn first(&mut self, base: u64) -> Result<Cursor, Refusal>
+        ensures ok { IfOk result (λ cursor. rows_from base self.old.content.pools ≡ Ok (rows_behind self.new.rows cursor)) }
+        ensures stands { IfOk result (λ cursor. is_at_row self.new.rows cursor) }
+        ensures refused { IfErr result (λ refusal. rows_from base self.old.content.pools ≡ Err refusal) }
+        ensures others { self.new.rows ≡ self.old.rows }
+        ensures unchanged { self.new.content ≡ self.old.content }
+        ensures bytes { self.new.bytes ≡ self.old.bytes }
+        ensures floor { self.old.touches ≤ self.new.touches }
+        ensures bound { self.new.touches ≤ self.old.touches + 4 }
+    {
+        self.heap.first(base)
+    }
+
+    /// The row at the cursor, and the cursor behind it; none behind the last row of the pool. At most
+    /// four touches, and none where there is no row.
+    pub fn row(&mut self, cursor: Cursor) -> Option<(Row, Cursor)>
+        requires { is_at_row self.old.rows cursor }
+        ensures some { IfSome result (λ given. rows_behind self.old.rows cursor ≡ given.0 ∷ rows_behind self.new.rows given.1) }
+        ensures next_stands { IfSome result (λ given. is_at_row self.new.rows given.1) }
+        ensures none { IfNone result (rows_behind self.old.rows cursor ≡ []) }
+        ensures others { self.new.rows ≡ self.old.rows }
+        ensures unchanged { self.new.content ≡ self.old.content }
+        ensures bytes { self.new.bytes ≡ self.old.bytes }
+        ensures floor { self.old.touches ≤ self.new.touches }
+        ensures bound { IfSome result (λ given. self.new.touches ≤ self.old.touches + 4) }
+        ensures no_touch { IfNone result (self.new.touches ≡ self.old.touches) }
+    {
+        self.heap.row(cursor)
+    }
+
+    /// Says what every region keeps, and does nothing: what every heap does; no pool ends above the bytes,
+    /// which are at most 2^32; and a live block has as many bytes as its size.
+    pub fn keeps_good(&self)
+        ensures good { IsGood self.now.content }
+        ensures slots { HasGoodSlots self.now.content }
+        ensures aligned { HasAlignedBlocks self.now.content }
+        ensures disjoint { HasDisjointBlocks self.now.content }
+        ensures listed_once { ListsFreeBlocks self.now.content }
+        ensures listed_alone { ListsNothingElse self.now.content }
+        ensures within { IsWithin self.now.content self.now.bytes }
+        ensures as_many { (ptr : Pointer) → IfSome (live_bytes ptr self.now.content self.now.bytes) (λ block. length block ≡ size_at ptr.place (blocks_of self.now.content.pools)) }
+    {
+        self.heap.keeps_good();
+    }
+}

@@ -1,0 +1,154 @@
+//! Rows of the region.
+
+use super::*;
+use std::alloc::Global;
+use std::process::Abort;
+use tlsf_heap::{Ptr, Refusal, Row};
+
+/// A region of so many bytes and records, where memory isn't refused.
+fn made(rt: &impl Abort, alloc: Global, len: u64, records: u32) -> Region {
+    match Region::create(alloc, len, records) {
+        Ok(region) => region,
+        Err(_) => panic!(rt; "no region"),
+    }
+}
+
+fn refused(alloc: Global, len: u64, records: u32) -> Option<RegionError> {
+    Region::create(alloc, len, records).err()
+}
+
+/// The number of records is looked at first, and then the length.
+#[test]
+fn errors_in_order(rt: HostRuntime) {
+    let above = (1 << 32) + 1;
+    for records in [0, 65_536] {
+        assert_eq!(rt;
+            refused(rt.alloc(), 8, records),
+            Some(RegionError::BadCount)
+        );
+        assert_eq!(rt;
+            refused(rt.alloc(), above, records),
+            Some(RegionError::BadCount)
+        );
+    }
+    for records in [1, 65_535] {
+        assert_eq!(rt;
+            refused(rt.alloc(), above, records),
+            Some(RegionError::BadLength)
+        );
+        assert_eq!(rt; refused(rt.alloc(), 8, records), None);
+    }
+    assert_eq!(rt; refused(rt.alloc(), 0, 1), None);
+}
+
+/// A pool ends at the region's bytes at most.
+#[test]
+fn pools_within_the_bytes(rt: HostRuntime) {
+    let mut region = made(&rt, rt.alloc(), 1024, 4);
+    let rows = [
+        (0, 1032),
+        (8, 1024),
+        (1024, 8),
+        (1032, 8),
+        (u64::MAX, 8),
+        (8, u64::MAX),
+    ];
+    for (base, bytes) in rows {
+        assert_eq!(rt; region.add_pool(base, bytes), Err(Refusal::BadPool));
+    }
+    assert_eq!(rt; region.add_pool(0, 8), Ok(()));
+    assert_eq!(rt; region.add_pool(8, 1016), Ok(()));
+}
+
+/// Writes 0, 1, 2 and so on over the bytes of a block.
+fn count_up(block: &mut [u8]) {
+    for index in 0..block.len() {
+        block[index] = (index % 256) as u8;
+    }
+}
+
+/// Whether the bytes are 0, 1, 2 and so on below `count`, and then zeros.
+fn counts_up_to(block: &[u8], count: usize) -> bool {
+    for index in 0..block.len() {
+        let wanted = if index < count { index % 256 } else { 0 };
+        if block[index] as usize != wanted {
+            return false;
+        }
+    }
+    true
+}
+
+/// A block that moves takes its bytes along, and its old pointer lends none.
+#[test]
+fn bytes_move(rt: HostRuntime) {
+    let mut region = made(&rt, rt.alloc(), 1024, 4);
+    assert_eq!(rt; region.add_pool(0, 1024), Ok(()));
+    let Ok(p) = region.malloc(100) else {
+        panic!(rt; "no block");
+    };
+    let Some(block) = region.bytes_mut(p) else {
+        panic!(rt; "no bytes");
+    };
+    assert_eq!(rt; block.len(), 104);
+    count_up(block);
+    assert!(rt; region.malloc(1).is_ok());
+    let Ok(Some(q)) = region.realloc(Some(p), 200) else {
+        panic!(rt; "not moved");
+    };
+    assert_eq!(rt; q.place(), 112);
+    let Some(block) = region.bytes(q) else {
+        panic!(rt; "no bytes");
+    };
+    assert_eq!(rt; block.len(), 200);
+    assert!(rt; counts_up_to(block, 104));
+    assert!(rt; region.bytes(p).is_none());
+    assert!(rt; region.bytes_mut(p).is_none());
+}
+
+/// A pointer of another slot lends no bytes.
+#[test]
+fn another_slot(rt: HostRuntime) {
+    let mut region = made(&rt, rt.alloc(), 64, 4);
+    assert_eq!(rt; region.add_pool(0, 64), Ok(()));
+    let Ok(p) = region.malloc(8) else {
+        panic!(rt; "no block");
+    };
+    let other = Ptr::new(p.place(), if p.slot() == 0 { 1 } else { 0 });
+    assert!(rt; region.bytes(p).is_some());
+    assert!(rt; region.bytes(other).is_none());
+    assert!(rt; region.bytes_mut(other).is_none());
+    assert_eq!(rt; region.block_size(other), Err(Refusal::BadPointer));
+}
+
+/// Whether these are the region's pools.
+fn has_pools(region: &mut Region, ranges: &[(u64, u64)]) -> bool {
+    region.pools().as_slice() == ranges
+}
+
+/// The heap's readings, and a block that is freed lends no bytes.
+#[test]
+fn readings(rt: HostRuntime) {
+    let mut region = made(&rt, rt.alloc(), 64, 4);
+    assert_eq!(rt; region.add_pool(0, 64), Ok(()));
+    assert!(rt; has_pools(&mut region, &[(0, 64)]));
+    let Ok(p) = region.malloc(8) else {
+        panic!(rt; "no block");
+    };
+    assert_eq!(rt; region.block_size(p), Ok(8));
+    let Ok(cursor) = region.first(0) else {
+        panic!(rt; "no pool");
+    };
+    let Some((row, next)) = region.row(cursor) else {
+        panic!(rt; "no row");
+    };
+    let wanted = Row {
+        place: 0,
+        size: 8,
+        used: true,
+    };
+    assert_eq!(rt; row, wanted);
+    assert!(rt; region.row(next).is_some());
+    assert_eq!(rt; region.free(p), Ok(()));
+    assert!(rt; region.bytes(p).is_none());
+    assert_eq!(rt; region.free(p), Err(Refusal::BadPointer));
+}
