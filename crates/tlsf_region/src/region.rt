@@ -29,8 +29,8 @@ impl Model for Region {
 }
 
 impl Region {
-    ghost use Rattle.std.specs.Prelude.{◌≡◌, ◌≢◌, ℕ, false, ◌+◌, ◌<◌, ◌≤◌, ◌==◌, ◌⊎◌, ◌↔◌, [], ◌∷◌, map, replicate, length, Ok, Err, Some, IfOk, IfErr, IfSome, IfNone, OnOk, OnErr};
-    ghost use Rattle.tlsf_heap.specs.Pools.{created, most_records, end_of_places};
+    ghost use Rattle.std.specs.Prelude.{◌≡◌, ◌≢◌, ℕ, true, false, ◌+◌, ◌%◌, ◌<◌, ◌≤◌, ◌==◌, ◌⊎◌, ◌↔◌, [], ◌∷◌, map, replicate, length, Ok, Err, Some, IfOk, IfErr, IfSome, IfNone, OnOk, OnErr};
+    ghost use Rattle.tlsf_heap.specs.Pools.{created, most_records, end_of_places, remove_pool as removed};
     ghost use Rattle.tlsf_heap.specs.Content.{blocks_of, size_at};
     ghost use Rattle.tlsf_heap.specs.GoodSlots.{HasGoodSlots, slot_times};
     ghost use Rattle.tlsf_heap.specs.Malloc.{malloc as served};
@@ -42,7 +42,9 @@ impl Region {
     ghost use Rattle.tlsf_heap.specs.Rows.{rows_from};
     ghost use Rattle.tlsf_heap.specs.Readings.{rows_behind, is_at_row};
     ghost use Rattle.tlsf_heap.specs.Counted.{range_of};
-    ghost use Rattle.tlsf_heap.specs.Implied.{NoneFits, HasFewRecords, HasAlignedBlocks, HasDisjointBlocks, ListsFreeBlocks, ListsNothingElse};
+    ghost use Rattle.tlsf_heap.specs.Implied.{NoneFits, NoneFitsAligned, HasFewRecords, HasFewRecordsAndOne, HasAlignedBlocks, HasDisjointBlocks, ListsFreeBlocks, ListsNothingElse};
+    ghost use Rattle.tlsf_heap.specs.Memalign.{memalign as aligned};
+    ghost use Rattle.tlsf_heap.specs.Walk.{IsWalk, walk_touches};
     ghost use Rattle.tlsf_heap.specs.declared.refusal.Refusal.TheVariants.{NoFit, TableFull};
     ghost use Rattle.tlsf_region.specs.Pools.{add_pool_within};
     ghost use Rattle.tlsf_region.specs.Realloc.{bytes_after_realloc};
@@ -108,6 +110,24 @@ impl Region {
         self.heap.add_pool(base, bytes)
     }
 
+    /// The pool that begins at the place `base` is gone; its bytes stay as they are. At most 64 touches.
+    ///
+    /// # Errors
+    ///
+    /// `NoPool` where no pool begins there; `PoolInUse` unless the pool is one free block.
+    pub fn remove_pool(&mut self, base: u64) -> Result<(), Refusal>
+        ensures ok { OnOk result (removed base self.old.content ≡ Ok self.new.content) }
+        ensures refused { IfErr result (λ refusal. removed base self.old.content ≡ Err refusal) }
+        ensures never_memory { result ≢ Err Refusal.OutOfMemory }
+        ensures unchanged { OnErr result (self.new.content ≡ self.old.content) }
+        ensures others { OnErr result (self.new.rows ≡ self.old.rows) }
+        ensures bytes { self.new.bytes ≡ self.old.bytes }
+        ensures floor { self.old.touches ≤ self.new.touches }
+        ensures bound { self.new.touches ≤ self.old.touches + 64 }
+    {
+        self.heap.remove_pool(base)
+    }
+
     /// A live block of at least `n` bytes, as `Heap::malloc` gives it. Its bytes are those that were there.
     /// At most 96 touches.
     ///
@@ -130,6 +150,32 @@ impl Region {
         ensures bound { self.new.touches ≤ self.old.touches + 96 }
     {
         self.heap.malloc(n)
+    }
+
+    /// A live block of at least `n` bytes that begins at a multiple of `align`, as `Heap::memalign` gives it. Its
+    /// bytes are those that were there. At most 160 touches.
+    ///
+    /// # Errors
+    ///
+    /// `BadAlign` where `align` isn't a power of two from 1 to 2^29; `ZeroSize` for 0 bytes; `NoFit` where
+    /// no such block is there, or `n` is above the greatest size; `TableFull` where the blocks in front and
+    /// behind need more records than are left.
+    pub fn memalign(&mut self, align: u64, n: u64) -> Result<Ptr, Refusal>
+        ensures ok { IfOk result (λ ptr. aligned ptr.slot align n self.old.content ≡ Ok (ptr.place, self.new.content)) }
+        ensures multiple { IfOk result (λ ptr. ptr.place % align ≡ 0) }
+        ensures slot_below { IfOk result (λ ptr. ptr.slot < self.old.content.records) }
+        ensures slot_new { IfOk result (λ ptr. slot_times ptr.slot (blocks_of self.old.content.pools) ≡ 0) }
+        ensures refused { IfErr result (λ refusal. (slot : ℕ) → aligned slot align n self.old.content ≡ Err refusal) }
+        ensures no_fit { result ≡ Err NoFit → NoneFitsAligned align n self.old.content }
+        ensures table_full { result ≡ Err TableFull → HasFewRecordsAndOne self.old.content }
+        ensures never_memory { result ≢ Err Refusal.OutOfMemory }
+        ensures unchanged { OnErr result (self.new.content ≡ self.old.content) }
+        ensures others { OnErr result (self.new.rows ≡ self.old.rows) }
+        ensures bytes { self.new.bytes ≡ self.old.bytes }
+        ensures floor { self.old.touches ≤ self.new.touches }
+        ensures bound { self.new.touches ≤ self.old.touches + 160 }
+    {
+        self.heap.memalign(align, n)
     }
 
     /// The block becomes free, as `Heap::free` makes it. At most 96 touches.
@@ -311,6 +357,37 @@ impl Region {
         ensures no_touch { IfNone result (self.new.touches ≡ self.old.touches) }
     {
         self.heap.row(cursor)
+    }
+
+    /// Calls `visit` at each row of the pool that begins at the place `base`, once and in order. At most four
+    /// touches, and four more for each row.
+    ///
+    /// # Errors
+    ///
+    /// `NoPool` where no pool begins there: `visit` isn't called then.
+    pub fn walk<F: FnMut(Row)>(&mut self, base: u64, visit: F) -> Result<(), Refusal>
+        requires { F.IsAlwaysCallable visit }
+        ensures ok { OnOk result ((last : F) × IsWalk (λ p x q. F.step p x tt q) base self.old.content.pools visit last) }
+        ensures refused { IfErr result (λ refusal. rows_from base self.old.content.pools ≡ Err refusal) }
+        ensures others { self.new.rows ≡ self.old.rows }
+        ensures unchanged { self.new.content ≡ self.old.content }
+        ensures bytes { self.new.bytes ≡ self.old.bytes }
+        ensures floor { self.old.touches ≤ self.new.touches }
+        ensures bound { self.new.touches ≤ self.old.touches + walk_touches (rows_from base self.old.content.pools) }
+    {
+        self.heap.walk(base, visit)
+    }
+
+    /// Whether the heap's table of records is that of a heap, as `Heap::check` finds it: it always is, and the
+    /// answer is `true`. How many touches that takes isn't promised.
+    pub fn check(&mut self) -> bool
+        ensures whole { result ≡ true }
+        ensures others { self.new.rows ≡ self.old.rows }
+        ensures unchanged { self.new.content ≡ self.old.content }
+        ensures bytes { self.new.bytes ≡ self.old.bytes }
+        ensures floor { self.old.touches ≤ self.new.touches }
+    {
+        self.heap.check()
     }
 
     /// Says what every region keeps, and does nothing: what every heap does; no pool ends above the bytes,
