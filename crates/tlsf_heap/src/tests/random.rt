@@ -58,8 +58,14 @@ struct Given {
 struct Tally {
     done: u32,
     given: u32,
+    moved: u32,
+    freed: u32,
+    sized: u32,
     no_fit: u32,
     table_full: u32,
+    bad_pointer: u32,
+    bad_align: u32,
+    pool_in_use: u32,
     tlsf_slot: u16,
     plain_slot: u16,
 }
@@ -67,25 +73,30 @@ struct Tally {
 impl Tally {
     /// The tally with this answer counted.
     fn with(&self, answer: &Answer) -> Tally {
+        let mut tally = *self;
         match answer {
-            Answer::Done => Tally {
-                done: self.done.saturating_add(1),
-                ..*self
-            },
-            Answer::Given(_) => Tally {
-                given: self.given.saturating_add(1),
-                ..*self
-            },
-            Answer::Refused(Refusal::NoFit) => Tally {
-                no_fit: self.no_fit.saturating_add(1),
-                ..*self
-            },
-            Answer::Refused(Refusal::TableFull) => Tally {
-                table_full: self.table_full.saturating_add(1),
-                ..*self
-            },
-            _ => *self,
+            Answer::Done => tally.done = self.done.saturating_add(1),
+            Answer::Given(_) => tally.given = self.given.saturating_add(1),
+            Answer::Moved(Some(_)) => tally.moved = self.moved.saturating_add(1),
+            Answer::Moved(None) => tally.freed = self.freed.saturating_add(1),
+            Answer::Size(_) => tally.sized = self.sized.saturating_add(1),
+            Answer::Refused(refusal) => tally = self.with_refusal(*refusal),
         }
+        tally
+    }
+
+    /// The tally with this refusal counted.
+    fn with_refusal(&self, refusal: Refusal) -> Tally {
+        let mut tally = *self;
+        match refusal {
+            Refusal::NoFit => tally.no_fit = self.no_fit.saturating_add(1),
+            Refusal::TableFull => tally.table_full = self.table_full.saturating_add(1),
+            Refusal::BadPointer => tally.bad_pointer = self.bad_pointer.saturating_add(1),
+            Refusal::BadAlign => tally.bad_align = self.bad_align.saturating_add(1),
+            Refusal::PoolInUse => tally.pool_in_use = self.pool_in_use.saturating_add(1),
+            _ => {}
+        }
+        tally
     }
 
     /// The tally with the slots of what both heaps gave.
@@ -99,18 +110,53 @@ impl Tally {
 
     /// Whether each kind came often.
     fn is_varied(self) -> bool {
-        self.done >= 500 && self.given >= 500 && self.no_fit >= 100 && self.table_full >= 100
+        let often = self.done >= 300 && self.given >= 300 && self.moved >= 100 && self.sized >= 50;
+        let refused = self.no_fit >= 100 && self.table_full >= 100 && self.bad_pointer >= 50;
+        often && refused && self.freed >= 10 && self.bad_align >= 10 && self.pool_in_use >= 10
     }
 
     /// Whether blocks were given and freed often, and both heaps gave slots above the numbers of a byte.
     fn has_high_slots(self) -> bool {
-        self.done >= 500 && self.given >= 500 && self.tlsf_slot > 255 && self.plain_slot > 255
+        self.done >= 400 && self.given >= 400 && self.tlsf_slot > 255 && self.plain_slot > 255
     }
 }
 
-/// Puts a request for both heaps at the end: a block is freed, or one is asked for.
+/// A pointer that no heap gave: no block begins at its place.
+fn stale(number: u64) -> Ptr {
+    let place = (number >> 8) % 8192 * 8 + 4;
+    Ptr::new(place as u32, (number % 32) as u16)
+}
+
+/// A request of each heap, without a pointer of a live block.
+fn request_of_none(number: u64, setup: Setup) -> Request {
+    let size = size_near_class(number >> 16);
+    let (base, bytes) = setup.pools[2];
+    match number % 16 {
+        0 => Request::RemovePool(base),
+        1 => Request::AddPool(base, bytes),
+        2 => Request::Memalign(number >> 8 & 255, size),
+        3..=6 => Request::Memalign(1 << (number >> 8 & 7), size),
+        7 => Request::Realloc(None, size),
+        8 => Request::Free(stale(number)),
+        _ => Request::Malloc(size),
+    }
+}
+
+/// A request of one heap, with its pointer of a live block.
+fn request_of(number: u64, ptr: Ptr) -> Request {
+    match number % 8 {
+        0 | 1 => Request::Realloc(Some(ptr), size_near_class(number >> 16)),
+        2 => Request::BlockSize(ptr),
+        3 if number >> 16 & 3 == 0 => Request::Realloc(Some(ptr), 0),
+        _ => Request::Free(ptr),
+    }
+}
+
+/// Puts a request for both heaps at the end: of a block that is live, or of none. The block isn't asked with
+/// again until its answer is there.
 fn push_request(
     number: u64,
+    setup: Setup,
     live: &mut Vec<Given>,
     tlsf: &mut Vec<Request>,
     plain: &mut Vec<Request>,
@@ -121,68 +167,80 @@ fn push_request(
             tlsf: one,
             plain: other,
         } = live.remove(place);
-        tlsf.push(Request::Free(one))?;
-        plain.push(Request::Free(other))?;
+        tlsf.push(request_of(number >> 24, one))?;
+        plain.push(request_of(number >> 24, other))?;
     } else {
-        let size = size_near_class(number >> 16);
-        tlsf.push(Request::Malloc(size))?;
-        plain.push(Request::Malloc(size))?;
+        tlsf.push(request_of_none(number >> 24, setup))?;
+        plain.push(request_of_none(number >> 24, setup))?;
     }
     Ok(())
 }
 
-/// The pointer that was given, if one was.
-fn given_in(answer: &Answer) -> Option<Ptr> {
+/// The pointer of the block that is live after a request with this answer, if one is.
+fn pointer_after(request: Request, answer: &Answer) -> Option<Ptr> {
     match answer {
         Answer::Given(ptr) => Some(*ptr),
+        Answer::Moved(ptr) => *ptr,
+        Answer::Size(_) | Answer::Refused(_) => pointer_in(request),
+        Answer::Done => None,
+    }
+}
+
+/// The pointer of a live block that a request has.
+fn pointer_in(request: Request) -> Option<Ptr> {
+    match request {
+        Request::Realloc(ptr, _) => ptr,
+        Request::BlockSize(ptr) => Some(ptr),
         _ => None,
     }
 }
 
-/// The pointers that both heaps gave at one place, if they did.
-fn given_by_both(tlsf: &Answer, plain: &Answer) -> Option<Given> {
-    let Some(one) = given_in(tlsf) else {
-        return None;
-    };
-    let Some(other) = given_in(plain) else {
-        return None;
-    };
-    if one.place() == other.place() {
-        Some(Given {
-            tlsf: one,
-            plain: other,
-        })
-    } else {
-        None
+/// Whether the answers are the same, but for slots.
+fn is_same(one: &Answer, other: &Answer) -> bool {
+    match (one, other) {
+        (Answer::Given(one), Answer::Given(other)) => one.place() == other.place(),
+        (Answer::Moved(Some(one)), Answer::Moved(Some(other))) => one.place() == other.place(),
+        _ => *one == *other,
     }
+}
+
+/// The requests of one run of a heap, and their answers.
+#[derive(Drop)]
+struct Asked {
+    requests: Vec<Request>,
+    answers: Vec<Answer>,
 }
 
 /// Whether both heaps answered the same, but for slots. What they gave is live from then on.
 fn same_answers(
-    tlsf: &Vec<Answer>,
-    plain: &Vec<Answer>,
+    tlsf: &Asked,
+    plain: &Asked,
     live: &mut Vec<Given>,
     tally: &mut Tally,
 ) -> Result<bool, AllocError> {
-    for (one, other) in tlsf.iter().zip(plain.iter()) {
+    let ones = tlsf.requests.iter().zip(tlsf.answers.iter());
+    let others = plain.requests.iter().zip(plain.answers.iter());
+    for ((request, one), (same, other)) in ones.zip(others) {
         *tally = tally.with(one);
-        if let Some(given) = given_by_both(one, other) {
-            *tally = tally.with_slots(&given);
-            live.push(given)?;
-        } else if *one != *other {
+        if !is_same(one, other) {
             return Ok(false);
         }
+        let after = (pointer_after(*request, one), pointer_after(*same, other));
+        if let (Some(tlsf), Some(plain)) = after {
+            let given = Given { tlsf, plain };
+            *tally = tally.with_slots(&given);
+            live.push(given)?;
+        }
     }
-    Ok(tlsf.len() == plain.len())
+    Ok(tlsf.answers.len() == plain.answers.len())
 }
 
 /// Whether the pool at a base has the same rows in both heaps.
 fn same_rows<A: Heaped, B: Heaped>(tlsf: &mut A, plain: &mut B, base: u64, records: u32) -> bool {
-    let Ok(mut one) = tlsf.first(base) else {
-        return false;
-    };
-    let Ok(mut other) = plain.first(base) else {
-        return false;
+    let (mut one, mut other) = match (tlsf.first(base), plain.first(base)) {
+        (Ok(one), Ok(other)) => (one, other),
+        (Err(one), Err(other)) => return one == other,
+        _ => return false,
     };
     for _row in 0..=records {
         match (tlsf.row(one), plain.row(other)) {
@@ -213,6 +271,7 @@ fn same_pools(setup: Setup, tlsf: &mut Heap, plain: &mut PlainHeap) -> bool {
 /// The requests of one run for both heaps, and the number after them.
 fn requests(
     alloc: Global,
+    setup: Setup,
     from: u64,
     live: &mut Vec<Given>,
 ) -> Result<(Vec<Request>, Vec<Request>, u64), AllocError> {
@@ -221,7 +280,7 @@ fn requests(
     let mut plain = Vec::new(alloc);
     for _request in 0..REQUESTS {
         number = shifted(number);
-        push_request(number, live, &mut tlsf, &mut plain)?;
+        push_request(number, setup, live, &mut tlsf, &mut plain)?;
     }
     Ok((tlsf, plain, number))
 }
@@ -236,14 +295,22 @@ fn same_run(
     tlsf: &mut Heap,
     plain: &mut PlainHeap,
 ) -> Result<(bool, u64), AllocError> {
-    let (asked, same_asked, number) = requests(alloc, from, live)?;
+    let (asked, same_asked, number) = requests(alloc, setup, from, live)?;
     let Ok(answers) = run(alloc, tlsf, asked.as_slice()) else {
         return Err(AllocError);
     };
     let Ok(others) = run(alloc, plain, same_asked.as_slice()) else {
         return Err(AllocError);
     };
-    let same = same_answers(&answers, &others, live, tally)?;
+    let tlsf_asked = Asked {
+        requests: asked,
+        answers,
+    };
+    let plain_asked = Asked {
+        requests: same_asked,
+        answers: others,
+    };
+    let same = same_answers(&tlsf_asked, &plain_asked, live, tally)?;
     Ok((same && same_pools(setup, tlsf, plain), number))
 }
 
@@ -270,8 +337,14 @@ fn same_runs(alloc: Global, setup: Setup) -> Result<Option<Tally>, AllocError> {
     let mut tally = Tally {
         done: 0,
         given: 0,
+        moved: 0,
+        freed: 0,
+        sized: 0,
         no_fit: 0,
         table_full: 0,
+        bad_pointer: 0,
+        bad_align: 0,
+        pool_in_use: 0,
         tlsf_slot: 0,
         plain_slot: 0,
     };

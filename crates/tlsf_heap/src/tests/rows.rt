@@ -92,17 +92,17 @@ fn given_at(given: &Vec<Ptr>, place: u32) -> Ptr {
 }
 
 /// The request, where these pointers were given.
-fn request(ask: Ask, given: &Vec<Ptr>) -> Request {
+fn request(ask: &Ask, given: &Vec<Ptr>) -> Request {
     match ask {
-        Ask::Pool(base, bytes) => Request::AddPool(base, bytes),
-        Ask::RemovePool(base) => Request::RemovePool(base),
-        Ask::Malloc(n) => Request::Malloc(n),
-        Ask::Memalign(align, n) => Request::Memalign(align, n),
-        Ask::Free(place) => Request::Free(given_at(given, place)),
-        Ask::FreeOf(ptr) => Request::Free(ptr),
-        Ask::Realloc(place, n) => Request::Realloc(Some(given_at(given, place)), n),
-        Ask::ReallocNone(n) => Request::Realloc(None, n),
-        Ask::Size(place) => Request::BlockSize(given_at(given, place)),
+        Ask::Pool(base, bytes) => Request::AddPool(*base, *bytes),
+        Ask::RemovePool(base) => Request::RemovePool(*base),
+        Ask::Malloc(n) => Request::Malloc(*n),
+        Ask::Memalign(align, n) => Request::Memalign(*align, *n),
+        Ask::Free(place) => Request::Free(given_at(given, *place)),
+        Ask::FreeOf(ptr) => Request::Free(*ptr),
+        Ask::Realloc(place, n) => Request::Realloc(Some(given_at(given, *place)), *n),
+        Ask::ReallocNone(n) => Request::Realloc(None, *n),
+        Ask::Size(place) => Request::BlockSize(given_at(given, *place)),
     }
 }
 
@@ -134,16 +134,16 @@ fn answered<H: Heaped>(
     alloc: Global,
     heap: &mut H,
     given: &mut Vec<Ptr>,
-    ask: Ask,
+    ask: &Ask,
 ) -> Result<Seen, StoreError> {
-    let asked = request(ask, given);
-    let answers = run(alloc, heap, &[asked])?;
+    let answers = run(alloc, heap, &[request(ask, given)])?;
+    let seen = Seen::of(request(ask, given), answers.first());
     if let Some(ptr) = pointer_in(answers.first()) {
         if given.push(ptr).is_err() {
             return Err(StoreError::OutOfMemory);
         }
     }
-    Ok(Seen::of(asked, answers.first()))
+    Ok(seen)
 }
 
 /// The pointer that an answer gives.
@@ -160,7 +160,7 @@ fn holds<H: Heaped>(alloc: Global, case: &Case) -> Result<bool, StoreError> {
     let mut heap = H::create(alloc, case.records)?;
     let mut given = Vec::new(alloc);
     for (asked, wanted) in case.steps {
-        if answered(alloc, &mut heap, &mut given, *asked)? != *wanted {
+        if answered(alloc, &mut heap, &mut given, asked)? != *wanted {
             return Ok(false);
         }
     }
