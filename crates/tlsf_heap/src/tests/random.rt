@@ -127,10 +127,9 @@ fn stale(number: u64) -> Ptr {
     Ptr::new(place as u32, (number % 32) as u16)
 }
 
-/// A request of each heap, without a pointer of a live block.
-fn request_of_none(number: u64, setup: Setup) -> Request {
+/// A request of each heap, without a pointer of a live block; the pool named comes and goes.
+fn request_of_none(number: u64, base: u64, bytes: u64) -> Request {
     let size = size_near_class(number >> 16);
-    let (base, bytes) = setup.pools[2];
     match number % 16 {
         0 => Request::RemovePool(base),
         1 => Request::AddPool(base, bytes),
@@ -156,7 +155,7 @@ fn request_of(number: u64, ptr: Ptr) -> Request {
 /// again until its answer is there.
 fn push_request(
     number: u64,
-    setup: Setup,
+    pool: (u64, u64),
     live: &mut Vec<Given>,
     tlsf: &mut Vec<Request>,
     plain: &mut Vec<Request>,
@@ -170,8 +169,9 @@ fn push_request(
         tlsf.push(request_of(number >> 24, one))?;
         plain.push(request_of(number >> 24, other))?;
     } else {
-        tlsf.push(request_of_none(number >> 24, setup))?;
-        plain.push(request_of_none(number >> 24, setup))?;
+        let (base, bytes) = pool;
+        tlsf.push(request_of_none(number >> 24, base, bytes))?;
+        plain.push(request_of_none(number >> 24, base, bytes))?;
     }
     Ok(())
 }
@@ -280,7 +280,7 @@ fn requests(
     let mut plain = Vec::new(alloc);
     for _request in 0..REQUESTS {
         number = shifted(number);
-        push_request(number, setup, live, &mut tlsf, &mut plain)?;
+        push_request(number, setup.pools[2], live, &mut tlsf, &mut plain)?;
     }
     Ok((tlsf, plain, number))
 }
