@@ -4,28 +4,29 @@ use crate::*;
 use std::alloc::{AllocError, Global};
 use tlsf_class::{CLASSES, Class, low};
 
-/// A heap of so many records, and where its pools begin and how many bytes they have.
+/// A heap of so many records, where its pools begin and how many bytes they have, and how many runs are made.
 #[derive(Clone, Copy)]
 struct Setup {
+    runs: u32,
     records: u32,
     pools: [(u64, u64); 3],
 }
 
 /// So few records that the table is often full. Two of the pools touch.
 const SMALL: Setup = Setup {
+    runs: 200,
     records: 24,
     pools: [(0, 4096), (4096, 1024), (8192, 520)],
 };
 
 /// More records than a byte has numbers.
 const LARGE: Setup = Setup {
+    runs: 80,
     records: 400,
     pools: [(0, 131_072), (131_072, 32_768), (163_840, 8_200)],
 };
 
-/// How many runs there are, and how many requests each has.
-const RUNS: u32 = 200;
-
+/// How many requests a run has.
 const REQUESTS: u32 = 16;
 
 /// The next number of a sequence that looks random (xorshift, Marsaglia 2003).
@@ -117,7 +118,7 @@ impl Tally {
 
     /// Whether blocks were given and freed often, and both heaps gave slots above the numbers of a byte.
     fn has_high_slots(self) -> bool {
-        self.done >= 400 && self.given >= 400 && self.tlsf_slot > 255 && self.plain_slot > 255
+        self.done >= 200 && self.given >= 400 && self.tlsf_slot > 255 && self.plain_slot > 255
     }
 }
 
@@ -151,8 +152,18 @@ fn request_of(number: u64, ptr: Ptr) -> Request {
     }
 }
 
+/// One of the blocks that are live, which is asked with next; none for a request without one.
+fn taken(number: u64, live: &mut Vec<Given>) -> Option<Given> {
+    let place = (number >> 8) as usize % 32;
+    if number % 5 < 2 && place < live.len() {
+        Some(live.remove(place))
+    } else {
+        None
+    }
+}
+
 /// Puts a request for both heaps at the end: of a block that is live, or of none. The block isn't asked with
-/// again until its answer is there.
+/// again until its answer is there. The pool comes and goes.
 fn push_request(
     number: u64,
     pool: (u64, u64),
@@ -160,18 +171,16 @@ fn push_request(
     tlsf: &mut Vec<Request>,
     plain: &mut Vec<Request>,
 ) -> Result<(), AllocError> {
-    let place = (number >> 8) as usize % 32;
-    if number % 5 < 2 && place < live.len() {
-        let Given {
-            tlsf: one,
-            plain: other,
-        } = live.remove(place);
-        tlsf.push(request_of(number >> 24, one))?;
-        plain.push(request_of(number >> 24, other))?;
-    } else {
-        let (base, bytes) = pool;
-        tlsf.push(request_of_none(number >> 24, base, bytes))?;
-        plain.push(request_of_none(number >> 24, base, bytes))?;
+    match taken(number, live) {
+        Some(given) => {
+            tlsf.push(request_of(number >> 24, given.tlsf))?;
+            plain.push(request_of(number >> 24, given.plain))?;
+        }
+        None => {
+            let (base, bytes) = pool;
+            tlsf.push(request_of_none(number >> 24, base, bytes))?;
+            plain.push(request_of_none(number >> 24, base, bytes))?;
+        }
     }
     Ok(())
 }
@@ -349,7 +358,7 @@ fn same_runs(alloc: Global, setup: Setup) -> Result<Option<Tally>, AllocError> {
         plain_slot: 0,
     };
     let mut number = 88_172_645_463_325_252;
-    for _run in 0..RUNS {
+    for _run in 0..setup.runs {
         let (same, next) = same_run(
             alloc, setup, number, &mut live, &mut tally, &mut tlsf, &mut plain,
         )?;
