@@ -8,7 +8,7 @@ use Rattle.tlsf_heap.specs.declared.refusal.Refusal.TheVariants.{ZeroSize, NoFit
 use Rattle.tlsf_heap.specs.Content.{Block, Content, blocks_of, size_at, used_records}
 use Rattle.tlsf_heap.specs.Lists.{pick}
 use Rattle.tlsf_heap.specs.Malloc.{gap}
-use Rattle.tlsf_heap.specs.Memalign.{is_alignment, size_asked, gap_records, carved, aligned, if_recorded, memalign_picked, memalign_rounded, memalign}
+use Rattle.tlsf_heap.specs.Memalign.{is_alignment, size_asked, gap_records, carved, aligned, memalign_picked, memalign_rounded, memalign}
 use Rattle.tlsf_heap.proofs.Content.Blocks.{Found}
 use Rattle.tlsf_heap.proofs.Content.Replacing.{length-replaced}
 

@@ -1,8 +1,8 @@
 -- What a refusal of memalign implies of the free blocks and of the number of records.
-use Rattle.std.proofs.Common.{◌≡◌, ◌≢◌, ℕ, ◌+◌, ◌<◌, ◌≤◌, ◌-◌, ◌++◌, ◌∷◌, List, Bool, true, false, cond, length, length-append, refl, sym, ◌∙◌, arith, [], Ok, Err, Some, None, inl, inr}
+use Rattle.std.proofs.Common.{◌≡◌, ◌≢◌, ℕ, ◌<◌, ◌-◌, arith, Err, inl, inr}
 use Rattle.std.specs.Int.{next_multiple_of}
 use Rattle.tlsf_heap.specs.declared.refusal.Refusal.TheVariants.{NoFit, TableFull, OutOfMemory}
-use Rattle.tlsf_heap.specs.Content.{Block, Content, blocks_of, size_at, used_records}
+use Rattle.tlsf_heap.specs.Content.{Content, blocks_of, size_at, used_records}
 use Rattle.tlsf_heap.specs.Memalign.{size_asked, memalign}
 use Rattle.tlsf_heap.specs.Good.{IsGood}
 use Rattle.tlsf_heap.specs.Implied.{NoneFitsAligned, HasFewRecordsAndOne}

@@ -1,5 +1,5 @@
 -- What stands after a free block was carved for an alignment, and that it is what memalign gives.
-use Rattle.std.proofs.Common.{◌≡◌, ℕ, ◌+◌, ◌-◌, ◌%◌, ◌<◌, ◌≤◌, Bool, true, false, cond, List, [], ◌∷◌, ◌++◌, length, map, refl, sym, ap, ◌∙◌, subst, arith, count_by, length-append, Some, None, Ok, Err}
+use Rattle.std.proofs.Common.{◌≡◌, ℕ, ◌+◌, ◌-◌, ◌%◌, ◌<◌, ◌≤◌, Bool, true, false, cond, List, [], ◌∷◌, ◌++◌, length, refl, sym, ap, ◌∙◌, subst, arith, Some, Ok, Err}
 use Rattle.std.specs.Prelude.{◌==◌, nat_lt}
 use Rattle.std.specs.Int.{next_multiple_of}
 use Rattle.std.proofs.lemmas.Bool.{lt-ltb, le-ltb, ne_eqb}
@@ -9,24 +9,19 @@ use Rattle.tlsf_store.specs.Cells.{Cells}
 use Rattle.tlsf_heap.specs.declared.refusal.Refusal.TheVariants.{TableFull}
 use Rattle.tlsf_heap.specs.Content.{Block, Content, blocks_of, size_at, used_records}
 use Rattle.tlsf_heap.specs.Lists.{pick}
-use Rattle.tlsf_heap.specs.Malloc.{gap}
-use Rattle.tlsf_heap.specs.Memalign.{is_alignment, size_asked, gap_records, carved, aligned, if_recorded, memalign_picked}
+use Rattle.tlsf_heap.specs.Memalign.{is_alignment, size_asked, gap_records, aligned, if_recorded, memalign_picked}
 use Rattle.tlsf_heap.specs.Good.{IsGood}
-use Rattle.tlsf_heap.specs.Inner.Nodes.{InUse, Listed, Node, Layout, turned, pool_of, content_by, nodes_of, owner_of, block_of, has_slot, gap_nodes}
-use Rattle.tlsf_heap.specs.Inner.Spots.{filled}
-use Rattle.tlsf_heap.specs.Inner.Represents.{Represents, uses_in}
+use Rattle.tlsf_heap.specs.Inner.Nodes.{InUse, Listed, Node, turned, content_by, nodes_of, owner_of, block_of, has_slot, gap_nodes}
+use Rattle.tlsf_heap.specs.Inner.Represents.{uses_in}
 use Rattle.tlsf_heap.specs.Inner.Following.{content_of, Stands}
 use Rattle.tlsf_heap.specs.Inner.At.{layout_at, StandsAt, at_taken, at_trimmed, at_gapped, areas_at}
 use Rattle.tlsf_heap.proofs.Counts.{count_all, count-cons, count-append, count-map}
 use Rattle.tlsf_heap.proofs.Content.MemalignCases.{used_aligned}
-use Rattle.tlsf_heap.proofs.Content.Replacing.{blocks_of-replaced, count_by-replaced}
 use Rattle.tlsf_heap.proofs.Inner.Sums.{all_records}
-use Rattle.tlsf_heap.proofs.Inner.Followed.{stood_for}
-use Rattle.tlsf_heap.proofs.Inner.Live.{NodeAt, told_of, stands_with, free_at}
-use Rattle.tlsf_heap.proofs.Inner.Served.{used_is}
-use Rattle.tlsf_heap.proofs.Inner.Standing.{owners_few}
-use Rattle.tlsf_heap.proofs.Meaning.Places.{Told, alone, blocks_of_areas}
-use Rattle.tlsf_heap.proofs.Meaning.NodeBlocks.{size_is}
+use Rattle.tlsf_heap.proofs.Inner.Followed.{stood_for, records_are}
+use Rattle.tlsf_heap.proofs.Inner.Live.{NodeAt, node_stood, node_told, node_size, node_taken, stands_with, free_at}
+use Rattle.tlsf_heap.proofs.Inner.Standing.{used_are, content_is_good, owners_few}
+use Rattle.tlsf_heap.proofs.Meaning.Places.{blocks_of_areas}
 use Rattle.tlsf_heap.proofs.Meaning.Aligned.{aligned_is}
 use Rattle.tlsf_heap.proofs.Meaning.AlignedIsGood.{IsCarving, carving}
 use Rattle.tlsf_heap.proofs.Meaning.Carved.{aligned_is_good}
@@ -48,45 +43,18 @@ module _ (cells : Cells) (stands : Stands cells) (place slot align asked : ℕ) 
   abbrev left_over : ℕ
   left_over = (by.at.node.size - (next_multiple_of place align - place)) - asked
 
-  good : IsGood (content_of cells)
-  good = let P : Content ℕ → Type 0 = λ x. IsGood x in subst P (sym (stood_for cells stands)) stands.good
-
-  same : stands.layout ≡ layout_at (record by.at { node = turned Listed by.at.node })
-  same = by.layout_is ∙ ap (λ s. layout_at (record by.at { node = turned s by.at.node })) by.stands.1.status_is
-
-  stood : content_of cells ≡ content_by (layout_at (record by.at { node = turned Listed by.at.node }))
-  stood = stood_for cells stands ∙ ap content_by same
-
-  told : Told (filled by.at.spot (turned Listed by.at.node ∷ by.at.nodes)) by.at.lists
-  told =
-      let P : Layout → Type 0 = λ l. Represents cells l in
-      let Q : Layout → Type 0 = λ l. IsGood (content_by l) in
-      told_of cells (layout_at (record by.at { node = turned Listed by.at.node })) (subst P same stands.represented) (subst Q same stands.good)
-
   pub size_there : size_at place (blocks_of (content_of cells).pools) ≡ by.at.node.size
-  size_there =
-      ap (λ (x : Content ℕ). size_at place (blocks_of x.pools)) stood
-      ∙ ap (λ p. size_at p (blocks_of (map pool_of (filled by.at.spot (turned Listed by.at.node ∷ by.at.nodes))))) (sym by.place_is)
-      ∙ size_is by.at.spot (turned Listed by.at.node) by.at.nodes (alone by.at.spot (turned Listed by.at.node) by.at.nodes told.places)
+  size_there = node_size cells stands place slot Listed by
 
   pub carves : IsCarving align asked place (content_of cells)
-  carves = carving align asked place (content_of cells) good is found
+  carves = carving align asked place (content_of cells) (content_is_good cells stands) is found
 
   -- how many blocks there are after
   used_after : (owner : ℕ) → used_records (aligned owner start asked place by.at.node.size (content_of cells)) ≡ used_records (content_of cells) + (gap_records front + gap_records left_over)
   used_after owner = used_aligned owner start asked place by.at.node.size (content_of cells) carves.picked.found
 
   vacant_there : used_records (content_of cells) + vacant_count cells.records ≡ (content_of cells).records
-  vacant_there =
-      omega (
-        arith,
-        ap used_records (stood_for cells stands),
-        ap (λ (x : Content ℕ). x.records) (stood_for cells stands),
-        used_is stands.layout,
-        all_records cells stands.layout stands.represented,
-        stands.represented.count,
-        ap (λ (xs : List ℕ). length xs) stands.none_taken,
-      )
+  vacant_there = omega (arith, used_are cells stands, records_are cells)
 
   -- where too few records are vacant
   pub carved_full : vacant_count cells.records < gap_records front + gap_records left_over → (owner : ℕ) → memalign_picked owner align asked (Some place) (content_of cells) ≡ Err TableFull
@@ -105,15 +73,14 @@ module _ (cells : Cells) (stands : Stands cells) (place slot align asked : ℕ) 
       ap (λ n. if_recorded start (of n)) size_there ∙ ap (λ b. cond b (Err TableFull) (Ok (start, of by.at.node.size))) (le-ltb (content_of cells).records (used_records (of by.at.node.size)) room) in
       let P : ℕ → Type 0 = λ n. used_records (of n) ≤ (content_of cells).records → IsGood (of n) in
       let good_after : IsGood (of by.at.node.size) =
-      subst P size_there (λ few. aligned_is_good live start asked place (content_of cells) good carves.picked.once carves.start.begins carves.fits some whole carves.start.gap_whole few) room in
-      let none : by.at.taken ≡ [] = ap (λ (l : Layout). l.taken) (sym by.layout_is) ∙ stands.none_taken in
+      subst P size_there (λ few. aligned_is_good live start asked place (content_of cells) (content_is_good cells stands) carves.picked.once carves.start.begins carves.fits some whole carves.start.gap_whole few) room in
       let begins : by.at.node.place + front ≡ start = omega (arith, by.place_is, carves.start.begins) in
       let is_so : content_by (layout_at (at_trimmed rest asked (at_gapped live front (at_taken by.at)))) ≡ of by.at.node.size =
-      aligned_is by.at.count by.at.spot by.at.node by.at.nodes by.at.lists told live rest front asked by.at.taken by.at.taken
-      ∙ ap (λ x. aligned live (by.at.node.place + front) asked by.at.node.place by.at.node.size x) (sym stood)
+      aligned_is by.at.count by.at.spot by.at.node by.at.nodes by.at.lists (node_told cells stands place slot Listed by) live rest front asked by.at.taken by.at.taken
+      ∙ ap (λ x. aligned live (by.at.node.place + front) asked by.at.node.place by.at.node.size x) (sym (node_stood cells stands place slot Listed by))
       ∙ ap (λ s. aligned live s asked by.at.node.place by.at.node.size (content_of cells)) begins
       ∙ ap (λ p. aligned live start asked p by.at.node.size (content_of cells)) by.place_is in
-      let end = stands_with new live InUse (at_trimmed rest asked (at_gapped live front (at_taken by.at))) (of by.at.node.size) after refl none is_so good_after in
+      let end = stands_with new live InUse (at_trimmed rest asked (at_gapped live front (at_taken by.at))) (of by.at.node.size) after refl (node_taken cells stands place slot Listed by) is_so good_after in
       (end.0, given ∙ ap (λ x. Ok (start, x)) (sym end.1))
 
   -- a slot that is vacant once the block was taken is of no live block
@@ -141,14 +108,13 @@ module _ (cells : Cells) (stands : Stands cells) (place slot align asked : ℕ) 
       let kept : Node = record by.at.node { slot = live; place = by.at.node.place + front; size = by.at.node.size - front; status = InUse } in
       let gapped : List Node = gap_nodes by.at.node.slot by.at.node.place front in
       let counted : length gapped ≡ gap_records front = elim (front == 0) as (λ b. length (cond b [] (gap_node ∷ [])) ≡ cond b 0 1) [ true ↦ refl | false ↦ refl ] in
-      let none : by.at.taken ≡ [] = ap (λ (l : Layout). l.taken) (sym by.layout_is) ∙ stands.none_taken in
       omega (
         arith,
         all_records new (layout_at (at_gapped live front (at_taken by.at))) after.0,
         after.0.count,
         all_records cells (layout_at by.at) by.stands.0,
         by.stands.0.count,
-        ap (λ (xs : List ℕ). length xs) none,
+        ap (λ (xs : List ℕ). length xs) (node_taken cells stands place slot Listed by),
         count_all (nodes_of (areas_at (at_gapped live front (at_taken by.at)))),
         count_all (nodes_of (areas_at by.at)),
         count-filled all (record by.at.spot { before = gapped ++ by.at.spot.before }) (kept ∷ by.at.nodes),

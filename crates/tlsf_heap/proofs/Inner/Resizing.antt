@@ -1,5 +1,5 @@
 -- A live block that a pointer is of, as a node at its spot: its size, the free one behind it, and what stands once it got another size in its place.
-use Rattle.std.proofs.Common.{◌≡◌, ◌≢◌, ℕ, ◌+◌, ◌%◌, ◌<◌, ◌≤◌, Bool, true, false, cond, List, ◌∷◌, length, map, refl, sym, ap, ◌∙◌, subst, arith, Option, Some, None, option_map, inl, inr, [], unwrap_or, ◌-◌}
+use Rattle.std.proofs.Common.{◌≡◌, ◌≢◌, ℕ, ◌+◌, ◌%◌, ◌<◌, ◌≤◌, Bool, true, false, cond, List, ◌∷◌, length, refl, sym, ap, ◌∙◌, arith, Option, Some, None, option_map, inl, inr, [], unwrap_or, ◌-◌}
 use Rattle.std.specs.Prelude.{◌||◌, is_some, nat_lt, nat_le, ◌==◌, ◌⊎◌}
 use Rattle.std.proofs.lemmas.Bool.{cases_Bool, ltb-true, ltb-false, leb-true, lt-ltb, le-ltb, le-leb, lt-leb, leb-false}
 use Rattle.tlsf_class.specs.Classes.{unit}
@@ -8,11 +8,9 @@ use Rattle.tlsf_store.specs.Cells.{Cells}
 use Rattle.tlsf_heap.specs.Content.{Block, Content, blocks_of, size_at, used_records}
 use Rattle.tlsf_heap.specs.Free.{is_live, if_free, free_next, size_of}
 use Rattle.tlsf_heap.specs.Realloc.{fits_in_place, resized}
-use Rattle.tlsf_heap.specs.Good.{IsGood}
-use Rattle.tlsf_heap.specs.Inner.Nodes.{InUse, Node, Layout, turned, block_of, pool_of, content_by, nodes_of, is_listed}
+use Rattle.tlsf_heap.specs.Inner.Nodes.{InUse, Node, Layout, turned, block_of, content_by, nodes_of, is_listed}
 use Rattle.tlsf_heap.specs.Inner.Spots.{filled}
 use Rattle.tlsf_heap.specs.Inner.Joined.{is_loose, listed_first, past, grown_behind}
-use Rattle.tlsf_heap.specs.Inner.Represents.{Represents}
 use Rattle.tlsf_heap.specs.Inner.Following.{content_of, Stands}
 use Rattle.tlsf_heap.specs.Inner.At.{areas_at, layout_at, StandsAt, next_joined, at_trimmed}
 use Rattle.tlsf_heap.proofs.Counts.{count_all}
@@ -21,32 +19,18 @@ use Rattle.tlsf_heap.proofs.Inner.Sums.{all_records}
 use Rattle.tlsf_heap.proofs.Inner.Followed.{stood_for, records_are}
 use Rattle.tlsf_heap.proofs.Inner.Steps.{size_read, slot_used}
 use Rattle.tlsf_heap.proofs.Inner.Served.{used_is}
-use Rattle.tlsf_heap.proofs.Inner.Live.{NodeAt, told_of, live_at, stands_with}
+use Rattle.tlsf_heap.proofs.Inner.Live.{NodeAt, node_stood, node_good, node_told, node_size, node_taken, live_at, stands_with}
+use Rattle.tlsf_heap.proofs.Inner.Standing.{used_are, content_is_good}
 use Rattle.tlsf_heap.proofs.Meaning.Places.{Told, alone}
-use Rattle.tlsf_heap.proofs.Meaning.NodeBlocks.{back_is, size_is}
+use Rattle.tlsf_heap.proofs.Meaning.NodeBlocks.{back_is}
 use Rattle.tlsf_heap.proofs.Meaning.Freed.{NoneLoose, listed_is_free}
 use Rattle.tlsf_heap.proofs.Meaning.Resized.{trimmed_is}
 use Rattle.tlsf_heap.proofs.Meaning.ResizedIsGood.{resized_is_good}
 use Rattle.tlsf_store.specs.declared.records.Record.{Record}
 
 module _ (cells : Cells) (stands : Stands cells) (place slot : ℕ) (by : NodeAt place slot InUse cells stands.layout) where
-  good : IsGood (content_of cells)
-  good = let P : Content ℕ → Type 0 = λ x. IsGood x in subst P (sym (stood_for cells stands)) stands.good
-
-  -- the layout with the node as one in use
-  same : stands.layout ≡ layout_at (record by.at { node = turned InUse by.at.node })
-  same = by.layout_is ∙ ap (λ s. layout_at (record by.at { node = turned s by.at.node })) by.stands.1.status_is
-
-  stood : content_of cells ≡ content_by (layout_at (record by.at { node = turned InUse by.at.node }))
-  stood = stood_for cells stands ∙ ap content_by same
-
-  good_at : IsGood (content_by (layout_at (record by.at { node = turned InUse by.at.node })))
-  good_at = let P : Layout → Type 0 = λ l. IsGood (content_by l) in subst P same stands.good
-
   told : Told (filled by.at.spot (turned InUse by.at.node ∷ by.at.nodes)) by.at.lists
-  told =
-      let P : Layout → Type 0 = λ l. Represents cells l in
-      told_of cells (layout_at (record by.at { node = turned InUse by.at.node })) (subst P same stands.represented) good_at
+  told = node_told cells stands place slot InUse by
 
   none_loose : NoneLoose by.at.nodes
   none_loose =
@@ -55,21 +39,15 @@ module _ (cells : Cells) (stands : Stands cells) (place slot : ℕ) (by : NodeAt
 
   -- its size
   pub size_there : size_at place (blocks_of (content_of cells).pools) ≡ by.at.node.size
-  size_there =
-      ap (λ (x : Content ℕ). size_at place (blocks_of x.pools)) stood
-      ∙ ap (λ p. size_at p (blocks_of (map pool_of (filled by.at.spot (turned InUse by.at.node ∷ by.at.nodes))))) (sym by.place_is)
-      ∙ size_is by.at.spot (turned InUse by.at.node) by.at.nodes (alone by.at.spot (turned InUse by.at.node) by.at.nodes told.places)
+  size_there = node_size cells stands place slot InUse by
 
   -- and the free block behind it
   pub next_there : free_next place (content_of cells) ≡ option_map block_of (listed_first by.at.nodes)
   next_there =
-      ap (free_next place) stood
+      ap (free_next place) (node_stood cells stands place slot InUse by)
       ∙ ap (λ p. free_next p (content_by (layout_at (record by.at { node = turned InUse by.at.node })))) (sym by.place_is)
       ∙ ap if_free (back_is by.at.spot (turned InUse by.at.node) by.at.nodes (alone by.at.spot (turned InUse by.at.node) by.at.nodes told.places))
       ∙ listed_is_free by.at.nodes none_loose
-
-  none_taken : by.at.taken ≡ []
-  none_taken = ap (λ (l : Layout). l.taken) (sym by.layout_is) ∙ stands.none_taken
 
   -- where it fits, by the node and the one behind it
   pub fits_there : (m : ℕ) → fits_in_place place m (content_of cells) ≡ cond (nat_lt m by.at.node.size) (is_some (listed_first by.at.nodes) || nat_lt (used_records (content_of cells)) (content_of cells).records) (nat_le m (by.at.node.size + size_of (option_map block_of (listed_first by.at.nodes))))
@@ -85,16 +63,7 @@ module _ (cells : Cells) (stands : Stands cells) (place slot : ℕ) (by : NodeAt
 
   -- how many records are vacant
   pub vacant_there : used_records (content_of cells) + vacant_count cells.records ≡ (content_of cells).records
-  vacant_there =
-      omega (
-        arith,
-        ap used_records (stood_for cells stands),
-        ap (λ (x : Content ℕ). x.records) (stood_for cells stands),
-        used_is stands.layout,
-        all_records cells stands.layout stands.represented,
-        stands.represented.count,
-        ap (λ (xs : List ℕ). length xs) stands.none_taken,
-      )
+  vacant_there = omega (arith, used_are cells stands, records_are cells)
 
   -- once it took in the free one behind it and was cut
   pub resized_stands : (new : Cells) (m rest : ℕ) → is_live (λ owner. owner == slot) place (blocks_of (content_of cells).pools) ≡ true → fits_in_place place m (content_of cells) ≡ true → m ≢ size_at place (blocks_of (content_of cells).pools) → 0 < m → m % unit ≡ 0
@@ -102,12 +71,12 @@ module _ (cells : Cells) (stands : Stands cells) (place slot : ℕ) (by : NodeAt
   resized_stands new m rest live fits other some whole after =
       let is : content_by (layout_at (at_trimmed rest m (next_joined by.at))) ≡ resized slot place m (content_of cells) =
       ap (λ s. content_by (layout_at (at_trimmed rest m (next_joined (record by.at { node = turned s by.at.node }))))) by.stands.1.status_is
-      ∙ trimmed_is by.at.count by.at.spot by.at.node by.at.nodes by.at.lists by.at.taken told none_loose good_at rest m by.at.taken some whole
+      ∙ trimmed_is by.at.count by.at.spot by.at.node by.at.nodes by.at.lists by.at.taken told none_loose (node_good cells stands place slot InUse by) rest m by.at.taken some whole
       ∙ ap (λ s. resized s by.at.node.place m (content_by (layout_at (record by.at { node = turned InUse by.at.node })))) by.stands.1.slot_is
       ∙ ap (λ p. resized slot p m (content_by (layout_at (record by.at { node = turned InUse by.at.node })))) by.place_is
-      ∙ ap (resized slot place m) (sym stood) in
-      stands_with new slot InUse (at_trimmed rest m (next_joined by.at)) (resized slot place m (content_of cells)) after refl none_taken is
-      (resized_is_good (λ owner. owner == slot) slot place m (content_of cells) good live some whole fits other)
+      ∙ ap (resized slot place m) (sym (node_stood cells stands place slot InUse by)) in
+      stands_with new slot InUse (at_trimmed rest m (next_joined by.at)) (resized slot place m (content_of cells)) after refl (node_taken cells stands place slot InUse by) is
+      (resized_is_good (λ owner. owner == slot) slot place m (content_of cells) (content_is_good cells stands) live some whole fits other)
 
   grown_size : (node : Node) (o : Option Node) → (grown_behind o node).size ≡ node.size + size_of (option_map block_of o)
   grown_size node None = omega arith
@@ -162,7 +131,7 @@ module _ (cells : Cells) (stands : Stands cells) (place slot : ℕ) (by : NodeAt
             arith,
             all_records new (layout_at (next_joined by.at)) after.0,
             after.0.count,
-            ap (λ (xs : List ℕ). length xs) none_taken,
+            ap (λ (xs : List ℕ). length xs) (node_taken cells stands place slot InUse by),
             ap (λ (x : Content ℕ). x.records) (stood_for cells stands),
             ap (λ (l : Layout). l.count) by.layout_is,
           )

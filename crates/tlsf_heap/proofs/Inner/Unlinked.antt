@@ -91,8 +91,8 @@ module _ (cells : Cells) (count : ℕ) (spot : Spot) (node : Node) (nodes : List
     at_other : (q : ℕ) → prev ≢ Some q → next ≢ Some q → list_views (new front behind) q ≡ list_views cells.records q
     at_other q a b = ap list_view (edited_apart (λ r. record r { next_free = next }) prev (edited_in (λ r. record r { prev_free = prev }) next cells.records) q a ∙ edited_apart (λ r. record r { prev_free = prev }) next cells.records q b)
 
-    joined : AreLinked in_list (list_views (new front behind)) None (plug front behind)
-    joined =
+    rejoined : AreLinked in_list (list_views (new front behind)) None (plug front behind)
+    rejoined =
         linked_plugged in_list (list_views (new front behind)) front behind
         (linked_moved (from_behind in_list) (list_views cells.records) (list_views (new front behind)) (λ v. record v { next = next }) (Some item.slot) next (λ other after. refl) front
         (λ q. omega (arith, few q)) at_prev (λ q isnt h. at_other q isnt (λ e. omega (arith, h, few q, first_stands behind q e))) links.0)
@@ -107,7 +107,7 @@ module _ (cells : Cells) (count : ℕ) (spot : Spot) (node : Node) (nodes : List
 
     linked_after : (other : ℕ) → AreLinked in_list (list_views (new front behind)) None (list_of other (set lists (class node.size) (plug front behind)))
     linked_after =
-        each_written node lists was.index.lists_count (plug front behind) (λ ns. AreLinked in_list (list_views (new front behind)) None ns) joined
+        each_written node lists was.index.lists_count (plug front behind) (λ ns. AreLinked in_list (list_views (new front behind)) None ns) rejoined
         (λ other apart. linked_same in_list (list_views cells.records) (list_views (new front behind)) None (list_of other lists)
         (λ q h. at_other q
         (λ e. omega (arith, h, first_stands front q e, counts q, slots_few q, lists_apart areas lists other (class node.size) q was.agree apart))

@@ -1,13 +1,10 @@
 -- memalign keeps a content good, and gives a multiple of the alignment.
-use Rattle.std.proofs.Common.{◌≡◌, ℕ, ◌+◌, ◌-◌, ◌%◌, ◌<◌, ◌≤◌, true, ◌∷◌, length, refl, sym, ap, ◌∙◌, subst, arith, get_or, length-append, Option, Some, None, Ok, Err, inl, inr}
-use Rattle.std.specs.Prelude.{◌==◌, nat_lt}
+use Rattle.std.proofs.Common.{◌≡◌, ℕ, ◌+◌, ◌-◌, ◌%◌, ◌<◌, ◌≤◌, true, ◌∷◌, length, sym, ap, ◌∙◌, subst, arith, get_or, length-append, Some, Ok}
 use Rattle.std.specs.Int.{next_multiple_of}
 use Rattle.std.proofs.Math.Seq.{get_or-append_seam}
-use Rattle.std.proofs.lemmas.Bool.{cases_Bool, eqb-false, ltb-false}
 use Rattle.tlsf_class.specs.Classes.{unit}
-use Rattle.tlsf_heap.specs.Content.{Block, Content, blocks_of, size_at, used_records}
+use Rattle.tlsf_heap.specs.Content.{Block, Content, blocks_of, size_at}
 use Rattle.tlsf_heap.specs.Lists.{pick}
-use Rattle.tlsf_class.specs.Rounding.{round}
 use Rattle.tlsf_class.proofs.RoundingLaws.{round-Some}
 use Rattle.tlsf_heap.specs.Memalign.{is_alignment, size_asked, memalign}
 use Rattle.tlsf_heap.proofs.Content.MemalignCases.{IsPicked, memalign_given}

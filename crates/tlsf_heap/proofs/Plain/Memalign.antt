@@ -1,5 +1,5 @@
 -- What the plain heap's memalign comes to.
-use Rattle.std.proofs.Common.{◌≡◌, ℕ, ◌+◌, ◌-◌, ◌%◌, ◌^◌, ◌<◌, ◌≤◌, Bool, true, false, cond, ◌++◌, [], ◌∷◌, map, refl, sym, ap, ◌∙◌, subst, arith, Option, Some, None, count_by, Result, Ok, Err}
+use Rattle.std.proofs.Common.{◌≡◌, ℕ, ◌+◌, ◌-◌, ◌%◌, ◌<◌, ◌≤◌, Bool, true, false, cond, ◌++◌, [], ◌∷◌, map, refl, sym, ap, ◌∙◌, subst, arith, Option, Some, None, count_by, Result, Ok, Err}
 use Rattle.std.specs.Prelude.{◌==◌, nat_lt}
 use Rattle.std.specs.Int.{next_multiple_of}
 use Rattle.std.proofs.lemmas.Bool.{ltb-false}
@@ -7,8 +7,8 @@ use Rattle.tlsf_class.specs.Classes.{unit}
 use Rattle.tlsf_heap.specs.declared.refusal.Refusal.TheVariants.{TableFull}
 use Rattle.tlsf_heap.specs.Content.{Block, Content, blocks_of, is_free, size_at, used_records}
 use Rattle.tlsf_heap.specs.Lists.{link, unlink, pick}
-use Rattle.tlsf_heap.specs.Malloc.{replaced_in, gap, cut}
-use Rattle.tlsf_heap.specs.Memalign.{is_alignment, size_asked, gap_records, carved, aligned, if_recorded, memalign_picked, memalign_rounded}
+use Rattle.tlsf_heap.specs.Malloc.{replaced_in}
+use Rattle.tlsf_heap.specs.Memalign.{is_alignment, size_asked, aligned, if_recorded, memalign_picked, memalign_rounded}
 use Rattle.tlsf_heap.specs.Free.{free_block}
 use Rattle.tlsf_heap.specs.Pools.{end_of_places}
 use Rattle.tlsf_heap.specs.PlainHeap.{IsSize, IsPlain, gap_block, link_block, blocks_among}

@@ -2,6 +2,7 @@
 
 use super::PlainHeap;
 use crate::{Cursor, Heaped, Ptr, Refusal, Row};
+use std::alloc::Global;
 use std::process::Abort;
 use tlsf_store::StoreError;
 
@@ -74,21 +75,35 @@ fn slots_of_live_blocks(rt: HostRuntime) {
     assert_eq!(rt; heap.malloc(8).map(|ptr| ptr.place()), Ok(0));
 }
 
-/// Each call is made again where memory was refused. With one refusal the second call is served, on the
-/// content that was there before the first.
-#[test]
-fn refused_memory(rt: HostRuntime) {
-    let mut heap = match PlainHeap::create(rt.alloc(), 4) {
+/// A heap of four records with a pool of 1,024 bytes. What was refused is asked again.
+fn made_at_last(rt: &impl Abort, alloc: Global) -> PlainHeap {
+    let mut heap = match PlainHeap::create(alloc, 4) {
         Ok(heap) => heap,
         Err(error) => {
             assert!(rt; error == StoreError::OutOfMemory);
-            PlainHeap::create(rt.alloc(), 4).expect(&rt, "a heap")
+            PlainHeap::create(alloc, 4).expect(rt, "a heap")
         }
     };
     if heap.add_pool(0, 1024) == Err(Refusal::OutOfMemory) {
         assert!(rt; has_pools(&mut heap, &[]));
         assert_eq!(rt; heap.add_pool(0, 1024), Ok(()));
     }
+    heap
+}
+
+/// A block of so many bytes.
+fn given_at_last(rt: &impl Abort, heap: &mut PlainHeap, n: u64) -> Ptr {
+    match heap.malloc(n) {
+        Ok(ptr) => ptr,
+        Err(_) => heap.malloc(n).expect(rt, "a block"),
+    }
+}
+
+/// Each call is made again where memory was refused. With one refusal the second call is served, on the
+/// content that was there before the first.
+#[test]
+fn refused_memory(rt: HostRuntime) {
+    let mut heap = made_at_last(&rt, rt.alloc());
     let mut given = heap.malloc(100);
     if given == Err(Refusal::OutOfMemory) {
         assert!(rt; has_row(&mut heap, 0, 1024, false));
@@ -101,4 +116,49 @@ fn refused_memory(rt: HostRuntime) {
         assert_eq!(rt; heap.free(ptr), Ok(()));
     }
     assert!(rt; has_row(&mut heap, 0, 1024, false));
+}
+
+/// The same of memalign, of realloc in place, and of a pool that goes.
+#[test]
+fn refused_memory_of_others(rt: HostRuntime) {
+    let mut heap = made_at_last(&rt, rt.alloc());
+    let mut given = heap.memalign(64, 100);
+    if given == Err(Refusal::OutOfMemory) {
+        assert!(rt; has_row(&mut heap, 0, 1024, false));
+        given = heap.memalign(64, 100);
+    }
+    let ptr = given.expect(&rt, "a block");
+    if heap.realloc(Some(ptr), 200) == Err(Refusal::OutOfMemory) {
+        assert!(rt; has_rows(&mut heap, 0, 104, 104, 920));
+        assert_eq!(rt; heap.realloc(Some(ptr), 200), Ok(Some(ptr)));
+    }
+    assert!(rt; has_rows(&mut heap, 0, 200, 200, 824));
+    if heap.realloc(Some(ptr), 0) == Err(Refusal::OutOfMemory) {
+        assert!(rt; has_rows(&mut heap, 0, 200, 200, 824));
+        assert_eq!(rt; heap.realloc(Some(ptr), 0), Ok(None));
+    }
+    if heap.remove_pool(0) == Err(Refusal::OutOfMemory) {
+        assert!(rt; has_row(&mut heap, 0, 1024, false));
+        assert_eq!(rt; heap.remove_pool(0), Ok(()));
+    }
+    assert!(rt; has_pools(&mut heap, &[]));
+}
+
+/// A realloc that moves is refused as a whole: with one refusal of memory the block stays.
+#[test]
+fn refused_memory_of_a_move(rt: HostRuntime) {
+    let mut heap = made_at_last(&rt, rt.alloc());
+    let first = given_at_last(&rt, &mut heap, 100);
+    let second = given_at_last(&rt, &mut heap, 1);
+    let mut moved = heap.realloc(Some(first), 200);
+    if moved == Err(Refusal::OutOfMemory) {
+        assert_eq!(rt; heap.block_size(first), Ok(104));
+        assert_eq!(rt; heap.block_size(second), Ok(8));
+        moved = heap.realloc(Some(first), 200);
+    }
+    let Ok(Some(ptr)) = moved else {
+        panic!(rt; "no block");
+    };
+    assert_eq!(rt; ptr.place(), 112);
+    assert_eq!(rt; heap.block_size(first), Err(Refusal::BadPointer));
 }

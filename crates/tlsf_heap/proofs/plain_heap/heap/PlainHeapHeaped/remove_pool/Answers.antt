@@ -1,4 +1,4 @@
-use Rattle.std.proofs.Common.{◌≡◌, ℕ, ap, ◌∙◌, sym, subst, arith, Some, Ok}
+use Rattle.std.proofs.Common.{ℕ, ap, ◌∙◌, sym, subst, arith, Some, Ok}
 use Rattle.tlsf_heap.specs.Content.{Content}
 use Rattle.tlsf_heap.specs.PlainHeap.{IsPlain}
 use Rattle.tlsf_heap.proofs.Plain.RemovedPool.{is_found, left_is, removed_is, left_is_plain}
