@@ -19,7 +19,7 @@ use Rattle.tlsf_heap.specs.Inner.Entries.{padded_at}
 use Rattle.tlsf_heap.specs.Inner.Nodes.{Status, InUse, Listed, Loose, Node, Area, owner_of, block_of, pool_of, nodes_of}
 use Rattle.tlsf_heap.specs.Inner.Represents.{InPool, pool_views, state_of, IsChain}
 use Rattle.tlsf_heap.specs.Inner.Following.{Stands}
-use Rattle.tlsf_heap.specs.Inner.Checks.{is_free_node, tally_of, nodes_at, IsSum, counted, front_of, Follows, IsChainTo, IsPoolChain}
+use Rattle.tlsf_heap.specs.Inner.Checks.{is_free_node, tally_of, nodes_at, IsSum, tallied, front_of, Follows, IsChainTo, IsPoolChain}
 use Rattle.tlsf_heap.proofs.Counts.{one_if, count-cons, count-append}
 use Rattle.tlsf_heap.proofs.Inner.EntryLists.{padded_at_is}
 use Rattle.tlsf_heap.proofs.Inner.Followed.{few}
@@ -45,7 +45,7 @@ counts_one Vacant n = omega arith
 counts_one Free n = omega arith
 counts_one Live n = omega arith
 
-pub few_counted : (state : State) (tally : Tally) → tally.free ≤ tally.blocks → (counted state tally).free ≤ (counted state tally).blocks
+pub few_counted : (state : State) (tally : Tally) → tally.free ≤ tally.blocks → (tallied state tally).free ≤ (tallied state tally).blocks
 few_counted Vacant tally few = omega (arith, few)
 few_counted Free tally few = omega (arith, few)
 few_counted Live tally few = omega (arith, few)
@@ -110,7 +110,7 @@ module _ (records : List Record) (end : ℕ) where
       pub fewer : tally.blocks < total.blocks
       fewer = omega (arith, left.sum.blocks, ap length step.is)
 
-      pub left_behind : (rest : List Node) × IsLeft total (front_of slot block) block.next (counted block.state tally) rest
+      pub left_behind : (rest : List Node) × IsLeft total (front_of slot block) block.next (tallied block.state tally) rest
       left_behind = rw read (
         step.behind,
         record {

@@ -29,8 +29,8 @@ pub record IsSum (one other both : Tally) : Type 0 where
   pub free : one.free + other.free ≡ both.free
 
 -- the tally with a block in this state
-abbrev pub counted : State → Tally → Tally
-counted state tally = record { blocks = tally.blocks + 1; free = (if is_state_free state then tally.free + 1 else tally.free) }
+abbrev pub tallied : State → Tally → Tally
+tallied state tally = record { blocks = tally.blocks + 1; free = (if is_state_free state then tally.free + 1 else tally.free) }
 
 -- what stands in front of the block behind this one
 abbrev pub front_of : ℕ → Record → Front

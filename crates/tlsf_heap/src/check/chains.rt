@@ -5,7 +5,7 @@ ghost use Rattle.tlsf_store.specs.Records.{most_records};
 ghost use Rattle.tlsf_store.specs.Cells.{most_pools};
 ghost use Rattle.tlsf_heap.specs.Inner.Following.{Stands};
 ghost use Rattle.tlsf_heap.specs.Inner.Nodes.{Node, nodes_of};
-ghost use Rattle.tlsf_heap.specs.Inner.Checks.{tally_of, nodes_at, IsPoolChain, Follows, counted, front_of};
+ghost use Rattle.tlsf_heap.specs.Inner.Checks.{tally_of, nodes_at, IsPoolChain, Follows, tallied, front_of};
 
 use tlsf_class::UNIT;
 use tlsf_store::{MOST_POOLS, Pool, Record, Slot, State, Store};
@@ -96,7 +96,7 @@ impl Tally {
     fn with(self, state: State) -> Tally
         requires few { self.blocks < most_records }
         requires few_free { self.free ≤ self.blocks }
-        ensures { result ≡ counted state self }
+        ensures { result ≡ tallied state self }
     {
         let free = match state {
             State::Free => self.free + 1,
