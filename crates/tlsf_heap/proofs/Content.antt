@@ -9,4 +9,6 @@ pub mod Results
 pub mod MemalignCases
 pub mod BareSteps
 pub mod BareFree
+pub mod BareRealloc
+pub mod Given
 pub mod PoolCases

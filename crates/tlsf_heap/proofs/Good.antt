@@ -6,3 +6,4 @@ pub mod Implied
 pub mod AlignedImplied
 pub mod RemovedPool
 pub mod Realloc
+pub mod StaysLive

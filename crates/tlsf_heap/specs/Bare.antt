@@ -1,5 +1,5 @@
 -- A content whose live blocks are known by something else, or by nothing.
-use Rattle.std.specs.Prelude.{ℕ, map, option_map, Result}
+use Rattle.std.specs.Prelude.{ℕ, map, Option, option_map, Result}
 use Rattle.std.specs.Result.{result_map_both}
 use Rattle.tlsf_heap.specs.declared.refusal.Refusal.{Refusal}
 use Rattle.tlsf_heap.specs.Content.{Block, Pool, Content}
@@ -21,6 +21,10 @@ module _ {A B : Type 0} (rename : A → B) where
   -- the place that a call gives and what it leaves, or its refusal
   abbrev pub renamed_given : Result (ℕ × Content A) Refusal → Result (ℕ × Content B) Refusal
   renamed_given result = result_map_both (λ given. (given.0, renamed given.1)) (λ refusal. refusal) result
+
+  -- where the block is that realloc gives, if any, and what it leaves, or its refusal
+  abbrev pub renamed_moved : Result (Option (ℕ × A) × Content A) Refusal → Result (Option (ℕ × B) × Content B) Refusal
+  renamed_moved result = result_map_both (λ given. (option_map (λ pointer. (pointer.0, rename pointer.1)) given.0, renamed given.1)) (λ refusal. refusal) result
 
 -- nothing is told of what live blocks are known by
 abbrev pub bare : {A : Type 0} → Content A → Content (Unit {0})

@@ -152,3 +152,37 @@ fn readings(rt: HostRuntime) {
     assert!(rt; region.bytes(p).is_none());
     assert_eq!(rt; region.free(p), Err(Refusal::BadPointer));
 }
+
+/// The rows that a walk of the pool gives: how many, and the place of the last one.
+fn walked(region: &mut Region, base: u64) -> Result<(usize, u32), Refusal> {
+    let mut count: usize = 0;
+    let mut last = 0;
+    region.walk(base, |row| {
+        count = count.saturating_add(1);
+        last = row.place;
+    })?;
+    Ok((count, last))
+}
+
+/// A block at a multiple of its alignment, between a gap and a rest; a pool goes when it is one free block.
+#[test]
+fn aligned_block_and_pool_that_goes(rt: HostRuntime) {
+    let mut region = made(&rt, rt.alloc(), 1024, 4);
+    assert_eq!(rt; region.add_pool(8, 256), Ok(()));
+    assert_eq!(rt; region.memalign(3, 0), Err(Refusal::BadAlign));
+    assert_eq!(rt; region.memalign(8, 0), Err(Refusal::ZeroSize));
+    let Ok(p) = region.memalign(64, 32) else {
+        panic!(rt; "no block");
+    };
+    assert_eq!(rt; p.place(), 64);
+    assert_eq!(rt; walked(&mut region, 8), Ok((3, 96)));
+    assert_eq!(rt; walked(&mut region, 0), Err(Refusal::NoPool));
+    assert!(rt; region.check());
+    assert_eq!(rt; region.remove_pool(0), Err(Refusal::NoPool));
+    assert_eq!(rt; region.remove_pool(8), Err(Refusal::PoolInUse));
+    assert_eq!(rt; region.free(p), Ok(()));
+    assert_eq!(rt; walked(&mut region, 8), Ok((1, 8)));
+    assert_eq!(rt; region.remove_pool(8), Ok(()));
+    assert!(rt; has_pools(&mut region, &[]));
+    assert!(rt; region.check());
+}

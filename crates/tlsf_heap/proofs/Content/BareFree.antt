@@ -68,7 +68,7 @@ module _ {A B : Type 0} (rename : A → B) where
   free_previous-renamed place content =
       ap if_free (first_in_pools-renamed (previous_of place) (previous_of place) (previous_of-renamed place) content.pools) ∙ if_free-renamed (first_in_pools (previous_of place) content.pools)
 
-  free_next-renamed : (place : ℕ) (content : Content A) → free_next place (renamed rename content) ≡ option_map (renamed_block rename) (free_next place content)
+  pub free_next-renamed : (place : ℕ) (content : Content A) → free_next place (renamed rename content) ≡ option_map (renamed_block rename) (free_next place content)
   free_next-renamed place content =
       ap if_free (first_in_pools-renamed (next_of place) (next_of place) (next_of-renamed place) content.pools) ∙ if_free-renamed (first_in_pools (next_of place) content.pools)
 
@@ -79,7 +79,7 @@ module _ {A B : Type 0} (rename : A → B) where
   lists_after-renamed place size (Some front) None lists = refl
   lists_after-renamed place size (Some front) (Some back) lists = refl
 
-  without_block-renamed : (block : Option (Block A)) (pools : List (Pool A)) → without_block (option_map (renamed_block rename) block) (map (renamed_pool rename) pools) ≡ map (renamed_pool rename) (without_block block pools)
+  pub without_block-renamed : (block : Option (Block A)) (pools : List (Pool A)) → without_block (option_map (renamed_block rename) block) (map (renamed_pool rename) pools) ≡ map (renamed_pool rename) (without_block block pools)
   without_block-renamed None pools = refl
   without_block-renamed (Some block) pools = replaced_in-renamed rename block.place [] [] refl pools
 
@@ -88,7 +88,7 @@ module _ {A B : Type 0} (rename : A → B) where
   start_of-renamed None place = refl
   start_of-renamed (Some block) place = refl
 
-  size_of-renamed : (block : Option (Block A)) → size_of (option_map (renamed_block rename) block) ≡ size_of block
+  pub size_of-renamed : (block : Option (Block A)) → size_of (option_map (renamed_block rename) block) ≡ size_of block
   size_of-renamed None = refl
   size_of-renamed (Some block) = refl
 
@@ -104,7 +104,7 @@ module _ {A B : Type 0} (rename : A → B) where
       ∙ ap (map (replaced_in place (one (start_of front place) (size_of front + size + size_of back)))) (without_block-renamed back (without_block front pools))
       ∙ replaced_in-renamed rename place (free_block (start_of front place) (size_of front + size + size_of back) ∷ []) (one (start_of front place) (size_of front + size + size_of back)) refl (without_block back (without_block front pools))
 
-  after_free-renamed : (place : ℕ) (content : Content A) → after_free place (renamed rename content) ≡ renamed rename (after_free place content)
+  pub after_free-renamed : (place : ℕ) (content : Content A) → after_free place (renamed rename content) ≡ renamed rename (after_free place content)
   after_free-renamed place content =
       let size = size_at place (blocks_of content.pools) in
       let pools = map (renamed_pool rename) content.pools in

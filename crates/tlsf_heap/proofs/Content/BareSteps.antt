@@ -40,7 +40,7 @@ module _ {A B : Type 0} (rename : A → B) where
   gap-renamed : (place size : ℕ) → map (renamed_block rename) (gap place size) ≡ gap place size
   gap-renamed place size = ap-cond (map (renamed_block rename)) (size == 0) [] (record { place = place; size = size; owner = None } ∷ [])
 
-  cut-renamed : (owner : A) (place m size : ℕ) → map (renamed_block rename) (cut owner place m size) ≡ cut (rename owner) place m size
+  pub cut-renamed : (owner : A) (place m size : ℕ) → map (renamed_block rename) (cut owner place m size) ≡ cut (rename owner) place m size
   cut-renamed owner place m size = ap (λ blocks. record { place = place; size = m; owner = Some (rename owner) } ∷ blocks) (gap-renamed (place + m) (size - m))
 
   replaced-renamed : (place : ℕ) (others blocks : List (Block A))
@@ -79,7 +79,7 @@ module _ {A B : Type 0} (rename : A → B) where
       ap (λ size. allocate (rename owner) place m size (renamed rename content)) (size_at-renamed place content.pools)
       ∙ allocate-renamed owner place m (size_at place (blocks_of content.pools)) content
 
-  malloc_rounded-renamed : (owner : A) (rounded : Option ℕ) (content : Content A)
+  pub malloc_rounded-renamed : (owner : A) (rounded : Option ℕ) (content : Content A)
       → malloc_rounded (rename owner) rounded (renamed rename content) ≡ renamed_given rename (malloc_rounded owner rounded content)
   malloc_rounded-renamed owner None content = refl
   malloc_rounded-renamed owner (Some m) content = malloc_picked-renamed owner m (pick m content.lists) content
