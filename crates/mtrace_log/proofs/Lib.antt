@@ -2,6 +2,7 @@
 pub mod TextLemmas
 pub mod HexLemmas
 pub mod FieldLemmas
+pub mod FormLemmas
 pub mod EventLemmas
 pub mod SpellingLemmas
 pub mod TraceLemmas

@@ -8,7 +8,7 @@ use Rattle.mtrace_log.specs.Address.{address_text}
 use Rattle.mtrace_log.specs.Location.{longest_location}
 use Rattle.mtrace_log.specs.Spelling.{spell, longest_line}
 use Rattle.mtrace_log.specs.Lines.{lines_of}
-use Rattle.mtrace_log.specs.declared.event.Event.TheVariants.{Start, End, Alloc}
+use Rattle.mtrace_log.specs.declared.event.Event.TheVariants.{Start, End, Alloc, Free, Old, New, Failed}
 
 -- ---- events
 
@@ -29,6 +29,30 @@ spell_failed_alloc = refl
 
 spell_located : spell (Alloc (Some (codes "./prog:[0x1244]")) (Some 0xabc) 1) ≡ codes "@ ./prog:[0x1244] + 0xabc 0x1"
 spell_located = refl
+
+spell_free : spell (Free None 0x10) ≡ codes "- 0x10"
+spell_free = refl
+
+spell_located_free : spell (Free (Some (codes "./prog:[0x1250]")) 0xabc) ≡ codes "@ ./prog:[0x1250] - 0xabc"
+spell_located_free = refl
+
+spell_old : spell (Old None 0xff) ≡ codes "< 0xff"
+spell_old = refl
+
+spell_located_old : spell (Old (Some (codes "a")) 0xff) ≡ codes "@ a < 0xff"
+spell_located_old = refl
+
+spell_new : spell (New None 0x20 0x12c) ≡ codes "> 0x20 0x12c"
+spell_new = refl
+
+spell_located_new : spell (New (Some (codes "a")) 0x20 0) ≡ codes "@ a > 0x20 0"
+spell_located_new = refl
+
+spell_failed : spell (Failed None (Some 0x30) 0xffff) ≡ codes "! 0x30 0xffff"
+spell_failed = refl
+
+spell_located_failed : spell (Failed (Some (codes "a")) None 1) ≡ codes "@ a ! (nil) 0x1"
+spell_located_failed = refl
 
 -- ---- the greatest address
 

@@ -1,9 +1,10 @@
 -- What the readers of the fields of a line answer.
-use Rattle.std.specs.Prelude.{◌≡◌, ◌≢◌, ℕ, ◌^◌, ◌<◌, List, Option, IfSome, MatchOption}
+use Rattle.std.specs.Prelude.{◌≡◌, ◌≢◌, ℕ, ◌^◌, ◌<◌, List, ◌∷◌, Option, IfSome, MatchOption}
+use Rattle.mtrace_log.specs.Bytes.{space}
 use Rattle.mtrace_log.specs.Address.{IsAddress}
-use Rattle.mtrace_log.specs.Spelling.{alloc_text}
+use Rattle.mtrace_log.specs.Form.{form, fields_text}
+use Rattle.mtrace_log.specs.Form.Form.{marked}
 use Rattle.mtrace_log.specs.declared.event.Event.{Event}
-use Rattle.mtrace_log.specs.declared.event.Event.TheVariants.{Alloc}
 
 -- the answer is the value that the bytes spell, or none where they spell none
 abbrev pub Finds : {X : Type 0} → (X → Type 0) → (X → List ℕ) → List ℕ → Option X → Type 0
@@ -17,11 +18,15 @@ IsPointer pointer = IfSome pointer IsAddress
 abbrev pub IsSize : ℕ → Type 0
 IsSize size = size < 2 ^ 64
 
--- the event is of that place, with a pointer and a size
-pub record IsAlloc (place : Option (List ℕ)) (bytes : List ℕ) (event : Event) : Type 0 where
-  pub address : Option ℕ
-  pub size : ℕ
-  pub is : event ≡ Alloc place address size
-  pub pointer : IsPointer address
-  pub fits : IsSize size
-  pub spelled : bytes ≡ alloc_text address size
+-- a pointer, and a size or none
+abbrev pub AreFields : Option ℕ → Option ℕ → Type 0
+AreFields pointer size = IsPointer pointer × IfSome size IsSize
+
+-- behind that place the bytes are the line of the event
+pub record IsBehind (place : Option (List ℕ)) (bytes : List ℕ) (event : Event) : Type 0 where
+  pub mark : ℕ
+  pub pointer : Option ℕ
+  pub size : Option ℕ
+  pub is : form event ≡ marked place mark pointer size
+  pub fits : AreFields pointer size
+  pub spelled : bytes ≡ mark ∷ space ∷ fields_text pointer size

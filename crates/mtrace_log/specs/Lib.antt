@@ -3,6 +3,7 @@ pub mod Bytes
 pub mod Address
 pub mod Location
 pub mod Spelling
+pub mod Form
 pub mod Reading
 pub mod Fields
 pub mod Lines

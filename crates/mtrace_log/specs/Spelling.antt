@@ -1,10 +1,10 @@
 -- The one line of each event: the forms of glibc's mtrace(3) that this project reads.
 use Rattle.std.specs.Prelude.{ℕ, ◌^◌, ◌<◌, List, [], ◌∷◌, ◌++◌, codes, Option, Some, None, IfSome}
 use Rattle.mtrace_log.specs.Bytes.{space}
-use Rattle.mtrace_log.specs.Address.{IsAddress, pointer_text, size_text}
+use Rattle.mtrace_log.specs.Address.{IsAddress, address_text, pointer_text, size_text}
 use Rattle.mtrace_log.specs.Location.{IsLocation}
 use Rattle.mtrace_log.specs.declared.event.Event.{Event}
-use Rattle.mtrace_log.specs.declared.event.Event.TheVariants.{Start, End, Alloc}
+use Rattle.mtrace_log.specs.declared.event.Event.TheVariants.{Start, End, Alloc, Free, Old, New, Failed}
 
 -- the longest line of any event, in bytes without its newline
 abbrev pub longest_line : ℕ
@@ -15,18 +15,22 @@ abbrev pub location_text : Option (List ℕ) → List ℕ
 location_text None = []
 location_text (Some location) = codes "@ " ++ (location ++ space ∷ [])
 
--- `+ PTR SIZE`
-abbrev pub alloc_text : Option ℕ → ℕ → List ℕ
-alloc_text address size = codes "+ " ++ (pointer_text address ++ space ∷ size_text size)
-
 -- the line of an event
 abbrev pub spell : Event → List ℕ
 spell Start = codes "= Start"
 spell End = codes "= End"
-spell (Alloc place address size) = location_text place ++ alloc_text address size
+spell (Alloc place address size) = location_text place ++ (codes "+ " ++ (pointer_text address ++ space ∷ size_text size))
+spell (Free place address) = location_text place ++ (codes "- " ++ address_text address)
+spell (Old place address) = location_text place ++ (codes "< " ++ address_text address)
+spell (New place address size) = location_text place ++ (codes "> " ++ (address_text address ++ space ∷ size_text size))
+spell (Failed place address size) = location_text place ++ (codes "! " ++ (pointer_text address ++ space ∷ size_text size))
 
 -- what the fields of an event can hold
 abbrev pub IsEvent : Event → Type 0
 IsEvent Start = Unit {0}
 IsEvent End = Unit {0}
 IsEvent (Alloc place address size) = IfSome place IsLocation × IfSome address IsAddress × (size < 2 ^ 64)
+IsEvent (Free place address) = IfSome place IsLocation × IsAddress address
+IsEvent (Old place address) = IfSome place IsLocation × IsAddress address
+IsEvent (New place address size) = IfSome place IsLocation × IsAddress address × (size < 2 ^ 64)
+IsEvent (Failed place address size) = IfSome place IsLocation × IfSome address IsAddress × (size < 2 ^ 64)

@@ -5,7 +5,14 @@ use crate::location::Location;
 ///
 /// - `= Start`
 /// - `= End`
-/// - `+ PTR SIZE`, or that line behind `@ LOCATION ` with one space at each side of the location
+/// - `+ PTR SIZE`
+/// - `- ADDR`
+/// - `< ADDR`
+/// - `> ADDR SIZE`
+/// - `! PTR SIZE`
+///
+/// The first two stand alone. The others stand alone, or behind `@ LOCATION ` with one space at each
+/// side of the location.
 ///
 /// ADDR is `0x` and 1 to 16 digits `0` to `9` and `a` to `f`, the first not `0`. PTR is `(nil)` or an
 /// ADDR. SIZE is `0`, or spelled as an ADDR.
@@ -20,6 +27,38 @@ pub enum Event {
         /// Where in the program, if the line says it.
         at: Option<Location>,
         /// The address given, or none where the allocation failed.
+        addr: Option<Addr>,
+        /// How many bytes were asked for.
+        size: u64,
+    },
+    /// The block at `addr` was freed.
+    Free {
+        /// Where in the program, if the line says it.
+        at: Option<Location>,
+        /// The address of the block.
+        addr: Addr,
+    },
+    /// The block at `addr` is being reallocated.
+    Old {
+        /// Where in the program, if the line says it.
+        at: Option<Location>,
+        /// The address that the block had.
+        addr: Addr,
+    },
+    /// The new block of the reallocation before it: `size` bytes at `addr`.
+    New {
+        /// Where in the program, if the line says it.
+        at: Option<Location>,
+        /// The address given.
+        addr: Addr,
+        /// How many bytes were asked for.
+        size: u64,
+    },
+    /// A reallocation to `size` bytes failed.
+    Failed {
+        /// Where in the program, if the line says it.
+        at: Option<Location>,
+        /// The address of the block that was to be reallocated, or none.
         addr: Option<Addr>,
         /// How many bytes were asked for.
         size: u64,

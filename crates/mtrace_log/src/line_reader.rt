@@ -1,8 +1,10 @@
 ghost use Rattle.std.specs.Prelude.{◌≡◌, ◌≢◌, ℕ, ◌<◌, ◌++◌, ◌∷◌, List, length, codes, position, ◌==◌, Option, Err, Some, MatchOption};
 ghost use Rattle.mtrace_log.specs.Bytes.{Lacks, space};
 ghost use Rattle.mtrace_log.specs.Address.{pointer_text, size_text};
-ghost use Rattle.mtrace_log.specs.Spelling.{spell, IsEvent, alloc_text};
-ghost use Rattle.mtrace_log.specs.Fields.{Finds, IsPointer, IsSize, IsAlloc};
+ghost use Rattle.mtrace_log.specs.Spelling.{spell, IsEvent};
+ghost use Rattle.mtrace_log.specs.Form.{form, fields_text};
+ghost use Rattle.mtrace_log.specs.Form.Form.{marked};
+ghost use Rattle.mtrace_log.specs.Fields.{Finds, IsPointer, IsSize, AreFields, IsBehind};
 ghost use Rattle.mtrace_log.specs.Reading.{Reads};
 ghost use Rattle.mtrace_log.specs.declared.event.Event.{Event as LineEvent};
 ghost use Rattle.mtrace_log.specs.declared.event.LineFault.TheVariants.{TooLong};
@@ -56,17 +58,15 @@ fn read_size(bytes: &[u8]) -> Option<u64>
     hex::read_address(bytes)
 }
 
-// `+ PTR SIZE`, behind its place
-fn read_alloc(at: Option<Location>, bytes: &[u8]) -> Option<Event>
-    ensures { MatchOption result
-        ((address : Option ℕ) (size : ℕ) → IsPointer address → IsSize size → bytes.now ≢ alloc_text address size)
-        (IsAlloc at bytes.now) }
+// PTR, or PTR SIZE
+fn read_fields(bytes: &[u8]) -> Option<(Option<Addr>, Option<u64>)>
+    ensures { Finds (λ fields. AreFields fields.0 fields.1) (λ fields. fields_text fields.0 fields.1) bytes.now result }
 {
-    let [b'+', b' ', fields @ ..] = bytes else {
-        return None;
-    };
-    let Some((pointer, number)) = split_at_space(fields) else {
-        return None;
+    let Some((pointer, number)) = split_at_space(bytes) else {
+        let Some(addr) = read_pointer(bytes) else {
+            return None;
+        };
+        return Some((addr, None));
     };
     let Some(addr) = read_pointer(pointer) else {
         return None;
@@ -74,7 +74,57 @@ fn read_alloc(at: Option<Location>, bytes: &[u8]) -> Option<Event>
     let Some(size) = read_size(number) else {
         return None;
     };
-    Some(Event::Alloc { at, addr, size })
+    Some((addr, Some(size)))
+}
+
+// The event with this place, mark and fields.
+fn event_of(at: Option<Location>, mark: u8, addr: Option<Addr>, size: Option<u64>) -> Option<Event>
+    ensures { MatchOption result ((event : LineEvent) → form event ≢ marked at mark addr size)
+        (λ event. form event ≡ marked at mark addr size) }
+{
+    match (mark, addr, size) {
+        (b'+', addr, Some(size)) => Some(Event::Alloc { at, addr, size }),
+        (b'-', Some(addr), None) => Some(Event::Free { at, addr }),
+        (b'<', Some(addr), None) => Some(Event::Old { at, addr }),
+        (b'>', Some(addr), Some(size)) => Some(Event::New { at, addr, size }),
+        (b'!', addr, Some(size)) => Some(Event::Failed { at, addr, size }),
+        _ => None,
+    }
+}
+
+// The first byte, where a space follows it, and what stands behind that space.
+fn split_mark(bytes: &[u8]) -> Option<(u8, &[u8])>
+    ensures { MatchOption result ((mark : ℕ) (rest : List ℕ) → bytes.now ≢ mark ∷ space ∷ rest)
+        (λ parts. bytes.now ≡ parts.0 ∷ space ∷ parts.1.now) }
+{
+    let [mark, b' ', rest @ ..] = bytes else {
+        return None;
+    };
+    Some((*mark, rest))
+}
+
+// A mark, a space and fields, behind their place or without one.
+fn read_marked(at: Option<Location>, bytes: &[u8]) -> Option<Event>
+    ensures { MatchOption result ((event : LineEvent) → IsBehind at bytes.now event → ⊥) (IsBehind at bytes.now) }
+{
+    let Some((mark, fields)) = split_mark(bytes) else {
+        return None;
+    };
+    let Some((addr, size)) = read_fields(fields) else {
+        return None;
+    };
+    event_of(at, mark, addr, size)
+}
+
+// What stands behind `@ `.
+fn behind_at(bytes: &[u8]) -> Option<&[u8]>
+    ensures { MatchOption result ((rest : List ℕ) → bytes.now ≢ codes "@ " ++ rest)
+        (λ rest. bytes.now ≡ codes "@ " ++ rest.now) }
+{
+    let [b'@', b' ', rest @ ..] = bytes else {
+        return None;
+    };
+    Some(rest)
 }
 
 // A line behind `@ `.
@@ -87,7 +137,7 @@ fn read_located(bytes: &[u8]) -> Option<Event>
     let Some(location) = Location::new(place) else {
         return None;
     };
-    read_alloc(Some(location), rest)
+    read_marked(Some(location), rest)
 }
 
 // The event whose spelling the bytes are.
@@ -100,10 +150,10 @@ fn read_event(bytes: &[u8]) -> Option<Event>
     if bytes == b"= End".as_slice() {
         return Some(Event::End);
     }
-    if let [b'@', b' ', rest @ ..] = bytes {
+    if let Some(rest) = behind_at(bytes) {
         return read_located(rest);
     }
-    read_alloc(None, bytes)
+    read_marked(None, bytes)
 }
 
 /// What a line says, given without its newline.

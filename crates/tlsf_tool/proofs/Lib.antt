@@ -1,11 +1,1 @@
-mod LogRows
-mod Writing
-mod HeapSteps
-mod HeldEntries
-mod HistoryLemmas
-mod TextLemmas
-mod RunLemmas
 mod WordLemmas
-mod HeldLemmas
-mod SortedLemmas
-mod StartLemmas

@@ -6,11 +6,11 @@ use Rattle.tlsf_tool.specs.declared.asked.Command.TheVariants.{Report}
 use Rattle.tlsf_tool.specs.declared.asked.Name.TheVariants.{Leaks}
 use Rattle.tlsf_tool.specs.declared.asked.ToolFault.{ToolFault}
 use Rattle.tlsf_tool.specs.declared.asked.ToolFault.TheVariants.{Usage, CannotOpen, Run}
-use Rattle.tlsf_tool.specs.declared.settings.Settings.{Settings}
-use Rattle.tlsf_tool.specs.declared.status.Status.{Status}
-use Rattle.tlsf_tool.specs.declared.status.Status.TheVariants.{Clean, Found}
-use Rattle.tlsf_tool.specs.declared.status.RunFault.{RunFault}
-use Rattle.tlsf_tool.specs.declared.status.RunFault.TheVariants.{Read, Write, OutOfMemory, BadSettings}
+use Rattle.mtrace_replay.specs.declared.settings.Settings.{Settings}
+use Rattle.mtrace_replay.specs.declared.status.Status.{Status}
+use Rattle.mtrace_replay.specs.declared.status.Status.TheVariants.{Clean, Found}
+use Rattle.mtrace_replay.specs.declared.status.RunFault.{RunFault}
+use Rattle.mtrace_replay.specs.declared.status.RunFault.TheVariants.{Read, Write, OutOfMemory, BadSettings}
 
 abbrev pub status_of_end : Status → ℕ
 status_of_end Clean = 0

@@ -1,8 +1,8 @@
 ghost use Rattle.std.specs.Prelude.{◌≡◌, ◌⊎◌};
 ghost use Rattle.tlsf_tool.specs.Statuses.{status_of_fault, IsUsage};
 
-use crate::settings::Settings;
-use crate::status::RunFault;
+use crate::statuses::fault_status;
+use mtrace_replay::{RunFault, Settings};
 use std::alloc::Global;
 use thiserror::Error;
 
@@ -63,7 +63,7 @@ impl ToolFault {
         match self {
             ToolFault::Usage(_) => 2,
             ToolFault::CannotOpen(_) => 3,
-            ToolFault::Run(fault) => fault.status(),
+            ToolFault::Run(fault) => fault_status(*fault),
         }
     }
 }

@@ -2,27 +2,17 @@
 #![tactic(auto)]
 
 mod asked;
-mod diagnostic;
-mod entry;
-mod laws;
-mod line_text;
-mod output;
-mod replay;
-mod report;
-mod run;
 mod service;
-mod settings;
-mod status;
+mod statuses;
 #[cfg(test)]
 mod tests;
 mod words;
 
 use crate::asked::{Command, Name, ToolFault};
 use crate::service::serve;
-use crate::settings::Settings;
-use crate::status::RunFault;
 use crate::words::command;
 use mtrace_log::{FromRead, ToWrite};
+use mtrace_replay::{RunFault, Settings};
 use std::io::{BufReader, BufWriter, Read};
 use std::process::ExitCode;
 use std::{env, fs, io};

@@ -1,17 +1,16 @@
 //! One run, with its status.
 
 ghost use Rattle.std.specs.Prelude.{◌≡◌, ◌⊎◌, ◌↔◌, ◌≤◌, IsTrue};
-ghost use Rattle.tlsf_tool.specs.Settings.{are_bad};
+ghost use Rattle.mtrace_replay.specs.Settings.{are_bad};
 ghost use Rattle.mtrace_log.specs.Trace.{HasGivenAll, HasNotFailed, HasTakenAndFlushed};
-ghost use Rattle.tlsf_tool.specs.Run.{Reports, FailsToRead, FailsToWrite, StopsForMemory};
-ghost use Rattle.tlsf_tool.specs.declared.status.Status.TheVariants.{Clean, Found};
+ghost use Rattle.mtrace_replay.specs.Run.{Reports, FailsToRead, FailsToWrite, StopsForMemory};
+ghost use Rattle.mtrace_replay.specs.declared.status.Status.TheVariants.{Clean, Found};
 
 use crate::asked::{Name, ToolFault};
-use crate::output::put_all;
-use crate::run::run_leaks;
-use crate::settings::Settings;
+use crate::statuses::{end_status, fault_status};
 use arrayvec::ArrayString;
 use mtrace_log::{Sink, Source};
+use mtrace_replay::{Settings, put_all, run_leaks};
 use std::alloc::Global;
 use std::fmt::Write;
 
@@ -56,10 +55,10 @@ pub fn serve<R: Source, W: Sink, E: Sink>(
         Name::Leaks => run_leaks(alloc, reader, writer, settings),
     };
     match answer {
-        Ok(status) => status.number(),
+        Ok(status) => end_status(status),
         Err(fault) => {
             put_fault(errors, &ToolFault::Run(fault));
-            fault.status()
+            fault_status(fault)
         }
     }
 }

@@ -3,3 +3,4 @@
 mod glibc_log;
 mod program;
 mod rows;
+mod words_log;

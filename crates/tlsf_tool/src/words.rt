@@ -4,8 +4,7 @@ ghost use Rattle.std.specs.Prelude.{◌≡◌, ◌⊎◌, ℕ, List, IfOk, IfErr
 ghost use Rattle.tlsf_tool.specs.Statuses.{AskFor, AskLeaks, IsUsage};
 
 use crate::asked::{Command, Name, ToolFault};
-use crate::settings::Settings;
-use crate::status::RunFault;
+use mtrace_replay::{RunFault, Settings};
 use std::alloc::Global;
 
 /// What the words ask for, of which the first is the program's name: exactly `leaks` and the name of a

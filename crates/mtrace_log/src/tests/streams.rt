@@ -50,7 +50,7 @@ fn cuts_a_text_into_lines(rt: HostRuntime) {
         );
         expect_sizes(
             &rt,
-            b"+ 0x01000 0x10\n+ 0x1000 0\n- 0x2000\n< 0x1000",
+            b"+ 0x01000 0x10\n+ 0x1000 0\n- 0x02000\n< (nil)",
             piece,
             &[None, Some(0), None, None],
         );
@@ -83,8 +83,8 @@ fn passes_over_a_long_line(rt: HostRuntime) {
 
 #[test]
 fn stops_where_the_reader_fails(rt: HostRuntime) {
-    // The reader gives `- 0x1`, a newline and `- 0x2`, one byte a call, and fails before the rest.
-    let mut reader = MemorySource::failing_after(b"- 0x1\n- 0x2\n= End\n", 1, 11);
+    // The reader gives `- 0x0`, a newline and `- 0x2`, one byte a call, and fails before the rest.
+    let mut reader = MemorySource::failing_after(b"- 0x0\n- 0x2\n= End\n", 1, 11);
     let mut lines = Lines::new();
     let first = lines.next(&mut reader);
     assert!(rt;

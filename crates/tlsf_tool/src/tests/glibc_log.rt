@@ -1,7 +1,7 @@
 //! A log that glibc 2.36 wrote for a C program that only allocates.
 
 use super::rows::{WHOLE, expect_report};
-use crate::settings::Settings;
+use mtrace_replay::Settings;
 
 /// What glibc's tracer wrote.
 const LOG: &[u8] = b"\

@@ -3,10 +3,9 @@
 use super::rows::SMALL;
 use crate::asked::{Command, Name, ToolFault};
 use crate::service::serve;
-use crate::settings::Settings;
-use crate::status::RunFault;
 use crate::words::command;
 use mtrace_log::memory::{Full, MemorySink, MemorySource};
+use mtrace_replay::{RunFault, Settings};
 use std::alloc::{AllocError, Global};
 use std::test::Fail;
 

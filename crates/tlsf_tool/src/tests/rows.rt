@@ -3,9 +3,9 @@
 
 use crate::asked::Name;
 use crate::service::serve;
-use crate::settings::Settings;
 use mtrace_log::memory::{Full, MemorySink, MemorySource};
 use mtrace_log::{LONGEST_LINE, LONGEST_LOCATION, Sink, Source};
+use mtrace_replay::{RunFault, Settings, run_leaks};
 use std::alloc::{AllocError, Global};
 use std::process::Abort;
 use std::test::Fail;
@@ -24,70 +24,153 @@ const ONE_RECORD: Settings = Settings {
     records: 1,
 };
 
+/// One pool of 64 bytes and four records.
+const FOUR_RECORDS: Settings = Settings {
+    records: 4,
+    ..ONE_RECORD
+};
+
 /// A log, with what it comes to.
 struct Row {
     name: &'static str,
     settings: Settings,
-    log: &'static str,
-    text: &'static str,
+    log: &'static [u8],
+    text: &'static [u8],
     status: u8,
 }
 
-const ROWS: [Row; 8] = [
+const ROWS: [Row; 19] = [
     Row {
         name: "first-leak",
         settings: Settings::DEFAULT,
-        log: "= Start\n@ a + 0x10 0x64\n= End\n",
-        text: "Memory not freed:\n0x10 100 line 2 at a\nTotal: 1 blocks, 100 bytes.\n",
+        log: b"= Start\n@ a + 0x10 0x64\n= End\n",
+        text: b"Memory not freed:\n0x10 100 line 2 at a\nTotal: 1 blocks, 100 bytes.\n",
         status: 1,
     },
     Row {
         name: "first-path-diagnostics",
         settings: SMALL,
-        log: "= Start\n+ 0x10 0x64\n+ 0x10 0x1\n- 0x10\n+ 0x20 0x400\n",
-        text: "line 3: 0x10 is already held\nline 4: not a line\nline 5: 0x20 refused: no fit\nMemory not freed:\n0x10 100 line 2\nTotal: 1 blocks, 100 bytes.\n",
+        log: b"= Start\n+ 0x10 0x64\n+ 0x10 0x1\n- 0x10\n+ 0x20 0x400\n",
+        text: b"line 3: 0x10 is already held\nMemory not freed:\n0x20 1024 line 5\nTotal: 1 blocks, 1024 bytes.\n",
         status: 1,
     },
     Row {
         name: "first-path-table-full",
         settings: ONE_RECORD,
-        log: "+ 0x10 0x8\n",
-        text: "line 1: 0x10 refused: table full\nNo memory leaks.\n",
+        log: b"+ 0x10 0x8\n",
+        text: b"line 1: 0x10 refused: table full\nNo memory leaks.\n",
         status: 1,
     },
     Row {
         name: "empty-log",
         settings: SMALL,
-        log: "",
-        text: "No memory leaks.\n",
+        log: b"",
+        text: b"No memory leaks.\n",
         status: 0,
     },
     Row {
-        name: "lines that ask for nothing",
+        name: "lines-without-effect",
         settings: SMALL,
-        log: "= Start\n+ (nil) 0x8\n= End\n",
-        text: "No memory leaks.\n",
+        log: b"! 0x10 0x8\n! (nil) 0\n+ (nil) 0x8\n= End\n",
+        text: b"No memory leaks.\n",
         status: 0,
     },
     Row {
         name: "a last line without newline",
         settings: SMALL,
-        log: "+ 0x10 0",
-        text: "Memory not freed:\n0x10 0 line 1\nTotal: 1 blocks, 0 bytes.\n",
+        log: b"+ 0x10 0",
+        text: b"Memory not freed:\n0x10 0 line 1\nTotal: 1 blocks, 0 bytes.\n",
         status: 1,
     },
     Row {
         name: "an empty line, leading zeros, capital digits, a carriage return",
         settings: SMALL,
-        log: "\n+ 0x01000 0x10\n+ 0xA 0x1\n= Start\r\n",
-        text: "line 1: not a line\nline 2: not a line\nline 3: not a line\nline 4: not a line\nNo memory leaks.\n",
+        log: b"\n+ 0x01000 0x10\n+ 0xA 0x1\n= Start\r\n",
+        text: b"line 1: not a line\nline 2: not a line\nline 3: not a line\nline 4: not a line\nNo memory leaks.\n",
         status: 1,
     },
     Row {
         name: "entries in order of address",
         settings: SMALL,
-        log: "+ 0x30 0x1\n@ b + 0x10 0x2\n+ 0x20 0x3\n",
-        text: "Memory not freed:\n0x10 2 line 2 at b\n0x20 3 line 3\n0x30 1 line 1\nTotal: 3 blocks, 6 bytes.\n",
+        log: b"+ 0x30 0x1\n@ b + 0x10 0x2\n+ 0x20 0x3\n",
+        text: b"Memory not freed:\n0x10 2 line 2 at b\n0x20 3 line 3\n0x30 1 line 1\nTotal: 3 blocks, 6 bytes.\n",
+        status: 1,
+    },
+    Row {
+        name: "two-blocks-three-reports",
+        settings: SMALL,
+        log: b"= Start\n@ a + 0x10 0x64\n@ b + 0x20 0x1\n@ c - 0x10\n= End\n",
+        text: b"Memory not freed:\n0x20 1 line 3 at b\nTotal: 1 blocks, 1 bytes.\n",
+        status: 1,
+    },
+    Row {
+        name: "reallocation-pair",
+        settings: SMALL,
+        log: b"@ a + 0x10 0x64\n@ b < 0x10\n@ b > 0x30 0xc8\n",
+        text: b"Memory not freed:\n0x30 200 line 3 at b\nTotal: 1 blocks, 200 bytes.\n",
+        status: 1,
+    },
+    Row {
+        name: "refused-reallocation",
+        settings: FOUR_RECORDS,
+        log: b"+ 0x10 0x8\n< 0x10\n> 0x20 0x80\n",
+        text: b"line 3: 0x20 refused: no fit\nNo memory leaks.\n",
+        status: 1,
+    },
+    Row {
+        name: "repeated-half",
+        settings: FOUR_RECORDS,
+        log: b"+ 0x10 0x8\n< 0x10\n< 0x10\n> 0x10 0x10\n",
+        text: b"line 2: half of a reallocation\nMemory not freed:\n0x10 16 line 4\nTotal: 1 blocks, 16 bytes.\n",
+        status: 1,
+    },
+    Row {
+        name: "half-reallocation",
+        settings: SMALL,
+        log: b"+ 0x01000 0x10\n+ 0x1000 0\n- 0x2000\n< 0x1000\n",
+        text: b"line 1: not a line\nline 3: 0x2000 is not held\nline 4: half of a reallocation\nMemory not freed:\n0x1000 0 line 2\nTotal: 1 blocks, 0 bytes.\n",
+        status: 1,
+    },
+    Row {
+        name: "half-reallocation without a last newline",
+        settings: SMALL,
+        log: b"+ 0x01000 0x10\n+ 0x1000 0\n- 0x2000\n< 0x1000",
+        text: b"line 1: not a line\nline 3: 0x2000 is not held\nline 4: half of a reallocation\nMemory not freed:\n0x1000 0 line 2\nTotal: 1 blocks, 0 bytes.\n",
+        status: 1,
+    },
+    Row {
+        name: "end-between-halves",
+        settings: SMALL,
+        log: b"< 0x10\n= End\n> 0x10 0x8\n",
+        text: b"line 1: half of a reallocation\nline 3: no < before >\nNo memory leaks.\n",
+        status: 1,
+    },
+    Row {
+        name: "stray-new",
+        settings: SMALL,
+        log: b"> 0x20 0x8\n< 0x10\n> 0x20 0x8\n",
+        text: b"line 1: no < before >\nline 3: 0x10 is not held\nMemory not freed:\n0x20 8 line 3\nTotal: 1 blocks, 8 bytes.\n",
+        status: 1,
+    },
+    Row {
+        name: "old-not-held-new-held",
+        settings: SMALL,
+        log: b"+ 0x20 0x8\n< 0x10\n> 0x20 0x8\n",
+        text: b"line 3: 0x10 is not held\nline 3: 0x20 is already held\nMemory not freed:\n0x20 8 line 1\nTotal: 1 blocks, 8 bytes.\n",
+        status: 1,
+    },
+    Row {
+        name: "one-record-log",
+        settings: ONE_RECORD,
+        log: b"+ 0x10 0x8\n- 0x10\n+ 0x10 0x40\n+ 0x10 0x8\n- 0x10\n",
+        text: b"line 1: 0x10 refused: table full\nline 2: 0x10 is not held\nline 4: 0x10 is already held\nNo memory leaks.\n",
+        status: 1,
+    },
+    Row {
+        name: "location-bytes",
+        settings: SMALL,
+        log: b"@ \xC3\xA9 + 0x10 0x8\n",
+        text: b"Memory not freed:\n0x10 8 line 1 at \xC3\xA9\nTotal: 1 blocks, 8 bytes.\n",
         status: 1,
     },
 ];
@@ -148,9 +231,9 @@ fn rows_in_one_piece_and_in_pieces(rt: HostRuntime) {
                 rt.alloc(),
                 row.name,
                 row.settings,
-                row.log.as_bytes(),
+                row.log,
                 piece,
-                row.text.as_bytes(),
+                row.text,
                 row.status,
             );
         }
@@ -216,12 +299,12 @@ fn greatest_pools(rt: HostRuntime) {
     );
 }
 
-/// A log with a line that is none and a block that is not freed.
-const NOTED_AND_HELD: &[u8] = b"- 0x1\n+ 0x10 0x8\n";
+/// A log with a line that has no effect, a block that is not freed, and a half at its end.
+const NOTED_AND_HELD: &[u8] = b"- 0x1\n+ 0x10 0x8\n< 0x10\n";
 
 /// What it comes to.
 const TEXT_OF_BOTH: &[u8] =
-    b"line 1: not a line\nMemory not freed:\n0x10 8 line 2\nTotal: 1 blocks, 8 bytes.\n";
+    b"line 1: 0x1 is not held\nline 3: half of a reallocation\nMemory not freed:\n0x10 8 line 2\nTotal: 1 blocks, 8 bytes.\n";
 
 /// A log, with what it comes to, to be served to a writer that fails.
 const TO_WRITE: [(&[u8], &[u8]); 2] = [
@@ -295,12 +378,51 @@ fn reader_fails(rt: HostRuntime) {
             b"tlsf: read failed\n",
         );
         let text: &[u8] = if calls < 12 {
-            b"line 1: not a line\n"
+            b"line 1: 0x1 is not held\n"
         } else {
-            b"line 1: not a line\nline 2: not a line\n"
+            b"line 1: 0x1 is not held\nline 2: 0x2 is not held\n"
         };
         assert_eq!(rt; writer.bytes(), text, "{calls}");
     }
+}
+
+#[test]
+fn reader_fails_behind_a_half(rt: HostRuntime) {
+    let mut reader = MemorySource::failing_after(b"< 0x10\n", WHOLE, 1);
+    let mut writer = MemorySink::in_pieces(rt.alloc(), WHOLE);
+    expect_status(
+        &rt,
+        rt.alloc(),
+        "a half, and then a reader that fails",
+        SMALL,
+        &mut reader,
+        &mut writer,
+        3,
+        b"tlsf: read failed\n",
+    );
+    assert_eq!(rt; writer.bytes(), b"".as_slice());
+}
+
+#[test]
+fn faults_of_run_leaks(rt: HostRuntime) {
+    let alloc = rt.alloc();
+    let mut reader = MemorySource::failing_after(b"- 0x1\n- 0x2", 1, 11);
+    let mut writer = MemorySink::in_pieces(alloc, WHOLE);
+    let answer = run_leaks(alloc, &mut reader, &mut writer, SMALL);
+    assert_eq!(rt; answer, Err(RunFault::Read));
+    assert_eq!(rt; writer.bytes(), b"line 1: 0x1 is not held\n".as_slice());
+
+    let mut reader = MemorySource::failing_after(b"< 0x10\n", 1, 7);
+    let mut writer = MemorySink::in_pieces(alloc, WHOLE);
+    let answer = run_leaks(alloc, &mut reader, &mut writer, SMALL);
+    assert_eq!(rt; answer, Err(RunFault::Read));
+    assert_eq!(rt; writer.bytes(), b"".as_slice());
+
+    let mut reader = MemorySource::in_pieces(b"", WHOLE);
+    let mut writer = MemorySink::with_room(alloc, WHOLE, 5, Full::Fails);
+    let answer = run_leaks(alloc, &mut reader, &mut writer, SMALL);
+    assert_eq!(rt; answer, Err(RunFault::Write));
+    assert_eq!(rt; writer.bytes(), b"No me".as_slice());
 }
 
 #[test]

@@ -1,4 +1,4 @@
-use Rattle.mtrace_log.proofs.SpellingLemmas.{spell-same}
+use Rattle.mtrace_log.proofs.FormLemmas.{spell-same}
 use Rattle.mtrace_log.proofs.laws.one_spelling.Goals as goal
 
 pub returns : goal.returns

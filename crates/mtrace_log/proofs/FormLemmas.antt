@@ -1,0 +1,135 @@
+-- The form of each event, and that a line has one form only.
+use Rattle.std.proofs.Common.{◌≡◌, ◌≢◌, ℕ, zero, ◌<◌, ◌≤◌, List, [], ◌∷◌, length, get_or, drop, cond, ◌==◌, Option, Some, None, IfSome, refl, sym, ap, ◌∙◌, subst, arith, append_assoc}
+use Rattle.mtrace_log.specs.Bytes.{Lacks, space, newline}
+use Rattle.mtrace_log.specs.Address.{size_text, pointer_text}
+use Rattle.mtrace_log.specs.Location.{IsLocation}
+use Rattle.mtrace_log.specs.Spelling.{spell, IsEvent}
+use Rattle.mtrace_log.specs.Form.{Form, fields_text, form_text, form}
+use Rattle.mtrace_log.specs.Form.Form.{alone, marked}
+use Rattle.mtrace_log.specs.Fields.{IsPointer, IsSize}
+use Rattle.mtrace_log.specs.declared.event.Event.{Event}
+use Rattle.mtrace_log.specs.declared.event.Event.TheVariants.{Start, End, Alloc, Free, Old, New, Failed}
+use Rattle.mtrace_log.proofs.TextLemmas.{split-same, Lacks-middle}
+use Rattle.mtrace_log.proofs.FieldLemmas.{Lacks-pointer_text, Lacks-location, pointer_text-same, size_text-same}
+
+-- ---- an event and its form
+
+pub spell-form : (event : Event) → spell event ≡ form_text (form event)
+spell-form Start = refl
+spell-form End = refl
+spell-form (Alloc place address size) = refl
+spell-form (Free place address) = refl
+spell-form (Old place address) = refl
+spell-form (New place address size) = refl
+spell-form (Failed place address size) = refl
+
+-- what the parts of a form can hold
+abbrev pub Fits : Form → Type 0
+Fits (alone line) = Unit {0}
+Fits (marked place mark pointer size) = IfSome place IsLocation × IsPointer pointer × IfSome size IsSize
+
+pub Fits-form : (event : Event) → IsEvent event → Fits (form event)
+Fits-form Start valid = tt
+Fits-form End valid = tt
+Fits-form (Alloc place address size) valid = valid
+Fits-form (Free place address) valid = (valid.0, valid.1, tt)
+Fits-form (Old place address) valid = (valid.0, valid.1, tt)
+Fits-form (New place address size) valid = valid
+Fits-form (Failed place address size) valid = valid
+
+pub IsEvent-form : (event : Event) → Fits (form event) → IsEvent event
+IsEvent-form Start fits = tt
+IsEvent-form End fits = tt
+IsEvent-form (Alloc place address size) fits = fits
+IsEvent-form (Free place address) fits = (fits.0, fits.1)
+IsEvent-form (Old place address) fits = (fits.0, fits.1)
+IsEvent-form (New place address size) fits = fits
+IsEvent-form (Failed place address size) fits = fits
+
+-- a line alone begins with `=`, and a mark is neither that byte nor `@`
+abbrev pub HasShape : Form → Type 0
+HasShape (alone line) = (get_or line 0 0 ≡ 61) × (length line ≤ 7) × Lacks newline line
+HasShape (marked place mark pointer size) = (32 < mark) × (mark < 64) × (mark ≢ 61)
+
+pub HasShape-form : (event : Event) → HasShape (form event)
+HasShape-form Start =
+    (refl, omega arith, (λ e. absurd (omega arith), (λ e. absurd (omega arith), (λ e. absurd (omega arith), (λ e. absurd (omega arith), (λ e. absurd (omega arith), (λ e. absurd (omega arith), (λ e. absurd (omega arith), tt))))))))
+HasShape-form End = (refl, omega arith, (λ e. absurd (omega arith), (λ e. absurd (omega arith), (λ e. absurd (omega arith), (λ e. absurd (omega arith), (λ e. absurd (omega arith), tt))))))
+HasShape-form (Alloc place address size) = (omega arith, omega arith, omega arith)
+HasShape-form (Free place address) = (omega arith, omega arith, omega arith)
+HasShape-form (Old place address) = (omega arith, omega arith, omega arith)
+HasShape-form (New place address size) = (omega arith, omega arith, omega arith)
+HasShape-form (Failed place address size) = (omega arith, omega arith, omega arith)
+
+-- ---- the same form is the same event
+
+abbrev or_zero : Option ℕ → ℕ
+or_zero None = zero
+or_zero (Some n) = n
+
+-- the event that has a form
+abbrev event_with : Form → Event
+event_with (alone line) = cond (get_or line 2 0 == 83) Start End
+event_with (marked place mark pointer size) =
+    cond (mark == 43) (Alloc place pointer (or_zero size))
+    (cond (mark == 45) (Free place (or_zero pointer))
+    (cond (mark == 60) (Old place (or_zero pointer))
+    (cond (mark == 62) (New place (or_zero pointer) (or_zero size)) (Failed place pointer (or_zero size)))))
+
+event_with-form : (event : Event) → event_with (form event) ≡ event
+event_with-form Start = refl
+event_with-form End = refl
+event_with-form (Alloc place address size) = refl
+event_with-form (Free place address) = refl
+event_with-form (Old place address) = refl
+event_with-form (New place address size) = refl
+event_with-form (Failed place address size) = refl
+
+pub form-same : (first second : Event) → form first ≡ form second → first ≡ second
+form-same first second same = sym (event_with-form first) ∙ ap event_with same ∙ event_with-form second
+
+-- ---- the same line is the same form
+
+pub fields_text-same : (p q m n : Option ℕ) → fields_text p m ≡ fields_text q n → (p ≡ q) × (m ≡ n)
+fields_text-same p q None None same = (pointer_text-same p q same, refl)
+fields_text-same p q None (Some n) same = absurd (Lacks-middle space (pointer_text q) (size_text n) (subst (Lacks space) same (Lacks-pointer_text space p (omega arith))))
+fields_text-same p q (Some m) None same = absurd (Lacks-middle space (pointer_text p) (size_text m) (subst (Lacks space) (sym same) (Lacks-pointer_text space q (omega arith))))
+fields_text-same p q (Some m) (Some n) same =
+    let parts = split-same space (pointer_text p) (pointer_text q) (size_text m) (size_text n) (Lacks-pointer_text space p (omega arith)) (Lacks-pointer_text space q (omega arith)) same in
+    (pointer_text-same p q parts.0, ap (λ k. Some k) (size_text-same m n parts.1))
+
+-- a mark and the fields behind it
+behind-same : (place : Option (List ℕ)) (mark other : ℕ) (p q m n : Option ℕ) → mark ∷ space ∷ fields_text p m ≡ other ∷ space ∷ fields_text q n
+    → marked place mark p m ≡ marked place other q n
+behind-same place mark other p q m n same =
+    let marks : mark ≡ other = ap (λ text. get_or text 0 0) same in
+    let fields = fields_text-same p q m n (ap (drop 2) same) in
+    ap (λ k. marked place k p m) marks ∙ ap (λ k. marked place other k m) fields.0 ∙ ap (λ k. marked place other q k) fields.1
+
+pub form_text-same : (f g : Form) → HasShape f → HasShape g → Fits f → Fits g → form_text f ≡ form_text g → f ≡ g
+form_text-same (alone line) (alone other) v w fits_f fits_g same = ap (λ l. alone l) same
+form_text-same (alone line) (marked None mark q n) v w fits_f fits_g same =
+    let head : get_or line 0 0 ≡ mark = ap (λ text. get_or text 0 0) same in absurd (w.2 (sym head ∙ v.0))
+form_text-same (alone line) (marked (Some l) mark q n) v w fits_f fits_g same =
+    let head : get_or line 0 0 ≡ 64 = ap (λ text. get_or text 0 0) same in absurd (omega (arith, v.0))
+form_text-same (marked None mark p m) (alone other) v w fits_f fits_g same =
+    let head : mark ≡ get_or other 0 0 = ap (λ text. get_or text 0 0) same in absurd (v.2 (head ∙ w.0))
+form_text-same (marked (Some k) mark p m) (alone other) v w fits_f fits_g same =
+    let head : 64 ≡ get_or other 0 0 = ap (λ text. get_or text 0 0) same in absurd (omega (arith, w.0))
+form_text-same (marked None mark p m) (marked None other q n) v w fits_f fits_g same = behind-same None mark other p q m n same
+form_text-same (marked None mark p m) (marked (Some l) other q n) v w fits_f fits_g same =
+    let head : mark ≡ 64 = ap (λ text. get_or text 0 0) same in absurd (omega (arith, v.1))
+form_text-same (marked (Some k) mark p m) (marked None other q n) v w fits_f fits_g same =
+    let head : 64 ≡ other = ap (λ text. get_or text 0 0) same in absurd (omega (arith, w.1))
+form_text-same (marked (Some k) mark p m) (marked (Some l) other q n) v w fits_f fits_g same =
+    let first = append_assoc k (space ∷ []) (mark ∷ space ∷ fields_text p m) in
+    let second = append_assoc l (space ∷ []) (other ∷ space ∷ fields_text q n) in
+    let cut = split-same space k l (mark ∷ space ∷ fields_text p m) (other ∷ space ∷ fields_text q n) (Lacks-location space k (omega arith) fits_f.0.allowed) (Lacks-location space l (omega arith) fits_g.0.allowed)
+    (sym first ∙ ap (drop 2) same ∙ second) in
+    ap (λ place. marked (Some place) mark p m) cut.0 ∙ behind-same (Some l) mark other p q m n cut.1
+
+-- ---- the same line is the same event
+
+pub spell-same : (first second : Event) → IsEvent first → IsEvent second → spell first ≡ spell second → first ≡ second
+spell-same first second v w same =
+    form-same first second (form_text-same (form first) (form second) (HasShape-form first) (HasShape-form second) (Fits-form first v) (Fits-form second w) (sym (spell-form first) ∙ same ∙ spell-form second))

@@ -1,0 +1,16 @@
+use Rattle.mtrace_log.proofs.EventLemmas.{fields-no_space, fields-cut, size-fits}
+use Rattle.mtrace_log.proofs.line_reader.read_fields.Goals as goal
+
+pub returns-in_default-read_pointer : goal.returns-in_default-read_pointer
+returns-in_default-read_pointer c = λ fields fits same.
+    c.in_default-read_pointer.ensures fields.0 fits.0 (fields-no_space c.args.bytes.now fields.0 fields.1 c.in_default.ensures same)
+
+pub returns-in_default-read_pointer-2 : goal.returns-in_default-read_pointer-2
+returns-in_default-read_pointer-2 c = λ fields fits same.
+    let parts = fields-cut c.args.bytes.now c.in-Some.pointer.now c.in-Some.number.now fields.0 fields.1 c.in-Some.ensures.0 c.in-Some.ensures.1 same in
+    c.in_default-read_pointer-2.ensures fields.0 fits.0 parts.2
+
+pub returns-in_default-read_size : goal.returns-in_default-read_size
+returns-in_default-read_size c = λ fields fits same.
+    let parts = fields-cut c.args.bytes.now c.in-Some.pointer.now c.in-Some.number.now fields.0 fields.1 c.in-Some.ensures.0 c.in-Some.ensures.1 same in
+    c.in_default-read_size.ensures parts.0 (size-fits fields.1 parts.0 parts.1 fits.1) parts.3

@@ -1,0 +1,15 @@
+mod FoundLemmas
+mod HeapSteps
+mod HeldLemmas
+mod IndexLemmas
+mod Living
+mod LogRows
+mod Moments
+mod RunLemmas
+mod SortedLemmas
+mod Standing
+mod StartLemmas
+mod StartSteps
+mod StepLemmas
+mod TextLemmas
+mod Writing

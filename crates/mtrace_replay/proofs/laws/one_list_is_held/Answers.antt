@@ -1,0 +1,5 @@
+use Rattle.mtrace_replay.proofs.SortedLemmas.{one_list}
+use Rattle.mtrace_replay.proofs.laws.one_list_is_held.Goals as goal
+
+pub returns : goal.returns
+returns c = λ past one other. one_list past one other

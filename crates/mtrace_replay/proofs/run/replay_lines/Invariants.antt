@@ -1,0 +1,24 @@
+use Rattle.std.proofs.Common.{◌≡◌, ◌-◌, ◌^◌, []}
+use Rattle.mtrace_log.specs.Trace.{HasTaken}
+use Rattle.mtrace_log.specs.Progress.{CallsFor}
+use Rattle.mtrace_replay.specs.declared.settings.Settings.{Settings}
+use Rattle.mtrace_replay.specs.Replay.{StandsFor}
+use Rattle.mtrace_replay.proofs.RunLemmas.{IsUnderWay}
+use Rattle.mtrace_replay.proofs.run.replay_lines.Given as goal
+
+-- the run is under way, and as many lines were replayed as were read; the reader gave pieces, and perhaps told its end; the writer took pieces
+abbrev pub invariant-loop-line : goal.invariant-loop-line
+invariant-loop-line g l =
+    let left = g.R.Source.left in
+    let taken = g.W.Sink.taken in
+    record {
+      under_way : (settings : Settings) → StandsFor l.initial.replay settings []
+          → IsUnderWay settings l.lines l.replay l.noted (left l.initial.reader) (left l.reader) (taken l.initial.writer) (taken l.writer);
+      counted : l.replay.lines ≡ l.lines.count;
+      gave : CallsFor l.lines.status (g.R.Source.trace l.initial.reader) (g.R.Source.trace l.reader);
+      took : HasTaken (g.W.Sink.trace l.initial.writer) (g.W.Sink.trace l.writer);
+    }
+
+-- how many numbers of lines are left
+abbrev pub decreases-loop-line : goal.decreases-loop-line
+decreases-loop-line g l = 2 ^ 64 - l.lines.count

@@ -1,0 +1,27 @@
+use Rattle.std.proofs.Common.{List, sym, subst, ap, ◌∙◌}
+use Rattle.tlsf_heap.specs.Bare.{bare}
+use Rattle.tlsf_heap.specs.Pointer.{Pointer}
+use Rattle.mtrace_replay.specs.declared.diagnostic.Diagnostic.{Diagnostic}
+use Rattle.mtrace_replay.specs.Moment.{release, without}
+use Rattle.mtrace_replay.specs.Index.{held_at}
+use Rattle.mtrace_replay.specs.Step.{all_given, found, Comes}
+use Rattle.mtrace_replay.proofs.StepLemmas.{comes_not_held, comes_released, under_none, under_some}
+use Rattle.mtrace_replay.proofs.step.release.Goals as goal
+
+pub returns-in_default-clause-comes : goal.returns-in_default-clause-comes
+returns-in_default-clause-comes g c =
+    let content = bare (g.H.Heaped.content c.args.heap.now) in
+    let held = c.args.held.now in
+    let P : List Diagnostic → Type 0 = λ notes. Comes content content (all_given held) (all_given held) notes (release c.args.number c.args.address (found (all_given held) c.args.address) content) in
+    subst P (sym c.one_note.ensures) (comes_not_held held held content content c.args.number c.args.address (under_none (held_at held c.args.address) (sym c.block_of.ensures ∙ c.in_default.is)))
+
+pub returns-clause-comes : goal.returns-clause-comes
+returns-clause-comes g c =
+    let content = bare (g.H.Heaped.content c.args.heap.now) in
+    let after = bare (g.H.Heaped.content c.take.new.heap) in
+    let held = c.args.held.now in
+    let new = c.take.new.held in
+    let under = under_some (held_at held c.args.address) c.in-Some.ptr (sym c.block_of.ensures ∙ c.in-Some.is) in
+    let P : List Diagnostic → Type 0 = λ notes. Comes content after (all_given held) (all_given new) notes (release c.args.number c.args.address (found (all_given held) c.args.address) content) in
+    subst P (sym c.no_note.ensures) (comes_released held new content after c.args.number c.args.address under.0 under.1
+    (c.in_ok-take.ensures.content ∙ ap (λ (ptr : Pointer). without ptr.place content) (sym under.2)) c.in_ok-take.ensures.held)

@@ -1,0 +1,11 @@
+pub mod Settings
+pub mod Started
+pub mod Moment
+pub mod History
+pub mod Held
+pub mod Index
+pub mod Step
+pub mod Replay
+pub mod Texts
+pub mod Output
+pub mod Run

@@ -1,0 +1,119 @@
+-- What one line of a log comes to, by the line before it, by what is held, and on what the heap holds.
+use Rattle.std.specs.Prelude.{ℕ, suc, Bool, true, false, not, ◌&&◌, List, [], ◌∷◌, ◌++◌, is_some, Option, Some, None, Result, Ok, Err, if◌then◌else◌, ◌==◌}
+use Rattle.mtrace_log.specs.declared.event.Event.{Event}
+use Rattle.mtrace_log.specs.declared.event.Event.TheVariants.{Start, End, Alloc, Free, Old, New, Failed}
+use Rattle.mtrace_log.specs.declared.event.LineFault.{LineFault}
+use Rattle.mtrace_log.specs.declared.event.LineFault.TheVariants as fault
+use Rattle.mtrace_replay.specs.declared.entry.Entry.{Entry}
+use Rattle.mtrace_replay.specs.declared.diagnostic.Diagnostic.{Diagnostic}
+use Rattle.mtrace_replay.specs.declared.diagnostic.Kind.{Kind}
+use Rattle.mtrace_replay.specs.declared.diagnostic.Kind.TheVariants.{TooLong, NotALine, NotHeld, AlreadyHeld, Refused, Half, Stray}
+use Rattle.tlsf_heap.specs.declared.refusal.Refusal.{Refusal}
+use Rattle.tlsf_heap.specs.Malloc.{malloc}
+use Rattle.tlsf_heap.specs.Free.{free}
+use Rattle.tlsf_heap.specs.Realloc.{realloc}
+use Rattle.mtrace_replay.specs.Started.{Bare, left_by}
+
+-- what a line is, or why it is no event
+abbrev pub Reading : Type 0
+Reading = Result Event LineFault
+
+-- what an address is held under: its entry, and where its block begins
+pub record Given : Type 0 where
+  pub entry : Entry
+  pub place : ℕ
+
+-- what one line came to: what it was given, the address that it took, its diagnostics, and the heap after it
+pub record Moment : Type 0 where
+  pub given : Option Given
+  pub taken : Option ℕ
+  pub notes : List Diagnostic
+  pub content : Bare
+
+-- nothing was given and nothing taken
+abbrev pub unserved : List Diagnostic → Bare → Moment
+unserved notes content = record { given = None; taken = None; notes = notes; content = content }
+
+abbrev pub note : ℕ → Kind → List Diagnostic
+note number kind = record { line = number; kind = kind } ∷ []
+
+-- the same, after other diagnostics
+abbrev pub noted_after : List Diagnostic → Moment → Moment
+noted_after notes moment = record { given = moment.given; taken = moment.taken; notes = notes ++ moment.notes; content = moment.content }
+
+-- a block of no byte is asked for as one of one byte
+abbrev pub asked_size : ℕ → ℕ
+asked_size size = if size == 0 then 1 else size
+
+-- the heap after the block at the place was freed
+abbrev pub without : ℕ → Bare → Bare
+without place content = left_by content (free (λ owner. true) place content)
+
+-- `+ address size`, by what the heap answered
+abbrev pub answered : ℕ → Option (List ℕ) → ℕ → ℕ → Bare → Result (ℕ × Bare) Refusal → Moment
+answered number at address size content (Ok (place, new)) =
+    record { given = Some (record { entry = record { addr = address; size = size; line = number; at = at }; place = place }); taken = None; notes = []; content = new }
+answered number at address size content (Err refusal) = unserved (note number (Refused address refusal)) content
+
+-- `+ address size`, by what the address is held under
+abbrev pub allocation : ℕ → Option (List ℕ) → ℕ → ℕ → Option Given → Bare → Moment
+allocation number at address size (Some given) content = unserved (note number (AlreadyHeld address)) content
+allocation number at address size None content = answered number at address size content (malloc tt (asked_size size) content)
+
+-- `- address`, by what the address is held under
+abbrev pub release : ℕ → ℕ → Option Given → Bare → Moment
+release number address None content = unserved (note number (NotHeld address)) content
+release number address (Some given) content = record { given = None; taken = Some address; notes = []; content = without given.place content }
+
+-- `> address size` after `< old`, by what the heap answered for the block of the old address, which began at `from`
+abbrev pub moved : ℕ → Option (List ℕ) → (old from address size : ℕ) → Bare → Result (Option (ℕ × Unit {0}) × Bare) Refusal → Moment
+moved number at old from address size content (Ok (Some (place, owner), new)) =
+    record { given = Some (record { entry = record { addr = address; size = size; line = number; at = at }; place = place }); taken = Some old; notes = []; content = new }
+moved number at old from address size content (Ok (None, new)) = record { given = None; taken = Some old; notes = []; content = new }
+moved number at old from address size content (Err refusal) =
+    record { given = None; taken = Some old; notes = note number (Refused address refusal); content = without from content }
+
+-- `> address size` after `< old`, by what the two are held under
+abbrev pub reallocation : ℕ → Option (List ℕ) → (old : ℕ) → Option Given → (address size : ℕ) → Option Given → Bare → Moment
+reallocation number at old None address size held_new content = noted_after (note number (NotHeld old)) (allocation number at address size held_new content)
+reallocation number at old (Some given) address size held_new content =
+    if not (address == old) && is_some held_new then unserved (note number (AlreadyHeld address)) content
+    else moved number at old given.place address size content (realloc (λ one other. true) tt (Some (given.place, tt)) (asked_size size) content)
+
+-- `> address size`, by the address of the line before, where that is `<`
+abbrev pub renewal : ℕ → Option (List ℕ) → Option ℕ → (address size : ℕ) → (ℕ → Option Given) → Bare → Moment
+renewal number at None address size held content = unserved (note number Stray) content
+renewal number at (Some old) address size held content = reallocation number at old (held old) address size (held address) content
+
+-- what the line of this number comes to, but for what it tells of the line before
+abbrev pub outcome : ℕ → Reading → Option ℕ → (ℕ → Option Given) → Bare → Moment
+outcome number (Err fault.TooLong) pending held content = unserved (note number TooLong) content
+outcome number (Err fault.NotALine) pending held content = unserved (note number NotALine) content
+outcome number (Ok Start) pending held content = unserved [] content
+outcome number (Ok End) pending held content = unserved [] content
+outcome number (Ok (Alloc at None size)) pending held content = unserved [] content
+outcome number (Ok (Alloc at (Some address) size)) pending held content = allocation number at address size (held address) content
+outcome number (Ok (Free at address)) pending held content = release number address (held address) content
+outcome number (Ok (Old at address)) pending held content = unserved [] content
+outcome number (Ok (New at address size)) pending held content = renewal number at pending address size held content
+outcome number (Ok (Failed at address size)) pending held content = unserved [] content
+
+-- whether a line is `>`
+abbrev pub is_new : Reading → Bool
+is_new (Err fault) = false
+is_new (Ok Start) = false
+is_new (Ok End) = false
+is_new (Ok (Alloc at address size)) = false
+is_new (Ok (Free at address)) = false
+is_new (Ok (Old at address)) = false
+is_new (Ok (New at address size)) = true
+is_new (Ok (Failed at address size)) = false
+
+-- the line of this number is `<`, where an address is pending, and no `>` follows
+abbrev pub half : ℕ → Option ℕ → List Diagnostic
+half number None = []
+half number (Some address) = note number Half
+
+-- what the line behind so many lines comes to
+abbrev pub moment : ℕ → Reading → Option ℕ → (ℕ → Option Given) → Bare → Moment
+moment before line pending held content = noted_after (if is_new line then [] else half before pending) (outcome (suc before) line pending held content)

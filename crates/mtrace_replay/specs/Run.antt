@@ -1,0 +1,127 @@
+-- What a run read and wrote, by its answer.
+use Rattle.std.specs.Prelude.{◌≡◌, ◌⊎◌, ℕ, Bool, true, false, List, [], ◌∷◌, ◌++◌, length, reverse, Option}
+use Rattle.std.specs.Io.KnownBytes.{prepend_known}
+use Rattle.mtrace_log.specs.HasRead.{HasRead, HasReadAll, HasReadBefore}
+use Rattle.mtrace_log.specs.Progress.{HasMore, greatest_number}
+use Rattle.mtrace_log.specs.Trace.{HasGiven, HasGivenAndFailed, HasNotFailed, HasFailedToWrite, FlushWasAsked}
+use Rattle.mtrace_log.specs.declared.call.Call.{Call}
+use Rattle.mtrace_replay.specs.declared.entry.Entry.{Entry}
+use Rattle.mtrace_replay.specs.declared.settings.Settings.{Settings}
+use Rattle.mtrace_replay.specs.declared.status.Status.{Status}
+use Rattle.mtrace_replay.specs.Moment.{Reading, Given}
+use Rattle.mtrace_replay.specs.History.{history, notes, diagnostics, AreHeld, entries_of}
+use Rattle.mtrace_replay.specs.Replay.{Replayed, StandsFor, added_notes}
+use Rattle.mtrace_replay.specs.declared.diagnostic.Diagnostic.{Diagnostic}
+use Rattle.mtrace_replay.specs.Texts.{notes_text, leaks_text, status_of}
+use Rattle.mtrace_replay.specs.Output.{Wrote, Begins}
+
+abbrev pub Bytes : Type 0
+Bytes = Option (List ℕ)
+
+-- the text of the diagnostics of lines, the first line first
+abbrev pub text_of_notes : Settings → List Reading → List ℕ
+text_of_notes settings lines = notes_text (notes (history settings lines))
+
+-- all of the log was read, and the leaks text of its history was written; the status is that text's
+pub record Reports (settings : Settings) (status : Status) (left_old left_new taken_old taken_new : Bytes) : Type 0 where
+  pub lines : List Reading
+  pub read : HasReadAll left_old left_new lines
+  pub all : List Given
+  pub held : AreHeld all (history settings lines)
+  pub wrote : Wrote taken_old taken_new (leaks_text (diagnostics settings lines) (entries_of all))
+  pub status_is : status ≡ status_of (diagnostics settings lines) (entries_of all)
+
+-- as many lines were read as there are numbers, more is to come, and the reader has not failed
+pub record IsPastLastNumber (left_old left_new : Bytes) (calls_old calls_new : List Call) (lines : List Reading) : Type 0 where
+  pub count : length lines ≡ greatest_number
+  pub read : HasRead left_old left_new lines
+  pub more : HasMore left_new
+  pub given : HasGiven calls_old calls_new
+
+-- all of the log was read, and a beginning of the leaks text was written
+pub record BeginsWhole (settings : Settings) (left_old left_new taken_old taken_new : Bytes) (lines : List Reading) : Type 0 where
+  pub read : HasReadAll left_old left_new lines
+  pub all : List Given
+  pub held : AreHeld all (history settings lines)
+  pub begun : Begins taken_old taken_new (leaks_text (diagnostics settings lines) (entries_of all))
+
+-- the reader failed, once and last: whole lines were read, and perhaps a piece of the next one, which is lost
+abbrev pub FailedInPiece : (left_old left_new : Bytes) (calls_old calls_new : List Call) → List Reading → Type 0
+FailedInPiece left_old left_new calls_old calls_new lines = HasReadBefore left_old left_new lines × HasGivenAndFailed calls_old calls_new
+
+-- The reader failed, or a line past the last number would come; then unused are the bytes that were asked
+-- of the reader and belong to no line that was read. The diagnostics of the lines read were written, and
+-- no report.
+pub record StopsAtRead (settings : Settings) (left_old left_new : Bytes) (calls_old calls_new : List Call) (taken_old taken_new : Bytes) : Type 0 where
+  pub lines : List Reading
+  pub reason : FailedInPiece left_old left_new calls_old calls_new lines
+      ⊎ ((unused : List ℕ) × IsPastLastNumber left_old (prepend_known unused left_new) calls_old calls_new lines)
+  pub wrote : Wrote taken_old taken_new (text_of_notes settings lines)
+
+-- a beginning of the diagnostics of the lines read, or of the whole text where the log had ended
+abbrev pub BeginsText : Settings → (left_old left_new taken_old taken_new : Bytes) → List Reading → Type 0
+BeginsText settings left_old left_new taken_old taken_new lines =
+    (HasRead left_old left_new lines × Begins taken_old taken_new (text_of_notes settings lines))
+    ⊎ BeginsWhole settings left_old left_new taken_old taken_new lines
+
+-- The writer failed, after a beginning of what was to be written. Unused are the bytes that were asked of
+-- the reader and belong to no line that was read.
+pub record StopsAtWrite (settings : Settings) (left_old left_new taken_old taken_new : Bytes) : Type 0 where
+  pub lines : List Reading
+  pub unused : List ℕ
+  pub begun : BeginsText settings left_old (prepend_known unused left_new) taken_old taken_new lines
+
+-- memory was refused at the last line that was read: the diagnostics of the lines before it were written
+pub record StopsAtLine (settings : Settings) (left_old left_new taken_old taken_new : Bytes) : Type 0 where
+  pub lines : List Reading
+  pub last : Reading
+  pub unused : List ℕ
+  pub read : HasRead left_old (prepend_known unused left_new) (lines ++ last ∷ []) ⊎ HasReadAll left_old (prepend_known unused left_new) (lines ++ last ∷ [])
+  pub wrote : Wrote taken_old taken_new (text_of_notes settings lines)
+
+-- memory was refused at the start, and nothing was read or written, or at a line, and then one flush was asked
+abbrev pub StopsForMemory : {R W : Type 0} → (left : R → Bytes) (taken : W → Bytes) (puts : W → List Call) → Settings → (reader_old reader_new : R) (writer_old writer_new : W) → Type 0
+StopsForMemory left taken puts settings reader_old reader_new writer_old writer_new =
+    ((reader_new ≡ reader_old) × (writer_new ≡ writer_old))
+    ⊎ (StopsAtLine settings (left reader_old) (left reader_new) (taken writer_old) (taken writer_new) × FlushWasAsked (puts writer_old) (puts writer_new))
+
+-- what a run that answers a read fault leaves
+abbrev pub FailsToRead : {R W : Type 0} → (left : R → Bytes) (pulls : R → List Call) (taken : W → Bytes) (puts : W → List Call) → Settings → (reader_old reader_new : R) (writer_old writer_new : W) → Type 0
+FailsToRead left pulls taken puts settings reader_old reader_new writer_old writer_new =
+    StopsAtRead settings (left reader_old) (left reader_new) (pulls reader_old) (pulls reader_new) (taken writer_old) (taken writer_new)
+    × FlushWasAsked (puts writer_old) (puts writer_new)
+
+-- what a run that answers a write fault leaves
+abbrev pub FailsToWrite : {R W : Type 0} → (left : R → Bytes) (pulls : R → List Call) (taken : W → Bytes) (puts : W → List Call) → Settings → (reader_old reader_new : R) (writer_old writer_new : W) → Type 0
+FailsToWrite left pulls taken puts settings reader_old reader_new writer_old writer_new =
+    StopsAtWrite settings (left reader_old) (left reader_new) (taken writer_old) (taken writer_new)
+    × HasNotFailed (pulls reader_old) (pulls reader_new) × HasFailedToWrite (puts writer_old) (puts writer_new)
+
+-- whether there is a diagnostic
+abbrev pub is_some_note : List Diagnostic → Bool
+is_some_note [] = false
+is_some_note (note ∷ more) = true
+
+-- whether something is held
+abbrev pub is_some_entry : List Entry → Bool
+is_some_entry [] = false
+is_some_entry (first ∷ entries) = true
+
+-- one line more was replayed, and its diagnostics were written
+pub record LineGives (new : Replayed) (settings : Settings) (line : Reading) (past : List Reading) (taken_old taken_new : Bytes) (noted : Bool) : Type 0 where
+  pub stands : StandsFor new settings (line ∷ past)
+  pub wrote : Wrote taken_old taken_new (notes_text (added_notes settings line past))
+  pub noted_is : noted ≡ is_some_note (added_notes settings line past)
+
+-- one line more was replayed, and its diagnostics were begun
+pub record LineBegins (new : Replayed) (settings : Settings) (line : Reading) (past : List Reading) (taken_old taken_new : Bytes) : Type 0 where
+  pub stands : StandsFor new settings (line ∷ past)
+  pub begun : Begins taken_old taken_new (notes_text (added_notes settings line past))
+
+-- all lines of the log were read and replayed, and their diagnostics were written
+pub record HasReplayed (settings : Settings) (replay : Replayed) (noted : Bool) (left_old left_new taken_old taken_new : Bytes) : Type 0 where
+  pub lines : List Reading
+  pub read : HasReadAll left_old left_new lines
+  pub stands : StandsFor replay settings (reverse lines)
+  pub wrote : Wrote taken_old taken_new (text_of_notes settings lines)
+  pub noted_is : noted ≡ is_some_note (notes (history settings lines))

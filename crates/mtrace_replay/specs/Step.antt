@@ -1,0 +1,42 @@
+-- What one line does to the heap and to what is held.
+use Rattle.std.specs.Prelude.{◌≡◌, ℕ, true, List, map, find, Option, Some, ◌==◌}
+use Rattle.tlsf_heap.specs.Content.{Content, blocks_of}
+use Rattle.tlsf_heap.specs.Free.{is_live}
+use Rattle.tlsf_heap.specs.Pointer.{Pointer}
+use Rattle.mtrace_replay.specs.declared.diagnostic.Diagnostic.{Diagnostic}
+use Rattle.mtrace_replay.specs.declared.holding.Holding.{Holding}
+use Rattle.mtrace_replay.specs.Started.{Bare}
+use Rattle.mtrace_replay.specs.Moment.{Given, Moment}
+use Rattle.mtrace_replay.specs.History.{held_after}
+use Rattle.mtrace_replay.specs.Index.{held_at}
+
+-- what is held, without slots
+abbrev pub given_of : Holding → Given
+given_of holding = record { entry = holding.entry; place = holding.ptr.place }
+
+abbrev pub all_given : List Holding → List Given
+all_given holdings = map given_of holdings
+
+-- what an address is held under
+abbrev pub found : List Given → ℕ → Option Given
+found all address = find (λ given. given.entry.addr == address) all
+
+-- the heap and what is held come to what the moment says, and these are its diagnostics
+pub record Comes (content_old content_new : Bare) (old new : List Given) (notes : List Diagnostic) (moment : Moment) : Type 0 where
+  pub content_is : content_new ≡ moment.content
+  pub held_is : (address : ℕ) → found new address ≡ held_after moment (found old) address
+  pub notes_are : notes ≡ moment.notes
+
+-- the block of what is held is live in the heap, under its slot
+abbrev pub IsLive : Holding → Content ℕ → Type 0
+IsLive holding content = is_live (λ slot. slot == holding.ptr.slot) holding.ptr.place (blocks_of content.pools) ≡ true
+
+-- what is held is held under this block
+abbrev pub IsUnder : Pointer → Option Holding → Type 0
+IsUnder ptr held = (holding : Holding) × (held ≡ Some holding) × (holding.ptr ≡ ptr)
+
+-- each block that is held is live, and no two addresses are held under one block
+pub record AreLive (holdings : List Holding) (content : Content ℕ) : Type 0 where
+  pub live : (address : ℕ) (holding : Holding) → held_at holdings address ≡ Some holding → IsLive holding content
+  pub apart : (one other : ℕ) (first second : Holding) → held_at holdings one ≡ Some first → held_at holdings other ≡ Some second
+      → first.ptr.place ≡ second.ptr.place → one ≡ other

@@ -1,0 +1,27 @@
+//! Laws of the definitions, each the contract of a function that does nothing.
+
+ghost use Rattle.std.specs.Prelude.{◌≡◌, ◌↔◌, ℕ, false, List, length, Some};
+ghost use Rattle.mtrace_replay.specs.declared.settings.Settings.{Settings};
+ghost use Rattle.mtrace_replay.specs.Started.{Bare, started};
+ghost use Rattle.mtrace_replay.specs.Moment.{Reading, Given, Moment};
+ghost use Rattle.mtrace_replay.specs.History.{AreHeld, held, moments};
+ghost use Rattle.mtrace_replay.specs.Settings.{are_bad};
+ghost use Rattle.mtrace_replay.specs.Held.{IsHeldUnder};
+
+/// An address is held under a line exactly where that line asked for it and was served, and no later line
+/// took it.
+pub fn held_until_taken()
+    ensures { (start : Bare) (past : List Reading) (address : ℕ) (given : Given)
+        → (held (moments start past) address ≡ Some given) ↔ IsHeldUnder (moments start past) address given }
+{}
+
+/// What is held is one list: two lists in order of address that agree with what is held are the same. So
+/// a log has one report.
+pub fn one_list_is_held()
+    ensures { (past : List Moment) (one other : List Given) → AreHeld one past → AreHeld other past → one ≡ other }
+{}
+
+/// Where settings are not bad, no pool of theirs is refused: the heap starts with all of them.
+pub fn all_pools_stand()
+    ensures { (settings : Settings) → are_bad settings ≡ false → length (started settings).pools ≡ settings.pools }
+{}

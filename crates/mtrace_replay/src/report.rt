@@ -1,0 +1,84 @@
+//! The report of leaks.
+
+ghost use Rattle.std.specs.Prelude.{◌≡◌, ◌≢◌, ◌<◌, ◌^◌, [], length, flat_map, OnOk, OnErr};
+ghost use Rattle.mtrace_log.specs.Trace.{HasTaken, HasTakenAndFailed};
+ghost use Rattle.mtrace_replay.specs.Output.{Wrote, Begins};
+ghost use Rattle.mtrace_replay.specs.Replay.{entries};
+ghost use Rattle.mtrace_replay.specs.Texts.{entry_text as text_of_entry, total_size as size_of_all, leaks_report};
+
+use crate::entry::Entry;
+use crate::index::Entries;
+use crate::line_text::{entry_text, total_text};
+use crate::output::put_all;
+use crate::replay::Replay;
+use mtrace_log::{Failed, Sink};
+use tlsf_heap::Heaped;
+
+/// How many bytes an entry asked for.
+fn entry_size(entry: &Entry) -> u64
+    ensures { result ≡ entry.now.size }
+{
+    entry.size
+}
+
+/// How many bytes were asked for by all of the entries.
+fn total_size(held: Entries<'_>) -> u128
+    requires { length held < 2 ^ 63 }
+    ensures { result ≡ size_of_all held.entry }
+{
+    let mut total: u128 = 0;
+    for entry in held {
+        total += u128::from(entry_size(entry));
+    }
+    total
+}
+
+/// Puts a line for each entry, in their order.
+fn put_entries<W: Sink>(writer: &mut W, held: Entries<'_>) -> Result<(), Failed>
+    ensures all { OnOk result (Wrote (W.taken writer.old) (W.taken writer.new) (flat_map text_of_entry held.entry)) }
+    ensures took { OnOk result (HasTaken (W.trace writer.old) (W.trace writer.new)) }
+    ensures beginning { OnErr result (Begins (W.taken writer.old) (W.taken writer.new) (flat_map text_of_entry held.entry)) }
+    ensures failed { OnErr result (HasTakenAndFailed (W.trace writer.old) (W.trace writer.new)) }
+{
+    for entry in held {
+        put_all(writer, entry_text(entry).as_slice())?;
+    }
+    Ok(())
+}
+
+/// Puts the report where something is held.
+fn put_held<W: Sink, H: Heaped>(writer: &mut W, replay: &Replay<H>) -> Result<(), Failed>
+    requires { entries replay.now ≢ [] }
+    ensures all { OnOk result (Wrote (W.taken writer.old) (W.taken writer.new) (leaks_report (entries replay.now))) }
+    ensures took { OnOk result (HasTaken (W.trace writer.old) (W.trace writer.new)) }
+    ensures beginning { OnErr result (Begins (W.taken writer.old) (W.taken writer.new) (leaks_report (entries replay.now))) }
+    ensures failed { OnErr result (HasTakenAndFailed (W.trace writer.old) (W.trace writer.new)) }
+{
+    put_all(writer, b"Memory not freed:\n")?;
+    put_entries(writer, replay.held())?;
+    let blocks = replay.blocks();
+    let total = total_text(blocks, total_size(replay.held()));
+    put_all(writer, total.as_slice())
+}
+
+/// Puts the report of leaks: a line for each address that is held, in order of address, and how many blocks and
+/// bytes they are, or that there are no leaks.
+///
+/// # Errors
+///
+/// `Failed` where the writer failed, or took no byte of some: then a beginning of the report is put.
+pub(crate) fn put_report<W: Sink, H: Heaped>(
+    writer: &mut W,
+    replay: &Replay<H>,
+) -> Result<(), Failed>
+    ensures all { OnOk result (Wrote (W.taken writer.old) (W.taken writer.new) (leaks_report (entries replay.now))) }
+    ensures took { OnOk result (HasTaken (W.trace writer.old) (W.trace writer.new)) }
+    ensures beginning { OnErr result (Begins (W.taken writer.old) (W.taken writer.new) (leaks_report (entries replay.now))) }
+    ensures failed { OnErr result (HasTakenAndFailed (W.trace writer.old) (W.trace writer.new)) }
+{
+    if replay.blocks() == 0 {
+        put_all(writer, b"No memory leaks.\n")
+    } else {
+        put_held(writer, replay)
+    }
+}

@@ -1,0 +1,27 @@
+use thiserror::Error;
+
+/// How a run ended that read its log to the end.
+#[derive(Clone, Copy, Debug, PartialEq, Eq)]
+pub enum Status {
+    /// No address is held at the end, and no diagnostic was written.
+    Clean,
+    /// An address is held at the end, or a diagnostic was written.
+    Found,
+}
+
+/// Why a run ended early.
+#[derive(Clone, Copy, Debug, PartialEq, Eq, Error)]
+pub enum RunFault {
+    /// The reader failed, or the log has more lines than there are numbers.
+    #[error("read failed")]
+    Read = 1,
+    /// The writer failed.
+    #[error("write failed")]
+    Write = 2,
+    /// Memory was refused.
+    #[error("out of memory")]
+    OutOfMemory = 3,
+    /// No heap can be made by the settings.
+    #[error("bad settings")]
+    BadSettings = 4,
+}

@@ -1,0 +1,258 @@
+//! What one line does to the heap and to what is held.
+
+ghost use Rattle.std.specs.Prelude.{◌≡◌, ℕ, ◌≤◌, ◌&&◌, not, is_some, true, List, [], ◌∷◌, length, Some, None, option_map, IfOk, OnOk, OnErr, if◌then◌else◌, ◌==◌};
+ghost use Rattle.arrayvec.specs.ArrayVec.{array_vec_len};
+ghost use Rattle.tlsf_heap.specs.Bare.{bare};
+ghost use Rattle.tlsf_heap.specs.Realloc.{realloc as reallocated};
+ghost use Rattle.mtrace_replay.specs.Index.{held_at};
+ghost use Rattle.mtrace_replay.specs.Moment.{asked_size as size_asked, without, allocation, release as released, moved, renewal, outcome as outcome_of};
+ghost use Rattle.mtrace_replay.specs.Step.{found, all_given, Comes, IsUnder, AreLive};
+
+use crate::diagnostic::{Diagnostic, Kind, Note};
+use crate::entry::Entry;
+use crate::holding::Holding;
+use crate::index::Index;
+use arrayvec::ArrayVec;
+use mtrace_log::{Addr, Event, LineFault, Location};
+use std::alloc::AllocError;
+use tlsf_heap::{Heaped, Ptr, Refusal};
+
+/// No diagnostic.
+fn no_note() -> Note
+    ensures { result.items ≡ [] }
+{
+    ArrayVec::new()
+}
+
+/// One diagnostic.
+fn one_note(line: u64, kind: Kind) -> Note
+    ensures { result.items ≡ record { line = line; kind = kind } ∷ [] }
+{
+    let mut note = ArrayVec::new();
+    note.push(Diagnostic { line, kind });
+    note
+}
+
+/// A diagnostic before at most one other.
+pub(crate) fn noted_after(first: Diagnostic, more: &Note) -> Note
+    requires { array_vec_len more.now ≤ 1 }
+    ensures { result.items ≡ first ∷ more.now.items }
+{
+    let mut note = ArrayVec::new();
+    note.push(first);
+    let _ = note.try_extend_from_slice(more.as_slice());
+    note
+}
+
+/// How many bytes are asked of the heap: for a block of no byte it is asked for one byte.
+fn asked_size(size: u64) -> u64
+    ensures { result ≡ size_asked size }
+{
+    if size == 0 { 1 } else { size }
+}
+
+/// `+ address size`: asks the heap for a block for the entry, unless its address is held.
+fn allocate<H: Heaped>(heap: &mut H, held: &mut Index, entry: Entry) -> Result<Note, AllocError>
+    requires live { AreLive held.old (H.content heap.old) }
+    ensures comes { IfOk result (λ note. Comes (bare (H.content heap.old)) (bare (H.content heap.new)) (all_given held.old) (all_given held.new) note.items
+        (allocation entry.line entry.at entry.addr entry.size (found (all_given held.old) entry.addr) (bare (H.content heap.old)))) }
+    ensures live { OnOk result (AreLive held.new (H.content heap.new)) }
+    ensures unchanged { OnErr result (held.new ≡ held.old) }
+{
+    if held.contains(entry.addr) {
+        return Ok(one_note(entry.line, Kind::AlreadyHeld(entry.addr)));
+    }
+    heap.keeps_good();
+    match heap.malloc(asked_size(entry.size)) {
+        Ok(ptr) => {
+            held.insert(Holding { entry, ptr })?;
+            Ok(no_note())
+        }
+        Err(Refusal::OutOfMemory) => Err(AllocError),
+        Err(refusal) => Ok(one_note(entry.line, Kind::Refused(entry.addr, refusal))),
+    }
+}
+
+/// Frees the block that an address is held under, and holds the address no more.
+fn take<H: Heaped>(
+    heap: &mut H,
+    held: &mut Index,
+    address: Addr,
+    ptr: Ptr,
+) -> Result<(), AllocError>
+    requires live { AreLive held.old (H.content heap.old) }
+    requires held { IsUnder ptr (held_at held.old address) }
+    ensures content { OnOk result (bare (H.content heap.new) ≡ without ptr.place (bare (H.content heap.old))) }
+    ensures held { OnOk result ((other : ℕ) → held_at held.new other ≡ (if address == other then None else held_at held.old other)) }
+    ensures live { OnOk result (AreLive held.new (H.content heap.new)) }
+    ensures unchanged { OnErr result (held.new ≡ held.old) }
+{
+    heap.keeps_good();
+    match heap.free(ptr) {
+        Ok(()) => {
+            held.remove(address);
+            Ok(())
+        }
+        Err(Refusal::OutOfMemory) => Err(AllocError),
+        Err(_) => unreachable!(),
+    }
+}
+
+/// The block that an address is held under.
+fn block_of(held: &Index, address: Addr) -> Option<Ptr>
+    ensures { result ≡ option_map (λ holding. holding.ptr) (held_at held.now address) }
+{
+    match held.get(address) {
+        Some(holding) => Some(holding.ptr),
+        None => None,
+    }
+}
+
+/// `- address`: frees the block that the address is held under.
+fn release<H: Heaped>(
+    heap: &mut H,
+    held: &mut Index,
+    number: u64,
+    address: Addr,
+) -> Result<Note, AllocError>
+    requires live { AreLive held.old (H.content heap.old) }
+    ensures comes { IfOk result (λ note. Comes (bare (H.content heap.old)) (bare (H.content heap.new)) (all_given held.old) (all_given held.new) note.items
+        (released number address (found (all_given held.old) address) (bare (H.content heap.old)))) }
+    ensures live { OnOk result (AreLive held.new (H.content heap.new)) }
+    ensures unchanged { OnErr result (held.new ≡ held.old) }
+{
+    let Some(ptr) = block_of(held, address) else {
+        return Ok(one_note(number, Kind::NotHeld(address)));
+    };
+    take(heap, held, address, ptr)?;
+    Ok(no_note())
+}
+
+/// Asks the heap to reallocate the block of the old address for the entry; where it refuses, the block is freed.
+fn reallocate<H: Heaped>(
+    heap: &mut H,
+    held: &mut Index,
+    old: Addr,
+    ptr: Ptr,
+    entry: Entry,
+) -> Result<Note, AllocError>
+    requires live { AreLive held.old (H.content heap.old) }
+    requires held { IsUnder ptr (held_at held.old old) }
+    ensures comes { IfOk result (λ note. Comes (bare (H.content heap.old)) (bare (H.content heap.new)) (all_given held.old) (all_given held.new) note.items
+        (moved entry.line entry.at old ptr.place entry.addr entry.size (bare (H.content heap.old))
+        (reallocated (λ one other. true) tt (Some (ptr.place, tt)) (size_asked entry.size) (bare (H.content heap.old))))) }
+    ensures live { OnOk result (AreLive held.new (H.content heap.new)) }
+    ensures unchanged { OnErr result (held.new ≡ held.old) }
+{
+    heap.keeps_good();
+    match heap.realloc(Some(ptr), asked_size(entry.size)) {
+        Ok(Some(new)) => {
+            held.replace(old, Holding { entry, ptr: new })?;
+            Ok(no_note())
+        }
+        Ok(None) => unreachable!(),
+        Err(Refusal::OutOfMemory) => Err(AllocError),
+        Err(refusal) => {
+            take(heap, held, old, ptr)?;
+            Ok(one_note(entry.line, Kind::Refused(entry.addr, refusal)))
+        }
+    }
+}
+
+/// Whether the address is another one than the old one, and held.
+fn is_held_too(held: &Index, address: Addr, old: Addr) -> bool
+    ensures { result ≡ (not (address == old) && is_some (held_at held.now address)) }
+{
+    address != old && held.contains(address)
+}
+
+/// `> address size`: reallocates the block of the address of the line before, where that is `<`.
+fn renew<H: Heaped>(
+    heap: &mut H,
+    held: &mut Index,
+    pending: Option<Addr>,
+    entry: Entry,
+) -> Result<Note, AllocError>
+    requires live { AreLive held.old (H.content heap.old) }
+    ensures comes { IfOk result (λ note. Comes (bare (H.content heap.old)) (bare (H.content heap.new)) (all_given held.old) (all_given held.new) note.items
+        (renewal entry.line entry.at pending entry.addr entry.size (found (all_given held.old)) (bare (H.content heap.old)))) }
+    ensures live { OnOk result (AreLive held.new (H.content heap.new)) }
+    ensures unchanged { OnErr result (held.new ≡ held.old) }
+{
+    let number = entry.line;
+    let Some(old) = pending else {
+        return Ok(one_note(number, Kind::Stray));
+    };
+    let Some(ptr) = block_of(held, old) else {
+        let more = allocate(heap, held, entry)?;
+        let first = Diagnostic {
+            line: number,
+            kind: Kind::NotHeld(old),
+        };
+        return Ok(noted_after(first, &more));
+    };
+    if is_held_too(held, entry.addr, old) {
+        return Ok(one_note(number, Kind::AlreadyHeld(entry.addr)));
+    }
+    reallocate(heap, held, old, ptr, entry)
+}
+
+/// What the line of this number does, where `pending` is the address of the line before, if that is `<`.
+pub(crate) fn outcome<H: Heaped>(
+    heap: &mut H,
+    held: &mut Index,
+    number: u64,
+    pending: Option<Addr>,
+    event: Result<Event, LineFault>,
+) -> Result<Note, AllocError>
+    requires live { AreLive held.old (H.content heap.old) }
+    ensures comes { IfOk result (λ note. Comes (bare (H.content heap.old)) (bare (H.content heap.new)) (all_given held.old) (all_given held.new) note.items
+        (outcome_of number event pending (found (all_given held.old)) (bare (H.content heap.old)))) }
+    ensures live { OnOk result (AreLive held.new (H.content heap.new)) }
+    ensures unchanged { OnErr result (held.new ≡ held.old) }
+{
+    match event {
+        Err(LineFault::TooLong) => Ok(one_note(number, Kind::TooLong)),
+        Err(LineFault::NotALine) => Ok(one_note(number, Kind::NotALine)),
+        Ok(Event::Start) => Ok(no_note()),
+        Ok(Event::End) => Ok(no_note()),
+        Ok(Event::Alloc { at, addr, size }) => match addr {
+            Some(addr) => allocate(
+                heap,
+                held,
+                Entry {
+                    addr,
+                    size,
+                    line: number,
+                    at,
+                },
+            ),
+            None => Ok(no_note()),
+        },
+        Ok(Event::Free { at: _at, addr }) => release(heap, held, number, addr),
+        Ok(
+            Event::Old {
+                at: _at,
+                addr: _addr,
+            },
+        ) => Ok(no_note()),
+        Ok(Event::New { at, addr, size }) => renew(
+            heap,
+            held,
+            pending,
+            Entry {
+                addr,
+                size,
+                line: number,
+                at,
+            },
+        ),
+        Ok(
+            Event::Failed {
+                at: _at,
+                addr: _addr,
+                size: _size,
+            },
+        ) => Ok(no_note()),
+    }
+}

@@ -1,0 +1,170 @@
+//! Memory is refused at any call. Each test passes whichever allocation is refused, and where none is.
+
+use super::*;
+use mtrace_log::Source;
+use mtrace_log::memory::{MemorySink, MemorySource};
+
+const SETTINGS: Settings = Settings {
+    pool: 4096,
+    pools: 2,
+    records: 64,
+};
+
+/// Lines that hold 16 addresses, then that of a pair in place of the first, then one less.
+const LINES: [&str; 19] = [
+    "+ 0x10 0x1",
+    "+ 0x20 0x1",
+    "+ 0x30 0x1",
+    "+ 0x40 0x1",
+    "+ 0x50 0x1",
+    "+ 0x60 0x1",
+    "+ 0x70 0x1",
+    "+ 0x80 0x1",
+    "+ 0x90 0x1",
+    "+ 0xa0 0x1",
+    "+ 0xb0 0x1",
+    "+ 0xc0 0x1",
+    "+ 0xd0 0x1",
+    "+ 0xe0 0x1",
+    "+ 0xf0 0x1",
+    "+ 0x100 0x1",
+    "< 0x10",
+    "> 0x1000 0x100",
+    "- 0x20",
+];
+
+/// Compares the line of the next entry that is held.
+fn expect_next(rt: &impl Abort, held: &mut Entries<'_>, line: u64) {
+    match held.next() {
+        Some(entry) => assert_eq!(rt; entry.line, line),
+        None => panic!(rt; "line {line} is not held"),
+    }
+}
+
+/// Compares what is held after so many of the lines.
+fn expect_held_after<H: Heaped>(rt: &impl Abort, replay: &Replay<H>, lines: u64) {
+    let mut held = replay.held();
+    let first = match lines {
+        18 => 2,
+        19 => 3,
+        _ => 1,
+    };
+    for line in first..=lines.min(16) {
+        expect_next(rt, &mut held, line);
+    }
+    if lines >= 18 {
+        expect_next(rt, &mut held, 18);
+    }
+    assert!(rt; held.next().is_none(), "too many are held after {lines}");
+}
+
+/// Feeds the lines up to the end, or to the one where memory is refused, and then each line once more.
+fn sees_refused_memory<H: Heaped>(rt: &impl Abort, alloc: Global) {
+    let mut fed = match Fed::<H>::create(alloc, SETTINGS) {
+        Ok(fed) => fed,
+        Err(fault) => {
+            assert_eq!(rt; fault, ReplayFault::OutOfMemory);
+            return;
+        }
+    };
+    let mut served = 0;
+    let mut is_refused = false;
+    for text in LINES {
+        let answer = fed.feed(rt, text);
+        if is_refused {
+            assert!(rt; answer.err() == Some(ReplayFault::OutOfMemory), "{text}");
+        } else {
+            match answer {
+                Ok(note) => {
+                    assert!(rt; note.is_empty(), "{text}");
+                    served = fed.lines;
+                }
+                Err(fault) => {
+                    assert_eq!(rt; fault, ReplayFault::OutOfMemory, "{text}");
+                    is_refused = true;
+                }
+            }
+        }
+        expect_held_after(rt, &fed.replay, served);
+    }
+    match fed.replay.finish() {
+        Ok(note) => {
+            assert!(rt; !is_refused && note.is_empty());
+        }
+        Err(fault) => {
+            assert!(rt; is_refused && fault == ReplayFault::OutOfMemory);
+        }
+    }
+}
+
+#[test]
+fn refused_memory(rt: HostRuntime) {
+    sees_refused_memory::<Heap>(&rt, rt.alloc());
+    sees_refused_memory::<PlainHeap>(&rt, rt.alloc());
+}
+
+/// Lines, each with its diagnostic's text.
+const NOTED: [(&str, &str); 6] = [
+    ("- 0x10\n", "line 1: 0x10 is not held\n"),
+    ("+ 0x10 0x1\n", ""),
+    ("- 0x20\n", "line 3: 0x20 is not held\n"),
+    ("+ 0x20 0x1\n", ""),
+    ("= Stop\n", "line 5: not a line\n"),
+    ("+ 0x30 0x1\n", ""),
+];
+
+const LOG: &[u8] = b"- 0x10\n+ 0x10 0x1\n- 0x20\n+ 0x20 0x1\n= Stop\n+ 0x30 0x1\n";
+
+const TEXT: &[u8] =
+    b"line 1: 0x10 is not held\nline 3: 0x20 is not held\nline 5: not a line\nMemory not freed:\n0x10 1 line 2\n0x20 1 line 4\n0x30 1 line 6\nTotal: 3 blocks, 3 bytes.\n";
+
+/// How many bytes the reader has left.
+fn bytes_left(rt: &impl Abort, reader: &mut MemorySource<'_>) -> usize {
+    let mut left: usize = 0;
+    let mut piece = [0; 64];
+    for _ in 0..100 {
+        match reader.pull(&mut piece) {
+            Ok(count) => left = left.saturating_add(count),
+            Err(_) => panic!(rt; "the reader failed"),
+        }
+    }
+    left
+}
+
+/// How many bytes the diagnostics of the lines have that stand before the line which ends behind so many
+/// bytes of the log.
+fn noted_before(end: usize) -> usize {
+    let mut read: usize = 0;
+    let mut noted: usize = 0;
+    for (line, text) in NOTED {
+        read = read.saturating_add(line.len());
+        if read < end {
+            noted = noted.saturating_add(text.len());
+        }
+    }
+    noted
+}
+
+/// The reader gives one byte a call, so that it gave the line where memory was refused and nothing behind it.
+#[test]
+fn run_with_refused_memory(rt: HostRuntime) {
+    let mut reader = MemorySource::in_pieces(LOG, 1);
+    let mut writer = MemorySink::in_pieces(rt.alloc(), 4096);
+    match run_leaks(rt.alloc(), &mut reader, &mut writer, SETTINGS) {
+        Ok(status) => {
+            assert_eq!(rt; status, Status::Found);
+            assert_eq!(rt; writer.bytes(), TEXT);
+        }
+        // The writer was refused memory.
+        Err(RunFault::Write) => assert!(rt; TEXT.starts_with(writer.bytes())),
+        Err(fault) => {
+            assert_eq!(rt; fault, RunFault::OutOfMemory);
+            let read = LOG.len().saturating_sub(bytes_left(&rt, &mut reader));
+            let noted = noted_before(read);
+            assert!(rt;
+                writer.bytes().len() == noted && TEXT.starts_with(writer.bytes()),
+                "{read}"
+            );
+        }
+    }
+}

@@ -1,5 +1,0 @@
-use Rattle.tlsf_tool.proofs.SortedLemmas.{one_list}
-use Rattle.tlsf_tool.proofs.laws.one_list_is_held.Goals as goal
-
-pub returns : goal.returns
-returns c = λ past one other. one_list past one other
