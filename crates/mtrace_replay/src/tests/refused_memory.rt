@@ -58,7 +58,7 @@ fn expect_held_after<H: Heaped>(rt: &impl Abort, replay: &Replay<H>, lines: u64)
     assert!(rt; held.next().is_none(), "too many are held after {lines}");
 }
 
-/// Feeds the lines up to the end, or to the one where memory is refused, and then each line once more.
+/// Feeds all of the lines. Where memory is refused at one of them, each call behind it is refused too.
 fn sees_refused_memory<H: Heaped>(rt: &impl Abort, alloc: Global) {
     let mut fed = match Fed::<H>::create(alloc, SETTINGS) {
         Ok(fed) => fed,
