@@ -1,49 +1,18 @@
 -- What is held in order of address is told by its look-ups.
-use Rattle.std.proofs.Common.{◌≡◌, ℕ, cond, false, List, [], ◌∷◌, map, Option, Some, None, inl, inr, refl, sym, ap, ◌∙◌, subst, arith}
+use Rattle.std.proofs.Common.{◌+◌, ◌≡◌, ℕ, cond, List, [], ◌∷◌, map, Option, Some, None, inl, inr, refl, sym, ap, ◌∙◌, subst, arith}
 use Rattle.std.specs.Prelude.{◌==◌}
-use Rattle.std.specs.List.{Contains}
-use Rattle.std.specs.Ordering.{nat_cmp}
 use Rattle.std.specs.List.Sorted.{IsStrictlyIncreasing}
-use Rattle.std.proofs.lemmas.Bool.{cases_Bool, eqb-true, eq-eqb, ne_eqb}
-use Rattle.std.proofs.lemmas.Map.Keys.{sorted_from_strictly_increasing, sorted_tail}
+use Rattle.std.proofs.lemmas.Bool.{cases_Bool, eqb-true}
+use Rattle.std.proofs.lemmas.Map.Keys.{sorted_from_strictly_increasing}
 use Rattle.mtrace_replay.specs.declared.holding.Holding.{Holding}
 use Rattle.mtrace_replay.specs.Moment.{Given, Moment}
-use Rattle.mtrace_replay.specs.Index.{addresses as holding_addresses}
+use Rattle.mtrace_replay.specs.Index.{addresses as holding_addresses, held_bytes}
+use Rattle.mtrace_replay.specs.Texts.{total_size}
+use Rattle.mtrace_replay.specs.declared.entry.Entry.{Entry}
+use Rattle.std.proofs.lemmas.List.Sums.{sum_by-cons}
 use Rattle.mtrace_replay.specs.History.{AreHeld, given_or, unless_taken, held, entries_of}
 use Rattle.mtrace_replay.specs.Step.{found, all_given}
-use Rattle.mtrace_replay.proofs.SortedLemmas.{addresses, AreSorted, first_or_rest, has_first, has_more, above}
-
--- what is in the list is found under its address
-is_found : (all : List Given) (given : Given) → AreSorted all → Contains all given → found all given.entry.addr ≡ Some given
-is_found [] given sorted has = absurd (omega (arith, has.1))
-is_found (first ∷ rest) given sorted has =
-    by_place (λ later. is_found rest given (sorted_tail nat_cmp first.entry.addr (addresses rest) sorted) later)
-  where
-    by_place : (Contains rest given → found rest given.entry.addr ≡ Some given) → found (first ∷ rest) given.entry.addr ≡ Some given
-    by_place found_later = elim (first_or_rest first given rest has) [
-      | inl same ↦
-          ap (λ b. cond b (Some first) (found rest given.entry.addr)) (eq-eqb first.entry.addr given.entry.addr (ap (λ (g : Given). g.entry.addr) same))
-          ∙ ap (λ (g : Given). Some g) same
-      | inr later ↦
-          let more = above first given rest sorted later in
-          let other : (first.entry.addr == given.entry.addr) ≡ false = ne_eqb first.entry.addr given.entry.addr (λ same. omega (arith, more, same)) in
-          ap (λ b. cond b (Some first) (found rest given.entry.addr)) other ∙ found_later later
-    ]
-
--- what is found under an address is in the list, and has the address
-found_in : (all : List Given) (address : ℕ) (given : Given) → found all address ≡ Some given → Contains all given × (given.entry.addr ≡ address)
-found_in [] address given is = absurd (cc)
-found_in (first ∷ rest) address given is = by_address (λ later. found_in rest address given later)
-  where
-    by_address : (found rest address ≡ Some given → Contains rest given × (given.entry.addr ≡ address)) → Contains (first ∷ rest) given × (given.entry.addr ≡ address)
-    by_address found_later = elim (cases_Bool (first.entry.addr == address)) [
-      | inl here ↦
-          let same : first ≡ given = (let e : Some first ≡ Some given = sym (ap (λ b. cond b (Some first) (found rest address)) here) ∙ is in cc) in
-          (subst (Contains (first ∷ rest)) same (has_first first rest), ap (λ (g : Given). g.entry.addr) (sym same) ∙ eqb-true first.entry.addr address here)
-      | inr there ↦
-          let later = found_later (sym (ap (λ b. cond b (Some first) (found rest address)) there) ∙ is) in
-          (has_more first given rest later.0, later.1)
-    ]
+use Rattle.mtrace_replay.proofs.SortedLemmas.{address_of, addresses, is_found, found_in}
 
 -- what an address is held under has that address
 given_address : (gave : Option Given) (address : ℕ) (before : Option Given) (given : Given) → given_or gave address before ≡ Some given
@@ -78,19 +47,19 @@ same_answer (Some given) other there back = sym (there given refl)
 -- a look-up finds what is held
 pub found_is_held : (all : List Given) (past : List Moment) → AreHeld all past → (address : ℕ) → found all address ≡ held past address
 found_is_held all past are address = same_answer (found all address) (held past address)
-    (λ given is. let there = found_in all address given is in subst (λ a. held past a ≡ Some given) there.1 ((are.each given).0 there.0))
+    (λ given is. let there = found_in address_of all address given is in subst (λ a. held past a ≡ Some given) there.1 ((are.each given).0 there.0))
     (λ given is.
     let same = held_address past address given is in
     subst (λ a. found all a ≡ Some given) same
-    (is_found all given (sorted_from_strictly_increasing (addresses all) are.in_order) ((are.each given).1 (subst (λ a. held past a ≡ Some given) (sym same) is))))
+    (is_found address_of all given (sorted_from_strictly_increasing (addresses all) are.in_order) ((are.each given).1 (subst (λ a. held past a ≡ Some given) (sym same) is))))
 
 -- a list in order whose look-ups find what is held
 pub held_as_found : (all : List Given) (past : List Moment) → IsStrictlyIncreasing (addresses all) → ((address : ℕ) → found all address ≡ held past address) → AreHeld all past
 held_as_found all past ordered same = record {
   in_order = ordered;
   each = (λ given. (
-    (λ has. sym (same given.entry.addr) ∙ is_found all given (sorted_from_strictly_increasing (addresses all) ordered) has),
-    (λ is. (found_in all given.entry.addr given (same given.entry.addr ∙ is)).0),
+    (λ has. sym (same given.entry.addr) ∙ is_found address_of all given (sorted_from_strictly_increasing (addresses all) ordered) has),
+    (λ is. (found_in address_of all given.entry.addr given (same given.entry.addr ∙ is)).0),
   ));
 }
 
@@ -106,3 +75,9 @@ addresses_given (holding ∷ holdings) = ap (λ rest. holding.entry.addr ∷ res
 pub entries_given : (holdings : List Holding) → entries_of (all_given holdings) ≡ map (λ (holding : Holding). holding.entry) holdings
 entries_given [] = refl
 entries_given (holding ∷ holdings) = ap (λ rest. holding.entry ∷ rest) (entries_given holdings)
+
+pub sizes_given : (holdings : List Holding) → held_bytes holdings ≡ total_size (entries_of (all_given holdings))
+sizes_given [] = refl
+sizes_given (holding ∷ holdings) =
+    sum_by-cons (λ (h : Holding). h.entry.size) holding holdings ∙ ap (λ rest. holding.entry.size + rest) (sizes_given holdings)
+    ∙ sym (sum_by-cons (λ (entry : Entry). entry.size) holding.entry (entries_of (all_given holdings)))

@@ -10,8 +10,15 @@ use Rattle.std.specs.BTreeMap.{is_at, insert_entry}
 use Rattle.std.specs.List.Sorted.{IsStrictlySortedBy, IsStrictlyIncreasing}
 use Rattle.std.proofs.lemmas.Bool.Decides.{nat_tests}
 use Rattle.std.proofs.lemmas.Map.Keys.{IsStrictlyIncreasing-from_sorted}
+use Rattle.std.proofs.lemmas.Cmp.{nat_cmp_total}
+use Rattle.std.proofs.lemmas.Map.Entries.{sum_by-insert_entry, sum_by-remove_entry}
+use Rattle.std.specs.Prelude.{unwrap_or, option_map, ◌+◌}
 use Rattle.mtrace_replay.specs.declared.holding.Holding.{Holding}
-use Rattle.mtrace_replay.specs.Index.{addresses, held_at, AreInOrder, IsIndex}
+use Rattle.mtrace_replay.specs.Index.{addresses, held_at, held_bytes, AreInOrder, IsIndex}
+
+-- the size of what is held, 0 where nothing is
+abbrev pub size_held : Option Holding → ℕ
+size_held held = unwrap_or (option_map (λ (holding : Holding). holding.entry.size) held) 0
 
 -- each key is the address of what it stands at
 abbrev pub OwnKeys : List (ℕ × Holding) → Type 0
@@ -79,3 +86,16 @@ held_updated old new address now is_old is_new updated other =
   where
     turned : (a b : ℕ) → is_at (nat_cmp a) b ≡ (a == b)
     turned a b = grind (arith, nat_tests)
+
+-- the sum of the sizes after an entry has entered, or left
+pub bytes_inserted : (old new : List (ℕ × Holding)) (holding : Holding) → IsIndex old → new ≡ insert_entry nat_cmp old holding.entry.addr holding
+    → held_bytes (values_of new) + size_held (lookup (is_at (nat_cmp holding.entry.addr)) old) ≡ held_bytes (values_of old) + holding.entry.size
+bytes_inserted old new holding is entries =
+    ap (λ es. held_bytes (values_of es) + size_held (lookup (is_at (nat_cmp holding.entry.addr)) old)) entries
+    ∙ sum_by-insert_entry (λ (held : Holding). held.entry.size) nat_cmp_total old holding.entry.addr holding is.in_order
+
+pub bytes_removed : (old new : List (ℕ × Holding)) (address : ℕ) → new ≡ remove_entry (is_at (nat_cmp address)) old
+    → held_bytes (values_of new) + size_held (lookup (is_at (nat_cmp address)) old) ≡ held_bytes (values_of old)
+bytes_removed old new address entries =
+    ap (λ es. held_bytes (values_of es) + size_held (lookup (is_at (nat_cmp address)) old)) entries
+    ∙ sum_by-remove_entry (λ (held : Holding). held.entry.size) (is_at (nat_cmp address)) old

@@ -23,12 +23,14 @@ use Rattle.mtrace_replay.specs.declared.status.RunFault.{RunFault}
 use Rattle.mtrace_replay.specs.declared.status.Status.{Status as RunStatus}
 use Rattle.mtrace_replay.specs.declared.status.Status.TheVariants.{Clean, Found}
 use Rattle.mtrace_replay.specs.Started.{started}
-use Rattle.mtrace_replay.specs.Moment.{Moment, moment, half}
-use Rattle.mtrace_replay.specs.History.{moments, content_after, held, history, notes, pending, diagnostics}
-use Rattle.mtrace_replay.specs.Texts.{note_text, notes_text, leaks_report, leaks_text, status_of}
+use Rattle.mtrace_replay.specs.Moment.{Moment, Given, moment, half}
+use Rattle.mtrace_replay.specs.History.{moments, content_after, held, history, notes, pending, entries_of}
+use Rattle.mtrace_replay.specs.Texts.{note_text, notes_text, report_text, status_of}
 use Rattle.mtrace_replay.specs.Output.{Wrote, Begins}
 use Rattle.mtrace_replay.specs.Replay.{Replayed, StandsFor, entries, added_notes}
-use Rattle.mtrace_replay.specs.Run.{Bytes, text_of_notes, StopsAtRead, FailedInPiece, IsPastLastNumber, StopsAtWrite, StopsAtLine, Reports, is_some_note, is_some_entry, LineGives, LineBegins, HasReplayed}
+use Rattle.mtrace_replay.specs.declared.report.Report.{Report}
+use Rattle.mtrace_replay.specs.declared.totals.Totals.{Totals}
+use Rattle.mtrace_replay.specs.Run.{Bytes, text_of_notes, whole_text, end_text, StopsAtRead, FailedInPiece, IsPastLastNumber, StopsAtWrite, StopsAtLine, Reports, is_some_note, is_some_entry, LineGives, LineBegins, HasReplayed}
 use Rattle.mtrace_replay.proofs.Moments.{moments-none, moments-line}
 use Rattle.mtrace_replay.proofs.Writing.{Wrote-nothing, Wrote-append, Begins-after, Begins-longer}
 
@@ -119,19 +121,33 @@ underway_line settings old new replay_old replay_new noted_old more start before
           ∙ sym (ap (λ past. is_some_note (notes past)) whole ∙ some_note-append (notes (history settings under.lines)) added);
     }
 
+-- what comes behind the diagnostics of the lines, of what the lines come to
+abbrev pub last_text : Report → Settings → List (Result Event LineFault) → List Given → Totals → List ℕ
+last_text report settings lines all totals =
+    notes_text (half (length lines) (pending (reverse lines)))
+    ++ report_text report (entries_of all) totals (content_after (started settings) (history settings lines))
+
 -- the whole text, of the diagnostics of the lines and what comes at the end
-end_text : (settings : Settings) (lines : List (Result Event LineFault)) (all : List Entry)
-    → leaks_text (diagnostics settings lines) all ≡ text_of_notes settings lines ++ (notes_text (half (length lines) (pending (reverse lines))) ++ leaks_report all)
-end_text settings lines all =
+whole_is : (report : Report) (settings : Settings) (lines : List (Result Event LineFault)) (all : List Given) (totals : Totals)
+    → whole_text report settings lines all totals ≡ text_of_notes settings lines ++ last_text report settings lines all totals
+whole_is report settings lines all totals =
     let last = half (length lines) (pending (reverse lines)) in
-    ap (λ text. text ++ leaks_report all) (notes_text-append (notes (history settings lines)) last)
-    ∙ append_assoc (text_of_notes settings lines) (notes_text last) (leaks_report all)
+    let told = report_text report (entries_of all) totals (content_after (started settings) (history settings lines)) in
+    ap (λ text. text ++ told) (notes_text-append (notes (history settings lines)) last)
+    ∙ append_assoc (text_of_notes settings lines) (notes_text last) told
 
 -- the diagnostic at the end, of a replay that stands for the lines
 half-is : (settings : Settings) (replay : Replayed) (lines : List (Result Event LineFault)) → StandsFor replay settings (reverse lines)
-    → half replay.lines replay.pending ≡ half (length lines) (pending (reverse lines))
+    → half replay.totals.lines replay.pending ≡ half (length lines) (pending (reverse lines))
 half-is settings replay lines stands =
     ap (λ n. half n replay.pending) (stands.lines_are ∙ length-reverse lines) ∙ ap (half (length lines)) stands.pending_is
+
+-- what a replay that stands for the lines writes at the end
+end_is : (report : Report) (settings : Settings) (replay : Replayed) (lines : List (Result Event LineFault)) → StandsFor replay settings (reverse lines)
+    → end_text report replay ≡ last_text report settings lines replay.given replay.totals
+end_is report settings replay lines stands =
+    ap (λ last. notes_text last ++ report_text report (entries replay) replay.totals replay.content) (half-is settings replay lines stands)
+    ∙ ap (λ content. notes_text (half (length lines) (pending (reverse lines))) ++ report_text report (entries replay) replay.totals content) stands.content_is
 
 -- a line that was taken leaves the status reading or ended
 line_read : (status : Status) (start before after : Bytes) (lines : List (Result Event LineFault)) (answer : Result Event LineFault) → TakesLine status before after answer → HasReadSo status start after lines
@@ -141,12 +157,12 @@ line_read Ended start before after lines answer taken read = inr read
 line_read (Faulted fault) start before after lines answer taken read = absurd taken
 
 -- the writer failed at a line's diagnostics
-pub underway_write : (settings : Settings) (old new : Progress) (replay_old replay_new : Replayed) (noted_old : Bool) (start before after taken_start taken_old taken_new : Bytes) (line : Line)
+pub underway_write : (report : Report) (settings : Settings) (old new : Progress) (replay_old replay_new : Replayed) (noted_old : Bool) (start before after taken_start taken_old taken_new : Bytes) (line : Line)
     → (under : IsUnderWay settings old replay_old noted_old start before taken_start taken_old)
     → GivesLine old new (to_come old before) (to_come new after) line
     → LineBegins replay_new settings line.event (reverse under.lines) taken_old taken_new
-    → StopsAtWrite settings start after taken_start taken_new
-underway_write settings old new replay_old replay_new noted_old start before after taken_start taken_old taken_new line under given begins =
+    → StopsAtWrite report settings start after taken_start taken_new
+underway_write report settings old new replay_old replay_new noted_old start before after taken_start taken_old taken_new line under given begins =
     let lines = under.lines ++ line.event ∷ [] in
     let read = HasReadSo-line start (to_come old before) (to_come new after) old new line under.lines under.read given in
     let Q : List ℕ → Type 0 = λ text. Begins taken_start taken_new text in
@@ -155,7 +171,7 @@ underway_write settings old new replay_old replay_new noted_old start before aft
     (Begins-after taken_start taken_old taken_new (text_of_notes settings under.lines) (notes_text (added_notes settings line.event (reverse under.lines))) under.wrote begins.begun) in
     let R : List (Result Event LineFault) → Type 0 = λ past. StandsFor replay_new settings past in
     let stands : StandsFor replay_new settings (reverse lines) = subst R (sym (reverse-more under.lines line.event)) begins.stands in
-    let last = notes_text (half (length lines) (pending (reverse lines))) ++ leaks_report (entries replay_new) in
+    let last = last_text report settings lines replay_new.given replay_new.totals in
     record {
       lines = lines;
       unused = new.held;
@@ -165,7 +181,9 @@ underway_write settings old new replay_old replay_new noted_old start before aft
           read = all;
           all = replay_new.given;
           held = stands.held;
-          begun = subst Q (sym (end_text settings lines (entries replay_new))) (Begins-longer taken_start taken_new (text_of_notes settings lines) last begun);
+          totals = replay_new.totals;
+          summed = stands.totals;
+          begun = subst Q (sym (whole_is report settings lines replay_new.given replay_new.totals)) (Begins-longer taken_start taken_new (text_of_notes settings lines) last begun);
         })
       ];
     }
@@ -249,16 +267,15 @@ pub same_error : {E : Type 0} (T U : Type 0) (first second : E) → IsErrOf {T =
 same_error T U first second is = let same : first ≡ second = cc in ap Err same
 
 -- the writer failed at the end
-pub report_write : (settings : Settings) (replay : Replayed) (noted : Bool) (left_old left_new taken_old taken_middle taken_new : Bytes)
+pub report_write : (report : Report) (settings : Settings) (replay : Replayed) (noted : Bool) (left_old left_new taken_old taken_middle taken_new : Bytes)
     → HasReplayed settings replay noted left_old left_new taken_old taken_middle
-    → Begins taken_middle taken_new (notes_text (half replay.lines replay.pending) ++ leaks_report (entries replay))
-    → StopsAtWrite settings left_old left_new taken_old taken_new
-report_write settings replay noted left_old left_new taken_old taken_middle taken_new done begins =
+    → Begins taken_middle taken_new (end_text report replay)
+    → StopsAtWrite report settings left_old left_new taken_old taken_new
+report_write report settings replay noted left_old left_new taken_old taken_middle taken_new done begins =
     let P : Bytes → Type 0 = λ after. HasReadAll left_old after done.lines in
     let Q : List ℕ → Type 0 = λ text. Begins taken_old taken_new text in
-    let R : List Diagnostic → Type 0 = λ last. Begins taken_middle taken_new (notes_text last ++ leaks_report (entries replay)) in
-    let last = half (length done.lines) (pending (reverse done.lines)) in
-    let begun : Begins taken_middle taken_new (notes_text last ++ leaks_report (entries replay)) = subst R (half-is settings replay done.lines done.stands) begins in
+    let R : List ℕ → Type 0 = λ text. Begins taken_middle taken_new text in
+    let last = last_text report settings done.lines replay.given replay.totals in
     record {
       lines = done.lines;
       unused = [];
@@ -266,8 +283,10 @@ report_write settings replay noted left_old left_new taken_old taken_middle take
         read = subst P (sym (prepend_nothing left_new)) done.read;
         all = replay.given;
         held = done.stands.held;
-        begun = subst Q (sym (end_text settings done.lines (entries replay)))
-            (Begins-after taken_old taken_middle taken_new (text_of_notes settings done.lines) (notes_text last ++ leaks_report (entries replay)) done.wrote begun);
+        totals = replay.totals;
+        summed = done.stands.totals;
+        begun = subst Q (sym (whole_is report settings done.lines replay.given replay.totals))
+            (Begins-after taken_old taken_middle taken_new (text_of_notes settings done.lines) last done.wrote (subst R (end_is report settings replay done.lines done.stands) begins));
       });
     }
 
@@ -280,35 +299,36 @@ status-is [] [] (one ∷ all) = refl
 status-is [] [] [] = refl
 
 -- all was written
-report_all : (settings : Settings) (replay : Replayed) (noted : Bool) (status : RunStatus) (left_old left_new taken_old taken_middle taken_new : Bytes)
+report_all : (report : Report) (settings : Settings) (replay : Replayed) (noted : Bool) (status : RunStatus) (left_old left_new taken_old taken_middle taken_new : Bytes)
     → HasReplayed settings replay noted left_old left_new taken_old taken_middle
-    → Wrote taken_middle taken_new (notes_text (half replay.lines replay.pending) ++ leaks_report (entries replay))
-    → status ≡ (if noted || (is_some_note (half replay.lines replay.pending) || is_some_entry (entries replay)) then Found else Clean)
-    → Reports settings status left_old left_new taken_old taken_new
-report_all settings replay noted status left_old left_new taken_old taken_middle taken_new done wrote is =
+    → Wrote taken_middle taken_new (end_text report replay)
+    → status ≡ (if noted || (is_some_note (half replay.totals.lines replay.pending) || is_some_entry (entries replay)) then Found else Clean)
+    → Reports report settings status left_old left_new taken_old taken_new
+report_all report settings replay noted status left_old left_new taken_old taken_middle taken_new done wrote is =
     let Q : List ℕ → Type 0 = λ text. Wrote taken_old taken_new text in
-    let R : List Diagnostic → Type 0 = λ last. Wrote taken_middle taken_new (notes_text last ++ leaks_report (entries replay)) in
+    let R : List ℕ → Type 0 = λ text. Wrote taken_middle taken_new text in
     let last = half (length done.lines) (pending (reverse done.lines)) in
-    let same = half-is settings replay done.lines done.stands in
-    let whole : Wrote taken_middle taken_new (notes_text last ++ leaks_report (entries replay)) = subst R same wrote in
+    let told = last_text report settings done.lines replay.given replay.totals in
     record {
       lines = done.lines;
       read = done.read;
       all = replay.given;
       held = done.stands.held;
-      wrote = subst Q (sym (end_text settings done.lines (entries replay)))
-          (Wrote-append taken_old taken_middle taken_new (text_of_notes settings done.lines) (notes_text last ++ leaks_report (entries replay)) done.wrote whole);
+      totals = replay.totals;
+      summed = done.stands.totals;
+      wrote = subst Q (sym (whole_is report settings done.lines replay.given replay.totals))
+          (Wrote-append taken_old taken_middle taken_new (text_of_notes settings done.lines) told done.wrote (subst R (end_is report settings replay done.lines done.stands) wrote));
       status_is = is
-          ∙ ap (λ b. if b || (is_some_note (half replay.lines replay.pending) || is_some_entry (entries replay)) then Found else Clean) done.noted_is
-          ∙ ap (λ more. if is_some_note (notes (history settings done.lines)) || (is_some_note more || is_some_entry (entries replay)) then Found else Clean) same
+          ∙ ap (λ b. if b || (is_some_note (half replay.totals.lines replay.pending) || is_some_entry (entries replay)) then Found else Clean) done.noted_is
+          ∙ ap (λ more. if is_some_note (notes (history settings done.lines)) || (is_some_note more || is_some_entry (entries replay)) then Found else Clean) (half-is settings replay done.lines done.stands)
           ∙ status-is (notes (history settings done.lines)) last (entries replay);
     }
 
-pub reports_by : (settings : Settings) (replay : Replayed) (noted : Bool) (result : Result RunStatus RunFault) (left_old left_new taken_old taken_middle taken_new : Bytes)
+pub reports_by : (report : Report) (settings : Settings) (replay : Replayed) (noted : Bool) (result : Result RunStatus RunFault) (left_old left_new taken_old taken_middle taken_new : Bytes)
     → HasReplayed settings replay noted left_old left_new taken_old taken_middle
-    → OnOk result (Wrote taken_middle taken_new (notes_text (half replay.lines replay.pending) ++ leaks_report (entries replay)))
-    → IfOk result (λ status. status ≡ (if noted || (is_some_note (half replay.lines replay.pending) || is_some_entry (entries replay)) then Found else Clean))
-    → IfOk result (λ status. Reports settings status left_old left_new taken_old taken_new)
-reports_by settings replay noted (Ok status) left_old left_new taken_old taken_middle taken_new done wrote is =
-    report_all settings replay noted status left_old left_new taken_old taken_middle taken_new done wrote is
-reports_by settings replay noted (Err fault) left_old left_new taken_old taken_middle taken_new done wrote is = tt
+    → OnOk result (Wrote taken_middle taken_new (end_text report replay))
+    → IfOk result (λ status. status ≡ (if noted || (is_some_note (half replay.totals.lines replay.pending) || is_some_entry (entries replay)) then Found else Clean))
+    → IfOk result (λ status. Reports report settings status left_old left_new taken_old taken_new)
+reports_by report settings replay noted (Ok status) left_old left_new taken_old taken_middle taken_new done wrote is =
+    report_all report settings replay noted status left_old left_new taken_old taken_middle taken_new done wrote is
+reports_by report settings replay noted (Err fault) left_old left_new taken_old taken_middle taken_new done wrote is = tt

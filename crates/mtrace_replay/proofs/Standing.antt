@@ -1,5 +1,5 @@
 -- A replay stands for one line more.
-use Rattle.std.proofs.Common.{◌≡◌, ℕ, suc, ◌+◌, false, List, [], ◌∷◌, ◌++◌, length, Option, Some, None, refl, sym, ap, ◌∙◌, subst, arith}
+use Rattle.std.proofs.Common.{◌⊎◌, inl, inr, cond, option_map, is_some, Bool, true, false, ◌≤◌, Option, Some, None, ◌≡◌, ℕ, suc, ◌+◌, List, [], ◌∷◌, ◌++◌, length, refl, sym, ap, ◌∙◌, subst, arith}
 use Rattle.std.specs.Prelude.{Ok, Err, if◌then◌else◌}
 use Rattle.std.specs.List.Sorted.{IsStrictlyIncreasing}
 use Rattle.mtrace_log.specs.declared.event.Event.TheVariants.{Start, End, Alloc, Free, Old, New, Failed}
@@ -8,10 +8,27 @@ use Rattle.mtrace_replay.specs.declared.diagnostic.Diagnostic.{Diagnostic}
 use Rattle.mtrace_replay.specs.declared.settings.Settings.{Settings}
 use Rattle.mtrace_replay.specs.Started.{Bare, started}
 use Rattle.mtrace_replay.specs.Moment.{Reading, Given, Moment, outcome, renewal, reallocation, allocation, release, moment, is_new, half}
-use Rattle.mtrace_replay.specs.History.{AreHeld, held, given_or, unless_taken, held_after, moments, content_after, pending, old_address}
+use Rattle.mtrace_replay.specs.History.{entries_of, AreHeld, held, given_or, unless_taken, held_after, moments, content_after, pending, old_address}
 use Rattle.mtrace_replay.specs.Replay.{Replayed, StandsFor, added_notes}
-use Rattle.mtrace_replay.specs.Step.{found, Comes}
+use Rattle.mtrace_replay.specs.Step.{given_of, all_given, found, Comes, AreLive}
 use Rattle.mtrace_replay.proofs.FoundLemmas.{found_is_held, held_as_found}
+use Rattle.std.specs.List.{Contains, list_any}
+use Rattle.std.specs.Prelude.{◌==◌}
+use Rattle.std.proofs.lemmas.Bool.{eq-eqb}
+use Rattle.tlsf_heap.specs.Content.{Block, Content, blocks_of, is_free, size_at}
+use Rattle.tlsf_heap.specs.Bare.{bare}
+use Rattle.tlsf_heap.specs.Good.{IsGood}
+use Rattle.tlsf_heap.proofs.Content.BareSteps.{size_at-renamed}
+use Rattle.tlsf_heap.proofs.Good.LiveBlocks.{end_here_bare, live_end_bare}
+use Rattle.mtrace_replay.specs.declared.holding.Holding.{Holding}
+use Rattle.mtrace_replay.specs.declared.totals.Totals.{Totals}
+use Rattle.mtrace_replay.specs.Index.{held_at}
+use Rattle.mtrace_replay.specs.Texts.{total_size}
+use Rattle.mtrace_replay.specs.Totals.{AreTotals, gone_on, is_refusal}
+use Rattle.mtrace_replay.proofs.StepLemmas.{found_given, given_under}
+use Rattle.mtrace_replay.proofs.Stood.{stood_outcome}
+use Rattle.mtrace_replay.proofs.TotalsLemmas.{sum_none, count_none, peak_none, high_none, started_free}
+use Rattle.mtrace_replay.proofs.TotalsStep.{totals_of_line}
 use Rattle.mtrace_replay.proofs.Moments.{moments-line}
 use Rattle.mtrace_replay.proofs.SortedLemmas.{addresses}
 
@@ -40,9 +57,9 @@ same_outcome number (Ok (Failed at address size)) before one other content same 
 same_held : (moment : Moment) (one other : ℕ → Option Given) → ((q : ℕ) → one q ≡ other q) → (address : ℕ) → held_after moment one address ≡ held_after moment other address
 same_held moment one other same address = ap (λ before. given_or moment.given address (unless_taken moment.taken address before)) (same address)
 
-module _ (old new : Replayed) (settings : Settings) (past : List Reading) (line : Reading) (notes : List Diagnostic) (number : ℕ)
-    (stands : StandsFor old settings past) (next : number ≡ old.lines + 1)
-    (comes : Comes old.content new.content old.given new.given notes (outcome number line old.pending (found old.given) old.content)) where
+module _ (old new : Replayed) (settings : Settings) (past : List Reading) (line : Reading) (notes : List Diagnostic) (end : Option ℕ) (number : ℕ)
+    (stands : StandsFor old settings past) (next : number ≡ old.totals.lines + 1)
+    (comes : Comes old.content new.content old.given new.given notes end (outcome number line old.pending (found old.given) old.content)) where
   before : List Moment
   before = moments (started settings) past
 
@@ -61,26 +78,116 @@ module _ (old new : Replayed) (settings : Settings) (past : List Reading) (line 
       ∙ same_outcome (suc (length past)) line (pending past) (found old.given) (held (moments (started settings) past)) old.content (found_is_held old.given (moments (started settings) past) stands.held)
       ∙ ap (outcome (suc (length past)) line (pending past) (held (moments (started settings) past))) stands.content_is
 
-  comes_so : Comes old.content new.content old.given new.given notes its_outcome
-  comes_so = subst (Comes old.content new.content old.given new.given notes) outcome_is comes
+  comes_so : Comes old.content new.content old.given new.given notes end its_outcome
+  comes_so = subst (Comes old.content new.content old.given new.given notes end) outcome_is comes
 
-  pub stands_for_line : IsStrictlyIncreasing (addresses new.given) → new.lines ≡ number → new.pending ≡ old_address line → new.out_of_memory ≡ false → StandsFor new settings (line ∷ past)
-  unfolding its_outcome before
-  stands_for_line ordered counted told works =
-      let whole = moments-line (started settings) line past in
-      let P : List Moment → Type 0 = λ ms. AreHeld new.given ms in
-      record {
-        works = works;
-        lines_are = counted ∙ next ∙ omega (arith, stands.lines_are);
-        pending_is = told;
-        content_is = comes_so.content_is ∙ ap (content_after (started settings)) (sym whole);
-        held = subst P (sym whole) (held_as_found new.given _ ordered (λ address. comes_so.held_is address
-            ∙ same_held its_outcome (found old.given) (held (moments (started settings) past)) (found_is_held old.given (moments (started settings) past) stands.held) address));
-      }
+  -- what is held after the line
+  held_after_line : IsStrictlyIncreasing (addresses new.given) → AreHeld new.given (now ∷ before)
+  unfolding its_outcome before now
+  held_after_line ordered = held_as_found new.given _ ordered (λ address. comes_so.held_is address
+      ∙ same_held its_outcome (found old.given) (held (moments (started settings) past)) (found_is_held old.given (moments (started settings) past) stands.held) address)
 
-  pub notes_of_line : (if is_new line then [] else half old.lines old.pending) ++ notes ≡ added_notes settings line past
+  module _ (heap : Content ℕ) (holdings : List Holding) (good : IsGood heap) (are : AreLive holdings heap) (heap_is : new.content ≡ bare heap) (given_is : new.given ≡ all_given holdings) where
+    bare_is : bare heap ≡ its_outcome.content
+    bare_is = sym heap_is ∙ comes_so.content_is
+
+    -- the end of the block given, by the heap
+    end_of_given : (given : Given) → its_outcome.given ≡ Some given → end ≡ Some (given.place + size_at given.place (blocks_of heap.pools))
+    end_of_given given is =
+        comes_so.end_is ∙ ap (λ gave. option_map (λ (g : Given). g.place + size_at g.place (blocks_of its_outcome.content.pools)) gave) is
+        ∙ ap (λ (content : Bare). Some (given.place + size_at given.place (blocks_of content.pools))) (sym bare_is)
+        ∙ ap (λ n. Some (given.place + n)) (size_at-renamed (λ owner. tt) given.place heap.pools)
+
+    -- a live block was live before, or ends where the one does that was given
+    stood : (block : Block (Unit {0})) → Contains (blocks_of now.content.pools) block → is_free block ≡ false
+        → Contains (blocks_of (content_after (started settings) before).pools) block ⊎ ((place : ℕ) × (end ≡ Some place) × (block.place + block.size ≡ place))
+    unfolding its_outcome before now
+    stood block has live = elim (stood_outcome (content_after (started settings) before) (suc (length past)) line (pending past) (held before) block has live) [
+      | inl there ↦ inl there
+      | inr given ↦
+          let P : Bare → Type 0 = λ content. Contains (blocks_of content.pools) block in
+          inr (given.0.place + size_at given.0.place (blocks_of heap.pools), end_of_given given.0 given.1, end_here_bare given.0.place heap block good (subst P (sym bare_is) has) given.2)
+    ]
+
+    -- the block given is live
+    given_lives : (given : Given) → its_outcome.given ≡ Some given
+        → (block : Block (Unit {0})) × Contains (blocks_of (bare heap).pools) block × (is_free block ≡ false) × (block.place + block.size ≡ given.place + size_at given.place (blocks_of heap.pools))
+    given_lives given is =
+        let address = given.entry.addr in
+        let gave : held_after its_outcome (found old.given) address ≡ Some given =
+        ap (λ g. given_or g address (unless_taken its_outcome.taken address (found old.given address))) is
+        ∙ ap (λ b. cond b (Some given) (unless_taken its_outcome.taken address (found old.given address))) (eq-eqb address address refl) in
+        let there : option_map given_of (held_at holdings address) ≡ Some given =
+        sym (found_given holdings address) ∙ ap (λ all. found all address) (sym given_is) ∙ comes_so.held_is address ∙ gave in
+        let held_so = given_under (held_at holdings address) given there in
+        let live = are.live address held_so.0 held_so.1 in
+        let P : ℕ → Type 0 = λ place. (block : Block (Unit {0})) × Contains (blocks_of (bare heap).pools) block × (is_free block ≡ false) × (block.place + block.size ≡ place + size_at place (blocks_of heap.pools)) in
+        subst P held_so.2 (live_end_bare (λ slot. slot == held_so.0.ptr.slot) held_so.0.ptr.place heap good live)
+
+    given_stands : (place : ℕ) → end ≡ Some place → (block : Block (Unit {0})) × Contains (blocks_of now.content.pools) block × (is_free block ≡ false) × (block.place + block.size ≡ place)
+    unfolding its_outcome before now
+    given_stands place is = by_given its_outcome.given refl
+      where
+        by_given : (gave : Option Given) → its_outcome.given ≡ gave → (block : Block (Unit {0})) × Contains (blocks_of now.content.pools) block × (is_free block ≡ false) × (block.place + block.size ≡ place)
+        by_given None none = absurd (let e : None ≡ Some place = ap (λ gave. option_map (λ (g : Given). g.place + size_at g.place (blocks_of its_outcome.content.pools)) gave) (sym none) ∙ sym comes_so.end_is ∙ is in cc)
+        by_given (Some given) some =
+            let same : given.place + size_at given.place (blocks_of heap.pools) ≡ place = (let e : Some (given.place + size_at given.place (blocks_of heap.pools)) ≡ Some place = sym (end_of_given given some) ∙ is in cc) in
+            let block = given_lives given some in
+            let P : Bare → Type 0 = λ content. Contains (blocks_of content.pools) block.0 in
+            (block.0, subst P bare_is block.1, block.2, block.3 ∙ same)
+
+    pub stands_for_line : IsStrictlyIncreasing (addresses new.given) → new.pending ≡ old_address line → new.out_of_memory ≡ false
+        → (bytes blocks : ℕ) (refused : Bool) → new.totals ≡ gone_on old.totals end refused bytes blocks
+        → bytes ≡ total_size (entries_of new.given) → blocks ≡ length new.given
+        → refused ≡ list_any (λ (note : Diagnostic). is_refusal note.kind) (added_notes settings line past)
+        → StandsFor new settings (line ∷ past)
+    unfolding its_outcome before now
+    stands_for_line ordered told works bytes blocks refused gone sum count noted =
+        let whole = moments-line (started settings) line past in
+        let start = started settings in
+        let ms = moments (started settings) past in
+        let holds = held_after_line ordered in
+        let P : List Moment → Type 0 = λ past. AreHeld new.given past in
+        let T : List Moment → Totals → Type 0 = λ past totals. AreTotals start past totals in
+        record {
+          works = works;
+          lines_are = ap (λ (totals : Totals). totals.lines) gone ∙ omega (arith, stands.lines_are);
+          pending_is = told;
+          content_is = comes_so.content_is ∙ ap (content_after start) (sym whole);
+          held = subst P (sym whole) holds;
+          totals = subst (λ past. T past new.totals) (sym whole) (subst (T (now ∷ ms)) (sym gone)
+              (totals_of_line start ms now new.given old.totals end refused bytes blocks stands.totals comes_so.end_is noted holds sum count stood given_stands));
+        }
+
+  pub notes_of_line : (if is_new line then [] else half old.totals.lines old.pending) ++ notes ≡ added_notes settings line past
   unfolding its_outcome before
   notes_of_line =
       ap (λ n. (if is_new line then [] else half n old.pending) ++ notes) stands.lines_are
       ∙ ap (λ p. (if is_new line then [] else half (length past) p) ++ notes) stands.pending_is
       ∙ ap (λ ns. (if is_new line then [] else half (length past) (pending past)) ++ ns) comes_so.notes_are
+
+-- the totals before the first line
+pub totals_none : (settings : Settings) → AreTotals (started settings) [] (record { lines = 0; served = 0; refused = 0; live_bytes = 0; live_blocks = 0; peak_bytes = 0; peak_line = 0; high_place = 0 })
+totals_none settings = record {
+  lines = refl;
+  served = refl;
+  refused = refl;
+  live_bytes = sum_none;
+  live_blocks = count_none;
+  peak = peak_none;
+  high_place = high_none (started settings) (started_free settings);
+}
+
+one_at_most : (b : Bool) → (if b then 1 else 0) ≤ 1
+one_at_most true = omega arith
+one_at_most false = omega arith
+
+-- no more lines are served, or refused, than there are
+module _ (old : Totals) (end : Option ℕ) (refused : Bool) (bytes blocks : ℕ) (new : Totals) (gone : new ≡ gone_on old end refused bytes blocks) where
+  pub served_within : old.served ≤ old.lines → new.served ≤ new.lines
+  served_within within =
+      omega (arith, within, one_at_most (is_some end), ap (λ (totals : Totals). totals.served) gone, ap (λ (totals : Totals). totals.lines) gone)
+
+  pub refused_within : old.refused ≤ old.lines → new.refused ≤ new.lines
+  refused_within within =
+      omega (arith, within, one_at_most refused, ap (λ (totals : Totals). totals.refused) gone, ap (λ (totals : Totals). totals.lines) gone)

@@ -5,7 +5,7 @@ use Rattle.std.specs.List.{AllByRecursion, list_all}
 use Rattle.tlsf_class.specs.Classes.{unit, greatest_size}
 use Rattle.tlsf_heap.specs.Content.{Block, Pool, used_records, blocks_of}
 use Rattle.tlsf_heap.specs.Malloc.{gap}
-use Rattle.tlsf_heap.specs.Pools.{most_pools, end_of_places, add_pool, with_pool, is_apart, can_be_pool, in_order_of_base, created}
+use Rattle.tlsf_heap.specs.Pools.{most_pools, most_records, end_of_places, add_pool, with_pool, is_apart, can_be_pool, in_order_of_base, created}
 use Rattle.mtrace_replay.specs.declared.settings.Settings.{Settings}
 use Rattle.mtrace_replay.specs.Settings.{are_bad}
 use Rattle.tlsf_heap.proofs.Content.PoolCases.{pool_is_added}
@@ -28,6 +28,7 @@ record AreGood (settings : Settings) : Type 0 where
   least : unit ≤ settings.pool
   most : settings.pool ≤ greatest_size
   few : settings.pools ≤ most_pools
+  few_records : settings.records ≤ most_records
   room : settings.pools ≤ settings.records
   ends : settings.pool * settings.pools ≤ end_of_places
 
@@ -46,6 +47,7 @@ are_good settings h =
       least = ltb-false _ _ b.0;
       most = ltb-false _ _ c.0;
       few = ltb-false _ _ e.0;
+      few_records = ltb-false _ _ g.0;
       room = ltb-false _ _ i.0;
       ends = ltb-false _ _ i.1;
     }
@@ -112,14 +114,21 @@ module _ (settings : Settings) (good : AreGood settings) (i : ℕ) (content : Ba
         records = ready.records;
       }
 
-all_added : (settings : Settings) → AreGood settings → (left : ℕ) (content : Bare) → IsReady settings left content → length (with_pools settings left content).pools ≡ settings.pools
-all_added settings good zero content ready = omega (arith, ready.count)
-all_added settings good (suc i) content ready =
-    let P : Bare → Type 0 = λ new. length (with_pools settings i new).pools ≡ settings.pools in
+all_ready : (settings : Settings) → AreGood settings → (left : ℕ) (content : Bare) → IsReady settings left content → IsReady settings 0 (with_pools settings left content)
+all_ready settings good zero content ready = ready
+all_ready settings good (suc i) content ready =
+    let P : Bare → Type 0 = λ new. IsReady settings 0 (with_pools settings i new) in
     subst P (sym (ap (left_by content) (is_added settings good i content ready)))
-    (all_added settings good i (with_pool (i * settings.pool) settings.pool content) (still_ready settings good i content ready))
+    (all_ready settings good i (with_pool (i * settings.pool) settings.pool content) (still_ready settings good i content ready))
+
+is_started : (settings : Settings) → are_bad settings ≡ false → IsReady settings 0 (started settings)
+unfolding started
+is_started settings h = all_ready settings (are_good settings h) settings.pools (created settings.records) (record { above = tt; count = omega arith; used = refl; records = refl })
 
 -- where the settings are not bad, the heap starts with all their pools
 pub all_pools_stand : (settings : Settings) → are_bad settings ≡ false → length (started settings).pools ≡ settings.pools
-unfolding started
-all_pools_stand settings h = all_added settings (are_good settings h) settings.pools (created settings.records) (record { above = tt; count = omega arith; used = refl; records = refl })
+all_pools_stand settings h = omega (arith, (is_started settings h).count)
+
+-- and with no more records than there can be
+pub started_records : (settings : Settings) → are_bad settings ≡ false → (started settings).records ≤ most_records
+started_records settings h = omega (arith, (is_started settings h).records, (are_good settings h).few_records)

@@ -1,7 +1,9 @@
 -- What each case of a line comes to, told of what is held by its look-ups.
-use Rattle.std.proofs.Common.{◌≡◌, ℕ, Bool, true, false, cond, not, List, [], ◌∷◌, is_some, option_map, Option, Some, None, refl, sym, ap, ◌∙◌, subst, Ok, Err}
+use Rattle.std.proofs.Common.{◌<◌, ◌≤◌, arith, ◌≡◌, ℕ, Bool, true, false, cond, not, ◌+◌, List, [], ◌∷◌, is_some, option_map, Option, Some, None, inl, inr, refl, sym, ap, ◌∙◌, subst, Ok, Err}
 use Rattle.std.specs.Prelude.{◌==◌, ◌&&◌}
+use Rattle.std.proofs.lemmas.Bool.{cases_Bool, eqb-true, eqb-false}
 use Rattle.tlsf_heap.specs.declared.refusal.Refusal.{Refusal}
+use Rattle.tlsf_heap.specs.Content.{blocks_of, size_at}
 use Rattle.tlsf_heap.specs.Malloc.{malloc}
 use Rattle.tlsf_heap.specs.Pointer.{Pointer}
 use Rattle.tlsf_heap.specs.Realloc.{realloc}
@@ -14,6 +16,19 @@ use Rattle.mtrace_replay.specs.Started.{Bare}
 use Rattle.mtrace_replay.specs.Moment.{Given, Moment, unserved, note, noted_after, asked_size, without, answered, allocation, release, moved, reallocation, renewal}
 use Rattle.mtrace_replay.specs.Index.{held_at}
 use Rattle.mtrace_replay.specs.Step.{given_of, all_given, found, Comes, IsUnder}
+
+-- at least as many bytes are asked for as the line says, and some
+pub asked_least : (size : ℕ) → (size ≤ asked_size size) × (0 < asked_size size)
+asked_least size = elim (cases_Bool (size == 0)) [
+  | inl none ↦
+      let is : asked_size size ≡ 1 = ap (λ b. cond b 1 size) none in
+      let zero_is = eqb-true size 0 none in
+      (omega (arith, is, zero_is), omega (arith, is))
+  | inr some ↦
+      let is : asked_size size ≡ size = ap (λ b. cond b 1 size) some in
+      let more = eqb-false size 0 some in
+      (omega (arith, is), (let positive : 0 < size = omega (arith, more) in omega (arith, is, positive)))
+]
 
 -- a look-up finds the same without slots
 pub found_given : (holdings : List Holding) (address : ℕ) → found (all_given holdings) address ≡ option_map given_of (held_at holdings address)
@@ -37,6 +52,11 @@ some_given : (held : Option Holding) → is_some (option_map given_of held) ≡ 
 some_given None = refl
 some_given (Some holding) = refl
 
+-- what is held, where its address is found
+pub given_under : (held : Option Holding) (given : Given) → option_map given_of held ≡ Some given → (holding : Holding) × (held ≡ Some holding) × (holding.ptr.place ≡ given.place)
+given_under None given is = absurd (cc)
+given_under (Some holding) given is = let same : given_of holding ≡ given = cc in (holding, refl, ap (λ (g : Given). g.place) same)
+
 -- the block that an address is held under
 pub under_some : (held : Option Holding) (ptr : Pointer) → option_map (λ holding. holding.ptr) held ≡ Some ptr → IsUnder ptr held
 under_some None ptr is = absurd (cc)
@@ -54,97 +74,101 @@ found_changed old new address now before changed other =
     found_given new other ∙ ap (option_map given_of) (changed other) ∙ ap-cond (option_map given_of) (address == other) now (before other)
 
 -- a line that changes nothing
-pub comes_unserved : (content : Bare) (given : List Given) (notes : List Diagnostic) → Comes content content given given notes (unserved notes content)
-comes_unserved content given notes = record { content_is = refl; held_is = (λ address. refl); notes_are = refl }
+pub comes_unserved : (content : Bare) (given : List Given) (notes : List Diagnostic) → Comes content content given given notes None (unserved notes content)
+comes_unserved content given notes = record { content_is = refl; held_is = (λ address. refl); notes_are = refl; end_is = refl }
 
 module _ (old new : List Holding) (content after : Bare) where
   -- `+` for an address that is held
   pub comes_held : (number : ℕ) (at : Option (List ℕ)) (address size : ℕ) → is_some (held_at old address) ≡ true
-      → Comes content content (all_given old) (all_given old) (note number (AlreadyHeld address)) (allocation number at address size (found (all_given old) address) content)
+      → Comes content content (all_given old) (all_given old) (note number (AlreadyHeld address)) None (allocation number at address size (found (all_given old) address) content)
   comes_held number at address size is =
       let some = some_is (held_at old address) is in
-      let P : Option Given → Type 0 = λ held. Comes content content (all_given old) (all_given old) (note number (AlreadyHeld address)) (allocation number at address size held content) in
+      let P : Option Given → Type 0 = λ held. Comes content content (all_given old) (all_given old) (note number (AlreadyHeld address)) None (allocation number at address size held content) in
       subst P (sym (found_under old address (Some some.0) some.1)) (comes_unserved content (all_given old) (note number (AlreadyHeld address)))
 
   -- `+` that was served
   pub comes_served : (holding : Holding) → is_some (held_at old holding.entry.addr) ≡ false → malloc tt (asked_size holding.entry.size) content ≡ Ok (holding.ptr.place, after)
       → ((other : ℕ) → held_at new other ≡ cond (holding.entry.addr == other) (Some holding) (held_at old other))
-      → Comes content after (all_given old) (all_given new) [] (allocation holding.entry.line holding.entry.at holding.entry.addr holding.entry.size (found (all_given old) holding.entry.addr) content)
+      → Comes content after (all_given old) (all_given new) [] (Some (holding.ptr.place + size_at holding.ptr.place (blocks_of after.pools))) (allocation holding.entry.line holding.entry.at holding.entry.addr holding.entry.size (found (all_given old) holding.entry.addr) content)
   comes_served holding absent served changed =
       let entry = holding.entry in
       let is : allocation entry.line entry.at entry.addr entry.size (found (all_given old) entry.addr) content
       ≡ record { given = Some (given_of holding); taken = None; notes = []; content = after } =
       ap (λ held. allocation entry.line entry.at entry.addr entry.size held content) (found_under old entry.addr None (none_is (held_at old entry.addr) absent))
       ∙ ap (answered entry.line entry.at entry.addr entry.size content) served in
-      subst (Comes content after (all_given old) (all_given new) []) (sym is) (record {
+      subst (Comes content after (all_given old) (all_given new) [] (Some (holding.ptr.place + size_at holding.ptr.place (blocks_of after.pools)))) (sym is) (record {
         content_is = refl;
         held_is = (λ other. found_changed old new entry.addr (Some holding) (held_at old) changed other
             ∙ ap (cond (entry.addr == other) (Some (given_of holding))) (sym (found_given old other)));
         notes_are = refl;
+        end_is = refl;
       })
 
   -- `+` that was refused
   pub comes_refused : (entry : Entry) (refusal : Refusal) → is_some (held_at old entry.addr) ≡ false → malloc tt (asked_size entry.size) content ≡ Err refusal
-      → Comes content content (all_given old) (all_given old) (note entry.line (Refused entry.addr refusal))
+      → Comes content content (all_given old) (all_given old) (note entry.line (Refused entry.addr refusal)) None
       (allocation entry.line entry.at entry.addr entry.size (found (all_given old) entry.addr) content)
   comes_refused entry refusal absent refused =
       let is : allocation entry.line entry.at entry.addr entry.size (found (all_given old) entry.addr) content ≡ unserved (note entry.line (Refused entry.addr refusal)) content =
       ap (λ held. allocation entry.line entry.at entry.addr entry.size held content) (found_under old entry.addr None (none_is (held_at old entry.addr) absent))
       ∙ ap (answered entry.line entry.at entry.addr entry.size content) refused in
-      subst (Comes content content (all_given old) (all_given old) (note entry.line (Refused entry.addr refusal))) (sym is)
+      subst (Comes content content (all_given old) (all_given old) (note entry.line (Refused entry.addr refusal)) None) (sym is)
       (comes_unserved content (all_given old) (note entry.line (Refused entry.addr refusal)))
 
   -- `-` for an address that isn't held
   pub comes_not_held : (number address : ℕ) → held_at old address ≡ None
-      → Comes content content (all_given old) (all_given old) (note number (NotHeld address)) (release number address (found (all_given old) address) content)
+      → Comes content content (all_given old) (all_given old) (note number (NotHeld address)) None (release number address (found (all_given old) address) content)
   comes_not_held number address absent =
-      let P : Option Given → Type 0 = λ held. Comes content content (all_given old) (all_given old) (note number (NotHeld address)) (release number address held content) in
+      let P : Option Given → Type 0 = λ held. Comes content content (all_given old) (all_given old) (note number (NotHeld address)) None (release number address held content) in
       subst P (sym (found_under old address None absent)) (comes_unserved content (all_given old) (note number (NotHeld address)))
 
   -- `-`
   pub comes_released : (number address : ℕ) (holding : Holding) → held_at old address ≡ Some holding → after ≡ without holding.ptr.place content
       → ((other : ℕ) → held_at new other ≡ cond (address == other) None (held_at old other))
-      → Comes content after (all_given old) (all_given new) [] (release number address (found (all_given old) address) content)
+      → Comes content after (all_given old) (all_given new) [] None (release number address (found (all_given old) address) content)
   comes_released number address holding held freed changed =
-      let P : Option Given → Type 0 = λ given. Comes content after (all_given old) (all_given new) [] (release number address given content) in
+      let P : Option Given → Type 0 = λ given. Comes content after (all_given old) (all_given new) [] None (release number address given content) in
       subst P (sym (found_under old address (Some holding) held)) (record {
         content_is = freed;
         held_is = (λ other. found_changed old new address None (held_at old) changed other ∙ ap (cond (address == other) None) (sym (found_given old other)));
         notes_are = refl;
+        end_is = refl;
       })
 
   -- `>` that was served
   pub comes_moved : (address from : ℕ) (holding : Holding) → realloc (λ one other. true) tt (Some (from, tt)) (asked_size holding.entry.size) content ≡ Ok (Some (holding.ptr.place, tt), after)
       → ((other : ℕ) → held_at new other ≡ cond (holding.entry.addr == other) (Some holding) (cond (address == other) None (held_at old other)))
-      → Comes content after (all_given old) (all_given new) [] (moved holding.entry.line holding.entry.at address from holding.entry.addr holding.entry.size content
+      → Comes content after (all_given old) (all_given new) [] (Some (holding.ptr.place + size_at holding.ptr.place (blocks_of after.pools))) (moved holding.entry.line holding.entry.at address from holding.entry.addr holding.entry.size content
       (realloc (λ one other. true) tt (Some (from, tt)) (asked_size holding.entry.size) content))
   comes_moved address from holding served changed =
       let entry = holding.entry in
-      subst (λ answer. Comes content after (all_given old) (all_given new) [] (moved entry.line entry.at address from entry.addr entry.size content answer)) (sym served) (record {
+      subst (λ answer. Comes content after (all_given old) (all_given new) [] (Some (holding.ptr.place + size_at holding.ptr.place (blocks_of after.pools))) (moved entry.line entry.at address from entry.addr entry.size content answer)) (sym served) (record {
         content_is = refl;
         held_is = (λ other. found_changed old new entry.addr (Some holding) (λ q. cond (address == q) None (held_at old q)) changed other
             ∙ ap (cond (entry.addr == other) (Some (given_of holding)))
             (ap-cond (option_map given_of) (address == other) None (held_at old other) ∙ ap (cond (address == other) None) (sym (found_given old other))));
         notes_are = refl;
+        end_is = refl;
       })
 
   -- `>` that was refused
   pub comes_not_moved : (address from : ℕ) (entry : Entry) (refusal : Refusal) → realloc (λ one other. true) tt (Some (from, tt)) (asked_size entry.size) content ≡ Err refusal
       → after ≡ without from content → ((other : ℕ) → held_at new other ≡ cond (address == other) None (held_at old other))
-      → Comes content after (all_given old) (all_given new) (note entry.line (Refused entry.addr refusal)) (moved entry.line entry.at address from entry.addr entry.size content
+      → Comes content after (all_given old) (all_given new) (note entry.line (Refused entry.addr refusal)) None (moved entry.line entry.at address from entry.addr entry.size content
       (realloc (λ one other. true) tt (Some (from, tt)) (asked_size entry.size) content))
   comes_not_moved address from entry refusal refused freed changed =
-      subst (λ answer. Comes content after (all_given old) (all_given new) (note entry.line (Refused entry.addr refusal)) (moved entry.line entry.at address from entry.addr entry.size content answer)) (sym refused) (record {
+      subst (λ answer. Comes content after (all_given old) (all_given new) (note entry.line (Refused entry.addr refusal)) None (moved entry.line entry.at address from entry.addr entry.size content answer)) (sym refused) (record {
         content_is = freed;
         held_is = (λ other. found_changed old new address None (held_at old) changed other ∙ ap (cond (address == other) None) (sym (found_given old other)));
         notes_are = refl;
+        end_is = refl;
       })
 
 -- a diagnostic before those of a moment
-pub comes_after_note : (content after : Bare) (old new : List Given) (first : Diagnostic) (notes : List Diagnostic) (moment : Moment)
-    → Comes content after old new notes moment → Comes content after old new (first ∷ notes) (noted_after (first ∷ []) moment)
-comes_after_note content after old new first notes moment comes =
-    record { content_is = comes.content_is; held_is = comes.held_is; notes_are = ap (λ ns. first ∷ ns) comes.notes_are }
+pub comes_after_note : (content after : Bare) (old new : List Given) (first : Diagnostic) (notes : List Diagnostic) (end : Option ℕ) (moment : Moment)
+    → Comes content after old new notes end moment → Comes content after old new (first ∷ notes) end (noted_after (first ∷ []) moment)
+comes_after_note content after old new first notes end moment comes =
+    record { content_is = comes.content_is; held_is = comes.held_is; notes_are = ap (λ ns. first ∷ ns) comes.notes_are; end_is = comes.end_is }
 
 module _ (old_held : List Holding) (content : Bare) (number : ℕ) (at : Option (List ℕ)) (pending : Option ℕ) (old address size : ℕ) (is_pending : pending ≡ Some old) where
   -- `>` after `<`, told of what both are held under

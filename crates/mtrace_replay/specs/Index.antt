@@ -1,5 +1,5 @@
 -- What is held, by address, as a list in order of address.
-use Rattle.std.specs.Prelude.{◌≡◌, ℕ, List, map, find, Option, ◌==◌}
+use Rattle.std.specs.Prelude.{◌≡◌, ℕ, List, map, find, sum_by, Option, ◌==◌}
 use Rattle.std.specs.List.{AllByRecursion}
 use Rattle.std.specs.List.Sorted.{IsStrictlyIncreasing, IsStrictlySortedBy}
 use Rattle.std.specs.Ordering.{nat_cmp}
@@ -17,6 +17,10 @@ held_at holdings address = find (λ holding. holding.entry.addr == address) hold
 -- the addresses rise
 abbrev pub AreInOrder : List Holding → Type 0
 AreInOrder holdings = IsStrictlyIncreasing (addresses holdings)
+
+-- the sum of the sizes held
+abbrev pub held_bytes : List Holding → ℕ
+held_bytes holdings = sum_by (λ holding. holding.entry.size) holdings
 
 -- what an ordered map of them keeps: its keys rise, and each is the address of what it stands at
 pub record IsIndex (entries : List (ℕ × Holding)) : Type 0 where

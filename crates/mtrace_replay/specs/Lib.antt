@@ -7,5 +7,7 @@ pub mod Index
 pub mod Step
 pub mod Replay
 pub mod Texts
+pub mod Rows
+pub mod Totals
 pub mod Output
 pub mod Run

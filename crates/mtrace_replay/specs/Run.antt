@@ -6,13 +6,17 @@ use Rattle.mtrace_log.specs.Progress.{HasMore, greatest_number}
 use Rattle.mtrace_log.specs.Trace.{HasGiven, HasGivenAndFailed, HasNotFailed, HasFailedToWrite, FlushWasAsked}
 use Rattle.mtrace_log.specs.declared.call.Call.{Call}
 use Rattle.mtrace_replay.specs.declared.entry.Entry.{Entry}
+use Rattle.mtrace_replay.specs.declared.report.Report.{Report}
+use Rattle.mtrace_replay.specs.declared.totals.Totals.{Totals}
 use Rattle.mtrace_replay.specs.declared.settings.Settings.{Settings}
 use Rattle.mtrace_replay.specs.declared.status.Status.{Status}
-use Rattle.mtrace_replay.specs.Moment.{Reading, Given}
-use Rattle.mtrace_replay.specs.History.{history, notes, diagnostics, AreHeld, entries_of}
-use Rattle.mtrace_replay.specs.Replay.{Replayed, StandsFor, added_notes}
+use Rattle.mtrace_replay.specs.Started.{started}
+use Rattle.mtrace_replay.specs.Totals.{AreTotals}
+use Rattle.mtrace_replay.specs.Moment.{Reading, Given, half}
+use Rattle.mtrace_replay.specs.History.{history, notes, diagnostics, AreHeld, entries_of, content_after}
+use Rattle.mtrace_replay.specs.Replay.{Replayed, StandsFor, entries, added_notes}
 use Rattle.mtrace_replay.specs.declared.diagnostic.Diagnostic.{Diagnostic}
-use Rattle.mtrace_replay.specs.Texts.{notes_text, leaks_text, status_of}
+use Rattle.mtrace_replay.specs.Texts.{notes_text, report_text, status_of}
 use Rattle.mtrace_replay.specs.Output.{Wrote, Begins}
 
 abbrev pub Bytes : Type 0
@@ -22,13 +26,21 @@ Bytes = Option (List ℕ)
 abbrev pub text_of_notes : Settings → List Reading → List ℕ
 text_of_notes settings lines = notes_text (notes (history settings lines))
 
--- all of the log was read, and the leaks text of its history was written; the status is that text's
-pub record Reports (settings : Settings) (status : Status) (left_old left_new taken_old taken_new : Bytes) : Type 0 where
+-- all diagnostics of the lines, and then the report of what they come to
+abbrev pub whole_text : Report → Settings → List Reading → List Given → Totals → List ℕ
+whole_text report settings lines all totals =
+    notes_text (diagnostics settings lines)
+    ++ report_text report (entries_of all) totals (content_after (started settings) (history settings lines))
+
+-- all of the log was read, and the whole text of its history was written; the status is that text's
+pub record Reports (report : Report) (settings : Settings) (status : Status) (left_old left_new taken_old taken_new : Bytes) : Type 0 where
   pub lines : List Reading
   pub read : HasReadAll left_old left_new lines
   pub all : List Given
   pub held : AreHeld all (history settings lines)
-  pub wrote : Wrote taken_old taken_new (leaks_text (diagnostics settings lines) (entries_of all))
+  pub totals : Totals
+  pub summed : AreTotals (started settings) (history settings lines) totals
+  pub wrote : Wrote taken_old taken_new (whole_text report settings lines all totals)
   pub status_is : status ≡ status_of (diagnostics settings lines) (entries_of all)
 
 -- as many lines were read as there are numbers, more is to come, and the reader has not failed
@@ -38,12 +50,14 @@ pub record IsPastLastNumber (left_old left_new : Bytes) (calls_old calls_new : L
   pub more : HasMore left_new
   pub given : HasGiven calls_old calls_new
 
--- all of the log was read, and a beginning of the leaks text was written
-pub record BeginsWhole (settings : Settings) (left_old left_new taken_old taken_new : Bytes) (lines : List Reading) : Type 0 where
+-- all of the log was read, and a beginning of the whole text was written
+pub record BeginsWhole (report : Report) (settings : Settings) (left_old left_new taken_old taken_new : Bytes) (lines : List Reading) : Type 0 where
   pub read : HasReadAll left_old left_new lines
   pub all : List Given
   pub held : AreHeld all (history settings lines)
-  pub begun : Begins taken_old taken_new (leaks_text (diagnostics settings lines) (entries_of all))
+  pub totals : Totals
+  pub summed : AreTotals (started settings) (history settings lines) totals
+  pub begun : Begins taken_old taken_new (whole_text report settings lines all totals)
 
 -- the reader failed, once and last: whole lines were read, and perhaps a piece of the next one, which is lost
 abbrev pub FailedInPiece : (left_old left_new : Bytes) (calls_old calls_new : List Call) → List Reading → Type 0
@@ -59,17 +73,17 @@ pub record StopsAtRead (settings : Settings) (left_old left_new : Bytes) (calls_
   pub wrote : Wrote taken_old taken_new (text_of_notes settings lines)
 
 -- a beginning of the diagnostics of the lines read, or of the whole text where the log had ended
-abbrev pub BeginsText : Settings → (left_old left_new taken_old taken_new : Bytes) → List Reading → Type 0
-BeginsText settings left_old left_new taken_old taken_new lines =
+abbrev pub BeginsText : Report → Settings → (left_old left_new taken_old taken_new : Bytes) → List Reading → Type 0
+BeginsText report settings left_old left_new taken_old taken_new lines =
     (HasRead left_old left_new lines × Begins taken_old taken_new (text_of_notes settings lines))
-    ⊎ BeginsWhole settings left_old left_new taken_old taken_new lines
+    ⊎ BeginsWhole report settings left_old left_new taken_old taken_new lines
 
 -- The writer failed, after a beginning of what was to be written. Unused are the bytes that were asked of
 -- the reader and belong to no line that was read.
-pub record StopsAtWrite (settings : Settings) (left_old left_new taken_old taken_new : Bytes) : Type 0 where
+pub record StopsAtWrite (report : Report) (settings : Settings) (left_old left_new taken_old taken_new : Bytes) : Type 0 where
   pub lines : List Reading
   pub unused : List ℕ
-  pub begun : BeginsText settings left_old (prepend_known unused left_new) taken_old taken_new lines
+  pub begun : BeginsText report settings left_old (prepend_known unused left_new) taken_old taken_new lines
 
 -- memory was refused at the last line that was read: the diagnostics of the lines before it were written
 pub record StopsAtLine (settings : Settings) (left_old left_new taken_old taken_new : Bytes) : Type 0 where
@@ -92,10 +106,15 @@ FailsToRead left pulls taken puts settings reader_old reader_new writer_old writ
     × FlushWasAsked (puts writer_old) (puts writer_new)
 
 -- what a run that answers a write fault leaves
-abbrev pub FailsToWrite : {R W : Type 0} → (left : R → Bytes) (pulls : R → List Call) (taken : W → Bytes) (puts : W → List Call) → Settings → (reader_old reader_new : R) (writer_old writer_new : W) → Type 0
-FailsToWrite left pulls taken puts settings reader_old reader_new writer_old writer_new =
-    StopsAtWrite settings (left reader_old) (left reader_new) (taken writer_old) (taken writer_new)
+abbrev pub FailsToWrite : {R W : Type 0} → Report → (left : R → Bytes) (pulls : R → List Call) (taken : W → Bytes) (puts : W → List Call) → Settings → (reader_old reader_new : R) (writer_old writer_new : W) → Type 0
+FailsToWrite report left pulls taken puts settings reader_old reader_new writer_old writer_new =
+    StopsAtWrite report settings (left reader_old) (left reader_new) (taken writer_old) (taken writer_new)
     × HasNotFailed (pulls reader_old) (pulls reader_new) × HasFailedToWrite (puts writer_old) (puts writer_new)
+
+-- what a replay writes at the end: the diagnostic of the last line, and the report
+abbrev pub end_text : Report → Replayed → List ℕ
+end_text report replay =
+    notes_text (half replay.totals.lines replay.pending) ++ report_text report (entries replay) replay.totals replay.content
 
 -- whether there is a diagnostic
 abbrev pub is_some_note : List Diagnostic → Bool

@@ -1,10 +1,13 @@
 -- What one line does to the heap and to what is held.
-use Rattle.std.specs.Prelude.{◌≡◌, ℕ, true, List, map, find, Option, Some, ◌==◌}
-use Rattle.tlsf_heap.specs.Content.{Content, blocks_of}
+use Rattle.std.specs.Prelude.{◌≡◌, ℕ, ◌+◌, ◌≤◌, Bool, true, false, List, length, map, find, option_map, Option, Some, ◌==◌}
+use Rattle.tlsf_class.specs.Classes.{greatest_size}
+use Rattle.tlsf_heap.specs.Content.{Content, blocks_of, size_at}
+use Rattle.tlsf_heap.specs.Pools.{most_records}
 use Rattle.tlsf_heap.specs.Free.{is_live}
 use Rattle.tlsf_heap.specs.Pointer.{Pointer}
 use Rattle.mtrace_replay.specs.declared.diagnostic.Diagnostic.{Diagnostic}
 use Rattle.mtrace_replay.specs.declared.holding.Holding.{Holding}
+use Rattle.mtrace_replay.specs.declared.totals.Totals.{Totals}
 use Rattle.mtrace_replay.specs.Started.{Bare}
 use Rattle.mtrace_replay.specs.Moment.{Given, Moment}
 use Rattle.mtrace_replay.specs.History.{held_after}
@@ -21,11 +24,16 @@ all_given holdings = map given_of holdings
 abbrev pub found : List Given → ℕ → Option Given
 found all address = find (λ given. given.entry.addr == address) all
 
--- the heap and what is held come to what the moment says, and these are its diagnostics
-pub record Comes (content_old content_new : Bare) (old new : List Given) (notes : List Diagnostic) (moment : Moment) : Type 0 where
+-- where the block that a moment gave ends, in the heap after it
+abbrev pub end_of : Moment → Option ℕ
+end_of moment = option_map (λ given. given.place + size_at given.place (blocks_of moment.content.pools)) moment.given
+
+-- the heap and what is held come to what the moment says; these are its diagnostics, and the end of the block given
+pub record Comes (content_old content_new : Bare) (old new : List Given) (notes : List Diagnostic) (end : Option ℕ) (moment : Moment) : Type 0 where
   pub content_is : content_new ≡ moment.content
   pub held_is : (address : ℕ) → found new address ≡ held_after moment (found old) address
   pub notes_are : notes ≡ moment.notes
+  pub end_is : end ≡ end_of moment
 
 -- the block of what is held is live in the heap, under its slot
 abbrev pub IsLive : Holding → Content ℕ → Type 0
@@ -35,8 +43,19 @@ IsLive holding content = is_live (λ slot. slot == holding.ptr.slot) holding.ptr
 abbrev pub IsUnder : Pointer → Option Holding → Type 0
 IsUnder ptr held = (holding : Holding) × (held ≡ Some holding) × (holding.ptr ≡ ptr)
 
--- each block that is held is live, and no two addresses are held under one block
+-- Each block that is held is live, and was asked for with at most the greatest size; no two addresses are held under
+-- one block; the heap has no more records than there can be.
 pub record AreLive (holdings : List Holding) (content : Content ℕ) : Type 0 where
   pub live : (address : ℕ) (holding : Holding) → held_at holdings address ≡ Some holding → IsLive holding content
   pub apart : (one other : ℕ) (first second : Holding) → held_at holdings one ≡ Some first → held_at holdings other ≡ Some second
       → first.ptr.place ≡ second.ptr.place → one ≡ other
+  pub small : (address : ℕ) (holding : Holding) → held_at holdings address ≡ Some holding → holding.entry.size ≤ greatest_size
+  pub records : content.records ≤ most_records
+
+-- what a replay keeps: until memory is refused what is held is live; it is at most as much as there are records; no
+-- more lines were served, or refused, than there were
+pub record Keeps (holdings : List Holding) (content : Content ℕ) (totals : Totals) (out_of_memory : Bool) : Type 0 where
+  pub live : out_of_memory ≡ false → AreLive holdings content
+  pub few : length holdings ≤ content.records
+  pub served : totals.served ≤ totals.lines
+  pub refused : totals.refused ≤ totals.lines

@@ -1,8 +1,16 @@
--- The texts of diagnostics and of the report of leaks.
-use Rattle.std.specs.Prelude.{ℕ, List, [], ◌∷◌, ◌++◌, length, sum_by, flat_map, codes, decimal, Option, Some, None}
+-- The texts of diagnostics and of the reports.
+use Rattle.std.specs.Prelude.{ℕ, ◌*◌, ◌/◌, Bool, true, false, max, List, [], ◌∷◌, ◌++◌, length, map, sum_by, flat_map, codes, decimal, Option, Some, None, if◌then◌else◌, ◌==◌}
+use Rattle.std.specs.List.{filter}
 use Rattle.mtrace_log.specs.Address.{address_text}
 use Rattle.mtrace_log.specs.Bytes.{newline}
+use Rattle.tlsf_heap.specs.declared.row.Row.{Row}
+use Rattle.tlsf_heap.specs.Content.{Pool, blocks_of, is_free}
+use Rattle.tlsf_heap.specs.Rows.{row_of}
 use Rattle.mtrace_replay.specs.declared.entry.Entry.{Entry}
+use Rattle.mtrace_replay.specs.declared.report.Report.{Report}
+use Rattle.mtrace_replay.specs.declared.report.Report.TheVariants.{Leaks, Peak, Walk}
+use Rattle.mtrace_replay.specs.declared.totals.Totals.{Totals}
+use Rattle.mtrace_replay.specs.Started.{Bare}
 use Rattle.mtrace_replay.specs.declared.diagnostic.Diagnostic.{Diagnostic}
 use Rattle.mtrace_replay.specs.declared.diagnostic.Kind.{Kind}
 use Rattle.mtrace_replay.specs.declared.diagnostic.Kind.TheVariants.{TooLong, NotALine, NotHeld, AlreadyHeld, Refused, Half, Stray}
@@ -65,6 +73,86 @@ leaks_report (first ∷ entries) = (codes "Memory not freed:" ++ newline ∷ [])
 -- all diagnostics, and then the report
 abbrev pub leaks_text : List Diagnostic → List Entry → List ℕ
 leaks_text diagnostics entries = notes_text diagnostics ++ leaks_report entries
+
+-- `word` and a number, one line
+abbrev pub number_line : List ℕ → ℕ → List ℕ
+number_line word number = word ++ decimal number ++ newline ∷ []
+
+-- two numbers, each behind its words, and the last words, one line
+abbrev pub pair_line : (word : List ℕ) (first : ℕ) (middle : List ℕ) (second : ℕ) (last : List ℕ) → List ℕ
+pair_line word first middle second last = word ++ decimal first ++ middle ++ decimal second ++ last ++ newline ∷ []
+
+-- the sizes of the free blocks
+abbrev pub free_sizes : Bare → List ℕ
+free_sizes content = map (λ block. block.size) (filter is_free (blocks_of content.pools))
+
+-- the greatest of the sizes, 0 where there is none
+abbrev pub greatest : List ℕ → ℕ
+greatest [] = 0
+greatest (size ∷ sizes) = max size (greatest sizes)
+
+-- the high place in thousandths of the peak, rounded down; no number where nothing was ever held
+abbrev pub spread_text : (high peak : ℕ) → List ℕ
+spread_text high peak = if peak == 0 then codes "-" else decimal (high * 1000 / peak)
+
+-- how the lines went
+abbrev pub count_lines : Totals → List ℕ
+count_lines totals =
+    number_line (codes "lines: ") totals.lines
+    ++ number_line (codes "served: ") totals.served
+    ++ number_line (codes "refused: ") totals.refused
+
+-- what is held, and what was at the most
+abbrev pub held_lines : Totals → List ℕ
+held_lines totals =
+    pair_line (codes "live: ") totals.live_bytes (codes " bytes in ") totals.live_blocks (codes " blocks")
+    ++ pair_line (codes "peak: ") totals.peak_bytes (codes " bytes at line ") totals.peak_line []
+    ++ number_line (codes "high place: ") totals.high_place
+
+-- what is free: so many bytes, in so many blocks, the largest of so many bytes
+abbrev pub free_lines : (bytes blocks largest : ℕ) → List ℕ
+free_lines bytes blocks largest =
+    pair_line (codes "free: ") bytes (codes " bytes in ") blocks (codes " blocks")
+    ++ number_line (codes "largest free: ") largest
+
+abbrev pub spread_line : Totals → List ℕ
+spread_line totals = codes "spread: " ++ spread_text totals.high_place totals.peak_bytes ++ newline ∷ []
+
+-- the nine lines, by what is free
+abbrev pub peak_lines : Totals → (bytes blocks largest : ℕ) → List ℕ
+peak_lines totals bytes blocks largest = count_lines totals ++ held_lines totals ++ free_lines bytes blocks largest ++ spread_line totals
+
+-- the report of the peak
+abbrev pub peak_report : Totals → Bare → List ℕ
+peak_report totals content =
+    let sizes = free_sizes content in
+    peak_lines totals (sum_by (λ size. size) sizes) (length sizes) (greatest sizes)
+
+abbrev pub use_text : Bool → List ℕ
+use_text true = codes " used"
+use_text false = codes " free"
+
+-- `PLACE SIZE free` or `PLACE SIZE used`, one line
+abbrev pub row_text : Row → List ℕ
+row_text row = pair_line [] row.place (codes " ") row.size (use_text row.used)
+
+-- `pool BASE: BYTES bytes`, one line, and then a line for each row
+abbrev pub rows_text : ℕ × ℕ → List Row → List ℕ
+rows_text range rows = pair_line (codes "pool ") range.0 (codes ": ") range.1 (codes " bytes") ++ flat_map row_text rows
+
+-- the line of a pool, and a line for each of its blocks
+abbrev pub pool_text : {A : Type 0} → Pool A → List ℕ
+pool_text pool = rows_text (pool.base, pool.bytes) (map row_of pool.blocks)
+
+-- the report of the walk: the pools in order of base, each with its blocks in order of place
+abbrev pub walk_report : Bare → List ℕ
+walk_report content = flat_map pool_text content.pools
+
+-- the text of a report
+abbrev pub report_text : Report → List Entry → Totals → Bare → List ℕ
+report_text Leaks entries totals content = leaks_report entries
+report_text Peak entries totals content = peak_report totals content
+report_text Walk entries totals content = walk_report content
 
 -- Clean where nothing is held and there is no diagnostic
 abbrev pub status_of : List Diagnostic → List Entry → Status

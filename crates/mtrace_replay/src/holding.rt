@@ -20,4 +20,11 @@ impl Holding {
     {
         self.entry.addr
     }
+
+    /// How many bytes were asked for.
+    pub fn size(&self) -> u64
+        ensures { result ≡ self.now.entry.size }
+    {
+        self.entry.size
+    }
 }

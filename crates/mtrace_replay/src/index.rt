@@ -1,7 +1,7 @@
 //! What is held, by address.
 
-ghost use Rattle.std.specs.Prelude.{◌≡◌, ℕ, ◌<◌, ◌^◌, [], length, map, None, Some, is_some, OnOk, OnErr, option_copied, if◌then◌else◌, ◌==◌};
-ghost use Rattle.mtrace_replay.specs.Index.{held_at, AreInOrder};
+ghost use Rattle.std.specs.Prelude.{◌≡◌, ℕ, ◌+◌, ◌<◌, ◌^◌, option_map, unwrap_or, [], length, map, None, Some, is_some, OnOk, OnErr, option_copied, if◌then◌else◌, ◌==◌};
+ghost use Rattle.mtrace_replay.specs.Index.{held_at, held_bytes, AreInOrder};
 
 use crate::entry::Entry;
 use crate::holding::Holding;
@@ -11,23 +11,34 @@ use std::collections::BTreeMap;
 use std::collections::btree_map::Values;
 use std::marker::Model;
 
+/// How many bytes were asked for what was held, if anything was.
+fn size_of(held: &Option<Holding>) -> u64
+    ensures { result ≡ unwrap_or (option_map (λ holding. holding.entry.size) held.now) 0 }
+{
+    match held {
+        Some(holding) => holding.size(),
+        None => 0,
+    }
+}
+
 /// What is held, in order of address.
 #[derive(Drop)]
 pub(crate) struct Index {
     holdings: BTreeMap<Addr, Holding>,
+    bytes: u64,
 }
 
 impl Model for Index {
-    ghost use Rattle.std.specs.Prelude.{List};
+    ghost use Rattle.std.specs.Prelude.{List, ◌≡◌};
     ghost use Rattle.std.specs.Map.{values_of};
     ghost use Rattle.mtrace_replay.specs.declared.holding.Holding.{Holding};
-    ghost use Rattle.mtrace_replay.specs.Index.{IsIndex};
+    ghost use Rattle.mtrace_replay.specs.Index.{held_bytes, IsIndex};
 
     ghost Value = { List Holding };
 
     ghost view = { λ index. values_of index.holdings.entries };
 
-    ghost invariant = { λ index. IsIndex index.holdings.entries };
+    ghost invariant = { λ index. IsIndex index.holdings.entries × (index.bytes ≡ held_bytes (values_of index.holdings.entries)) };
 }
 
 impl Index {
@@ -37,6 +48,7 @@ impl Index {
     {
         Index {
             holdings: BTreeMap::new(alloc),
+            bytes: 0,
         }
     }
 
@@ -60,12 +72,15 @@ impl Index {
     ///
     /// `AllocError` where memory is refused: then nothing changes.
     pub fn insert(&mut self, holding: Holding) -> Result<(), AllocError>
+        requires room { held_bytes self.old + holding.entry.size < 2 ^ 64 }
         ensures held { OnOk result ((address : ℕ) → held_at self.new address
             ≡ (if holding.entry.addr == address then Some holding else held_at self.old address)) }
         ensures unchanged { OnErr result (self.new ≡ self.old) }
     {
         let address = holding.address();
-        self.holdings.insert(address, holding)?;
+        let size = holding.size();
+        let old = self.holdings.insert(address, holding)?;
+        self.bytes = self.bytes + size - size_of(&old);
         Ok(())
     }
 
@@ -75,6 +90,7 @@ impl Index {
     ///
     /// `AllocError` where memory is refused: then nothing changes.
     pub fn replace(&mut self, old: Addr, holding: Holding) -> Result<(), AllocError>
+        requires room { held_bytes self.old + holding.entry.size < 2 ^ 64 }
         ensures held { OnOk result ((address : ℕ) → held_at self.new address
             ≡ (if holding.entry.addr == address then Some holding else (if old == address then None else held_at self.old address))) }
         ensures unchanged { OnErr result (self.new ≡ self.old) }
@@ -91,7 +107,8 @@ impl Index {
     pub fn remove(&mut self, address: Addr)
         ensures held { (other : ℕ) → held_at self.new other ≡ (if address == other then None else held_at self.old other) }
     {
-        let _ = self.holdings.remove(&address);
+        let old = self.holdings.remove(&address);
+        self.bytes -= size_of(&old);
     }
 
     /// How many addresses are held.
@@ -100,6 +117,13 @@ impl Index {
         ensures small { result < 2 ^ 63 }
     {
         self.holdings.len() as u64
+    }
+
+    /// The sum of the sizes held, in bytes.
+    pub fn bytes(&self) -> u64
+        ensures { result ≡ held_bytes self.now }
+    {
+        self.bytes
     }
 
     /// The entries, in order of address.

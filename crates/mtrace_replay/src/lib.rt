@@ -1,9 +1,10 @@
 //! The replay of a log of mtrace(3) on a heap: what is held at each address, what is wrong with a line, and the
-//! report of what was not freed.
+//! reports of what was not freed, of the peak, and of the heap's blocks.
 #![tactic(auto)]
 
 mod diagnostic;
 mod entry;
+mod free;
 mod holding;
 mod index;
 pub mod laws;
@@ -18,12 +19,16 @@ mod status;
 mod step;
 #[cfg(test)]
 mod tests;
+mod totals;
+mod walk;
 
 pub use crate::diagnostic::{Diagnostic, Kind, Note};
 pub use crate::entry::Entry;
 pub use crate::index::Entries;
 pub use crate::output::put_all;
 pub use crate::replay::{Replay, ReplayFault};
-pub use crate::run::run_leaks;
+pub use crate::report::Report;
+pub use crate::run::{run_leaks, run_peak, run_walk};
 pub use crate::settings::Settings;
 pub use crate::status::{RunFault, Status};
+pub use crate::totals::Totals;

@@ -1,22 +1,24 @@
-//! The text of one line of the output.
+//! The text of one line of the output, or of a few.
 
 ghost use Rattle.std.specs.Prelude.{◌≡◌, ◌+◌, ◌≤◌, ◌^◌, ◌<◌, ◌++◌, ◌∷◌, [], length, decimal, codes};
 ghost use Rattle.arrayvec.specs.ArrayVec.{array_vec_len};
 ghost use Rattle.mtrace_log.specs.Address.{address_text};
 ghost use Rattle.mtrace_log.specs.Bytes.{newline};
-ghost use Rattle.mtrace_replay.specs.Texts.{refusal_text as text_of_refusal, kind_text as text_of_kind, note_text as text_of_note, at_text as text_of_location, entry_text as text_of_entry};
+ghost use Rattle.mtrace_replay.specs.Texts.{refusal_text as text_of_refusal, kind_text as text_of_kind, note_text as text_of_note, at_text as text_of_location, entry_text as text_of_entry, number_line, pair_line, spread_text as text_of_spread, count_lines, held_lines, free_lines, spread_line, peak_lines, use_text as text_of_use, row_text as text_of_row};
 
 use crate::diagnostic::{Diagnostic, Kind};
 use crate::entry::Entry;
+use crate::free::Free;
+use crate::totals::Totals;
 use arrayvec::ArrayVec;
 use itoa::Buffer;
 use mtrace_log::{Addr, LONGEST_ADDRESS, LONGEST_LOCATION, Location};
-use tlsf_heap::Refusal;
+use tlsf_heap::{Refusal, Row};
 
-/// No line of the output is longer, in bytes with its newline.
-const LONGEST_TEXT: usize = 400;
+/// No text is longer, in bytes.
+const LONGEST_TEXT: usize = 800;
 
-/// The text of one line.
+/// The text of one line, or of a few.
 pub(crate) type LineText = ArrayVec<u8, LONGEST_TEXT>;
 
 fn push_bytes(text: &mut LineText, bytes: &[u8])
@@ -143,5 +145,152 @@ pub(crate) fn total_text(blocks: u64, bytes: u128) -> LineText
     push_bytes(&mut text, b" blocks, ");
     push_number(&mut text, bytes);
     push_bytes(&mut text, b" bytes.\n");
+    text
+}
+
+/// Appends a line of a number, behind its word.
+fn push_number_line(text: &mut LineText, word: &[u8], number: u64)
+    requires { array_vec_len text.old + length word.now + 41 ≤ LONGEST_TEXT }
+    ensures bytes { text.new.items ≡ text.old.items ++ number_line word.now number }
+    ensures len { array_vec_len text.new ≤ array_vec_len text.old + length word.now + 41 }
+{
+    push_bytes(text, word);
+    push_number(text, u128::from(number));
+    push_bytes(text, b"\n");
+}
+
+/// Appends a line of two numbers, each behind its words, and the last words.
+fn push_pair_line(
+    text: &mut LineText,
+    word: &[u8],
+    first: u64,
+    middle: &[u8],
+    second: u64,
+    last: &[u8],
+)
+    requires { array_vec_len text.old + length word.now + length middle.now + length last.now + 81 ≤ LONGEST_TEXT }
+    ensures bytes { text.new.items ≡ text.old.items ++ pair_line word.now first middle.now second last.now }
+    ensures len { array_vec_len text.new ≤ array_vec_len text.old + length word.now + length middle.now + length last.now + 81 }
+{
+    push_bytes(text, word);
+    push_number(text, u128::from(first));
+    push_bytes(text, middle);
+    push_number(text, u128::from(second));
+    push_bytes(text, last);
+    push_bytes(text, b"\n");
+}
+
+/// Appends how the lines went.
+fn push_counts(text: &mut LineText, totals: Totals)
+    requires { array_vec_len text.old ≤ 100 }
+    ensures bytes { text.new.items ≡ text.old.items ++ count_lines totals }
+    ensures len { array_vec_len text.new ≤ array_vec_len text.old + 150 }
+{
+    push_number_line(text, b"lines: ", totals.lines);
+    push_number_line(text, b"served: ", totals.served);
+    push_number_line(text, b"refused: ", totals.refused);
+}
+
+/// Appends what is held, and what was at the most.
+fn push_held(text: &mut LineText, totals: Totals)
+    requires { array_vec_len text.old ≤ 300 }
+    ensures bytes { text.new.items ≡ text.old.items ++ held_lines totals }
+    ensures len { array_vec_len text.new ≤ array_vec_len text.old + 260 }
+{
+    push_pair_line(
+        text,
+        b"live: ",
+        totals.live_bytes,
+        b" bytes in ",
+        totals.live_blocks,
+        b" blocks",
+    );
+    push_pair_line(
+        text,
+        b"peak: ",
+        totals.peak_bytes,
+        b" bytes at line ",
+        totals.peak_line,
+        b"",
+    );
+    push_number_line(text, b"high place: ", totals.high_place);
+}
+
+/// Appends what is free.
+fn push_free(text: &mut LineText, free: Free)
+    requires { array_vec_len text.old ≤ 500 }
+    ensures bytes { text.new.items ≡ text.old.items ++ free_lines free.bytes free.blocks free.largest }
+    ensures len { array_vec_len text.new ≤ array_vec_len text.old + 160 }
+{
+    push_pair_line(
+        text,
+        b"free: ",
+        free.bytes,
+        b" bytes in ",
+        free.blocks,
+        b" blocks",
+    );
+    push_number_line(text, b"largest free: ", free.largest);
+}
+
+/// Appends the high place in thousandths of the peak, or that there is no peak.
+fn push_spread(text: &mut LineText, high: u64, peak: u64)
+    requires { array_vec_len text.old + 40 ≤ LONGEST_TEXT }
+    ensures bytes { text.new.items ≡ text.old.items ++ text_of_spread high peak }
+    ensures len { array_vec_len text.new ≤ array_vec_len text.old + 40 }
+{
+    if peak == 0 {
+        push_bytes(text, b"-");
+    } else {
+        push_number(text, u128::from(high) * 1000 / u128::from(peak));
+    }
+}
+
+/// Appends the line of the spread.
+fn push_spread_line(text: &mut LineText, totals: Totals)
+    requires { array_vec_len text.old + 60 ≤ LONGEST_TEXT }
+    ensures { text.new.items ≡ text.old.items ++ spread_line totals }
+{
+    push_bytes(text, b"spread: ");
+    push_spread(text, totals.high_place, totals.peak_bytes);
+    push_bytes(text, b"\n");
+}
+
+/// The nine lines of the peak.
+pub(crate) fn peak_text(totals: Totals, free: Free) -> LineText
+    ensures { result.items ≡ peak_lines totals free.bytes free.blocks free.largest }
+{
+    let mut text = ArrayVec::new();
+    push_counts(&mut text, totals);
+    push_held(&mut text, totals);
+    push_free(&mut text, free);
+    push_spread_line(&mut text, totals);
+    text
+}
+
+/// Whether a block is live, in words.
+fn use_text(used: bool) -> &'static [u8]
+    ensures text { result.now ≡ text_of_use used }
+    ensures short { length result.now ≤ 5 }
+{
+    if used { b" used" } else { b" free" }
+}
+
+/// The line of a row.
+pub(crate) fn row_text(row: Row) -> LineText
+    ensures { result.items ≡ text_of_row row }
+{
+    let mut text = ArrayVec::new();
+    let (place, size) = (u64::from(row.place), u64::from(row.size));
+    push_pair_line(&mut text, b"", place, b" ", size, use_text(row.used));
+    text
+}
+
+/// The line of a pool: where it begins, and its bytes.
+pub(crate) fn pool_text(base: u64, bytes: u64) -> LineText
+    ensures { result.items ≡ pair_line (codes "pool ") base (codes ": ") bytes (codes " bytes") }
+{
+    let mut text = ArrayVec::new();
+    push_pair_line(&mut text, b"pool ", base, b": ", bytes, b" bytes");
     text
 }

@@ -1,14 +1,19 @@
 ghost use Rattle.std.specs.Prelude.{◌≡◌, ◌+◌, ◌≤◌, ◌++◌, length, if◌then◌else◌, [], option_to_list};
 ghost use Rattle.mtrace_replay.specs.Moment.{half, is_new};
 ghost use Rattle.mtrace_replay.specs.History.{old_address as address_of_old};
+ghost use Rattle.mtrace_replay.specs.Totals.{is_refusal as is_of_refusal};
+ghost use Rattle.std.specs.List.{list_any};
 
 use crate::diagnostic::{Diagnostic, Kind, Note};
+use crate::free::{Free, free_in};
 use crate::index::{Entries, Index};
 use crate::settings::Settings;
 use crate::start::started_heap;
 use crate::step::{noted_after, outcome};
+use crate::totals::Totals;
+use crate::walk::put_walk;
 use arrayvec::ArrayVec;
-use mtrace_log::{Addr, Event, Line, LineFault};
+use mtrace_log::{Addr, Event, Failed, Line, LineFault, Sink};
 use std::alloc::Global;
 use std::marker::Model;
 use tlsf_heap::Heaped;
@@ -70,42 +75,61 @@ fn after_half(half: Option<Diagnostic>, more: Note) -> Note
     }
 }
 
+/// Whether the heap refused what a line asked for.
+fn is_refusal(kind: Kind) -> bool
+    ensures { result ≡ is_of_refusal kind }
+{
+    matches!(kind, Kind::Refused(..))
+}
+
+/// Whether the heap refused what a line asked for, by the line's diagnostics.
+fn has_refusal(note: &Note) -> bool
+    ensures { result ≡ list_any (λ diagnostic. is_of_refusal diagnostic.kind) note.now.items }
+{
+    note.as_slice().iter().any(|d| is_refusal(d.kind))
+}
+
 /// The replay of a log's lines on a heap: what is held, by address, and what is wrong with each line.
 #[derive(Drop)]
 pub struct Replay<H: Heaped> {
     heap: H,
     held: Index,
-    lines: u64,
+    totals: Totals,
     pending: Option<Addr>,
     out_of_memory: bool,
 }
 
 impl<H: Heaped> Model for Replay<H> {
-    ghost use Rattle.std.specs.Prelude.{◌≡◌, false};
     ghost use Rattle.tlsf_heap.specs.Bare.{bare};
     ghost use Rattle.mtrace_replay.specs.Replay.{Replayed};
-    ghost use Rattle.mtrace_replay.specs.Step.{all_given, AreLive};
+    ghost use Rattle.mtrace_replay.specs.Step.{all_given, Keeps};
 
     ghost Value = { Replayed };
 
     ghost view = { λ r. record {
       content = bare (H.content r.heap);
+      touches = H.touches r.heap;
       given = all_given r.held;
-      lines = r.lines;
+      totals = r.totals;
       pending = r.pending;
       out_of_memory = r.out_of_memory;
     } };
 
-    // The blocks that are held are live, and no two are one, until memory is refused.
-    ghost invariant = { λ r. r.out_of_memory ≡ false → AreLive r.held (H.content r.heap) };
+    // The blocks that are held are live, and no two are one, until memory is refused. There are at most as many as
+    // records.
+    ghost invariant = { λ r. Keeps r.held (H.content r.heap) r.totals r.out_of_memory };
 }
 
 impl<H: Heaped> Replay<H> {
-    ghost use Rattle.std.specs.Prelude.{◌↔◌, ℕ, ◌+◌, ◌<◌, ◌^◌, true, false, List, [], ◌∷◌, length, IsTrue, IsErrOf, IfOk, IfErr, OnOk, OnErr};
+    ghost use Rattle.std.specs.Prelude.{◌↔◌, ℕ, ◌+◌, ◌<◌, ◌≤◌, ◌^◌, true, false, List, [], ◌∷◌, length, IsTrue, IsErrOf, IfOk, IfErr, OnOk, OnErr};
     ghost use Rattle.mtrace_replay.specs.declared.settings.Settings.{Settings};
     ghost use Rattle.mtrace_replay.specs.Settings.{are_bad};
     ghost use Rattle.mtrace_replay.specs.Moment.{Reading, half};
     ghost use Rattle.mtrace_replay.specs.Replay.{StandsFor, entries, added_notes};
+    ghost use Rattle.mtrace_log.specs.Trace.{HasTaken, HasTakenAndFailed};
+    ghost use Rattle.mtrace_replay.specs.Output.{Wrote, Begins};
+    ghost use Rattle.mtrace_replay.specs.Texts.{free_sizes, walk_report};
+    ghost use Rattle.mtrace_replay.specs.Rows.{IsFree};
 
     /// A replay of no line yet, on a heap by the settings.
     ///
@@ -123,7 +147,7 @@ impl<H: Heaped> Replay<H> {
             Ok(heap) => Ok(Replay {
                 heap,
                 held: Index::new(alloc),
-                lines: 0,
+                totals: Totals::new(),
                 pending: None,
                 out_of_memory: false,
             }),
@@ -132,36 +156,42 @@ impl<H: Heaped> Replay<H> {
     }
 
     /// Replays the next line, and answers what is wrong with it, and with the line before, where that is half of
-    /// a reallocation.
+    /// a reallocation. At most 384 touches.
     ///
     /// # Errors
     ///
-    /// `OutOfMemory` where memory is refused: then what is held is as before the line, and each later call answers
-    /// the same.
+    /// `OutOfMemory` where memory is refused: then what is held and the totals are as before the line, and each later
+    /// call answers the same.
     pub fn feed(&mut self, line: Line) -> Result<Note, ReplayFault>
-        requires next { self.old.out_of_memory ≡ false → line.number ≡ self.old.lines + 1 }
+        requires next { self.old.out_of_memory ≡ false → line.number ≡ self.old.totals.lines + 1 }
         ensures stands { OnOk result ((settings : Settings) (past : List Reading) → StandsFor self.old settings past
             → StandsFor self.new settings (line.event ∷ past)) }
         ensures note { IfOk result (λ note. (settings : Settings) (past : List Reading) → StandsFor self.old settings past
             → note.items ≡ added_notes settings line.event past) }
-        ensures counted { OnOk result (self.new.lines ≡ line.number) }
+        ensures counted { OnOk result (self.new.totals.lines ≡ line.number) }
         ensures for_good { self.old.out_of_memory ≡ true → result ≡ Err ReplayFault.OutOfMemory }
         ensures fault { IfErr result (λ fault. fault ≡ ReplayFault.OutOfMemory) }
         ensures ends { OnErr result (self.new.out_of_memory ≡ true) }
         ensures unchanged { OnErr result (entries self.new ≡ entries self.old) }
+        ensures totals_unchanged { OnErr result (self.new.totals ≡ self.old.totals) }
+        ensures bound { self.new.touches ≤ self.old.touches + 384 }
     {
         if self.out_of_memory {
             return Err(ReplayFault::OutOfMemory);
         }
         let Line { number, event } = line;
-        let half = half_before(self.lines, self.pending, &event);
+        let half = half_before(self.totals.lines, self.pending, &event);
         let next = old_address(&event);
         match outcome(&mut self.heap, &mut self.held, number, self.pending, event) {
-            Ok(more) => {
+            Ok(done) => {
+                self.heap.keeps_good();
                 self.held.keeps_order();
-                self.lines = number;
+                let note = after_half(half, done.note);
+                let is_refused = has_refusal(&note);
+                let (bytes, blocks) = (self.held.bytes(), self.held.len());
+                self.totals = self.totals.after(done.end, is_refused, bytes, blocks);
                 self.pending = next;
-                Ok(after_half(half, more))
+                Ok(note)
             }
             Err(_) => {
                 self.out_of_memory = true;
@@ -177,7 +207,7 @@ impl<H: Heaped> Replay<H> {
     ///
     /// `OutOfMemory` exactly where `feed` has answered it.
     pub fn finish(&self) -> Result<Note, ReplayFault>
-        ensures note { IfOk result (λ note. note.items ≡ half self.now.lines self.now.pending) }
+        ensures note { IfOk result (λ note. note.items ≡ half self.now.totals.lines self.now.pending) }
         ensures fault { IfErr result (λ fault. fault ≡ ReplayFault.OutOfMemory) }
         ensures for_good { OnErr result (self.now.out_of_memory ≡ true) }
         ensures works { OnOk result (self.now.out_of_memory ≡ false) }
@@ -185,7 +215,7 @@ impl<H: Heaped> Replay<H> {
         if self.out_of_memory {
             return Err(ReplayFault::OutOfMemory);
         }
-        Ok(after_half(half_note(self.lines, self.pending), ArrayVec::new()))
+        Ok(after_half(half_note(self.totals.lines, self.pending), ArrayVec::new()))
     }
 
     /// How many addresses are held.
@@ -196,10 +226,41 @@ impl<H: Heaped> Replay<H> {
         self.held.len()
     }
 
-    /// What is held, in order of address.
+    /// What is held, in order of address: at most as many entries as the heap has records.
     pub fn held(&self) -> Entries<'_>
         ensures entries { result ≡ entries self.now }
+        ensures few { length result ≤ self.now.content.records }
     {
         self.held.entries()
+    }
+
+    /// What the lines fed come to in sum.
+    pub fn totals(&self) -> Totals
+        ensures totals { result ≡ self.now.totals }
+    {
+        self.totals
+    }
+
+    /// What is free of the heap.
+    pub(crate) fn free(&mut self) -> Free
+        requires works { self.old.out_of_memory ≡ false }
+        ensures { IsFree result (free_sizes self.old.content) }
+    {
+        self.heap.keeps_good();
+        free_in(&mut self.heap)
+    }
+
+    /// Puts the report of the walk.
+    ///
+    /// # Errors
+    ///
+    /// `Failed` where the writer failed, or took no byte of some: then a beginning of the report is put.
+    pub(crate) fn put_walk<W: Sink>(&mut self, writer: &mut W) -> Result<(), Failed>
+        ensures all { OnOk result (Wrote (W.taken writer.old) (W.taken writer.new) (walk_report self.old.content)) }
+        ensures took { OnOk result (HasTaken (W.trace writer.old) (W.trace writer.new)) }
+        ensures beginning { OnErr result (Begins (W.taken writer.old) (W.taken writer.new) (walk_report self.old.content)) }
+        ensures failed { OnErr result (HasTakenAndFailed (W.trace writer.old) (W.trace writer.new)) }
+    {
+        put_walk(writer, &mut self.heap)
     }
 }

@@ -1,18 +1,29 @@
-//! The report of leaks.
+//! The reports.
 
-ghost use Rattle.std.specs.Prelude.{◌≡◌, ◌≢◌, ◌<◌, ◌^◌, [], length, flat_map, OnOk, OnErr};
+ghost use Rattle.std.specs.Prelude.{◌≡◌, ◌≢◌, false, ◌<◌, ◌^◌, [], length, flat_map, OnOk, OnErr};
 ghost use Rattle.mtrace_log.specs.Trace.{HasTaken, HasTakenAndFailed};
 ghost use Rattle.mtrace_replay.specs.Output.{Wrote, Begins};
 ghost use Rattle.mtrace_replay.specs.Replay.{entries};
-ghost use Rattle.mtrace_replay.specs.Texts.{entry_text as text_of_entry, total_size as size_of_all, leaks_report};
+ghost use Rattle.mtrace_replay.specs.Texts.{entry_text as text_of_entry, total_size as size_of_all, leaks_report, peak_report, report_text};
 
 use crate::entry::Entry;
 use crate::index::Entries;
-use crate::line_text::{entry_text, total_text};
+use crate::line_text::{entry_text, peak_text, total_text};
 use crate::output::put_all;
 use crate::replay::Replay;
 use mtrace_log::{Failed, Sink};
 use tlsf_heap::Heaped;
+
+/// What is written of a log, behind what is wrong with its lines.
+#[derive(Clone, Copy, Debug, PartialEq, Eq)]
+pub enum Report {
+    /// What is held at the end: a line for each address, and how many blocks and bytes they are.
+    Leaks,
+    /// What the lines come to in sum, the most that was held, and what is free at the end.
+    Peak,
+    /// The heap's pools at the end, each with its blocks.
+    Walk,
+}
 
 /// How many bytes an entry asked for.
 fn entry_size(entry: &Entry) -> u64
@@ -67,10 +78,7 @@ fn put_held<W: Sink, H: Heaped>(writer: &mut W, replay: &Replay<H>) -> Result<()
 /// # Errors
 ///
 /// `Failed` where the writer failed, or took no byte of some: then a beginning of the report is put.
-pub(crate) fn put_report<W: Sink, H: Heaped>(
-    writer: &mut W,
-    replay: &Replay<H>,
-) -> Result<(), Failed>
+fn put_leaks<W: Sink, H: Heaped>(writer: &mut W, replay: &Replay<H>) -> Result<(), Failed>
     ensures all { OnOk result (Wrote (W.taken writer.old) (W.taken writer.new) (leaks_report (entries replay.now))) }
     ensures took { OnOk result (HasTaken (W.trace writer.old) (W.trace writer.new)) }
     ensures beginning { OnErr result (Begins (W.taken writer.old) (W.taken writer.new) (leaks_report (entries replay.now))) }
@@ -80,5 +88,41 @@ pub(crate) fn put_report<W: Sink, H: Heaped>(
         put_all(writer, b"No memory leaks.\n")
     } else {
         put_held(writer, replay)
+    }
+}
+
+/// Puts the report of the peak.
+fn put_peak<W: Sink, H: Heaped>(writer: &mut W, replay: &mut Replay<H>) -> Result<(), Failed>
+    requires works { replay.old.out_of_memory ≡ false }
+    ensures all { OnOk result (Wrote (W.taken writer.old) (W.taken writer.new) (peak_report replay.old.totals replay.old.content)) }
+    ensures took { OnOk result (HasTaken (W.trace writer.old) (W.trace writer.new)) }
+    ensures beginning { OnErr result (Begins (W.taken writer.old) (W.taken writer.new) (peak_report replay.old.totals replay.old.content)) }
+    ensures failed { OnErr result (HasTakenAndFailed (W.trace writer.old) (W.trace writer.new)) }
+{
+    let totals = replay.totals();
+    let free = replay.free();
+    put_all(writer, peak_text(totals, free).as_slice())
+}
+
+/// Puts a report.
+///
+/// # Errors
+///
+/// `Failed` where the writer failed, or took no byte of some: then a beginning of the report is put.
+pub(crate) fn put_report<W: Sink, H: Heaped>(
+    writer: &mut W,
+    replay: &mut Replay<H>,
+    report: Report,
+) -> Result<(), Failed>
+    requires works { replay.old.out_of_memory ≡ false }
+    ensures all { OnOk result (Wrote (W.taken writer.old) (W.taken writer.new) (report_text report (entries replay.old) replay.old.totals replay.old.content)) }
+    ensures took { OnOk result (HasTaken (W.trace writer.old) (W.trace writer.new)) }
+    ensures beginning { OnErr result (Begins (W.taken writer.old) (W.taken writer.new) (report_text report (entries replay.old) replay.old.totals replay.old.content)) }
+    ensures failed { OnErr result (HasTakenAndFailed (W.trace writer.old) (W.trace writer.new)) }
+{
+    match report {
+        Report::Leaks => put_leaks(writer, replay),
+        Report::Peak => put_peak(writer, replay),
+        Report::Walk => replay.put_walk(writer),
     }
 }

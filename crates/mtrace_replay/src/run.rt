@@ -1,19 +1,19 @@
-//! The run that writes the leaks of a log.
+//! The runs that write the reports of a log.
 
-ghost use Rattle.std.specs.Prelude.{◌≡◌, ◌≢◌, ◌↔◌, ◌+◌, ◌++◌, ◌||◌, false, List, [], ◌∷◌, IsTrue, IfOk, IfErr, OnOk, OnErr, IsErrOf, Ok, Err, if◌then◌else◌};
+ghost use Rattle.std.specs.Prelude.{◌≡◌, ◌≢◌, ◌↔◌, ◌+◌, ◌++◌, ◌||◌, false, List, [], IsTrue, IfOk, IfErr, OnOk, OnErr, IsErrOf, Ok, Err, if◌then◌else◌};
 ghost use Rattle.mtrace_log.specs.Trace.{HasGivenAll, HasNotFailed, HasTaken, HasTakenAndFlushed, HasTakenAndFailed, HasFailedToWrite, FlushWasAsked};
 ghost use Rattle.mtrace_replay.specs.Settings.{are_bad};
 ghost use Rattle.mtrace_replay.specs.Output.{Wrote, Begins};
-ghost use Rattle.mtrace_replay.specs.Texts.{notes_text, leaks_report};
+ghost use Rattle.mtrace_replay.specs.Texts.{notes_text, report_text};
 ghost use Rattle.mtrace_replay.specs.Moment.{Reading, half};
 ghost use Rattle.mtrace_replay.specs.Replay.{StandsFor, entries};
-ghost use Rattle.mtrace_replay.specs.Run.{Reports, StopsAtRead, StopsAtWrite, StopsAtLine, StopsForMemory, HasReplayed, LineGives, LineBegins, is_some_note, is_some_entry};
+ghost use Rattle.mtrace_replay.specs.Run.{end_text, Reports, StopsAtRead, StopsAtWrite, StopsAtLine, StopsForMemory, HasReplayed, LineGives, LineBegins, is_some_note, is_some_entry};
 
 use crate::diagnostic::Note;
 use crate::line_text::note_text;
 use crate::output::put_all;
 use crate::replay::{Replay, ReplayFault};
-use crate::report::put_report;
+use crate::report::{Report, put_report};
 use crate::settings::Settings;
 use crate::status::{RunFault, Status};
 use mtrace_log::{Failed, Line, Lines, Sink, Source};
@@ -39,10 +39,10 @@ fn replay_line<H: Heaped, W: Sink>(
     replay: &mut Replay<H>,
     line: Line,
 ) -> Result<bool, RunFault>
-    requires next { replay.old.out_of_memory ≡ false → line.number ≡ replay.old.lines + 1 }
+    requires next { replay.old.out_of_memory ≡ false → line.number ≡ replay.old.totals.lines + 1 }
     ensures done { IfOk result (λ noted. (settings : Settings) (past : List Reading) → StandsFor replay.old settings past
         → LineGives replay.new settings line.event past (W.taken writer.old) (W.taken writer.new) noted) }
-    ensures counted { OnOk result (replay.new.lines ≡ line.number) }
+    ensures counted { OnOk result (replay.new.totals.lines ≡ line.number) }
     ensures took { result ≢ Err RunFault.Write → HasTaken (W.trace writer.old) (W.trace writer.new) }
     ensures write { IsErrOf result RunFault.Write → (settings : Settings) (past : List Reading) → StandsFor replay.old settings past
         → LineBegins replay.new settings line.event past (W.taken writer.old) (W.taken writer.new) }
@@ -67,7 +67,7 @@ fn replay_lines<H: Heaped, R: Source, W: Sink>(
     writer: &mut W,
     replay: &mut Replay<H>,
 ) -> Result<bool, RunFault>
-    requires start { replay.old.lines ≡ 0 }
+    requires start { replay.old.totals.lines ≡ 0 }
     ensures done { IfOk result (λ noted. (settings : Settings) → StandsFor replay.old settings []
         → HasReplayed settings replay.new noted (R.left reader.old) (R.left reader.new) (W.taken writer.old) (W.taken writer.new)) }
     ensures reader_ended { OnOk result (HasGivenAll (R.trace reader.old) (R.trace reader.new)) }
@@ -77,7 +77,7 @@ fn replay_lines<H: Heaped, R: Source, W: Sink>(
     ensures read { IsErrOf result RunFault.Read → (settings : Settings) → StandsFor replay.old settings []
         → StopsAtRead settings (R.left reader.old) (R.left reader.new) (R.trace reader.old) (R.trace reader.new) (W.taken writer.old) (W.taken writer.new) }
     ensures write { IsErrOf result RunFault.Write → (settings : Settings) → StandsFor replay.old settings []
-        → StopsAtWrite settings (R.left reader.old) (R.left reader.new) (W.taken writer.old) (W.taken writer.new) }
+        → (report : Report) → StopsAtWrite report settings (R.left reader.old) (R.left reader.new) (W.taken writer.old) (W.taken writer.new) }
     ensures memory { IsErrOf result RunFault.OutOfMemory → (settings : Settings) → StandsFor replay.old settings []
         → StopsAtLine settings (R.left reader.old) (R.left reader.new) (W.taken writer.old) (W.taken writer.new) }
     ensures no_settings { result ≢ Err RunFault.BadSettings }
@@ -100,49 +100,60 @@ fn replay_lines<H: Heaped, R: Source, W: Sink>(
 /// Puts what is wrong at the end, and then the report.
 fn put_end<H: Heaped, W: Sink>(
     writer: &mut W,
-    replay: &Replay<H>,
+    replay: &mut Replay<H>,
     note: &Note,
+    report: Report,
 ) -> Result<(), Failed>
-    ensures all { OnOk result (Wrote (W.taken writer.old) (W.taken writer.new) (notes_text note.now.items ++ leaks_report (entries replay.now))) }
+    requires works { replay.old.out_of_memory ≡ false }
+    ensures all { OnOk result (Wrote (W.taken writer.old) (W.taken writer.new)
+        (notes_text note.now.items ++ report_text report (entries replay.old) replay.old.totals replay.old.content)) }
     ensures took { OnOk result (HasTaken (W.trace writer.old) (W.trace writer.new)) }
-    ensures beginning { OnErr result (Begins (W.taken writer.old) (W.taken writer.new) (notes_text note.now.items ++ leaks_report (entries replay.now))) }
+    ensures beginning { OnErr result (Begins (W.taken writer.old) (W.taken writer.new)
+        (notes_text note.now.items ++ report_text report (entries replay.old) replay.old.totals replay.old.content)) }
     ensures failed { OnErr result (HasTakenAndFailed (W.trace writer.old) (W.trace writer.new)) }
 {
     put_note(writer, note)?;
-    put_report(writer, replay)
+    put_report(writer, replay, report)
+}
+
+/// The status, by whether anything is wrong or held.
+fn status_by(is_found: bool) -> Status
+    ensures { result ≡ (if is_found then Status.Found else Status.Clean) }
+{
+    if is_found {
+        Status::Found
+    } else {
+        Status::Clean
+    }
 }
 
 /// Puts what is wrong at the end and the report, and flushes. Answers the status.
 fn finish<H: Heaped, W: Sink>(
     writer: &mut W,
-    replay: &Replay<H>,
+    replay: &mut Replay<H>,
     noted: bool,
+    report: Report,
 ) -> Result<Status, RunFault>
-    requires works { replay.now.out_of_memory ≡ false }
-    ensures all { OnOk result (Wrote (W.taken writer.old) (W.taken writer.new)
-        (notes_text (half replay.now.lines replay.now.pending) ++ leaks_report (entries replay.now))) }
+    requires works { replay.old.out_of_memory ≡ false }
+    ensures all { OnOk result (Wrote (W.taken writer.old) (W.taken writer.new) (end_text report replay.old)) }
     ensures status { IfOk result (λ status. status
-        ≡ (if noted || (is_some_note (half replay.now.lines replay.now.pending) || is_some_entry (entries replay.now)) then Status.Found else Status.Clean)) }
+        ≡ (if noted || (is_some_note (half replay.old.totals.lines replay.old.pending) || is_some_entry (entries replay.old)) then Status.Found else Status.Clean)) }
     ensures flushed { OnOk result (HasTakenAndFlushed (W.trace writer.old) (W.trace writer.new)) }
-    ensures beginning { OnErr result (Begins (W.taken writer.old) (W.taken writer.new)
-        (notes_text (half replay.now.lines replay.now.pending) ++ leaks_report (entries replay.now))) }
+    ensures beginning { OnErr result (Begins (W.taken writer.old) (W.taken writer.new) (end_text report replay.old)) }
     ensures failed { OnErr result (HasFailedToWrite (W.trace writer.old) (W.trace writer.new)) }
     ensures only_write { IfErr result (λ fault. fault ≡ RunFault.Write) }
 {
     let Ok(note) = replay.finish() else {
         unreachable!();
     };
-    if put_end(writer, replay, &note).is_err() {
+    let is_found = noted || !note.is_empty() || replay.blocks() > 0;
+    if put_end(writer, replay, &note, report).is_err() {
         return Err(RunFault::Write);
     }
     if writer.flush().is_err() {
         return Err(RunFault::Write);
     }
-    if noted || !note.is_empty() || replay.blocks() > 0 {
-        Ok(Status::Found)
-    } else {
-        Ok(Status::Clean)
-    }
+    Ok(status_by(is_found))
 }
 
 /// Asks the writer to flush; it doesn't matter what comes of it.
@@ -151,6 +162,49 @@ fn ask_flush<W: Sink>(writer: &mut W)
     ensures asked { FlushWasAsked (W.trace writer.old) (W.trace writer.new) }
 {
     let _ = writer.flush();
+}
+
+/// Reads and replays a log on a heap by the settings, and writes what is wrong with its lines, and then the report.
+fn run_report<R: Source, W: Sink>(
+    alloc: Global,
+    reader: &mut R,
+    writer: &mut W,
+    settings: Settings,
+    report: Report,
+) -> Result<Status, RunFault>
+    // All of the log was read, what was written is its whole text, and the status is that text's.
+    ensures finished { IfOk result (λ status. Reports report settings status (R.left reader.old) (R.left reader.new) (W.taken writer.old) (W.taken writer.new)) }
+    ensures reader_ended { OnOk result (HasGivenAll (R.trace reader.old) (R.trace reader.new)) }
+    ensures writer_flushed { OnOk result (HasTakenAndFlushed (W.trace writer.old) (W.trace writer.new)) }
+
+    // What a fault leaves.
+    ensures read_fault { IsErrOf result RunFault.Read
+        → StopsAtRead settings (R.left reader.old) (R.left reader.new) (R.trace reader.old) (R.trace reader.new) (W.taken writer.old) (W.taken writer.new) }
+    ensures flush_asked { IsErrOf result RunFault.Read → FlushWasAsked (W.trace writer.old) (W.trace writer.new) }
+    ensures write_fault { IsErrOf result RunFault.Write
+        → StopsAtWrite report settings (R.left reader.old) (R.left reader.new) (W.taken writer.old) (W.taken writer.new) }
+    ensures writer_failed { IsErrOf result RunFault.Write → HasFailedToWrite (W.trace writer.old) (W.trace writer.new) }
+    ensures no_memory { IsErrOf result RunFault.OutOfMemory
+        → StopsForMemory R.left W.taken W.trace settings reader.old reader.new writer.old writer.new }
+    ensures reader_not_failed { result ≢ Err RunFault.Read → HasNotFailed (R.trace reader.old) (R.trace reader.new) }
+
+    // Bad settings come exactly where they are bad, and then nothing is done.
+    ensures bad_settings { IsErrOf result RunFault.BadSettings ↔ IsTrue (are_bad settings) }
+    ensures nothing_done { IsErrOf result RunFault.BadSettings → (reader.new ≡ reader.old) × (writer.new ≡ writer.old) }
+{
+    let mut replay = match Replay::<Heap>::create(alloc, settings) {
+        Ok(replay) => replay,
+        Err(ReplayFault::BadSettings) => return Err(RunFault::BadSettings),
+        Err(ReplayFault::OutOfMemory) => return Err(RunFault::OutOfMemory),
+    };
+    match replay_lines(reader, writer, &mut replay) {
+        Ok(noted) => finish(writer, &mut replay, noted, report),
+        Err(RunFault::Write) => Err(RunFault::Write),
+        Err(fault) => {
+            ask_flush(writer);
+            Err(fault)
+        }
+    }
 }
 
 /// Reads a log of mtrace(3), replays it on a heap by the settings, and writes what is wrong with its
@@ -172,8 +226,8 @@ pub fn run_leaks<R: Source, W: Sink>(
     writer: &mut W,
     settings: Settings,
 ) -> Result<Status, RunFault>
-    // All of the log was read, what was written is its leaks text, and the status is that text's.
-    ensures finished { IfOk result (λ status. Reports settings status (R.left reader.old) (R.left reader.new) (W.taken writer.old) (W.taken writer.new)) }
+    // All of the log was read, what was written is its whole text, and the status is that text's.
+    ensures finished { IfOk result (λ status. Reports Report.Leaks settings status (R.left reader.old) (R.left reader.new) (W.taken writer.old) (W.taken writer.new)) }
     ensures reader_ended { OnOk result (HasGivenAll (R.trace reader.old) (R.trace reader.new)) }
     ensures writer_flushed { OnOk result (HasTakenAndFlushed (W.trace writer.old) (W.trace writer.new)) }
 
@@ -182,7 +236,7 @@ pub fn run_leaks<R: Source, W: Sink>(
         → StopsAtRead settings (R.left reader.old) (R.left reader.new) (R.trace reader.old) (R.trace reader.new) (W.taken writer.old) (W.taken writer.new) }
     ensures flush_asked { IsErrOf result RunFault.Read → FlushWasAsked (W.trace writer.old) (W.trace writer.new) }
     ensures write_fault { IsErrOf result RunFault.Write
-        → StopsAtWrite settings (R.left reader.old) (R.left reader.new) (W.taken writer.old) (W.taken writer.new) }
+        → StopsAtWrite Report.Leaks settings (R.left reader.old) (R.left reader.new) (W.taken writer.old) (W.taken writer.new) }
     ensures writer_failed { IsErrOf result RunFault.Write → HasFailedToWrite (W.trace writer.old) (W.trace writer.new) }
     ensures no_memory { IsErrOf result RunFault.OutOfMemory
         → StopsForMemory R.left W.taken W.trace settings reader.old reader.new writer.old writer.new }
@@ -192,17 +246,91 @@ pub fn run_leaks<R: Source, W: Sink>(
     ensures bad_settings { IsErrOf result RunFault.BadSettings ↔ IsTrue (are_bad settings) }
     ensures nothing_done { IsErrOf result RunFault.BadSettings → (reader.new ≡ reader.old) × (writer.new ≡ writer.old) }
 {
-    let mut replay = match Replay::<Heap>::create(alloc, settings) {
-        Ok(replay) => replay,
-        Err(ReplayFault::BadSettings) => return Err(RunFault::BadSettings),
-        Err(ReplayFault::OutOfMemory) => return Err(RunFault::OutOfMemory),
-    };
-    match replay_lines(reader, writer, &mut replay) {
-        Ok(noted) => finish(writer, &replay, noted),
-        Err(RunFault::Write) => Err(RunFault::Write),
-        Err(fault) => {
-            ask_flush(writer);
-            Err(fault)
-        }
-    }
+    run_report(alloc, reader, writer, settings, Report::Leaks)
+}
+
+/// Reads a log of mtrace(3), replays it on a heap by the settings, and writes what is wrong with its
+/// lines, each as it comes, and then the report of the peak: what the lines come to in sum, and what is free
+/// at the end of the log.
+///
+/// The writer is flushed once at the end, but not after `Write`, `BadSettings` or memory refused at the
+/// start; after another fault it doesn't matter whether that succeeds.
+///
+/// # Errors
+///
+/// `Read` where the reader failed, or line 2^64 would come: then what is wrong with the lines before is
+/// written. `Write` where the writer answered an error, took no byte of some, or failed its flush: then a
+/// beginning of the text is written. `OutOfMemory` where memory is refused: at the start, and then nothing
+/// is read or written, or at a line, and then what is wrong with the lines before is written.
+/// `BadSettings` exactly where the settings are bad: then nothing is read or written.
+pub fn run_peak<R: Source, W: Sink>(
+    alloc: Global,
+    reader: &mut R,
+    writer: &mut W,
+    settings: Settings,
+) -> Result<Status, RunFault>
+    // All of the log was read, what was written is its whole text, and the status is that text's.
+    ensures finished { IfOk result (λ status. Reports Report.Peak settings status (R.left reader.old) (R.left reader.new) (W.taken writer.old) (W.taken writer.new)) }
+    ensures reader_ended { OnOk result (HasGivenAll (R.trace reader.old) (R.trace reader.new)) }
+    ensures writer_flushed { OnOk result (HasTakenAndFlushed (W.trace writer.old) (W.trace writer.new)) }
+
+    // What a fault leaves.
+    ensures read_fault { IsErrOf result RunFault.Read
+        → StopsAtRead settings (R.left reader.old) (R.left reader.new) (R.trace reader.old) (R.trace reader.new) (W.taken writer.old) (W.taken writer.new) }
+    ensures flush_asked { IsErrOf result RunFault.Read → FlushWasAsked (W.trace writer.old) (W.trace writer.new) }
+    ensures write_fault { IsErrOf result RunFault.Write
+        → StopsAtWrite Report.Peak settings (R.left reader.old) (R.left reader.new) (W.taken writer.old) (W.taken writer.new) }
+    ensures writer_failed { IsErrOf result RunFault.Write → HasFailedToWrite (W.trace writer.old) (W.trace writer.new) }
+    ensures no_memory { IsErrOf result RunFault.OutOfMemory
+        → StopsForMemory R.left W.taken W.trace settings reader.old reader.new writer.old writer.new }
+    ensures reader_not_failed { result ≢ Err RunFault.Read → HasNotFailed (R.trace reader.old) (R.trace reader.new) }
+
+    // Bad settings come exactly where they are bad, and then nothing is done.
+    ensures bad_settings { IsErrOf result RunFault.BadSettings ↔ IsTrue (are_bad settings) }
+    ensures nothing_done { IsErrOf result RunFault.BadSettings → (reader.new ≡ reader.old) × (writer.new ≡ writer.old) }
+{
+    run_report(alloc, reader, writer, settings, Report::Peak)
+}
+
+/// Reads a log of mtrace(3), replays it on a heap by the settings, and writes what is wrong with its
+/// lines, each as it comes, and then the report of the walk: the pools at the end of the log, each with its
+/// blocks.
+///
+/// The writer is flushed once at the end, but not after `Write`, `BadSettings` or memory refused at the
+/// start; after another fault it doesn't matter whether that succeeds.
+///
+/// # Errors
+///
+/// `Read` where the reader failed, or line 2^64 would come: then what is wrong with the lines before is
+/// written. `Write` where the writer answered an error, took no byte of some, or failed its flush: then a
+/// beginning of the text is written. `OutOfMemory` where memory is refused: at the start, and then nothing
+/// is read or written, or at a line, and then what is wrong with the lines before is written.
+/// `BadSettings` exactly where the settings are bad: then nothing is read or written.
+pub fn run_walk<R: Source, W: Sink>(
+    alloc: Global,
+    reader: &mut R,
+    writer: &mut W,
+    settings: Settings,
+) -> Result<Status, RunFault>
+    // All of the log was read, what was written is its whole text, and the status is that text's.
+    ensures finished { IfOk result (λ status. Reports Report.Walk settings status (R.left reader.old) (R.left reader.new) (W.taken writer.old) (W.taken writer.new)) }
+    ensures reader_ended { OnOk result (HasGivenAll (R.trace reader.old) (R.trace reader.new)) }
+    ensures writer_flushed { OnOk result (HasTakenAndFlushed (W.trace writer.old) (W.trace writer.new)) }
+
+    // What a fault leaves.
+    ensures read_fault { IsErrOf result RunFault.Read
+        → StopsAtRead settings (R.left reader.old) (R.left reader.new) (R.trace reader.old) (R.trace reader.new) (W.taken writer.old) (W.taken writer.new) }
+    ensures flush_asked { IsErrOf result RunFault.Read → FlushWasAsked (W.trace writer.old) (W.trace writer.new) }
+    ensures write_fault { IsErrOf result RunFault.Write
+        → StopsAtWrite Report.Walk settings (R.left reader.old) (R.left reader.new) (W.taken writer.old) (W.taken writer.new) }
+    ensures writer_failed { IsErrOf result RunFault.Write → HasFailedToWrite (W.trace writer.old) (W.trace writer.new) }
+    ensures no_memory { IsErrOf result RunFault.OutOfMemory
+        → StopsForMemory R.left W.taken W.trace settings reader.old reader.new writer.old writer.new }
+    ensures reader_not_failed { result ≢ Err RunFault.Read → HasNotFailed (R.trace reader.old) (R.trace reader.new) }
+
+    // Bad settings come exactly where they are bad, and then nothing is done.
+    ensures bad_settings { IsErrOf result RunFault.BadSettings ↔ IsTrue (are_bad settings) }
+    ensures nothing_done { IsErrOf result RunFault.BadSettings → (reader.new ≡ reader.old) × (writer.new ≡ writer.old) }
+{
+    run_report(alloc, reader, writer, settings, Report::Walk)
 }

@@ -1,8 +1,11 @@
 //! What one line does to the heap and to what is held.
 
-ghost use Rattle.std.specs.Prelude.{◌≡◌, ℕ, ◌≤◌, ◌&&◌, not, is_some, true, List, [], ◌∷◌, length, Some, None, option_map, IfOk, OnOk, OnErr, if◌then◌else◌, ◌==◌};
+ghost use Rattle.std.specs.Prelude.{◌≡◌, ◌≢◌, ℕ, ◌+◌, ◌<◌, ◌≤◌, Ok, Err, IfErr, ◌&&◌, not, is_some, true, List, [], ◌∷◌, length, Some, None, option_map, IfOk, OnOk, OnErr, if◌then◌else◌, ◌==◌};
 ghost use Rattle.arrayvec.specs.ArrayVec.{array_vec_len};
 ghost use Rattle.tlsf_heap.specs.Bare.{bare};
+ghost use Rattle.tlsf_heap.specs.Content.{blocks_of, size_at};
+ghost use Rattle.tlsf_heap.specs.Free.{is_live};
+ghost use Rattle.tlsf_heap.specs.Malloc.{malloc};
 ghost use Rattle.tlsf_heap.specs.Realloc.{realloc as reallocated};
 ghost use Rattle.mtrace_replay.specs.Index.{held_at};
 ghost use Rattle.mtrace_replay.specs.Moment.{asked_size as size_asked, without, allocation, release as released, moved, renewal, outcome as outcome_of};
@@ -16,6 +19,33 @@ use arrayvec::ArrayVec;
 use mtrace_log::{Addr, Event, LineFault, Location};
 use std::alloc::AllocError;
 use tlsf_heap::{Heaped, Ptr, Refusal};
+
+/// What a line came to: its diagnostics, and where the block ends that it was given, as a place.
+#[derive(Drop)]
+pub(crate) struct Effect {
+    /// What is wrong with the line.
+    pub note: Note,
+    /// The end of the block, if one was given.
+    pub end: Option<u64>,
+}
+
+/// Nothing was given.
+fn unserved(note: Note) -> Effect
+    ensures { result ≡ record { note = note; end = None } }
+{
+    Effect { note, end: None }
+}
+
+/// The line was served; the block ends there.
+fn served(end: u64) -> Effect
+    ensures note { result.note.items ≡ [] }
+    ensures end { result.end ≡ Some end }
+{
+    Effect {
+        note: no_note(),
+        end: Some(end),
+    }
+}
 
 /// No diagnostic.
 fn no_note() -> Note
@@ -51,25 +81,89 @@ fn asked_size(size: u64) -> u64
     if size == 0 { 1 } else { size }
 }
 
+/// Where the live block ends, as a place.
+fn end_of_block<H: Heaped>(heap: &mut H, ptr: Ptr) -> u64
+    requires live { is_live (λ slot. slot == ptr.slot) ptr.place (blocks_of (H.content heap.old).pools) ≡ true }
+    ensures end { result ≡ ptr.place + size_at ptr.place (blocks_of (H.content heap.old).pools) }
+    ensures unchanged { H.content heap.new ≡ H.content heap.old }
+    ensures bound { H.touches heap.new ≤ H.touches heap.old + 4 }
+{
+    match heap.block_size(ptr) {
+        Ok(bytes) => u64::from(ptr.place()) + u64::from(bytes),
+        Err(_) => unreachable!(),
+    }
+}
+
+/// A block that the heap gave, and where it ends, as a place.
+#[derive(Clone, Copy)]
+struct Block {
+    ptr: Ptr,
+    end: u64,
+}
+
+/// A block of at least `n` bytes, and where it ends.
+fn malloc_block<H: Heaped>(heap: &mut H, n: u64) -> Result<Block, Refusal>
+    ensures ok { IfOk result (λ given. malloc given.ptr.slot n (H.content heap.old) ≡ Ok (given.ptr.place, H.content heap.new)) }
+    ensures end { IfOk result (λ given. given.end ≡ given.ptr.place + size_at given.ptr.place (blocks_of (H.content heap.new).pools)) }
+    ensures refused { IfErr result (λ refusal. refusal ≢ Refusal.OutOfMemory → (slot : ℕ) → malloc slot n (H.content heap.old) ≡ Err refusal) }
+    ensures unchanged { OnErr result (H.content heap.new ≡ H.content heap.old) }
+    ensures bound { H.touches heap.new ≤ H.touches heap.old + 100 }
+{
+    heap.keeps_good();
+    match heap.malloc(n) {
+        Ok(ptr) => {
+            let end = end_of_block(heap, ptr);
+            Ok(Block { ptr, end })
+        }
+        Err(refusal) => Err(refusal),
+    }
+}
+
+/// The live block with room for `n` bytes, in its place or moved, and where it ends.
+fn realloc_block<H: Heaped>(heap: &mut H, ptr: Ptr, n: u64) -> Result<Block, Refusal>
+    requires some { 0 < n }
+    ensures ok { IfOk result (λ given. reallocated (λ a b. a == b) given.ptr.slot (Some (ptr.place, ptr.slot)) n (H.content heap.old)
+        ≡ Ok (Some (given.ptr.place, given.ptr.slot), H.content heap.new)) }
+    ensures end { IfOk result (λ given. given.end ≡ given.ptr.place + size_at given.ptr.place (blocks_of (H.content heap.new).pools)) }
+    ensures refused { IfErr result (λ refusal. refusal ≢ Refusal.OutOfMemory → (slot : ℕ)
+        → reallocated (λ a b. a == b) slot (Some (ptr.place, ptr.slot)) n (H.content heap.old) ≡ Err refusal) }
+    ensures unchanged { OnErr result (H.content heap.new ≡ H.content heap.old) }
+    ensures bound { H.touches heap.new ≤ H.touches heap.old + 260 }
+{
+    heap.keeps_good();
+    match heap.realloc(Some(ptr), n) {
+        Ok(Some(new)) => {
+            let end = end_of_block(heap, new);
+            Ok(Block { ptr: new, end })
+        }
+        Ok(None) => unreachable!(),
+        Err(refusal) => Err(refusal),
+    }
+}
+
 /// `+ address size`: asks the heap for a block for the entry, unless its address is held.
-fn allocate<H: Heaped>(heap: &mut H, held: &mut Index, entry: Entry) -> Result<Note, AllocError>
+fn allocate<H: Heaped>(heap: &mut H, held: &mut Index, entry: Entry) -> Result<Effect, AllocError>
     requires live { AreLive held.old (H.content heap.old) }
-    ensures comes { IfOk result (λ note. Comes (bare (H.content heap.old)) (bare (H.content heap.new)) (all_given held.old) (all_given held.new) note.items
+    ensures comes { IfOk result (λ effect. Comes (bare (H.content heap.old)) (bare (H.content heap.new)) (all_given held.old) (all_given held.new) effect.note.items effect.end
         (allocation entry.line entry.at entry.addr entry.size (found (all_given held.old) entry.addr) (bare (H.content heap.old)))) }
     ensures live { OnOk result (AreLive held.new (H.content heap.new)) }
     ensures unchanged { OnErr result (held.new ≡ held.old) }
+    ensures records { (H.content heap.new).records ≡ (H.content heap.old).records }
+    ensures bound { H.touches heap.new ≤ H.touches heap.old + 100 }
 {
     if held.contains(entry.addr) {
-        return Ok(one_note(entry.line, Kind::AlreadyHeld(entry.addr)));
+        return Ok(unserved(one_note(entry.line, Kind::AlreadyHeld(entry.addr))));
     }
     heap.keeps_good();
-    match heap.malloc(asked_size(entry.size)) {
-        Ok(ptr) => {
+    held.keeps_order();
+    match malloc_block(heap, asked_size(entry.size)) {
+        Ok(block) => {
+            let ptr = block.ptr;
             held.insert(Holding { entry, ptr })?;
-            Ok(no_note())
+            Ok(served(block.end))
         }
         Err(Refusal::OutOfMemory) => Err(AllocError),
-        Err(refusal) => Ok(one_note(entry.line, Kind::Refused(entry.addr, refusal))),
+        Err(refusal) => Ok(unserved(one_note(entry.line, Kind::Refused(entry.addr, refusal)))),
     }
 }
 
@@ -86,6 +180,8 @@ fn take<H: Heaped>(
     ensures held { OnOk result ((other : ℕ) → held_at held.new other ≡ (if address == other then None else held_at held.old other)) }
     ensures live { OnOk result (AreLive held.new (H.content heap.new)) }
     ensures unchanged { OnErr result (held.new ≡ held.old) }
+    ensures records { (H.content heap.new).records ≡ (H.content heap.old).records }
+    ensures bound { H.touches heap.new ≤ H.touches heap.old + 96 }
 {
     heap.keeps_good();
     match heap.free(ptr) {
@@ -114,18 +210,20 @@ fn release<H: Heaped>(
     held: &mut Index,
     number: u64,
     address: Addr,
-) -> Result<Note, AllocError>
+) -> Result<Effect, AllocError>
     requires live { AreLive held.old (H.content heap.old) }
-    ensures comes { IfOk result (λ note. Comes (bare (H.content heap.old)) (bare (H.content heap.new)) (all_given held.old) (all_given held.new) note.items
+    ensures comes { IfOk result (λ effect. Comes (bare (H.content heap.old)) (bare (H.content heap.new)) (all_given held.old) (all_given held.new) effect.note.items effect.end
         (released number address (found (all_given held.old) address) (bare (H.content heap.old)))) }
     ensures live { OnOk result (AreLive held.new (H.content heap.new)) }
     ensures unchanged { OnErr result (held.new ≡ held.old) }
+    ensures records { (H.content heap.new).records ≡ (H.content heap.old).records }
+    ensures bound { H.touches heap.new ≤ H.touches heap.old + 96 }
 {
     let Some(ptr) = block_of(held, address) else {
-        return Ok(one_note(number, Kind::NotHeld(address)));
+        return Ok(unserved(one_note(number, Kind::NotHeld(address))));
     };
     take(heap, held, address, ptr)?;
-    Ok(no_note())
+    Ok(unserved(no_note()))
 }
 
 /// Asks the heap to reallocate the block of the old address for the entry; where it refuses, the block is freed.
@@ -135,26 +233,29 @@ fn reallocate<H: Heaped>(
     old: Addr,
     ptr: Ptr,
     entry: Entry,
-) -> Result<Note, AllocError>
+) -> Result<Effect, AllocError>
     requires live { AreLive held.old (H.content heap.old) }
     requires held { IsUnder ptr (held_at held.old old) }
-    ensures comes { IfOk result (λ note. Comes (bare (H.content heap.old)) (bare (H.content heap.new)) (all_given held.old) (all_given held.new) note.items
+    ensures comes { IfOk result (λ effect. Comes (bare (H.content heap.old)) (bare (H.content heap.new)) (all_given held.old) (all_given held.new) effect.note.items effect.end
         (moved entry.line entry.at old ptr.place entry.addr entry.size (bare (H.content heap.old))
         (reallocated (λ one other. true) tt (Some (ptr.place, tt)) (size_asked entry.size) (bare (H.content heap.old))))) }
     ensures live { OnOk result (AreLive held.new (H.content heap.new)) }
     ensures unchanged { OnErr result (held.new ≡ held.old) }
+    ensures records { (H.content heap.new).records ≡ (H.content heap.old).records }
+    ensures bound { H.touches heap.new ≤ H.touches heap.old + 356 }
 {
     heap.keeps_good();
-    match heap.realloc(Some(ptr), asked_size(entry.size)) {
-        Ok(Some(new)) => {
-            held.replace(old, Holding { entry, ptr: new })?;
-            Ok(no_note())
+    held.keeps_order();
+    match realloc_block(heap, ptr, asked_size(entry.size)) {
+        Ok(block) => {
+            let ptr = block.ptr;
+            held.replace(old, Holding { entry, ptr })?;
+            Ok(served(block.end))
         }
-        Ok(None) => unreachable!(),
         Err(Refusal::OutOfMemory) => Err(AllocError),
         Err(refusal) => {
             take(heap, held, old, ptr)?;
-            Ok(one_note(entry.line, Kind::Refused(entry.addr, refusal)))
+            Ok(unserved(one_note(entry.line, Kind::Refused(entry.addr, refusal))))
         }
     }
 }
@@ -166,22 +267,36 @@ fn is_held_too(held: &Index, address: Addr, old: Addr) -> bool
     address != old && held.contains(address)
 }
 
+/// A diagnostic before those of a line.
+fn after_note(first: Diagnostic, effect: Effect) -> Effect
+    requires { length effect.note.items ≤ 1 }
+    ensures note { result.note.items ≡ first ∷ effect.note.items }
+    ensures end { result.end ≡ effect.end }
+{
+    Effect {
+        note: noted_after(first, &effect.note),
+        end: effect.end,
+    }
+}
+
 /// `> address size`: reallocates the block of the address of the line before, where that is `<`.
 fn renew<H: Heaped>(
     heap: &mut H,
     held: &mut Index,
     pending: Option<Addr>,
     entry: Entry,
-) -> Result<Note, AllocError>
+) -> Result<Effect, AllocError>
     requires live { AreLive held.old (H.content heap.old) }
-    ensures comes { IfOk result (λ note. Comes (bare (H.content heap.old)) (bare (H.content heap.new)) (all_given held.old) (all_given held.new) note.items
+    ensures comes { IfOk result (λ effect. Comes (bare (H.content heap.old)) (bare (H.content heap.new)) (all_given held.old) (all_given held.new) effect.note.items effect.end
         (renewal entry.line entry.at pending entry.addr entry.size (found (all_given held.old)) (bare (H.content heap.old)))) }
     ensures live { OnOk result (AreLive held.new (H.content heap.new)) }
     ensures unchanged { OnErr result (held.new ≡ held.old) }
+    ensures records { (H.content heap.new).records ≡ (H.content heap.old).records }
+    ensures bound { H.touches heap.new ≤ H.touches heap.old + 356 }
 {
     let number = entry.line;
     let Some(old) = pending else {
-        return Ok(one_note(number, Kind::Stray));
+        return Ok(unserved(one_note(number, Kind::Stray)));
     };
     let Some(ptr) = block_of(held, old) else {
         let more = allocate(heap, held, entry)?;
@@ -189,33 +304,36 @@ fn renew<H: Heaped>(
             line: number,
             kind: Kind::NotHeld(old),
         };
-        return Ok(noted_after(first, &more));
+        return Ok(after_note(first, more));
     };
     if is_held_too(held, entry.addr, old) {
-        return Ok(one_note(number, Kind::AlreadyHeld(entry.addr)));
+        return Ok(unserved(one_note(number, Kind::AlreadyHeld(entry.addr))));
     }
     reallocate(heap, held, old, ptr, entry)
 }
 
-/// What the line of this number does, where `pending` is the address of the line before, if that is `<`.
+/// What the line of this number does, where `pending` is the address of the line before, if that is `<`. At most 356
+/// touches.
 pub(crate) fn outcome<H: Heaped>(
     heap: &mut H,
     held: &mut Index,
     number: u64,
     pending: Option<Addr>,
     event: Result<Event, LineFault>,
-) -> Result<Note, AllocError>
+) -> Result<Effect, AllocError>
     requires live { AreLive held.old (H.content heap.old) }
-    ensures comes { IfOk result (λ note. Comes (bare (H.content heap.old)) (bare (H.content heap.new)) (all_given held.old) (all_given held.new) note.items
+    ensures comes { IfOk result (λ effect. Comes (bare (H.content heap.old)) (bare (H.content heap.new)) (all_given held.old) (all_given held.new) effect.note.items effect.end
         (outcome_of number event pending (found (all_given held.old)) (bare (H.content heap.old)))) }
     ensures live { OnOk result (AreLive held.new (H.content heap.new)) }
     ensures unchanged { OnErr result (held.new ≡ held.old) }
+    ensures records { (H.content heap.new).records ≡ (H.content heap.old).records }
+    ensures bound { H.touches heap.new ≤ H.touches heap.old + 356 }
 {
     match event {
-        Err(LineFault::TooLong) => Ok(one_note(number, Kind::TooLong)),
-        Err(LineFault::NotALine) => Ok(one_note(number, Kind::NotALine)),
-        Ok(Event::Start) => Ok(no_note()),
-        Ok(Event::End) => Ok(no_note()),
+        Err(LineFault::TooLong) => Ok(unserved(one_note(number, Kind::TooLong))),
+        Err(LineFault::NotALine) => Ok(unserved(one_note(number, Kind::NotALine))),
+        Ok(Event::Start) => Ok(unserved(no_note())),
+        Ok(Event::End) => Ok(unserved(no_note())),
         Ok(Event::Alloc { at, addr, size }) => match addr {
             Some(addr) => allocate(
                 heap,
@@ -227,7 +345,7 @@ pub(crate) fn outcome<H: Heaped>(
                     at,
                 },
             ),
-            None => Ok(no_note()),
+            None => Ok(unserved(no_note())),
         },
         Ok(Event::Free { at: _at, addr }) => release(heap, held, number, addr),
         Ok(
@@ -235,7 +353,7 @@ pub(crate) fn outcome<H: Heaped>(
                 at: _at,
                 addr: _addr,
             },
-        ) => Ok(no_note()),
+        ) => Ok(unserved(no_note())),
         Ok(Event::New { at, addr, size }) => renew(
             heap,
             held,
@@ -253,6 +371,6 @@ pub(crate) fn outcome<H: Heaped>(
                 addr: _addr,
                 size: _size,
             },
-        ) => Ok(no_note()),
+        ) => Ok(unserved(no_note())),
     }
 }

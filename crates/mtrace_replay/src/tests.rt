@@ -5,6 +5,7 @@ ghost use Rattle.std.specs.Prelude.{◌≡◌, false};
 mod refused_memory;
 mod rows;
 mod starts;
+mod sums;
 
 use crate::*;
 use mtrace_log::{Line, read_line};
@@ -24,7 +25,7 @@ const SMALL: Settings = Settings {
 struct Fed<H: Heaped> {
     replay: Replay<H>,
     lines: u64,
-    ghost counted: { replay.out_of_memory ≡ false → lines ≡ replay.lines },
+    ghost counted: { replay.out_of_memory ≡ false → lines ≡ replay.totals.lines },
 }
 
 impl<H: Heaped> Fed<H> {

@@ -7,3 +7,4 @@ pub mod AlignedImplied
 pub mod RemovedPool
 pub mod Realloc
 pub mod StaysLive
+pub mod LiveBlocks

@@ -1,5 +1,6 @@
 ghost use Rattle.std.specs.Prelude.{◌≡◌, ◌⊎◌};
-ghost use Rattle.tlsf_tool.specs.Statuses.{status_of_fault, IsUsage};
+ghost use Rattle.tlsf_tool.specs.Faults.{IsUsage};
+ghost use Rattle.tlsf_tool.specs.Statuses.{status_of_fault};
 
 use crate::statuses::fault_status;
 use mtrace_replay::{RunFault, Settings};
@@ -11,6 +12,10 @@ use thiserror::Error;
 pub enum Name {
     /// The report of leaks.
     Leaks,
+    /// The report of the peak.
+    Peak,
+    /// The report of the heap's walk.
+    Walk,
 }
 
 /// What the words ask for.
@@ -30,7 +35,10 @@ pub enum Command {
 /// Why the program doesn't end with a report.
 #[derive(Debug, Drop, Error)]
 pub enum ToolFault {
-    /// The words ask for nothing that there is; the text says what may be asked for.
+    /// The words ask for help; this is it.
+    #[error("{0}")]
+    Help(String),
+    /// The words ask for nothing that there is; the text says why, and how to ask.
     #[error("{0}")]
     Usage(String),
     /// The log of this name can't be opened.
@@ -41,26 +49,25 @@ pub enum ToolFault {
     Run(RunFault),
 }
 
-/// What may be asked for.
-const USAGE: &str = "tlsf: usage: tlsf leaks LOG";
-
 impl ToolFault {
     /// The fault of words that ask for nothing that there is, or `Run` of `OutOfMemory` where memory is
     /// refused for its text.
-    pub fn usage(alloc: Global) -> ToolFault
+    pub fn usage(alloc: Global, text: &str) -> ToolFault
         ensures { IsUsage result ⊎ (result ≡ ToolFault.Run RunFault.OutOfMemory) }
     {
-        match String::from_str(alloc, USAGE) {
+        match String::from_str(alloc, text) {
             Ok(text) => ToolFault::Usage(text),
             Err(_) => ToolFault::Run(RunFault::OutOfMemory),
         }
     }
 
-    /// The status that the program ends with: 2 for words or settings, 3 for files, 4 for memory.
+    /// The status that the program ends with: 0 for help, 2 for words or settings, 3 for files, 4 for
+    /// memory.
     pub fn status(&self) -> u8
         ensures { result ≡ status_of_fault self.now }
     {
         match self {
+            ToolFault::Help(_) => 0,
             ToolFault::Usage(_) => 2,
             ToolFault::CannotOpen(_) => 3,
             ToolFault::Run(fault) => fault_status(*fault),

@@ -2,6 +2,7 @@
 #![tactic(auto)]
 
 mod asked;
+mod line;
 mod service;
 mod statuses;
 #[cfg(test)]
@@ -17,6 +18,9 @@ use std::io::{BufReader, BufWriter, Read};
 use std::process::ExitCode;
 use std::{env, fs, io};
 
+/// The line on words that aren't text.
+const NOT_TEXT: &str = "tlsf: a word is no text; for more, try 'tlsf --help'\n";
+
 /// The words, of which the first is the program's name. Words that aren't text are wrong words.
 fn asked_words(rt: &HostRuntime) -> Result<Vec<String>, ToolFault> {
     match env::args(rt) {
@@ -26,7 +30,7 @@ fn asked_words(rt: &HostRuntime) -> Result<Vec<String>, ToolFault> {
         Err(fault) if fault.kind() == io::ErrorKind::OutOfMemory => {
             Err(ToolFault::Run(RunFault::OutOfMemory))
         }
-        Err(_) => Err(ToolFault::usage(rt.alloc())),
+        Err(_) => Err(ToolFault::usage(rt.alloc(), NOT_TEXT)),
     }
 }
 
@@ -75,7 +79,11 @@ fn main(rt: HostRuntime) -> ExitCode {
     match report_log(&rt) {
         Ok(status) => ExitCode::from(status),
         Err(fault) => {
-            let _ = eprintln!(rt; "{fault}");
+            let _ = match &fault {
+                ToolFault::Help(text) => print!(rt; "{text}"),
+                ToolFault::Usage(text) => eprint!(rt; "{text}"),
+                _ => eprintln!(rt; "{fault}"),
+            };
             ExitCode::from(fault.status())
         }
     }

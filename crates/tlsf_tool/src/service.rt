@@ -1,16 +1,17 @@
 //! One run, with its status.
 
-ghost use Rattle.std.specs.Prelude.{◌≡◌, ◌⊎◌, ◌↔◌, ◌≤◌, IsTrue};
+ghost use Rattle.std.specs.Prelude.{◌≡◌, ◌≢◌, ◌⊎◌, ◌↔◌, ◌≤◌, IsTrue, IfOk, OnOk, IsErrOf, Err};
 ghost use Rattle.mtrace_replay.specs.Settings.{are_bad};
-ghost use Rattle.mtrace_log.specs.Trace.{HasGivenAll, HasNotFailed, HasTakenAndFlushed};
-ghost use Rattle.mtrace_replay.specs.Run.{Reports, FailsToRead, FailsToWrite, StopsForMemory};
+ghost use Rattle.mtrace_log.specs.Trace.{HasGivenAll, HasNotFailed, HasTakenAndFlushed, HasFailedToWrite, FlushWasAsked};
+ghost use Rattle.mtrace_replay.specs.Run.{Reports, StopsAtRead, StopsAtWrite, FailsToRead, FailsToWrite, StopsForMemory};
 ghost use Rattle.mtrace_replay.specs.declared.status.Status.TheVariants.{Clean, Found};
+ghost use Rattle.tlsf_tool.specs.Statuses.{report_of};
 
 use crate::asked::{Name, ToolFault};
 use crate::statuses::{end_status, fault_status};
 use arrayvec::ArrayString;
 use mtrace_log::{Sink, Source};
-use mtrace_replay::{Settings, put_all, run_leaks};
+use mtrace_replay::{RunFault, Settings, Status, put_all, run_leaks, run_peak, run_walk};
 use std::alloc::Global;
 use std::fmt::Write;
 
@@ -22,6 +23,36 @@ fn put_fault<E: Sink>(errors: &mut E, fault: &ToolFault) {
     let mut text: ArrayString<LONGEST_FAULT> = ArrayString::new();
     if write!(text, "{fault}\n").is_ok() {
         let _ = put_all(errors, text.as_str().as_bytes());
+    }
+}
+
+/// Makes the report of this name from what the reader has left.
+fn run_named<R: Source, W: Sink>(
+    alloc: Global,
+    name: Name,
+    settings: Settings,
+    reader: &mut R,
+    writer: &mut W,
+) -> Result<Status, RunFault>
+    ensures finished { IfOk result (λ status. Reports (report_of name) settings status (R.left reader.old) (R.left reader.new) (W.taken writer.old) (W.taken writer.new)) }
+    ensures reader_ended { OnOk result (HasGivenAll (R.trace reader.old) (R.trace reader.new)) }
+    ensures writer_flushed { OnOk result (HasTakenAndFlushed (W.trace writer.old) (W.trace writer.new)) }
+    ensures read_fault { IsErrOf result RunFault.Read
+        → StopsAtRead settings (R.left reader.old) (R.left reader.new) (R.trace reader.old) (R.trace reader.new) (W.taken writer.old) (W.taken writer.new) }
+    ensures flush_asked { IsErrOf result RunFault.Read → FlushWasAsked (W.trace writer.old) (W.trace writer.new) }
+    ensures write_fault { IsErrOf result RunFault.Write
+        → StopsAtWrite (report_of name) settings (R.left reader.old) (R.left reader.new) (W.taken writer.old) (W.taken writer.new) }
+    ensures writer_failed { IsErrOf result RunFault.Write → HasFailedToWrite (W.trace writer.old) (W.trace writer.new) }
+    ensures no_memory { IsErrOf result RunFault.OutOfMemory
+        → StopsForMemory R.left W.taken W.trace settings reader.old reader.new writer.old writer.new }
+    ensures reader_not_failed { result ≢ Err RunFault.Read → HasNotFailed (R.trace reader.old) (R.trace reader.new) }
+    ensures bad_settings { IsErrOf result RunFault.BadSettings ↔ IsTrue (are_bad settings) }
+    ensures nothing_done { IsErrOf result RunFault.BadSettings → (reader.new ≡ reader.old) × (writer.new ≡ writer.old) }
+{
+    match name {
+        Name::Leaks => run_leaks(alloc, reader, writer, settings),
+        Name::Peak => run_peak(alloc, reader, writer, settings),
+        Name::Walk => run_walk(alloc, reader, writer, settings),
     }
 }
 
@@ -37,8 +68,8 @@ pub fn serve<R: Source, W: Sink, E: Sink>(
     writer: &mut W,
     errors: &mut E,
 ) -> u8
-    ensures clean { result ≡ 0 → Reports settings Clean (R.left reader.old) (R.left reader.new) (W.taken writer.old) (W.taken writer.new) }
-    ensures found { result ≡ 1 → Reports settings Found (R.left reader.old) (R.left reader.new) (W.taken writer.old) (W.taken writer.new) }
+    ensures clean { result ≡ 0 → Reports (report_of name) settings Clean (R.left reader.old) (R.left reader.new) (W.taken writer.old) (W.taken writer.new) }
+    ensures found { result ≡ 1 → Reports (report_of name) settings Found (R.left reader.old) (R.left reader.new) (W.taken writer.old) (W.taken writer.new) }
     ensures reader_ended { result ≤ 1 → HasGivenAll (R.trace reader.old) (R.trace reader.new) }
     ensures writer_flushed { result ≤ 1 → HasTakenAndFlushed (W.trace writer.old) (W.trace writer.new) }
     ensures no_errors { result ≤ 1 → errors.new ≡ errors.old }
@@ -46,15 +77,12 @@ pub fn serve<R: Source, W: Sink, E: Sink>(
     ensures nothing_done { result ≡ 2 → (reader.new ≡ reader.old) × (writer.new ≡ writer.old) }
     ensures failed { result ≡ 3
         → FailsToRead R.left R.trace W.taken W.trace settings reader.old reader.new writer.old writer.new
-        ⊎ FailsToWrite R.left R.trace W.taken W.trace settings reader.old reader.new writer.old writer.new }
+        ⊎ FailsToWrite (report_of name) R.left R.trace W.taken W.trace settings reader.old reader.new writer.old writer.new }
     ensures memory { result ≡ 4 → StopsForMemory R.left W.taken W.trace settings reader.old reader.new writer.old writer.new }
     ensures reader_not_failed { result ≡ 4 → HasNotFailed (R.trace reader.old) (R.trace reader.new) }
     ensures known { result ≤ 4 }
 {
-    let answer = match name {
-        Name::Leaks => run_leaks(alloc, reader, writer, settings),
-    };
-    match answer {
+    match run_named(alloc, name, settings, reader, writer) {
         Ok(status) => end_status(status),
         Err(fault) => {
             put_fault(errors, &ToolFault::Run(fault));

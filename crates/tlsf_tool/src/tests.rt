@@ -2,5 +2,7 @@
 
 mod glibc_log;
 mod program;
+mod reports;
 mod rows;
+mod words;
 mod words_log;

@@ -1,35 +1,132 @@
 //! The words of the command line.
 
-ghost use Rattle.std.specs.Prelude.{◌≡◌, ◌⊎◌, ℕ, List, IfOk, IfErr};
-ghost use Rattle.tlsf_tool.specs.Statuses.{AskFor, AskLeaks, IsUsage};
+ghost use Rattle.std.specs.Prelude.{◌≡◌, ◌⊎◌, ℕ, codes, IfOk, IfErr, IfSome, IfNone};
+ghost use Rattle.clap.specs.Words.{found_of, kind_of, rows_of, subcommand_rows_of};
+ghost use Rattle.tlsf_tool.specs.CommandLine.{AskFor, HasNumber, HasSettings, MatchesAskFor, name_text};
+ghost use Rattle.tlsf_tool.specs.Faults.{ExplainsKind, ExplainsWords, IsUsage};
 
 use crate::asked::{Command, Name, ToolFault};
+use crate::line::tlsf_command;
+use clap::error::ErrorKind;
+use clap::{ArgMatches, Error};
 use mtrace_replay::{RunFault, Settings};
 use std::alloc::Global;
 
-/// What the words ask for, of which the first is the program's name: exactly `leaks` and the name of a
-/// log are taken.
+/// Memory was refused.
+const NO_MEMORY: ToolFault = ToolFault::Run(RunFault::OutOfMemory);
+
+/// The text where clap takes words that ask for no report.
+const NO_REPORT: &str = "tlsf: no report; for more, try 'tlsf --help'\n";
+
+/// The report of this name.
+fn named(text: &str) -> Option<Name>
+    ensures found { IfSome result (λ name. text.now ≡ name_text name) }
+    ensures other { IfNone result ((name : _) → text.now ≡ name_text name → ⊥) }
+{
+    match text {
+        "leaks" => Some(Name::Leaks),
+        "peak" => Some(Name::Peak),
+        "walk" => Some(Name::Walk),
+        _ => None,
+    }
+}
+
+/// The size of a pool that a subcommand's matches have.
+fn pool_of(found: &ArgMatches<'_>) -> Option<u64>
+    ensures given { IfSome result (HasNumber (rows_of (found_of found.now)) (codes "pool") 64) }
+    ensures other { IfNone result ((number : ℕ) → HasNumber (rows_of (found_of found.now)) (codes "pool") 64 number → ⊥) }
+{
+    found.get_one::<u64>("pool")
+}
+
+/// The number of this id that a subcommand's matches have.
+fn number_of(found: &ArgMatches<'_>, id: &str) -> Option<u32>
+    ensures given { IfSome result (HasNumber (rows_of (found_of found.now)) id.now 32) }
+    ensures other { IfNone result ((number : ℕ) → HasNumber (rows_of (found_of found.now)) id.now 32 number → ⊥) }
+{
+    found.get_one::<u32>(id)
+}
+
+/// The settings that a subcommand's matches have.
+fn settings_of(found: &ArgMatches<'_>) -> Option<Settings>
+    ensures given { IfSome result (HasSettings (rows_of (found_of found.now))) }
+    ensures other { IfNone result ((settings : _) → HasSettings (rows_of (found_of found.now)) settings → ⊥) }
+{
+    let Some(pool) = pool_of(found) else {
+        return None;
+    };
+    let Some(pools) = number_of(found, "pools") else {
+        return None;
+    };
+    let Some(records) = number_of(found, "records") else {
+        return None;
+    };
+    Some(Settings {
+        pool,
+        pools,
+        records,
+    })
+}
+
+/// What the matches ask for.
+fn asked(alloc: Global, matches: &ArgMatches<'_>) -> Result<Command, ToolFault>
+    ensures asked { IfOk result (MatchesAskFor (subcommand_rows_of matches.now)) }
+    ensures faults { IfErr result (λ fault. (fault ≡ ToolFault.Run RunFault.OutOfMemory)
+        ⊎ (IsUsage fault × ((command : _) → MatchesAskFor (subcommand_rows_of matches.now) command → ⊥))) }
+{
+    let Some((text, found)) = matches.subcommand() else {
+        return Err(ToolFault::usage(alloc, NO_REPORT));
+    };
+    let Some(name) = named(text) else {
+        return Err(ToolFault::usage(alloc, NO_REPORT));
+    };
+    let Some(settings) = settings_of(found) else {
+        return Err(ToolFault::usage(alloc, NO_REPORT));
+    };
+    let Some(log) = found.get_str("LOG") else {
+        return Err(ToolFault::usage(alloc, NO_REPORT));
+    };
+    match String::from_str(alloc, log) {
+        Ok(log) => Ok(Command::Report {
+            name,
+            settings,
+            log,
+        }),
+        Err(_) => Err(NO_MEMORY),
+    }
+}
+
+/// The fault of clap's error, with its text.
+fn fault_of(alloc: Global, error: &Error) -> ToolFault
+    ensures { (result ≡ ToolFault.Run RunFault.OutOfMemory) ⊎ ExplainsKind (kind_of error.now) result }
+{
+    if error.kind() == ErrorKind::OutOfMemory {
+        return NO_MEMORY;
+    }
+    match error.to_string(alloc) {
+        Ok(text) if error.use_stderr() => ToolFault::Usage(text),
+        Ok(text) => ToolFault::Help(text),
+        Err(_) => NO_MEMORY,
+    }
+}
+
+/// What the words ask for, of which the first is the program's name.
 ///
 /// # Errors
 ///
-/// `Usage` with its text for any other words; `Run` of `OutOfMemory` where memory is refused.
+/// `Help` where they ask for help, `Usage` for words that ask for nothing that there is, each with its
+/// text; `Run` of `OutOfMemory` where memory is refused.
 pub fn command(alloc: Global, words: &[String]) -> Result<Command, ToolFault>
-    ensures asked { IfOk result (λ command. AskFor words.now command) }
-    ensures faults { IfErr result (λ fault. IsUsage fault ⊎ (fault ≡ ToolFault.Run RunFault.OutOfMemory)) }
-    ensures usage { IfErr result (λ fault. IsUsage fault → (log : List ℕ) → AskLeaks words.now log → ⊥) }
+    ensures asked { IfOk result (AskFor words.now) }
+    ensures faults { IfErr result (λ fault. (fault ≡ ToolFault.Run RunFault.OutOfMemory) ⊎ ExplainsWords words.now fault) }
+    ensures nothing_asked { IfErr result (λ fault. (fault ≡ ToolFault.Run RunFault.OutOfMemory)
+        ⊎ ((command : _) → AskFor words.now command → ⊥)) }
 {
-    let [_, name, log] = words else {
-        return Err(ToolFault::usage(alloc));
+    let Ok(line) = tlsf_command(alloc) else {
+        return Err(NO_MEMORY);
     };
-    if name.as_str() != "leaks" {
-        return Err(ToolFault::usage(alloc));
-    }
-    match log.clone() {
-        Ok(log) => Ok(Command::Report {
-            name: Name::Leaks,
-            settings: Settings::DEFAULT,
-            log,
-        }),
-        Err(_) => Err(ToolFault::Run(RunFault::OutOfMemory)),
+    match line.try_get_matches_from(words) {
+        Ok(matches) => asked(alloc, &matches),
+        Err(error) => Err(fault_of(alloc, &error)),
     }
 }

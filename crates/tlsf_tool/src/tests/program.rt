@@ -1,4 +1,4 @@
-//! Words, statuses and texts, through `command` and `serve`.
+//! Statuses and texts, through `command` and `serve`.
 
 use super::rows::SMALL;
 use crate::asked::{Command, Name, ToolFault};
@@ -10,54 +10,12 @@ use std::alloc::{AllocError, Global};
 use std::test::Fail;
 
 /// The words as strings.
-fn strings(alloc: Global, words: &[&str]) -> Result<Vec<String>, AllocError> {
+pub fn strings(alloc: Global, words: &[&str]) -> Result<Vec<String>, AllocError> {
     let mut all = Vec::new(alloc);
     for word in words {
         all.push(String::from_str(alloc, word)?)?;
     }
     Ok(all)
-}
-
-#[test]
-fn words(rt: HostRuntime) -> Result<(), Fail> {
-    let alloc = rt.alloc();
-    let Command::Report {
-        name,
-        settings,
-        log,
-    } = command(
-        alloc,
-        strings(alloc, &["tlsf", "leaks", "a.log"])?.as_slice(),
-    )?;
-    assert_eq!(rt; name, Name::Leaks);
-    assert_eq!(rt;
-        settings,
-        Settings {
-            pool: 16_777_216,
-            pools: 1,
-            records: 8_192
-        }
-    );
-    assert_eq!(rt; log.as_str(), "a.log");
-    let wrong: [&[&str]; 6] = [
-        &[],
-        &["tlsf"],
-        &["tlsf", "leaks"],
-        &["tlsf", "leaks", "a.log", "b.log"],
-        &["tlsf", "peak", "a.log"],
-        &["tlsf", "Leaks", "a.log"],
-    ];
-    for words in wrong {
-        match command(alloc, strings(alloc, words)?.as_slice()) {
-            Ok(_) => assert!(rt; false, "{words:?}"),
-            Err(fault) => {
-                assert_eq!(rt; fault.status(), 2);
-                let text = fault.to_string(alloc)?;
-                assert_eq!(rt; text.as_str(), "tlsf: usage: tlsf leaks LOG");
-            }
-        }
-    }
-    Ok(())
 }
 
 #[test]

@@ -1,7 +1,7 @@
 use Rattle.std.proofs.lemmas.Result.{on_ok_weaker, on_err_weaker}
 use Rattle.mtrace_log.specs.declared.call.Call.TheVariants.{Took, Failed}
 use Rattle.mtrace_log.proofs.TraceLemmas.{moved_append, moved_then_append}
-use Rattle.mtrace_replay.specs.Texts.{notes_text, leaks_report}
+use Rattle.mtrace_replay.specs.Texts.{notes_text, report_text}
 use Rattle.mtrace_replay.specs.Replay.{entries}
 use Rattle.mtrace_replay.proofs.Writing.{Wrote-append, Begins-after, Begins-longer, on_err}
 use Rattle.mtrace_replay.proofs.run.put_end.Goals as goal
@@ -10,20 +10,20 @@ pub returns-in_err-put_note-clause-beginning : goal.returns-in_err-put_note-clau
 returns-in_err-put_note-clause-beginning g c =
     let taken = g.W.Sink.taken in
     on_err _ c.from_residual.result
-    (Begins-longer (taken c.args.writer.now) (taken c.put_note.new.writer) (notes_text c.args.note.now.items) (leaks_report (entries c.args.replay.now)) c.in_err-put_note.ensures.beginning)
+    (Begins-longer (taken c.args.writer.now) (taken c.put_note.new.writer) (notes_text c.args.note.now.items) (report_text c.args.report (entries c.args.replay.now) c.args.replay.now.totals c.args.replay.now.content) c.in_err-put_note.ensures.beginning)
 
 pub returns-clause-all : goal.returns-clause-all
 returns-clause-all g c =
     let taken = g.W.Sink.taken in
     on_ok_weaker c.put_report.result
-    (λ put. Wrote-append (taken c.args.writer.now) (taken c.put_note.new.writer) (taken c.put_report.new.writer) (notes_text c.args.note.now.items) (leaks_report (entries c.args.replay.now)) c.in_ok-put_note.ensures.all put)
+    (λ put. Wrote-append (taken c.args.writer.now) (taken c.put_note.new.writer) (taken c.put_report.new.writer) (notes_text c.args.note.now.items) (report_text c.args.report (entries c.args.replay.now) c.args.replay.now.totals c.args.replay.now.content) c.in_ok-put_note.ensures.all put)
     c.put_report.ensures.all
 
 pub returns-clause-beginning : goal.returns-clause-beginning
 returns-clause-beginning g c =
     let taken = g.W.Sink.taken in
     on_err_weaker c.put_report.result
-    (λ begun. Begins-after (taken c.args.writer.now) (taken c.put_note.new.writer) (taken c.put_report.new.writer) (notes_text c.args.note.now.items) (leaks_report (entries c.args.replay.now)) c.in_ok-put_note.ensures.all begun)
+    (λ begun. Begins-after (taken c.args.writer.now) (taken c.put_note.new.writer) (taken c.put_report.new.writer) (notes_text c.args.note.now.items) (report_text c.args.report (entries c.args.replay.now) c.args.replay.now.totals c.args.replay.now.content) c.in_ok-put_note.ensures.all begun)
     c.put_report.ensures.beginning
 
 pub returns-clause-took : goal.returns-clause-took

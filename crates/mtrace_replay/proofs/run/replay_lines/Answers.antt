@@ -75,11 +75,11 @@ returns-in-Err-replay_line-clause-writer_failed g c = λ e.
     moved_then_append Took Failed _ _ _ c.loop-line.invariant.took (c.in-Err-replay_line.ensures.failed (same_error _ Bool _ _ e))
 
 pub returns-in-Err-replay_line-clause-write : goal.returns-in-Err-replay_line-clause-write
-returns-in-Err-replay_line-clause-write g c = λ e settings stands.
+returns-in-Err-replay_line-clause-write g c = λ e settings stands report.
     let under = (c.loop-line.invariant.under_way settings stands) in
     let given = rw c.in-Ok-Some.field-0-is at c.in-Ok-Some.ensures.line in
     let wrote = c.in-Err-replay_line.ensures.write (same_error _ Bool _ _ e) in
-    underway_write settings c.loop-line.lines c.next.new.self c.loop-line.replay c.replay_line.new.replay c.loop-line.noted
+    underway_write report settings c.loop-line.lines c.next.new.self c.loop-line.replay c.replay_line.new.replay c.loop-line.noted
     (g.R.Source.left c.args.reader.now) (g.R.Source.left c.loop-line.reader) (g.R.Source.left c.next.new.reader)
     (g.W.Sink.taken c.args.writer.now) (g.W.Sink.taken c.loop-line.writer) (g.W.Sink.taken c.replay_line.new.writer) c.in-Ok-Some.line
     under given (wrote settings (reverse under.lines) under.stands)

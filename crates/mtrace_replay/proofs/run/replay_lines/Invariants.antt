@@ -14,7 +14,7 @@ invariant-loop-line g l =
     record {
       under_way : (settings : Settings) → StandsFor l.initial.replay settings []
           → IsUnderWay settings l.lines l.replay l.noted (left l.initial.reader) (left l.reader) (taken l.initial.writer) (taken l.writer);
-      counted : l.replay.lines ≡ l.lines.count;
+      counted : l.replay.totals.lines ≡ l.lines.count;
       gave : CallsFor l.lines.status (g.R.Source.trace l.initial.reader) (g.R.Source.trace l.reader);
       took : HasTaken (g.W.Sink.trace l.initial.writer) (g.W.Sink.trace l.writer);
     }

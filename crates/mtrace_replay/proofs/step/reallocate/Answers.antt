@@ -1,59 +1,77 @@
-use Rattle.std.proofs.Common.{rules, ◌≡◌, ℕ, true, cond, List, Option, Some, None, sym, subst, ap, ◌∙◌}
+use Rattle.std.proofs.Common.{arith, [], ◌+◌, rules, ◌≡◌, ℕ, true, List, Option, Some, None, sym, subst, ap, ◌∙◌}
 use Rattle.std.specs.Prelude.{◌==◌, Ok}
 use Rattle.tlsf_heap.specs.Bare.{bare}
-use Rattle.tlsf_heap.specs.Content.{blocks_of}
+use Rattle.tlsf_heap.specs.Content.{Content, blocks_of}
+use Rattle.tlsf_heap.proofs.Content.BareSteps.{size_at-renamed}
 use Rattle.tlsf_heap.specs.Free.{is_live}
-use Rattle.tlsf_heap.specs.Pointer.{Pointer, place_and_slot, slot_of}
+use Rattle.tlsf_heap.specs.Pointer.{Pointer}
 use Rattle.tlsf_heap.specs.Realloc.{realloc}
 use Rattle.mtrace_replay.specs.declared.diagnostic.Diagnostic.{Diagnostic}
+use Rattle.mtrace_replay.specs.declared.step.Effect.{Effect}
 use Rattle.mtrace_replay.specs.Moment.{moved, without, asked_size}
-use Rattle.mtrace_replay.specs.Index.{held_at}
 use Rattle.mtrace_replay.specs.Step.{all_given, Comes}
 use Rattle.mtrace_replay.proofs.HeapSteps.{bare_moved, bare_not_moved}
 use Rattle.mtrace_replay.proofs.Living.{live_after_realloc}
-use Rattle.mtrace_replay.proofs.StepLemmas.{comes_moved, comes_not_moved}
+use Rattle.mtrace_replay.proofs.Served.{moved_small, moved_records}
+use Rattle.mtrace_replay.proofs.HeldFew.{held_fits}
+use Rattle.mtrace_replay.proofs.StepLemmas.{asked_least, comes_moved, comes_not_moved}
 use Rattle.mtrace_replay.proofs.step.reallocate.Goals as goal
 
-pub returns-in_ok-replace-in-Ok-Some-clause-comes : goal.returns-in_ok-replace-in-Ok-Some-clause-comes
-returns-in_ok-replace-in-Ok-Some-clause-comes g c =
+pub replace-requires : goal.replace-requires
+replace-requires g c =
     let old = g.H.Heaped.content c.args.heap.now in
-    let new = g.H.Heaped.content c.realloc.new.self in
+    let asked = asked_least c.args.entry.size in
+    let most = moved_small (λ a b. a == b) c.in-Ok.block.ptr.slot c.args.ptr.slot c.args.ptr.place c.asked_size.result old (Some (c.in-Ok.block.ptr.place, c.in-Ok.block.ptr.slot), g.H.Heaped.content c.realloc_block.new.heap) (λ none. omega (arith, asked, c.asked_size.ensures, none)) c.in-Ok.ensures.ok in
+    let fits = held_fits c.args.held.now old c.keeps_order.ensures c.keeps_good.ensures.good c.requires.live in
+    record { room = omega (arith, most, fits, asked, c.asked_size.ensures) }
+
+pub returns-in_ok-replace-in-Ok-clause-comes : goal.returns-in_ok-replace-in-Ok-clause-comes
+returns-in_ok-replace-in-Ok-clause-comes g c =
+    let old = g.H.Heaped.content c.args.heap.now in
+    let new = g.H.Heaped.content c.realloc_block.new.heap in
     let held = c.args.held.now in
+    let after = c.replace.new.self in
     let entry = c.args.entry in
     let ptr = c.args.ptr in
-    let given = c.in-Ok-Some.new in
+    let given = c.in-Ok.block.ptr in
     let under = c.requires.held in
     let P : Pointer → Type 0 = λ p. is_live (λ slot. slot == p.slot) p.place (blocks_of old.pools) ≡ true in
     let live = subst P under.2 (c.requires.live.live c.args.old under.0 under.1) in
-    let R : Option Pointer → Type 0 = λ o. realloc (λ a b. a == b) (slot_of o) (place_and_slot (Some ptr)) c.asked_size.result old ≡ Ok (place_and_slot o, new) in
-    let served = bare_moved old new ptr.place ptr.slot live given.slot c.asked_size.result given.place given.slot (subst R c.in-Ok-Some.field-0-is c.in-Ok-Some.ensures.ok) in
-    let S : Pointer → Type 0 = λ p. ((other : ℕ) → held_at c.replace.new.self other ≡ cond (entry.addr == other) (Some (record { entry = entry; ptr = p })) (cond (c.args.old == other) None (held_at held other))) in
-    let changed : S given = subst S c.in-Ok-Some.new-is c.in_ok-replace-in-Ok-Some.ensures.held in
-    let Q : List Diagnostic → Type 0 = λ notes. Comes (bare old) (bare new) (all_given held) (all_given c.replace.new.self) notes
-    (moved entry.line entry.at c.args.old ptr.place entry.addr entry.size (bare old) (realloc (λ one other. true) tt (Some (ptr.place, tt)) (asked_size entry.size) (bare old))) in
-    subst Q (sym c.no_note.ensures) (comes_moved held c.replace.new.self (bare old) (bare new) c.args.old ptr.place (record { entry = entry; ptr = given })
-    (ap (λ n. realloc (λ one other. true) tt (Some (ptr.place, tt)) n (bare old)) (sym c.asked_size.ensures) ∙ served) changed)
+    let served = bare_moved old new ptr.place ptr.slot live given.slot c.asked_size.result given.place given.slot c.in-Ok.ensures.ok in
+    let moment = moved entry.line entry.at c.args.old ptr.place entry.addr entry.size (bare old) (realloc (λ one other. true) tt (Some (ptr.place, tt)) (asked_size entry.size) (bare old)) in
+    let Q : List Diagnostic → Option ℕ → Type 0 = λ notes end. Comes (bare old) (bare new) (all_given held) (all_given after) notes end moment in
+    let end = c.served.ensures.end ∙ ap (λ (n : ℕ). Some n) (c.in-Ok.ensures.end ∙ ap (λ (n : ℕ). given.place + n) (sym (size_at-renamed (λ owner. tt) given.place new.pools))) in
+    subst (λ notes. Q notes c.served.result.end) (sym c.served.ensures.note) (subst (Q []) (sym end)
+    (comes_moved held after (bare old) (bare new) c.args.old ptr.place (record { entry = entry; ptr = given })
+    (ap (λ n. realloc (λ one other. true) tt (Some (ptr.place, tt)) n (bare old)) (sym c.asked_size.ensures) ∙ served) c.in_ok-replace-in-Ok.ensures.held))
 
-pub returns-in_ok-replace-in-Ok-Some-clause-live : goal.returns-in_ok-replace-in-Ok-Some-clause-live
-returns-in_ok-replace-in-Ok-Some-clause-live g c =
+pub returns-in_ok-replace-in-Ok-clause-live : goal.returns-in_ok-replace-in-Ok-clause-live
+returns-in_ok-replace-in-Ok-clause-live g c =
     let old = g.H.Heaped.content c.args.heap.now in
-    let new = g.H.Heaped.content c.realloc.new.self in
-    let held = c.args.held.now in
-    let entry = c.args.entry in
-    let given = c.in-Ok-Some.new in
+    let new = g.H.Heaped.content c.realloc_block.new.heap in
     let under = c.requires.held in
-    let R : Option Pointer → Pointer → Type 0 = λ o p. realloc (λ a b. a == b) (slot_of o) (Some (p.place, p.slot)) c.asked_size.result old ≡ Ok (place_and_slot o, new) in
-    let S : Pointer → Type 0 = λ p. ((other : ℕ) → held_at c.replace.new.self other ≡ cond (entry.addr == other) (Some (record { entry = entry; ptr = p })) (cond (c.args.old == other) None (held_at held other))) in
-    let changed : S given = subst S c.in-Ok-Some.new-is c.in_ok-replace-in-Ok-Some.ensures.held in
-    live_after_realloc held c.replace.new.self old new c.keeps_good.ensures.good c.requires.live c.args.old under.0 under.1 (record { entry = entry; ptr = given }) c.asked_size.result
-    (subst (R (Some given)) (sym under.2) (subst (λ o. R o c.args.ptr) c.in-Ok-Some.field-0-is c.in-Ok-Some.ensures.ok)) changed
+    let given = c.in-Ok.block.ptr in
+    let asked = asked_least c.args.entry.size in
+    let R : Pointer → Type 0 = λ p. realloc (λ a b. a == b) given.slot (Some (p.place, p.slot)) c.asked_size.result old ≡ Ok (Some (given.place, given.slot), new) in
+    live_after_realloc c.args.held.now c.replace.new.self old new c.keeps_good.ensures.good c.requires.live c.args.old under.0 under.1 (record { entry = c.args.entry; ptr = given }) c.asked_size.result
+    (subst R (sym under.2) c.in-Ok.ensures.ok) (omega (arith, asked, c.asked_size.ensures)) (omega (arith, asked, c.asked_size.ensures)) c.in_ok-replace-in-Ok.ensures.held
+
+pub returns-in_ok-replace-in-Ok-clause-records : goal.returns-in_ok-replace-in-Ok-clause-records
+returns-in_ok-replace-in-Ok-clause-records g c =
+    moved_records (λ a b. a == b) c.in-Ok.block.ptr.slot c.args.ptr.slot c.args.ptr.place c.asked_size.result (g.H.Heaped.content c.args.heap.now) (Some (c.in-Ok.block.ptr.place, c.in-Ok.block.ptr.slot), g.H.Heaped.content c.realloc_block.new.heap) c.in-Ok.ensures.ok
+
+pub returns-in_err-replace-in-Ok-clause-records : goal.returns-in_err-replace-in-Ok-clause-records
+returns-in_err-replace-in-Ok-clause-records g c =
+    moved_records (λ a b. a == b) c.in-Ok.block.ptr.slot c.args.ptr.slot c.args.ptr.place c.asked_size.result (g.H.Heaped.content c.args.heap.now) (Some (c.in-Ok.block.ptr.place, c.in-Ok.block.ptr.slot), g.H.Heaped.content c.realloc_block.new.heap) c.in-Ok.ensures.ok
 
 pub returns-in_ok-take-in-Err : goal.returns-in_ok-take-in-Err
 returns-in_ok-take-in-Err g c =
     let old = g.H.Heaped.content c.args.heap.now in
-    let middle = g.H.Heaped.content c.realloc.new.self in
-    let new = bare (g.H.Heaped.content c.take.new.heap) in
+    let middle = g.H.Heaped.content c.realloc_block.new.heap in
+    let last = g.H.Heaped.content c.take.new.heap in
+    let new = bare last in
     let held = c.args.held.now in
+    let after = c.take.new.held in
     let entry = c.args.entry in
     let ptr = c.args.ptr in
     let under = c.requires.held in
@@ -61,11 +79,14 @@ returns-in_ok-take-in-Err g c =
     let live = subst P under.2 (c.requires.live.live c.args.old under.0 under.1) in
     let refused = bare_not_moved old middle ptr.place ptr.slot live 0 c.asked_size.result c.in-Err.refusal (c.in-Err.ensures.refused (search rules) 0) in
     let freed : new ≡ without ptr.place (bare old) = c.in_ok-take-in-Err.ensures.content ∙ ap (λ content. without ptr.place (bare content)) c.in-Err.ensures.unchanged in
-    let Q : List Diagnostic → Type 0 = λ notes. Comes (bare old) new (all_given held) (all_given c.take.new.held) notes
-    (moved entry.line entry.at c.args.old ptr.place entry.addr entry.size (bare old) (realloc (λ one other. true) tt (Some (ptr.place, tt)) (asked_size entry.size) (bare old))) in
+    let moment = moved entry.line entry.at c.args.old ptr.place entry.addr entry.size (bare old) (realloc (λ one other. true) tt (Some (ptr.place, tt)) (asked_size entry.size) (bare old)) in
+    let Q : List Diagnostic → Type 0 = λ notes. Comes (bare old) new (all_given held) (all_given after) notes None moment in
+    let S : Effect → Type 0 = λ effect. Comes (bare old) new (all_given held) (all_given after) effect.note.items effect.end moment in
     record {
-      comes = subst Q (sym c.one_note.ensures) (comes_not_moved held c.take.new.held (bare old) new c.args.old ptr.place entry c.in-Err.refusal
-          (ap (λ n. realloc (λ one other. true) tt (Some (ptr.place, tt)) n (bare old)) (sym c.asked_size.ensures) ∙ refused) freed c.in_ok-take-in-Err.ensures.held);
+      comes = subst S (sym c.unserved.ensures) (subst Q (sym c.one_note.ensures) (comes_not_moved held after (bare old) new c.args.old ptr.place entry c.in-Err.refusal
+          (ap (λ n. realloc (λ one other. true) tt (Some (ptr.place, tt)) n (bare old)) (sym c.asked_size.ensures) ∙ refused) freed c.in_ok-take-in-Err.ensures.held));
       live = c.in_ok-take-in-Err.ensures.live;
       unchanged = tt;
+      records = c.take.ensures.records ∙ ap (λ (content : Content ℕ). content.records) c.in-Err.ensures.unchanged;
+      bound = omega (arith, c.take.ensures.bound, c.realloc_block.ensures.bound);
     }

@@ -1,7 +1,8 @@
-use Rattle.std.proofs.Common.{List, sym, subst, ap, ◌∙◌}
+use Rattle.std.proofs.Common.{None, List, sym, subst, ap, ◌∙◌}
 use Rattle.tlsf_heap.specs.Bare.{bare}
 use Rattle.tlsf_heap.specs.Pointer.{Pointer}
 use Rattle.mtrace_replay.specs.declared.diagnostic.Diagnostic.{Diagnostic}
+use Rattle.mtrace_replay.specs.declared.step.Effect.{Effect}
 use Rattle.mtrace_replay.specs.Moment.{release, without}
 use Rattle.mtrace_replay.specs.Index.{held_at}
 use Rattle.mtrace_replay.specs.Step.{all_given, found, Comes}
@@ -12,8 +13,9 @@ pub returns-in_default-clause-comes : goal.returns-in_default-clause-comes
 returns-in_default-clause-comes g c =
     let content = bare (g.H.Heaped.content c.args.heap.now) in
     let held = c.args.held.now in
-    let P : List Diagnostic → Type 0 = λ notes. Comes content content (all_given held) (all_given held) notes (release c.args.number c.args.address (found (all_given held) c.args.address) content) in
-    subst P (sym c.one_note.ensures) (comes_not_held held held content content c.args.number c.args.address (under_none (held_at held c.args.address) (sym c.block_of.ensures ∙ c.in_default.is)))
+    let P : List Diagnostic → Type 0 = λ notes. Comes content content (all_given held) (all_given held) notes None (release c.args.number c.args.address (found (all_given held) c.args.address) content) in
+    let Q : Effect → Type 0 = λ effect. Comes content content (all_given held) (all_given held) effect.note.items effect.end (release c.args.number c.args.address (found (all_given held) c.args.address) content) in
+    subst Q (sym c.unserved.ensures) (subst P (sym c.one_note.ensures) (comes_not_held held held content content c.args.number c.args.address (under_none (held_at held c.args.address) (sym c.block_of.ensures ∙ c.in_default.is))))
 
 pub returns-clause-comes : goal.returns-clause-comes
 returns-clause-comes g c =
@@ -22,6 +24,7 @@ returns-clause-comes g c =
     let held = c.args.held.now in
     let new = c.take.new.held in
     let under = under_some (held_at held c.args.address) c.in-Some.ptr (sym c.block_of.ensures ∙ c.in-Some.is) in
-    let P : List Diagnostic → Type 0 = λ notes. Comes content after (all_given held) (all_given new) notes (release c.args.number c.args.address (found (all_given held) c.args.address) content) in
-    subst P (sym c.no_note.ensures) (comes_released held new content after c.args.number c.args.address under.0 under.1
-    (c.in_ok-take.ensures.content ∙ ap (λ (ptr : Pointer). without ptr.place content) (sym under.2)) c.in_ok-take.ensures.held)
+    let P : List Diagnostic → Type 0 = λ notes. Comes content after (all_given held) (all_given new) notes None (release c.args.number c.args.address (found (all_given held) c.args.address) content) in
+    let Q : Effect → Type 0 = λ effect. Comes content after (all_given held) (all_given new) effect.note.items effect.end (release c.args.number c.args.address (found (all_given held) c.args.address) content) in
+    subst Q (sym c.unserved-2.ensures) (subst P (sym c.no_note.ensures) (comes_released held new content after c.args.number c.args.address under.0 under.1
+    (c.in_ok-take.ensures.content ∙ ap (λ (ptr : Pointer). without ptr.place content) (sym under.2)) c.in_ok-take.ensures.held))

@@ -1,13 +1,22 @@
-use Rattle.std.proofs.Common.{◌≡◌, ℕ, List, sym, ◌∙◌, refl, subst, codes}
-use Rattle.std.specs.Prelude.{string_bytes}
-use Rattle.tlsf_tool.specs.Statuses.{AskLeaks}
-use Rattle.tlsf_tool.proofs.WordLemmas.{ask_leaks, same_text}
+use Rattle.std.proofs.lemmas.Result.{IfErr-weaker}
+use Rattle.clap.specs.Words.{app_of}
+use Rattle.tlsf_tool.specs.CommandLine.{texts_of, wrong_with}
+use Rattle.tlsf_tool.proofs.LineLemmas.{asks_nothing, explained, explains_words, no_report_explains, nothing_wrong, some_wrong}
 use Rattle.tlsf_tool.proofs.words.command.Goals as goal
 
-pub returns-in-Ok-clause-asked : goal.returns-in-Ok-clause-asked
-returns-in-Ok-clause-asked c =
-    let name = c.name-item.result in
-    let log = c.log-item.result in
-    let is : string_bytes name ≡ codes "leaks" = sym c.as_str.ensures.value ∙ same_text c.as_str.result.now (codes "leaks") c.if-ne.ensures in
-    let P : List ℕ → Type 0 = λ bytes. AskLeaks c.args.words.now bytes in
-    (subst P (sym c.in-Ok.ensures.cases) (ask_leaks c.args.words.now name log c.in-len3.len_at_least c.in-len3.len_below c.name-item.is c.log-item.is is), refl, refl)
+pub returns-in-Ok-try_get_matches_from-clause-faults : goal.returns-in-Ok-try_get_matches_from-clause-faults
+returns-in-Ok-try_get_matches_from-clause-faults c =
+    let none = nothing_wrong (app_of c.in-Ok.line) (texts_of c.args.words.now) c.in-Ok.ensures c.in-Ok-try_get_matches_from.ensures.kinds in
+    IfErr-weaker c.asked.result _ _ (λ fault h. no_report_explains c.args.words.now fault none h) c.asked.ensures.faults
+
+pub returns-in-Err-clause-faults : goal.returns-in-Err-clause-faults
+returns-in-Err-clause-faults c =
+    let some = some_wrong (app_of c.in-Ok.line) (texts_of c.args.words.now) c.in-Ok.ensures c.in-Err.error c.in-Err.ensures.kinds in
+    explains_words c.args.words.now c.fault_of.result
+    (explained (wrong_with c.args.words.now) c.in-Err.error c.fault_of.result some c.fault_of.ensures)
+
+pub returns-in-Err-clause-nothing_asked : goal.returns-in-Err-clause-nothing_asked
+returns-in-Err-clause-nothing_asked c =
+    let some = some_wrong (app_of c.in-Ok.line) (texts_of c.args.words.now) c.in-Ok.ensures c.in-Err.error c.in-Err.ensures.kinds in
+    asks_nothing c.args.words.now c.fault_of.result
+    (explained (wrong_with c.args.words.now) c.in-Err.error c.fault_of.result some c.fault_of.ensures)

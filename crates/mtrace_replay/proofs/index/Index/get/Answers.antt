@@ -5,6 +5,6 @@ use Rattle.mtrace_replay.proofs.index.Index.get.Goals as goal
 
 pub returns : goal.returns
 returns c = record {
-  value = c.get.ensures.value ∙ held_by_key c.self.inside.holdings.entries c.args.address c.self.invariant.own_keys
+  value = c.get.ensures.value ∙ held_by_key c.self.inside.holdings.entries c.args.address c.self.invariant.0.own_keys
       ∙ ap (λ holdings. held_at holdings c.args.address) c.self.view_is;
 }

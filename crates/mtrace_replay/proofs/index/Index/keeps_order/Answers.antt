@@ -4,4 +4,4 @@ use Rattle.mtrace_replay.proofs.IndexLemmas.{index_in_order}
 use Rattle.mtrace_replay.proofs.index.Index.keeps_order.Goals as goal
 
 pub returns : goal.returns
-returns c = subst AreInOrder c.self.view_is (index_in_order c.self.inside.holdings.entries c.self.invariant)
+returns c = subst AreInOrder c.self.view_is (index_in_order c.self.inside.holdings.entries c.self.invariant.0)

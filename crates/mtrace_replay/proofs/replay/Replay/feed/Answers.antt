@@ -1,41 +1,67 @@
 use Rattle.std.proofs.Common.{◌≡◌, ◌+◌, ◌∷◌, ◌++◌, false, List, refl, sym, subst, ap, ◌∙◌}
+use Rattle.std.specs.List.{list_any}
 use Rattle.std.specs.List.Sorted.{IsStrictlyIncreasing}
+use Rattle.std.proofs.lemmas.List.{length-map}
 use Rattle.tlsf_heap.specs.Bare.{bare}
 use Rattle.mtrace_replay.specs.declared.diagnostic.Diagnostic.{Diagnostic}
 use Rattle.mtrace_replay.specs.Replay.{Replayed, StandsFor, added_notes}
-use Rattle.mtrace_replay.specs.Step.{all_given}
-use Rattle.mtrace_replay.proofs.FoundLemmas.{addresses_given}
-use Rattle.mtrace_replay.proofs.Standing.{stands_for_line, notes_of_line}
+use Rattle.mtrace_replay.specs.Step.{given_of, all_given}
+use Rattle.mtrace_replay.specs.Totals.{is_refusal}
+use Rattle.mtrace_replay.proofs.FoundLemmas.{addresses_given, sizes_given}
+use Rattle.mtrace_replay.proofs.HeldFew.{held_few}
+use Rattle.mtrace_replay.proofs.Standing.{served_within, refused_within, stands_for_line, notes_of_line}
 use Rattle.mtrace_replay.proofs.replay.Replay.feed.Goals as goal
 
-pub returns-in-Ok-clause-stands : goal.returns-in-Ok-clause-stands
-returns-in-Ok-clause-stands g c = λ settings past.
-    let line = c.args.line in
-    let new : Replayed = record {
-      content = bare (g.H.Heaped.content c.outcome.new.heap);
-      given = all_given c.outcome.new.held;
-      lines = line.number;
-      pending = c.old_address-next.result;
-      out_of_memory = c.self.inside.out_of_memory;
-    } in
-    let P : Replayed → Type 0 = λ old. (old.out_of_memory ≡ false → line.number ≡ old.lines + 1) → StandsFor old settings past → StandsFor new settings (line.event ∷ past) in
-    subst P c.self.view_is
-    (λ next stands. stands_for_line _ new settings past line.event c.in-Ok.more.items line.number stands (next c.if-self.false) c.in-Ok.ensures.comes
-    (subst IsStrictlyIncreasing (sym (addresses_given c.outcome.new.held)) c.keeps_order.ensures) refl c.old_address-next.ensures c.if-self.false)
-    c.requires.next
+pub invariant_of-self : goal.invariant_of-self
+invariant_of-self g c =
+    let old = c.self.inside.totals in
+    let gone = c.after-self-inside.ensures in
+    record {
+      live = (λ works. c.in-Ok.ensures.live);
+      few = held_few c.outcome.new.held (g.H.Heaped.content c.outcome.new.heap) c.keeps_order.ensures c.keeps_good.ensures.good c.in-Ok.ensures.live;
+      served = served_within old c.in-Ok.done.end c.has_refusal-is_refused.result c.bytes-bytes.result c.len-blocks.result c.after-self-inside.result gone c.self.invariant.served;
+      refused = refused_within old c.in-Ok.done.end c.has_refusal-is_refused.result c.bytes-bytes.result c.len-blocks.result c.after-self-inside.result gone c.self.invariant.refused;
+    }
 
 pub returns-in-Ok-clause-note : goal.returns-in-Ok-clause-note
 returns-in-Ok-clause-note g c = λ settings past.
     let line = c.args.line in
     let new : Replayed = record {
       content = bare (g.H.Heaped.content c.outcome.new.heap);
+      touches = g.H.Heaped.touches c.outcome.new.heap;
       given = all_given c.outcome.new.held;
-      lines = line.number;
+      totals = c.after-self-inside.result;
       pending = c.old_address-next.result;
       out_of_memory = c.self.inside.out_of_memory;
     } in
-    let P : Replayed → Type 0 = λ old. (old.out_of_memory ≡ false → line.number ≡ old.lines + 1) → StandsFor old settings past → c.after_half.result.items ≡ added_notes settings line.event past in
+    let P : Replayed → Type 0 = λ old. (old.out_of_memory ≡ false → line.number ≡ old.totals.lines + 1) → StandsFor old settings past → c.after_half-note.result.items ≡ added_notes settings line.event past in
     subst P c.self.view_is
-    (λ next stands. c.after_half.ensures ∙ ap (λ (notes : List Diagnostic). notes ++ c.in-Ok.more.items) c.half_before-half.ensures
-    ∙ notes_of_line _ new settings past line.event c.in-Ok.more.items line.number stands (next c.if-self.false) c.in-Ok.ensures.comes)
+    (λ next stands. c.after_half-note.ensures ∙ ap (λ (notes : List Diagnostic). notes ++ c.in-Ok.done.note.items) c.half_before-half.ensures
+    ∙ notes_of_line _ new settings past line.event c.in-Ok.done.note.items c.in-Ok.done.end line.number stands (next c.if-self.false) c.in-Ok.ensures.comes)
     c.requires.next
+
+pub returns-in-Ok-clause-stands : goal.returns-in-Ok-clause-stands
+returns-in-Ok-clause-stands g c = λ settings past.
+    let line = c.args.line in
+    let heap = g.H.Heaped.content c.outcome.new.heap in
+    let holdings = c.outcome.new.held in
+    let new : Replayed = record {
+      content = bare heap;
+      touches = g.H.Heaped.touches c.outcome.new.heap;
+      given = all_given holdings;
+      totals = c.after-self-inside.result;
+      pending = c.old_address-next.result;
+      out_of_memory = c.self.inside.out_of_memory;
+    } in
+    let notes : StandsFor c.args.self.now settings past → c.after_half-note.result.items ≡ added_notes settings line.event past = returns-in-Ok-clause-note g c settings past in
+    let P : Replayed → Type 0 = λ old. (old.out_of_memory ≡ false → line.number ≡ old.totals.lines + 1)
+    → (StandsFor old settings past → c.after_half-note.result.items ≡ added_notes settings line.event past)
+    → StandsFor old settings past → StandsFor new settings (line.event ∷ past) in
+    subst P c.self.view_is
+    (λ next told stands. stands_for_line _ new settings past line.event c.in-Ok.done.note.items c.in-Ok.done.end line.number stands (next c.if-self.false) c.in-Ok.ensures.comes
+    heap holdings c.keeps_good.ensures.good c.in-Ok.ensures.live refl refl
+    (subst IsStrictlyIncreasing (sym (addresses_given holdings)) c.keeps_order.ensures) c.old_address-next.ensures c.if-self.false
+    c.bytes-bytes.result c.len-blocks.result c.has_refusal-is_refused.result c.after-self-inside.ensures
+    (c.bytes-bytes.ensures ∙ sizes_given holdings) (c.len-blocks.ensures.len ∙ sym (length-map holdings given_of))
+    (c.has_refusal-is_refused.ensures ∙ ap (λ (notes : List Diagnostic). list_any (λ (note : Diagnostic). is_refusal note.kind) notes) (told stands)))
+    c.requires.next notes

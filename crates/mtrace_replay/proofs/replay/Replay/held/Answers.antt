@@ -1,7 +1,16 @@
-use Rattle.std.proofs.Common.{sym, ap, ◌∙◌}
-use Rattle.mtrace_replay.specs.Replay.{entries}
+use Rattle.std.proofs.Common.{◌≤◌, length, sym, subst, ap, ◌∙◌, arith}
+use Rattle.std.proofs.lemmas.List.{length-map}
+use Rattle.mtrace_replay.specs.declared.holding.Holding.{Holding}
+use Rattle.mtrace_replay.specs.Replay.{Replayed, entries}
 use Rattle.mtrace_replay.proofs.FoundLemmas.{entries_given}
 use Rattle.mtrace_replay.proofs.replay.Replay.held.Goals as goal
 
 pub returns : goal.returns
-returns g c = record { entries = c.entries.ensures.entries ∙ sym (entries_given c.self.inside.held) ∙ ap entries c.self.view_is }
+returns g c =
+    let same = c.entries.ensures.entries in
+    let many = length-map c.self.inside.held (λ (holding : Holding). holding.entry) in
+    let P : Replayed → Type 0 = λ replay. length c.entries.result ≤ replay.content.records in
+    record {
+      entries = same ∙ sym (entries_given c.self.inside.held) ∙ ap entries c.self.view_is;
+      few = subst P c.self.view_is (omega (arith, ap (λ es. length es) same, many, c.self.invariant.few));
+    }

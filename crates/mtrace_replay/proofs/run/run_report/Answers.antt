@@ -4,13 +4,13 @@ use Rattle.mtrace_log.specs.declared.call.Call.TheVariants.{Took, Flushed}
 use Rattle.mtrace_log.proofs.TraceLemmas.{moved_then_append, flush_after, failed_after}
 use Rattle.mtrace_replay.specs.Run.{Bytes, StopsAtLine}
 use Rattle.mtrace_replay.proofs.RunLemmas.{reports_by, report_write, same_error}
-use Rattle.mtrace_replay.proofs.run.run_leaks.Goals as goal
+use Rattle.mtrace_replay.proofs.run.run_report.Goals as goal
 
 pub returns-in-Ok-replay_lines-clause-finished : goal.returns-in-Ok-replay_lines-clause-finished
 returns-in-Ok-replay_lines-clause-finished g c =
     let left = g.R.Source.left in
     let taken = g.W.Sink.taken in
-    reports_by c.args.settings c.replay_lines.new.replay c.in-Ok-replay_lines.noted c.finish.result (left c.args.reader.now) (left c.replay_lines.new.reader)
+    reports_by c.args.report c.args.settings c.replay_lines.new.replay c.in-Ok-replay_lines.noted c.finish.result (left c.args.reader.now) (left c.replay_lines.new.reader)
     (taken c.args.writer.now) (taken c.replay_lines.new.writer) (taken c.finish.new.writer)
     (c.in-Ok-replay_lines.ensures.done c.args.settings c.in-Ok.ensures.made) c.finish.ensures.all c.finish.ensures.status
 
@@ -20,7 +20,7 @@ returns-in-Ok-replay_lines-clause-write_fault g c = λ e.
     let left = g.R.Source.left in
     let taken = g.W.Sink.taken in
     let begins = rw e at c.finish.ensures.beginning in
-    report_write c.args.settings c.replay_lines.new.replay c.in-Ok-replay_lines.noted (left c.args.reader.now) (left c.replay_lines.new.reader)
+    report_write c.args.report c.args.settings c.replay_lines.new.replay c.in-Ok-replay_lines.noted (left c.args.reader.now) (left c.replay_lines.new.reader)
     (taken c.args.writer.now) (taken c.replay_lines.new.writer) (taken c.finish.new.writer)
     done begins
 

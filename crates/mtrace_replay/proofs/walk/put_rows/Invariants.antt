@@ -1,0 +1,18 @@
+use Rattle.std.proofs.Common.{◌≡◌, flat_map, length}
+use Rattle.mtrace_log.specs.Trace.{HasTaken}
+use Rattle.mtrace_replay.specs.Texts.{row_text}
+use Rattle.mtrace_replay.proofs.Writing.{HasPut}
+use Rattle.mtrace_replay.proofs.walk.put_rows.Given as goal
+
+-- the lines so far are put, those of the rows from here on are left, and the writer only took
+abbrev pub invariant-loop-next : goal.invariant-loop-next
+invariant-loop-next g l = record {
+  stands : g.H.Heaped.stands l.heap l.here;
+  put : HasPut (g.W.Sink.taken l.initial.writer) (g.W.Sink.taken l.writer) (flat_map row_text (g.H.Heaped.rest l.initial.heap l.fn.cursor)) (flat_map row_text (g.H.Heaped.rest l.heap l.here));
+  took : HasTaken (g.W.Sink.trace l.initial.writer) (g.W.Sink.trace l.writer);
+  same : g.H.Heaped.content l.heap ≡ g.H.Heaped.content l.initial.heap;
+}
+
+-- how many rows are left
+abbrev pub decreases-loop-next : goal.decreases-loop-next
+decreases-loop-next g l = length (g.H.Heaped.rest l.heap l.here)

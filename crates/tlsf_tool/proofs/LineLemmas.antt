@@ -1,0 +1,157 @@
+-- The command line's description, and what a parse by it gives.
+use Rattle.std.proofs.Common.{◌≡◌, ◌∙◌, ◌⊎◌, ◌<◌, ◌^◌, ℕ, List, [], Option, Some, None, Result, Ok, Err, inl, inr, refl, sym, ap, ap₂, subst, true, codes, unwrap_or, option_map}
+use Rattle.std.specs.Prelude.{Box, IfSome, IfNone, String, string_bytes}
+use Rattle.std.specs.declared.alloc.Global.{Global}
+use Rattle.std.specs.Str.Parse.{ParsesUnsigned, digits_value, without_leading_plus}
+use Rattle.clap.specs.Words.{App, HasMatchesOf, HasKind, IsAmong, Kinds, ReadsOne, Row, Text, fault_of, first_of, is_simple, is_simple_and_free, kind_of, one_text, rows_of, subcommand_name_of, subcommand_of, subcommand_rows, subcommand_rows_of}
+use Rattle.clap.specs.declared.parser.matches.ArgMatches.{ArgMatches}
+use Rattle.clap.specs.declared.parser.matches.ArgMatches.TheViews.{out-ArgMatches, out-SubCommand}
+use Rattle.clap.specs.declared.parser.matches.SubCommand.{SubCommand}
+use Rattle.clap.specs.declared.parser.matches.Found.{Found}
+use Rattle.clap.specs.declared.error.Error.{Error}
+use Rattle.clap.specs.declared.error.kind.ErrorKind.{ErrorKind}
+use Rattle.clap.specs.declared.error.kind.ErrorKind.TheVariants as kind
+use Rattle.std.specs.Box.{box_value}
+use Rattle.clap.proofs.OnLiterals.{clap_on_literals}
+use Rattle.clap.proofs.WalkLemmas.{one_text-rows}
+use Rattle.mtrace_replay.specs.declared.settings.Settings.{Settings}
+use Rattle.mtrace_replay.specs.declared.status.RunFault.TheVariants.{OutOfMemory}
+use Rattle.tlsf_tool.specs.declared.asked.Command.{Command}
+use Rattle.tlsf_tool.specs.declared.asked.Command.TheVariants.{Report}
+use Rattle.tlsf_tool.specs.declared.asked.Name.{Name}
+use Rattle.tlsf_tool.specs.declared.asked.ToolFault.{ToolFault}
+use Rattle.tlsf_tool.specs.declared.asked.ToolFault.TheVariants.{Help, Usage, CannotOpen, Run}
+use Rattle.tlsf_tool.specs.CommandLine.{AskFor, HasNumber, HasSettings, MatchesAskFor, name_text, tlsf_line, wrong_with}
+use Rattle.tlsf_tool.specs.Faults.{ExplainsKind, ExplainsWords, IsUsage}
+
+pub line_is_simple : is_simple tlsf_line ≡ true
+unfolding clap_on_literals
+line_is_simple = refl
+
+pub line_is_free : is_simple_and_free tlsf_line ≡ true
+unfolding clap_on_literals
+line_is_free = refl
+
+-- ---- numbers
+
+pub number_none : {E : Type 0} (gives : Text → Result ℕ E → Type 0) (f : Found) (id : Text) (bits : ℕ) (r : Option ℕ)
+    → ((t : Text) (x : Result ℕ E) → gives t x → ParsesUnsigned bits 10 t x)
+    → ((t : Text) → one_text f id ≡ Some t → ReadsOne gives t r)
+    → r ≡ None → (n : ℕ) → HasNumber (rows_of f) id bits n → ⊥
+number_none {E} gives f id bits r parses value is n has =
+    let text = has.0 in
+    let reads = subst (λ (o : Option ℕ). ReadsOne gives text o) is (value text (one_text-rows f id ∙ has.1)) in
+    let fits : digits_value 10 (without_leading_plus text) < 2 ^ bits = subst (λ (k : ℕ). k < 2 ^ bits) (sym has.3) has.4 in
+    parses text (Err reads.0) reads.1 (has.2, fits)
+
+pub number_some : {E : Type 0} (gives : Text → Result ℕ E → Type 0) (f : Found) (id : Text) (bits : ℕ) (n : ℕ)
+    → ((t : Text) (x : Result ℕ E) → gives t x → ParsesUnsigned bits 10 t x)
+    → ((one_text f id ≡ None) → Some n ≡ None)
+    → ((t : Text) → one_text f id ≡ Some t → ReadsOne gives t (Some n))
+    → HasNumber (rows_of f) id bits n
+number_some {E} gives f id bits n parses none value = go (one_text f id) refl
+  where
+    go : (o : Option Text) → one_text f id ≡ o → HasNumber (rows_of f) id bits n
+    go None is = absurd (let e : Some n ≡ None = none is in cc)
+    go (Some text) is =
+        let p = parses text (Ok n) (value text is) in
+        (text, sym (one_text-rows f id) ∙ is, p.0.0, sym p.1, subst (λ (k : ℕ). k < 2 ^ bits) (sym p.1) p.0.1)
+
+pub number_read : {E : Type 0} (gives : Text → Result ℕ E → Type 0) (f : Found) (id : Text) (bits : ℕ) (r : Option ℕ)
+    → ((t : Text) (x : Result ℕ E) → gives t x → ParsesUnsigned bits 10 t x)
+    → ((one_text f id ≡ None) → r ≡ None)
+    → ((t : Text) → one_text f id ≡ Some t → ReadsOne gives t r)
+    → IfSome r (HasNumber (rows_of f) id bits) × IfNone r ((n : ℕ) → HasNumber (rows_of f) id bits n → ⊥)
+number_read gives f id bits None parses none value = (tt, number_none gives f id bits None parses value refl)
+number_read gives f id bits (Some n) parses none value = (number_some gives f id bits n parses none value, tt)
+
+-- ---- the subcommand
+
+module _ {Z : Type 0} where
+  subcommand_of_parts : (o : Option (Box SubCommand Z)) (name : Text) (rows : List Row)
+      → Some name ≡ option_map (λ b. (out-SubCommand (box_value b)).name.now) o
+      → Some rows ≡ option_map (λ p. p.1) (subcommand_rows o) → subcommand_rows o ≡ Some (name, rows)
+  subcommand_of_parts None name rows named found = absurd (let e : Some name ≡ None = named in cc)
+  subcommand_of_parts (Some b) name rows named found =
+      let same_name = ap (λ (x : Option Text). unwrap_or x name) named in
+      let same_rows = ap (λ (x : Option (List Row)). unwrap_or x rows) found in
+      ap₂ (λ (n : Text) (rs : List Row). Some (n, rs)) (sym same_name) (sym same_rows)
+
+pub subcommand_is : (m : ArgMatches) (name : Text) (rows : List Row)
+    → Some name ≡ subcommand_name_of m → Some rows ≡ option_map (λ p. p.1) (subcommand_rows_of m)
+    → subcommand_rows_of m ≡ Some (name, rows)
+subcommand_is m name rows = subcommand_of_parts (out-ArgMatches m).subcommand name rows
+
+-- ---- what matches ask for
+
+abbrev pub AsksNothing : Option (Text × List Row) → Type 0
+AsksNothing found = (command : Command) → MatchesAskFor found command → ⊥
+
+pub none_asks_nothing : (found : Option (Text × List Row)) → option_map (λ p. p.1) found ≡ None → AsksNothing found
+none_asks_nothing None is command asks = asks
+none_asks_nothing (Some p) is command asks = absurd (let e : Some p.1 ≡ None = is in cc)
+
+module _ (found : Option (Text × List Row)) (name : Text) (rows : List Row) (is : found ≡ Some (name, rows)) where
+  pub unnamed_asks_nothing : ((n : Name) → name ≡ name_text n → ⊥) → AsksNothing found
+  unnamed_asks_nothing never (Report n settings log) asks = never n (subst (λ f. MatchesAskFor f (Report n settings log)) is asks).0
+
+  pub unset_asks_nothing : ((settings : Settings) → HasSettings rows settings → ⊥) → AsksNothing found
+  unset_asks_nothing never (Report n settings log) asks = never settings (subst (λ f. MatchesAskFor f (Report n settings log)) is asks).1
+
+  pub no_log_asks_nothing : first_of (codes "LOG") rows ≡ None → AsksNothing found
+  no_log_asks_nothing none (Report n settings log) asks =
+      let some = (subst (λ f. MatchesAskFor f (Report n settings log)) is asks).2 in
+      absurd (let e : None ≡ Some (string_bytes log) = sym none ∙ some in cc)
+
+pub refuses : {P : Type 0} (fault : ToolFault) → IsUsage fault ⊎ (fault ≡ Run OutOfMemory) → P
+    → (fault ≡ Run OutOfMemory) ⊎ (IsUsage fault × P)
+refuses fault (inl usage) p = inr (usage, p)
+refuses fault (inr memory) p = inl memory
+
+-- ---- the parse
+
+module _ (app : App) (texts : List Text) (is : app ≡ tlsf_line) where
+  pub finds : (m : ArgMatches) → HasMatchesOf app texts m → subcommand_rows_of m ≡ subcommand_of tlsf_line texts
+  finds m h = (subst (λ (a : App). HasMatchesOf a texts m) is h line_is_simple).1
+
+  pub nothing_wrong : (is_simple_and_free app ≡ true → fault_of app texts ≡ []) → fault_of tlsf_line texts ≡ []
+  nothing_wrong h = subst (λ (a : App). is_simple_and_free a ≡ true → fault_of a texts ≡ []) is h line_is_free
+
+  pub some_wrong : (e : Error) → (is_simple_and_free app ≡ true → HasKind (fault_of app texts) e) → HasKind (fault_of tlsf_line texts) e
+  some_wrong e h = subst (λ (a : App). is_simple_and_free a ≡ true → HasKind (fault_of a texts) e) is h line_is_free
+
+pub no_memory_explained : (k : ErrorKind) (fault : ToolFault) → k ≡ kind.OutOfMemory → ExplainsKind k fault → ⊥
+no_memory_explained k (Help text) is (inl help) = absurd (let e : kind.OutOfMemory ≡ kind.DisplayHelp = sym is ∙ help in cc)
+no_memory_explained k (Help text) is (inr version) = absurd (let e : kind.OutOfMemory ≡ kind.DisplayVersion = sym is ∙ version in cc)
+no_memory_explained k (Usage text) is explains = explains.2 is
+no_memory_explained k (CannotOpen log) is explains = explains
+no_memory_explained k (Run fault) is explains = explains
+
+pub explained : (kinds : Kinds) (e : Error) (fault : ToolFault) → HasKind kinds e
+    → (fault ≡ Run OutOfMemory) ⊎ ExplainsKind (kind_of e) fault
+    → (fault ≡ Run OutOfMemory) ⊎ ((k : ErrorKind) × IsAmong k kinds × ExplainsKind k fault)
+explained kinds e fault has (inl memory) = inl memory
+explained kinds e fault (inl memory) (inr explains) = absurd (no_memory_explained (kind_of e) fault memory explains)
+explained kinds e fault (inr among) (inr explains) = inr (kind_of e, among, explains)
+
+pub not_empty : (k : ErrorKind) (kinds : Kinds) → IsAmong k kinds → kinds ≡ [] → ⊥
+not_empty k kinds among is = subst (λ (ks : Kinds). IsAmong k ks) is among
+
+module _ (words : List (String Global)) (fault : ToolFault) where
+  abbrev IsMemory : Type 0
+  IsMemory = fault ≡ Run OutOfMemory
+
+  abbrev Explains : Type 0
+  Explains = (k : ErrorKind) × IsAmong k (wrong_with words) × ExplainsKind k fault
+
+  pub explains_words : IsMemory ⊎ Explains → IsMemory ⊎ ExplainsWords words fault
+  explains_words (inl memory) = inl memory
+  explains_words (inr explains) = inr (inl explains)
+
+  pub asks_nothing : IsMemory ⊎ Explains → IsMemory ⊎ ((command : Command) → AskFor words command → ⊥)
+  asks_nothing (inl memory) = inl memory
+  asks_nothing (inr explains) = inr (λ command asks. not_empty explains.0 (wrong_with words) explains.1 asks.0)
+
+  pub no_report_explains : {P : Type 0} → wrong_with words ≡ [] → IsMemory ⊎ (IsUsage fault × P) → IsMemory ⊎ ExplainsWords words fault
+  no_report_explains none (inl memory) = inl memory
+  no_report_explains none (inr usage) = inr (inr (usage.0, none))

@@ -1,0 +1,83 @@
+-- The command line of the program, as clap reads it, and what its matches ask for.
+use Rattle.std.specs.Prelude.{◌≡◌, ◌<◌, ◌^◌, ℕ, List, [], ◌∷◌, Option, Some, None, true, map, codes, string_bytes, String}
+use Rattle.std.specs.declared.alloc.Global.{Global}
+use Rattle.std.specs.Str.Parse.{IsNumeral, digits_value, without_leading_plus}
+use Rattle.clap.specs.Words.{App, Kinds, Row, Rule, Text, fault_of, first_of, new_app, new_rule, one_of, subcommand_of, with_rule, with_subcommand}
+use Rattle.clap.specs.Simple.{on_top}
+use Rattle.clap.specs.declared.builder.value_parser.ValueParser.{ValueParser}
+use Rattle.clap.specs.declared.builder.value_parser.ValueParser.TheVariants as parser
+use Rattle.std.specs.Prelude.{pos}
+use Rattle.mtrace_replay.specs.declared.settings.Settings.{Settings}
+use Rattle.tlsf_tool.specs.declared.asked.Command.{Command}
+use Rattle.tlsf_tool.specs.declared.asked.Command.TheVariants.{Report}
+use Rattle.tlsf_tool.specs.declared.asked.Name.{Name}
+use Rattle.tlsf_tool.specs.declared.asked.Name.TheVariants.{Leaks, Peak, Walk}
+
+-- ---- the command line's description
+
+-- `--ID` with one value, which this parser takes, and its default
+abbrev pub option_rule : Text → Text → ValueParser → Rule
+option_rule id default takes = record (new_rule id) {
+  long = Some id;
+  value_names = 1;
+  defaults = default ∷ [];
+  parser = Some takes;
+}
+
+abbrev pub pool_rule : Rule
+pool_rule = option_rule (codes "pool") (codes "16777216") (parser.Unsigned 8 1073741816)
+
+abbrev pub pools_rule : Rule
+pools_rule = option_rule (codes "pools") (codes "1") (parser.Signed (pos 1) (pos 8))
+
+abbrev pub records_rule : Rule
+records_rule = option_rule (codes "records") (codes "8192") (parser.Signed (pos 1) (pos 65535))
+
+-- one word that must be there
+abbrev pub log_rule : Rule
+log_rule = record (new_rule (codes "LOG")) { required = true }
+
+-- a report's subcommand
+abbrev pub report_line : Text → App
+report_line name = with_rule (with_rule (with_rule (with_rule (new_app name) pool_rule) pools_rule) records_rule) log_rule
+
+-- `tlsf`, which wants one of its subcommands
+abbrev pub bare_line : App
+bare_line = on_top (λ s. record s { subcommand_required = true }) (new_app (codes "tlsf"))
+
+abbrev pub tlsf_line : App
+tlsf_line = with_subcommand (with_subcommand (with_subcommand bare_line (report_line (codes "leaks")).top)
+    (report_line (codes "peak")).top) (report_line (codes "walk")).top
+
+-- ---- what matches ask for
+
+abbrev pub name_text : Name → Text
+name_text Leaks = codes "leaks"
+name_text Peak = codes "peak"
+name_text Walk = codes "walk"
+
+-- the value of this id, which clap reads as the number n of so many bits
+abbrev pub HasNumber : List Row → Text → ℕ → ℕ → Type 0
+HasNumber rows id bits n = (text : Text) × (one_of id rows ≡ Some text) × IsNumeral 10 (without_leading_plus text)
+    × (digits_value 10 (without_leading_plus text) ≡ n) × (n < 2 ^ bits)
+
+abbrev pub HasSettings : List Row → Settings → Type 0
+HasSettings rows settings = HasNumber rows (codes "pool") 64 settings.pool
+    × HasNumber rows (codes "pools") 32 settings.pools × HasNumber rows (codes "records") 32 settings.records
+
+-- the subcommand and its matches ask for the command
+abbrev pub MatchesAskFor : Option (Text × List Row) → Command → Type 0
+MatchesAskFor None command = ⊥
+MatchesAskFor (Some found) (Report name settings log) = (found.0 ≡ name_text name)
+    × HasSettings found.1 settings × (first_of (codes "LOG") found.1 ≡ Some (string_bytes log))
+
+abbrev pub texts_of : List (String Global) → List Text
+texts_of = map string_bytes
+
+-- what is wrong with the words, or that they ask for help: the kinds of clap's error, none where it takes them
+abbrev pub wrong_with : List (String Global) → Kinds
+wrong_with words = fault_of tlsf_line (texts_of words)
+
+-- clap takes the words, and the subcommand that it finds in them, with its matches, asks for the command
+abbrev pub AskFor : List (String Global) → Command → Type 0
+AskFor words command = (wrong_with words ≡ []) × MatchesAskFor (subcommand_of tlsf_line (texts_of words)) command

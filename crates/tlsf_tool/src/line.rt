@@ -1,0 +1,120 @@
+//! The command line, described to clap.
+
+ghost use Rattle.std.specs.Prelude.{◌≡◌, IfOk, false};
+ghost use Rattle.clap.specs.Words.{app_of, rule_of};
+ghost use Rattle.clap.specs.declared.builder.command.Command.TheViews.{out-Command};
+ghost use Rattle.tlsf_tool.specs.CommandLine.{log_rule, pool_rule, pools_rule, records_rule, report_line, tlsf_line};
+
+use clap::{Arg, Command, value_parser};
+use std::alloc::{AllocError, Global};
+
+/// What `tlsf` is for.
+const ABOUT: &str =
+    "Replays a log of glibc's tracer mtrace(3) on a heap, and reports what it finds.";
+
+/// The end of each help.
+const EXAMPLES: &str = "Examples:
+  tlsf leaks a.log                          what is not freed at the end of a.log
+  tlsf peak --pool 1048576 --pools 2 a.log  the peak of a.log on two pools of 1 MiB
+  tlsf walk --records 65535 -               the heap at the end of the log on standard input
+
+The status is 0 where nothing was found, 1 where something was, 2 for wrong words or bad settings,
+3 where a file can't be read or written, and 4 where memory is refused.";
+
+/// What the report of leaks means.
+const LEAKS: &str =
+    "Reports the memory that is not freed at the end of the log: each block's address, size, line and place.";
+
+/// What the report of the peak means.
+const PEAK: &str =
+    "Reports the most bytes that the log holds at once, and how much of the heap they need.";
+
+/// What the report of the walk means.
+const WALK: &str =
+    "Reports the heap's pools at the end of the log, row by row: each used and each free block.";
+
+/// The option of a pool's size.
+fn pool_option<'a>(alloc: Global) -> Arg<'a>
+    ensures rule { rule_of result ≡ pool_rule }
+    ensures own { result.global ≡ false }
+{
+    let parser = value_parser!(u64).range(8..=1_073_741_816);
+    Arg::new(alloc, "pool")
+        .long("pool")
+        .value_name("BYTES")
+        .default_value("16777216")
+        .value_parser(parser)
+        .help("Bytes of each pool, a multiple of 8 from 8 to 1073741816")
+}
+
+/// The option of the number of pools.
+fn pools_option<'a>(alloc: Global) -> Arg<'a>
+    ensures rule { rule_of result ≡ pools_rule }
+    ensures own { result.global ≡ false }
+{
+    let parser = value_parser!(u32).range(1..=8);
+    Arg::new(alloc, "pools")
+        .long("pools")
+        .value_name("K")
+        .default_value("1")
+        .value_parser(parser)
+        .help("Number of pools, from 1 to 8; together they end at 4294967296 bytes at most")
+}
+
+/// The option of the number of records.
+fn records_option<'a>(alloc: Global) -> Arg<'a>
+    ensures rule { rule_of result ≡ records_rule }
+    ensures own { result.global ≡ false }
+{
+    let parser = value_parser!(u32).range(1..=65_535);
+    Arg::new(alloc, "records")
+        .long("records")
+        .value_name("N")
+        .default_value("8192")
+        .value_parser(parser)
+        .help("Number of records, one for each block, from the number of pools to 65535")
+}
+
+/// The log's name.
+fn log_word<'a>(alloc: Global) -> Arg<'a>
+    ensures rule { rule_of result ≡ log_rule }
+    ensures own { result.global ≡ false }
+{
+    Arg::new(alloc, "LOG")
+        .required(true)
+        .help("File of the log, or - for standard input")
+}
+
+/// The subcommand of one report.
+fn report_command<'a>(
+    alloc: Global,
+    name: &'a str,
+    about: &'a str,
+) -> Result<Command<'a>, AllocError>
+    ensures line { IfOk result (λ command. app_of command ≡ report_line name.entry.now) }
+    ensures own { IfOk result (λ command. (out-Command command).has_globals ≡ false) }
+{
+    Command::new(alloc, name)
+        .about(about)
+        .after_help(EXAMPLES)
+        .arg(pool_option(alloc))?
+        .arg(pools_option(alloc))?
+        .arg(records_option(alloc))?
+        .arg(log_word(alloc))
+}
+
+/// The whole command line.
+pub fn tlsf_command<'a>(alloc: Global) -> Result<Command<'a>, AllocError>
+    ensures { IfOk result (λ command. app_of command ≡ tlsf_line) }
+{
+    let leaks = report_command(alloc, "leaks", LEAKS)?;
+    let peak = report_command(alloc, "peak", PEAK)?;
+    let walk = report_command(alloc, "walk", WALK)?;
+    Command::new(alloc, "tlsf")
+        .about(ABOUT)
+        .after_help(EXAMPLES)
+        .subcommand_required(true)
+        .subcommand(leaks)?
+        .subcommand(peak)?
+        .subcommand(walk)
+}

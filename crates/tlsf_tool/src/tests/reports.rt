@@ -1,0 +1,135 @@
+//! The reports of the peak and of the walk, in one piece and in pieces of one byte and of seven.
+
+use super::rows::{SMALL, WHOLE};
+use crate::asked::Name;
+use crate::service::serve;
+use mtrace_log::memory::{MemorySink, MemorySource};
+use mtrace_replay::Settings;
+use std::alloc::Global;
+use std::process::Abort;
+
+/// A log, with a report of it.
+struct Row {
+    name: &'static str,
+    report: Name,
+    settings: Settings,
+    log: &'static [u8],
+    text: &'static [u8],
+    status: u8,
+}
+
+/// Pools of 64 bytes.
+const TWO_POOLS: Settings = Settings {
+    pool: 64,
+    pools: 2,
+    records: 8192,
+};
+
+const ROWS: [Row; 9] = [
+    Row {
+        name: "empty-log",
+        report: Name::Peak,
+        settings: SMALL,
+        log: b"",
+        text: b"lines: 0\nserved: 0\nrefused: 0\nlive: 0 bytes in 0 blocks\npeak: 0 bytes at line 0\nhigh place: 0\nfree: 1024 bytes in 1 blocks\nlargest free: 1024\nspread: -\n",
+        status: 0,
+    },
+    Row {
+        name: "two-blocks",
+        report: Name::Peak,
+        settings: SMALL,
+        log: b"= Start\n@ a + 0x10 0x64\n@ b + 0x20 0x1\n@ c - 0x10\n= End\n",
+        text: b"lines: 5\nserved: 2\nrefused: 0\nlive: 1 bytes in 1 blocks\npeak: 101 bytes at line 3\nhigh place: 112\nfree: 1016 bytes in 2 blocks\nlargest free: 912\nspread: 1108\n",
+        status: 1,
+    },
+    Row {
+        name: "two-blocks",
+        report: Name::Walk,
+        settings: SMALL,
+        log: b"= Start\n@ a + 0x10 0x64\n@ b + 0x20 0x1\n@ c - 0x10\n= End\n",
+        text: b"pool 0: 1024 bytes\n0 104 free\n104 8 used\n112 912 free\n",
+        status: 1,
+    },
+    Row {
+        name: "reallocation-pair",
+        report: Name::Walk,
+        settings: SMALL,
+        log: b"@ a + 0x10 0x64\n@ b < 0x10\n@ b > 0x30 0xc8\n",
+        text: b"pool 0: 1024 bytes\n0 200 used\n200 824 free\n",
+        status: 1,
+    },
+    Row {
+        name: "one-record-log",
+        report: Name::Peak,
+        settings: Settings {
+            pool: 64,
+            pools: 1,
+            records: 1,
+        },
+        log: b"+ 0x10 0x8\n- 0x10\n+ 0x10 0x40\n+ 0x10 0x8\n- 0x10\n",
+        text: b"line 1: 0x10 refused: table full\nline 2: 0x10 is not held\nline 4: 0x10 is already held\nlines: 5\nserved: 1\nrefused: 1\nlive: 0 bytes in 0 blocks\npeak: 64 bytes at line 3\nhigh place: 64\nfree: 64 bytes in 1 blocks\nlargest free: 64\nspread: 1000\n",
+        status: 1,
+    },
+    Row {
+        name: "two-pools-walk",
+        report: Name::Walk,
+        settings: TWO_POOLS,
+        log: b"+ 0x10 0x40\n",
+        text: b"pool 0: 64 bytes\n0 64 used\npool 64: 64 bytes\n64 64 free\n",
+        status: 1,
+    },
+    Row {
+        name: "zero-size-peak",
+        report: Name::Peak,
+        settings: SMALL,
+        log: b"+ 0x10 0\n",
+        text: b"lines: 1\nserved: 1\nrefused: 0\nlive: 0 bytes in 1 blocks\npeak: 0 bytes at line 0\nhigh place: 8\nfree: 1016 bytes in 1 blocks\nlargest free: 1016\nspread: -\n",
+        status: 1,
+    },
+    Row {
+        name: "two-pools-peak",
+        report: Name::Peak,
+        settings: TWO_POOLS,
+        log: b"+ 0x10 0x40\n+ 0x20 0x8\n",
+        text: b"lines: 2\nserved: 2\nrefused: 0\nlive: 72 bytes in 2 blocks\npeak: 72 bytes at line 2\nhigh place: 72\nfree: 56 bytes in 1 blocks\nlargest free: 56\nspread: 1000\n",
+        status: 1,
+    },
+    Row {
+        name: "four-greatest-pools",
+        report: Name::Walk,
+        settings: Settings {
+            pool: 1_073_741_816,
+            pools: 4,
+            records: 4,
+        },
+        log: b"",
+        text: b"pool 0: 1073741816 bytes\n0 1073741816 free\npool 1073741816: 1073741816 bytes\n1073741816 1073741816 free\npool 2147483632: 1073741816 bytes\n2147483632 1073741816 free\npool 3221225448: 1073741816 bytes\n3221225448 1073741816 free\n",
+        status: 0,
+    },
+];
+
+fn expect_row(rt: &impl Abort, alloc: Global, row: &Row, piece: usize) {
+    let mut reader = MemorySource::in_pieces(row.log, piece.max(1));
+    let mut writer = MemorySink::in_pieces(alloc, piece.max(1));
+    let mut errors = MemorySink::in_pieces(alloc, WHOLE);
+    let status = serve(
+        alloc,
+        row.report,
+        row.settings,
+        &mut reader,
+        &mut writer,
+        &mut errors,
+    );
+    assert_eq!(rt; writer.bytes(), row.text, "{}", row.name);
+    assert_eq!(rt; status, row.status, "{}", row.name);
+    assert_eq!(rt; errors.bytes(), b"".as_slice(), "{}", row.name);
+}
+
+#[test]
+fn peak_and_walk(rt: HostRuntime) {
+    for row in &ROWS {
+        for piece in [WHOLE, 1, 7] {
+            expect_row(&rt, rt.alloc(), row, piece);
+        }
+    }
+}

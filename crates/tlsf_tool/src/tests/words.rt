@@ -1,0 +1,281 @@
+//! Rows of words through `command`.
+
+use super::program::strings;
+use crate::asked::{Command, Name, ToolFault};
+use crate::words::command;
+use mtrace_replay::Settings;
+use std::test::Fail;
+
+/// The settings where no option is given.
+const DEFAULT: Settings = Settings {
+    pool: 16_777_216,
+    pools: 1,
+    records: 8_192,
+};
+
+/// Words, with what they ask for.
+struct Row {
+    words: &'static [&'static str],
+    name: Name,
+    settings: Settings,
+    log: &'static str,
+}
+
+const TAKEN: [Row; 18] = [
+    Row {
+        words: &["tlsf", "leaks", "a.log"],
+        name: Name::Leaks,
+        settings: DEFAULT,
+        log: "a.log",
+    },
+    Row {
+        words: &["tlsf", "peak", "-"],
+        name: Name::Peak,
+        settings: DEFAULT,
+        log: "-",
+    },
+    Row {
+        words: &["tlsf", "walk", "-"],
+        name: Name::Walk,
+        settings: DEFAULT,
+        log: "-",
+    },
+    Row {
+        words: &["tlsf", "walk", "--pool", "4096", "a.log"],
+        name: Name::Walk,
+        settings: Settings {
+            pool: 4_096,
+            ..DEFAULT
+        },
+        log: "a.log",
+    },
+    Row {
+        words: &["tlsf", "leaks", "--pools", "3", "a.log"],
+        name: Name::Leaks,
+        settings: Settings {
+            pools: 3,
+            ..DEFAULT
+        },
+        log: "a.log",
+    },
+    Row {
+        words: &["tlsf", "peak", "--records", "48", "a.log"],
+        name: Name::Peak,
+        settings: Settings {
+            records: 48,
+            ..DEFAULT
+        },
+        log: "a.log",
+    },
+    Row {
+        words: &["tlsf", "peak", "--pool", "12", "-"],
+        name: Name::Peak,
+        settings: Settings {
+            pool: 12,
+            ..DEFAULT
+        },
+        log: "-",
+    },
+    Row {
+        words: &["tlsf", "peak", "--records", "1", "--pools", "2", "-"],
+        name: Name::Peak,
+        settings: Settings {
+            pools: 2,
+            records: 1,
+            ..DEFAULT
+        },
+        log: "-",
+    },
+    Row {
+        words: &["tlsf", "peak", "--pool=64", "a.log"],
+        name: Name::Peak,
+        settings: Settings {
+            pool: 64,
+            ..DEFAULT
+        },
+        log: "a.log",
+    },
+    Row {
+        words: &["tlsf", "peak", "a.log", "--pool", "64"],
+        name: Name::Peak,
+        settings: Settings {
+            pool: 64,
+            ..DEFAULT
+        },
+        log: "a.log",
+    },
+    Row {
+        words: &["tlsf", "leaks", "--pool", "8", "a.log"],
+        name: Name::Leaks,
+        settings: Settings { pool: 8, ..DEFAULT },
+        log: "a.log",
+    },
+    Row {
+        words: &["tlsf", "leaks", "--pool", "1073741816", "a.log"],
+        name: Name::Leaks,
+        settings: Settings {
+            pool: 1_073_741_816,
+            ..DEFAULT
+        },
+        log: "a.log",
+    },
+    Row {
+        words: &["tlsf", "leaks", "--pools", "1", "a.log"],
+        name: Name::Leaks,
+        settings: Settings {
+            pools: 1,
+            ..DEFAULT
+        },
+        log: "a.log",
+    },
+    Row {
+        words: &["tlsf", "leaks", "--pools", "8", "a.log"],
+        name: Name::Leaks,
+        settings: Settings {
+            pools: 8,
+            ..DEFAULT
+        },
+        log: "a.log",
+    },
+    Row {
+        words: &["tlsf", "leaks", "--records", "1", "a.log"],
+        name: Name::Leaks,
+        settings: Settings {
+            records: 1,
+            ..DEFAULT
+        },
+        log: "a.log",
+    },
+    Row {
+        words: &["tlsf", "leaks", "--records", "65535", "a.log"],
+        name: Name::Leaks,
+        settings: Settings {
+            records: 65_535,
+            ..DEFAULT
+        },
+        log: "a.log",
+    },
+    Row {
+        words: &["tlsf", "leaks", "--", "--pool"],
+        name: Name::Leaks,
+        settings: DEFAULT,
+        log: "--pool",
+    },
+    Row {
+        words: &["", "leaks", "leaks"],
+        name: Name::Leaks,
+        settings: DEFAULT,
+        log: "leaks",
+    },
+];
+
+#[test]
+fn words_that_are_taken(rt: HostRuntime) -> Result<(), Fail> {
+    let alloc = rt.alloc();
+    for row in &TAKEN {
+        let Command::Report {
+            name,
+            settings,
+            log,
+        } = command(alloc, strings(alloc, row.words)?.as_slice())?;
+        assert_eq!(rt; name, row.name, "{:?}", row.words);
+        assert_eq!(rt; settings, row.settings, "{:?}", row.words);
+        assert_eq!(rt; log.as_str(), row.log, "{:?}", row.words);
+    }
+    Ok(())
+}
+
+/// Words that ask for nothing that there is.
+const WRONG: [&[&str]; 22] = [
+    &[],
+    &["tlsf"],
+    &["tlsf", "leaks"],
+    &["tlsf", "leaks", "a", "b"],
+    &["tlsf", "frees", "x"],
+    &["tlsf", "Leaks", "a"],
+    &["tlsf", "lea", "a"],
+    &["tlsf", "--pool", "64", "leaks", "a"],
+    &["tlsf", "leaks", "--pool", "a"],
+    &["tlsf", "leaks", "--pool", "64", "--pool", "64", "a"],
+    &["tlsf", "leaks", "--size", "64", "a"],
+    &["tlsf", "leaks", "--pool", "-8", "a"],
+    &["tlsf", "leaks", "--pool", "0x40", "a"],
+    &["tlsf", "leaks", "--pool=", "a"],
+    &["tlsf", "peak", "--pool", "7", "-"],
+    &["tlsf", "peak", "--pool", "1073741817", "-"],
+    &["tlsf", "peak", "--pools", "0", "-"],
+    &["tlsf", "peak", "--pools", "9", "-"],
+    &["tlsf", "peak", "--records", "0", "-"],
+    &["tlsf", "peak", "--records", "65536", "-"],
+    &["tlsf", "peak", "--records", "99999999999999999999999", "-"],
+    &["tlsf", "--version"],
+];
+
+/// The status of the words' fault, 5 where they have none.
+fn status_of(answer: &Result<Command, ToolFault>) -> u8 {
+    match answer {
+        Err(fault) => fault.status(),
+        Ok(_) => 5,
+    }
+}
+
+#[test]
+fn words_that_are_wrong(rt: HostRuntime) -> Result<(), Fail> {
+    let alloc = rt.alloc();
+    for words in WRONG {
+        let answer = command(alloc, strings(alloc, words)?.as_slice());
+        match &answer {
+            Err(ToolFault::Usage(text)) => {
+                assert!(rt; text.as_str().starts_with("error: "), "{words:?}: {text}");
+                assert!(rt;
+                    text.as_str().ends_with("try '--help'.\n"),
+                    "{words:?}: {text}"
+                );
+            }
+            _ => assert!(rt; false, "{words:?}"),
+        }
+        assert_eq!(rt; status_of(&answer), 2, "{words:?}");
+    }
+    Ok(())
+}
+
+/// Words that ask for help.
+const HELP: [&[&str]; 8] = [
+    &["tlsf", "--help"],
+    &["tlsf", "-h"],
+    &["tlsf", "help"],
+    &["tlsf", "leaks", "--help"],
+    &["tlsf", "peak", "--help"],
+    &["tlsf", "peak", "-h"],
+    &["tlsf", "help", "peak"],
+    &["tlsf", "help", "walk"],
+];
+
+/// What each help names.
+const NAMED: [&str; 7] = [
+    "leaks",
+    "peak",
+    "walk",
+    "--pool",
+    "--pools",
+    "--records",
+    "Example",
+];
+
+#[test]
+fn words_that_ask_for_help(rt: HostRuntime) -> Result<(), Fail> {
+    let alloc = rt.alloc();
+    for words in HELP {
+        let answer = command(alloc, strings(alloc, words)?.as_slice());
+        match &answer {
+            Err(ToolFault::Help(text)) => {
+                for part in NAMED {
+                    assert!(rt; text.as_str().contains(part), "{words:?} {part}: {text}");
+                }
+            }
+            _ => assert!(rt; false, "{words:?}"),
+        }
+        assert_eq!(rt; status_of(&answer), 0, "{words:?}");
+    }
+    Ok(())
+}
