@@ -2,7 +2,6 @@ mod FoundLemmas
 mod HeapSteps
 mod HeldFew
 mod HeldLemmas
-mod IndexLemmas
 mod Living
 mod LogRows
 mod Moments

@@ -1,10 +1,15 @@
 -- What is held, by address, as a list in order of address.
-use Rattle.std.specs.Prelude.{◌≡◌, ℕ, List, map, find, sum_by, Option, ◌==◌}
-use Rattle.std.specs.List.{AllByRecursion}
-use Rattle.std.specs.List.Sorted.{IsStrictlyIncreasing, IsStrictlySortedBy}
-use Rattle.std.specs.Ordering.{nat_cmp}
-use Rattle.std.specs.Map.{keys_of}
+use Rattle.std.specs.Prelude.{◌≡◌, ℕ, ◌+◌, ◌*◌, ◌<◌, ◌≤◌, ◌^◌, List, length, map, find, sum_by, Option, ◌==◌}
+use Rattle.std.specs.List.Sorted.{IsStrictlyIncreasing}
 use Rattle.mtrace_replay.specs.declared.holding.Holding.{Holding}
+use Rattle.mtrace_replay.specs.declared.spot.Spot.{Spot}
+use Rattle.mtrace_replay.specs.Spot.{all_held, RiseFrom}
+
+-- what is held in order of address, how much can be, and how many addresses were compared
+pub record Indexed : Type 0 where
+  pub all : List Holding
+  pub room : ℕ
+  pub comparisons : ℕ
 
 -- the addresses, in order
 abbrev pub addresses : List Holding → List ℕ
@@ -22,7 +27,17 @@ AreInOrder holdings = IsStrictlyIncreasing (addresses holdings)
 abbrev pub held_bytes : List Holding → ℕ
 held_bytes holdings = sum_by (λ holding. holding.entry.size) holdings
 
--- what an ordered map of them keeps: its keys rise, and each is the address of what it stands at
-pub record IsIndex (entries : List (ℕ × Holding)) : Type 0 where
-  pub in_order : IsStrictlySortedBy nat_cmp (keys_of entries)
-  pub own_keys : AllByRecursion (λ entry. entry.0 ≡ entry.1.entry.addr) entries
+-- so many look-ups: each compares at most as many addresses as the room has binary digits; the room stays
+pub record LooksUp (times : ℕ) (old new : Indexed) : Type 0 where
+  pub room : new.room ≡ old.room
+  pub compared : (digits : ℕ) → old.room < 2 ^ digits → new.comparisons ≤ old.comparisons + times * digits
+
+-- what an index keeps: the addresses of its spots rise; there are no more spots than room, and memory for that many;
+-- how much is held, and of how many bytes
+pub record IsIndex (spots : List Spot) (memory room blocks bytes : ℕ) : Type 0 where
+  pub rise : RiseFrom 0 spots
+  pub within : length spots ≤ room
+  pub reserved : room ≤ memory
+  pub few : room < 2 ^ 32
+  pub blocks_are : blocks ≡ length (all_held spots)
+  pub bytes_are : bytes ≡ held_bytes (all_held spots)

@@ -3,7 +3,9 @@ pub mod Started
 pub mod Moment
 pub mod History
 pub mod Held
+pub mod Spot
 pub mod Index
+pub mod Search
 pub mod Step
 pub mod Replay
 pub mod Texts

@@ -9,11 +9,12 @@ use Rattle.mtrace_replay.specs.Totals.{AreTotals}
 use Rattle.mtrace_replay.specs.Moment.{Reading, Given, moment}
 use Rattle.mtrace_replay.specs.History.{AreHeld, held, moments, content_after, pending, entries_of}
 
--- a replay: the heap's content and how often it was touched, what is held in order of address, the totals, the address
--- of the last line where that is `<`, and whether memory was refused
+-- a replay: the heap's content and how often it was touched, how many addresses were compared, what is held in order of
+-- address, the totals, the address of the last line where that is `<`, and whether memory was refused
 pub record Replayed : Type 0 where
   pub content : Bare
   pub touches : ℕ
+  pub comparisons : ℕ
   pub given : List Given
   pub totals : Totals
   pub pending : Option ℕ

@@ -11,7 +11,7 @@ use Rattle.mtrace_replay.specs.declared.totals.Totals.{Totals}
 use Rattle.mtrace_replay.specs.Started.{Bare}
 use Rattle.mtrace_replay.specs.Moment.{Given, Moment}
 use Rattle.mtrace_replay.specs.History.{held_after}
-use Rattle.mtrace_replay.specs.Index.{held_at}
+use Rattle.mtrace_replay.specs.Index.{Indexed, held_at}
 
 -- what is held, without slots
 abbrev pub given_of : Holding → Given
@@ -52,10 +52,13 @@ pub record AreLive (holdings : List Holding) (content : Content ℕ) : Type 0 wh
   pub small : (address : ℕ) (holding : Holding) → held_at holdings address ≡ Some holding → holding.entry.size ≤ greatest_size
   pub records : content.records ≤ most_records
 
--- what a replay keeps: until memory is refused what is held is live; it is at most as much as there are records; no
--- more lines were served, or refused, than there were
-pub record Keeps (holdings : List Holding) (content : Content ℕ) (totals : Totals) (out_of_memory : Bool) : Type 0 where
-  pub live : out_of_memory ≡ false → AreLive holdings content
-  pub few : length holdings ≤ content.records
+-- what a replay keeps: until memory is refused what is held is live; memory is refused only by a heap that lacks it;
+-- there is at most as much held as there are records, and room for as much; no more lines were served, or refused,
+-- than there were
+pub record Keeps (held : Indexed) (content : Content ℕ) (totals : Totals) (lacks : Type 0) (out_of_memory : Bool) : Type 0 where
+  pub live : out_of_memory ≡ false → AreLive held.all content
+  pub lacks : out_of_memory ≡ true → lacks
+  pub few : length held.all ≤ content.records
+  pub room : held.room ≡ content.records
   pub served : totals.served ≤ totals.lines
   pub refused : totals.refused ≤ totals.lines

@@ -1,161 +1,178 @@
 //! What is held, by address.
 
-ghost use Rattle.std.specs.Prelude.{◌≡◌, ℕ, ◌+◌, ◌<◌, ◌^◌, option_map, unwrap_or, [], length, map, None, Some, is_some, OnOk, OnErr, option_copied, if◌then◌else◌, ◌==◌};
-ghost use Rattle.mtrace_replay.specs.Index.{held_at, held_bytes, AreInOrder};
+ghost use Rattle.std.specs.Prelude.{◌≡◌, ℕ, ◌+◌, ◌<◌, ◌≤◌, ◌^◌, option_map, [], length, map, None, Some, IfOk, if◌then◌else◌, ◌==◌, is_some, true};
+ghost use Rattle.mtrace_replay.specs.Index.{held_at, held_bytes, AreInOrder, LooksUp};
 
+use crate::comparisons::Comparisons;
 use crate::entry::Entry;
 use crate::holding::Holding;
+use crate::search::{enter, search};
+use crate::spot::Spot;
 use mtrace_log::Addr;
 use std::alloc::{AllocError, Global};
-use std::collections::BTreeMap;
-use std::collections::btree_map::Values;
 use std::marker::Model;
+use std::slice::Iter;
+use tlsf_heap::Ptr;
 
-/// How many bytes were asked for what was held, if anything was.
-fn size_of(held: &Option<Holding>) -> u64
-    ensures { result ≡ unwrap_or (option_map (λ holding. holding.entry.size) held.now) 0 }
-{
-    match held {
-        Some(holding) => holding.size(),
-        None => 0,
-    }
-}
-
-/// What is held, in order of address.
+/// What is held, in order of address. The spot of an address that is held no more stays vacant, for the same address or
+/// for one near it, so that an address which comes again moves nothing.
 #[derive(Drop)]
 pub(crate) struct Index {
-    holdings: BTreeMap<Addr, Holding>,
+    spots: Vec<Spot>,
+    room: usize,
+    blocks: u64,
     bytes: u64,
+    comparisons: Comparisons,
 }
 
 impl Model for Index {
-    ghost use Rattle.std.specs.Prelude.{List, ◌≡◌};
-    ghost use Rattle.std.specs.Map.{values_of};
-    ghost use Rattle.mtrace_replay.specs.declared.holding.Holding.{Holding};
-    ghost use Rattle.mtrace_replay.specs.Index.{held_bytes, IsIndex};
+    ghost use Rattle.std.specs.Vec.{vec_capacity};
+    ghost use Rattle.mtrace_replay.specs.Spot.{all_held};
+    ghost use Rattle.mtrace_replay.specs.Index.{Indexed, IsIndex};
 
-    ghost Value = { List Holding };
+    ghost Value = { Indexed };
 
-    ghost view = { λ index. values_of index.holdings.entries };
+    ghost view = { λ index. record { all = all_held index.spots.items; room = index.room; comparisons = index.comparisons.count } };
 
-    ghost invariant = { λ index. IsIndex index.holdings.entries × (index.bytes ≡ held_bytes (values_of index.holdings.entries)) };
+    ghost invariant = { λ index. IsIndex index.spots.items (vec_capacity index.spots) index.room index.blocks index.bytes };
 }
 
 impl Index {
-    /// Nothing.
-    pub fn new(alloc: Global) -> Index
-        ensures { result ≡ [] }
+    /// Nothing, with room for so many addresses. It takes memory once, for all of them.
+    ///
+    /// # Errors
+    ///
+    /// `AllocError` where memory is refused.
+    pub fn new(alloc: Global, room: u32) -> Result<Index, AllocError>
+        ensures { IfOk result (λ index. index ≡ record { all = []; room = room; comparisons = 0 }) }
     {
-        Index {
-            holdings: BTreeMap::new(alloc),
+        let room = room as usize;
+        Ok(Index {
+            spots: Vec::with_capacity(alloc, room)?,
+            room,
+            blocks: 0,
             bytes: 0,
-        }
+            comparisons: Comparisons::new(),
+        })
     }
 
-    /// What is held under the address.
-    pub fn get(&self, address: Addr) -> Option<&Holding>
-        ensures value { option_copied result ≡ held_at self.now address }
+    /// The block that the address is held under.
+    pub fn block(&mut self, address: Addr) -> Option<Ptr>
+        ensures value { result ≡ option_map (λ holding. holding.ptr) (held_at self.old.all address) }
+        ensures unchanged { self.new.all ≡ self.old.all }
+        ensures looked { LooksUp 1 self.old self.new }
     {
-        self.holdings.get(&address)
+        match search(&self.spots, &mut self.comparisons, address) {
+            Ok(at) => self.spots[at].block(),
+            Err(_) => None,
+        }
     }
 
     /// Whether the address is held.
-    pub fn contains(&self, address: Addr) -> bool
-        ensures value { result ≡ is_some (held_at self.now address) }
+    pub fn contains(&mut self, address: Addr) -> bool
+        ensures value { result ≡ is_some (held_at self.old.all address) }
+        ensures unchanged { self.new.all ≡ self.old.all }
+        ensures looked { LooksUp 1 self.old self.new }
     {
-        self.get(address).is_some()
+        self.block(address).is_some()
     }
 
     /// Holds an address, in place of what it was held under.
-    ///
-    /// # Errors
-    ///
-    /// `AllocError` where memory is refused: then nothing changes.
-    pub fn insert(&mut self, holding: Holding) -> Result<(), AllocError>
-        requires room { held_bytes self.old + holding.entry.size < 2 ^ 64 }
-        ensures held { OnOk result ((address : ℕ) → held_at self.new address
-            ≡ (if holding.entry.addr == address then Some holding else held_at self.old address)) }
-        ensures unchanged { OnErr result (self.new ≡ self.old) }
+    pub fn insert(&mut self, holding: Holding)
+        requires bytes { held_bytes self.old.all + holding.entry.size < 2 ^ 64 }
+        requires room { length self.old.all < self.old.room }
+        ensures held { (address : ℕ) → held_at self.new.all address
+            ≡ (if holding.entry.addr == address then Some holding else held_at self.old.all address) }
+        ensures looked { LooksUp 1 self.old self.new }
     {
-        let address = holding.address();
         let size = holding.size();
-        let old = self.holdings.insert(address, holding)?;
-        self.bytes = self.bytes + size - size_of(&old);
-        Ok(())
+        match search(&self.spots, &mut self.comparisons, holding.address()) {
+            Ok(at) => {
+                self.blocks = self.blocks + 1 - self.spots[at].count();
+                self.bytes = self.bytes + size - self.spots[at].size();
+                self.spots[at] = Spot::Held(holding);
+            }
+            Err(at) => {
+                self.blocks += 1;
+                self.bytes += size;
+                enter(&mut self.spots, self.room, at, Spot::Held(holding));
+            }
+        }
     }
 
     /// Holds an address in place of the old one, which may be the same.
-    ///
-    /// # Errors
-    ///
-    /// `AllocError` where memory is refused: then nothing changes.
-    pub fn replace(&mut self, old: Addr, holding: Holding) -> Result<(), AllocError>
-        requires room { held_bytes self.old + holding.entry.size < 2 ^ 64 }
-        ensures held { OnOk result ((address : ℕ) → held_at self.new address
-            ≡ (if holding.entry.addr == address then Some holding else (if old == address then None else held_at self.old address))) }
-        ensures unchanged { OnErr result (self.new ≡ self.old) }
+    pub fn replace(&mut self, old: Addr, holding: Holding)
+        requires bytes { held_bytes self.old.all + holding.entry.size < 2 ^ 64 }
+        requires held { is_some (held_at self.old.all old) ≡ true }
+        requires room { length self.old.all ≤ self.old.room }
+        ensures held { (address : ℕ) → held_at self.new.all address
+            ≡ (if holding.entry.addr == address then Some holding else (if old == address then None else held_at self.old.all address)) }
+        ensures looked { LooksUp 2 self.old self.new }
     {
-        let address = holding.address();
-        self.insert(holding)?;
-        if address != old {
-            self.remove(old);
-        }
-        Ok(())
+        self.remove(old);
+        self.insert(holding);
     }
 
-    /// Holds the address no more.
+    /// Holds the address no more: its spot stays, vacant.
     pub fn remove(&mut self, address: Addr)
-        ensures held { (other : ℕ) → held_at self.new other ≡ (if address == other then None else held_at self.old other) }
+        ensures held { (other : ℕ) → held_at self.new.all other ≡ (if address == other then None else held_at self.old.all other) }
+        ensures fewer { is_some (held_at self.old.all address) ≡ true → length self.new.all < length self.old.all }
+        ensures bytes { held_bytes self.new.all ≤ held_bytes self.old.all }
+        ensures looked { LooksUp 1 self.old self.new }
     {
-        let old = self.holdings.remove(&address);
-        self.bytes -= size_of(&old);
+        if let Ok(at) = search(&self.spots, &mut self.comparisons, address) {
+            self.blocks -= self.spots[at].count();
+            self.bytes -= self.spots[at].size();
+            self.spots[at] = Spot::Vacant(address);
+        }
     }
 
     /// How many addresses are held.
     pub fn len(&self) -> u64
-        ensures len { result ≡ length self.now }
+        ensures len { result ≡ length self.now.all }
         ensures small { result < 2 ^ 63 }
     {
-        self.holdings.len() as u64
+        self.blocks
     }
 
     /// The sum of the sizes held, in bytes.
     pub fn bytes(&self) -> u64
-        ensures { result ≡ held_bytes self.now }
+        ensures { result ≡ held_bytes self.now.all }
     {
         self.bytes
     }
 
     /// The entries, in order of address.
     pub fn entries(&self) -> Entries<'_>
-        ensures entries { result ≡ map (λ holding. holding.entry) self.now }
+        ensures entries { result ≡ map (λ holding. holding.entry) self.now.all }
     {
         Entries {
-            holdings: self.holdings.values(),
+            spots: self.spots.iter(),
         }
     }
 
     /// Says what each index keeps, and does nothing: the addresses rise.
     pub fn keeps_order(&self)
-        ensures { AreInOrder self.now }
+        ensures { AreInOrder self.now.all }
     {
-        let _ = &self.holdings;
+        let _ = &self.spots;
     }
 }
 
 /// Entries in order of address, as an iterator.
 #[derive(Drop)]
 pub struct Entries<'a> {
-    holdings: Values<'a, Addr, Holding>,
+    spots: Iter<'a, Spot>,
 }
 
 impl<'a> Model for Entries<'a> {
     ghost use Rattle.std.specs.Prelude.{List, map};
     ghost use Rattle.mtrace_replay.specs.declared.entry.Entry.{Entry};
+    ghost use Rattle.mtrace_replay.specs.Spot.{all_held};
 
     ghost Value = { List Entry };
 
-    ghost view = { λ entries. map (λ holding. holding.entry) entries.holdings };
+    ghost view = { λ entries. map (λ holding. holding.entry) (all_held entries.spots) };
 }
 
 impl<'a> Iterator for Entries<'a> {
@@ -168,9 +185,11 @@ impl<'a> Iterator for Entries<'a> {
     ghost remaining = { item_count (λ entries. entries) };
 
     fn next(&mut self) -> Option<&'a Entry> {
-        match self.holdings.next() {
-            Some(holding) => Some(&holding.entry),
-            None => None,
+        while let Some(spot) = self.spots.next() {
+            if let Spot::Held(holding) = spot {
+                return Some(&holding.entry);
+            }
         }
+        None
     }
 }

@@ -2,6 +2,7 @@
 //! reports of what was not freed, of the peak, and of the heap's blocks.
 #![tactic(auto)]
 
+mod comparisons;
 mod diagnostic;
 mod entry;
 mod free;
@@ -13,7 +14,9 @@ mod output;
 mod replay;
 mod report;
 mod run;
+mod search;
 mod settings;
+mod spot;
 mod start;
 mod status;
 mod step;

@@ -101,6 +101,7 @@ pub struct Replay<H: Heaped> {
 
 impl<H: Heaped> Model for Replay<H> {
     ghost use Rattle.tlsf_heap.specs.Bare.{bare};
+    ghost use Rattle.tlsf_heap.specs.Run.{MayLack};
     ghost use Rattle.mtrace_replay.specs.Replay.{Replayed};
     ghost use Rattle.mtrace_replay.specs.Step.{all_given, Keeps};
 
@@ -109,19 +110,21 @@ impl<H: Heaped> Model for Replay<H> {
     ghost view = { λ r. record {
       content = bare (H.content r.heap);
       touches = H.touches r.heap;
-      given = all_given r.held;
+      comparisons = r.held.comparisons;
+      given = all_given r.held.all;
       totals = r.totals;
       pending = r.pending;
       out_of_memory = r.out_of_memory;
     } };
 
     // The blocks that are held are live, and no two are one, until memory is refused. There are at most as many as
-    // records.
-    ghost invariant = { λ r. Keeps r.held (H.content r.heap) r.totals r.out_of_memory };
+    // records, and the index has room for as many.
+    ghost invariant = { λ r. Keeps r.held (H.content r.heap) r.totals (MayLack H.lacks) r.out_of_memory };
 }
 
 impl<H: Heaped> Replay<H> {
-    ghost use Rattle.std.specs.Prelude.{◌↔◌, ℕ, ◌+◌, ◌<◌, ◌≤◌, ◌^◌, true, false, List, [], ◌∷◌, length, IsTrue, IsErrOf, IfOk, IfErr, OnOk, OnErr};
+    ghost use Rattle.std.specs.Prelude.{◌↔◌, ℕ, ◌+◌, ◌*◌, ◌<◌, ◌≤◌, ◌^◌, true, false, List, [], ◌∷◌, length, IsTrue, IsErrOf, IfOk, IfErr, OnOk, OnErr};
+    ghost use Rattle.tlsf_heap.specs.Run.{MayLack};
     ghost use Rattle.mtrace_replay.specs.declared.settings.Settings.{Settings};
     ghost use Rattle.mtrace_replay.specs.Settings.{are_bad};
     ghost use Rattle.mtrace_replay.specs.Moment.{Reading, half};
@@ -143,16 +146,19 @@ impl<H: Heaped> Replay<H> {
         if settings.are_bad() {
             return Err(ReplayFault::BadSettings);
         }
-        match started_heap(alloc, settings) {
-            Ok(heap) => Ok(Replay {
-                heap,
-                held: Index::new(alloc),
-                totals: Totals::new(),
-                pending: None,
-                out_of_memory: false,
-            }),
-            Err(_) => Err(ReplayFault::OutOfMemory),
-        }
+        let Ok(heap) = started_heap(alloc, settings) else {
+            return Err(ReplayFault::OutOfMemory);
+        };
+        let Ok(held) = Index::new(alloc, settings.records) else {
+            return Err(ReplayFault::OutOfMemory);
+        };
+        Ok(Replay {
+            heap,
+            held,
+            totals: Totals::new(),
+            pending: None,
+            out_of_memory: false,
+        })
     }
 
     /// Replays the next line, and answers what is wrong with it, and with the line before, where that is half of
@@ -172,9 +178,11 @@ impl<H: Heaped> Replay<H> {
         ensures for_good { self.old.out_of_memory ≡ true → result ≡ Err ReplayFault.OutOfMemory }
         ensures fault { IfErr result (λ fault. fault ≡ ReplayFault.OutOfMemory) }
         ensures ends { OnErr result (self.new.out_of_memory ≡ true) }
+        ensures memory { OnErr result (MayLack H.lacks) }
         ensures unchanged { OnErr result (entries self.new ≡ entries self.old) }
         ensures totals_unchanged { OnErr result (self.new.totals ≡ self.old.totals) }
         ensures bound { self.new.touches ≤ self.old.touches + 384 }
+        ensures compared { (digits : ℕ) → self.old.content.records < 2 ^ digits → self.new.comparisons ≤ self.old.comparisons + 4 * digits }
     {
         if self.out_of_memory {
             return Err(ReplayFault::OutOfMemory);
@@ -211,6 +219,7 @@ impl<H: Heaped> Replay<H> {
         ensures fault { IfErr result (λ fault. fault ≡ ReplayFault.OutOfMemory) }
         ensures for_good { OnErr result (self.now.out_of_memory ≡ true) }
         ensures works { OnOk result (self.now.out_of_memory ≡ false) }
+        ensures memory { OnErr result (MayLack H.lacks) }
     {
         if self.out_of_memory {
             return Err(ReplayFault::OutOfMemory);

@@ -7,7 +7,8 @@ ghost use Rattle.tlsf_heap.specs.Content.{blocks_of, size_at};
 ghost use Rattle.tlsf_heap.specs.Free.{is_live};
 ghost use Rattle.tlsf_heap.specs.Malloc.{malloc};
 ghost use Rattle.tlsf_heap.specs.Realloc.{realloc as reallocated};
-ghost use Rattle.mtrace_replay.specs.Index.{held_at};
+ghost use Rattle.tlsf_heap.specs.Run.{MayLack};
+ghost use Rattle.mtrace_replay.specs.Index.{held_at, LooksUp};
 ghost use Rattle.mtrace_replay.specs.Moment.{asked_size as size_asked, without, allocation, release as released, moved, renewal, outcome as outcome_of};
 ghost use Rattle.mtrace_replay.specs.Step.{found, all_given, Comes, IsUnder, AreLive};
 
@@ -106,6 +107,7 @@ fn malloc_block<H: Heaped>(heap: &mut H, n: u64) -> Result<Block, Refusal>
     ensures ok { IfOk result (λ given. malloc given.ptr.slot n (H.content heap.old) ≡ Ok (given.ptr.place, H.content heap.new)) }
     ensures end { IfOk result (λ given. given.end ≡ given.ptr.place + size_at given.ptr.place (blocks_of (H.content heap.new).pools)) }
     ensures refused { IfErr result (λ refusal. refusal ≢ Refusal.OutOfMemory → (slot : ℕ) → malloc slot n (H.content heap.old) ≡ Err refusal) }
+    ensures memory { IfErr result (λ refusal. refusal ≡ Refusal.OutOfMemory → MayLack H.lacks) }
     ensures unchanged { OnErr result (H.content heap.new ≡ H.content heap.old) }
     ensures bound { H.touches heap.new ≤ H.touches heap.old + 100 }
 {
@@ -127,6 +129,7 @@ fn realloc_block<H: Heaped>(heap: &mut H, ptr: Ptr, n: u64) -> Result<Block, Ref
     ensures end { IfOk result (λ given. given.end ≡ given.ptr.place + size_at given.ptr.place (blocks_of (H.content heap.new).pools)) }
     ensures refused { IfErr result (λ refusal. refusal ≢ Refusal.OutOfMemory → (slot : ℕ)
         → reallocated (λ a b. a == b) slot (Some (ptr.place, ptr.slot)) n (H.content heap.old) ≡ Err refusal) }
+    ensures memory { IfErr result (λ refusal. refusal ≡ Refusal.OutOfMemory → MayLack H.lacks) }
     ensures unchanged { OnErr result (H.content heap.new ≡ H.content heap.old) }
     ensures bound { H.touches heap.new ≤ H.touches heap.old + 260 }
 {
@@ -143,12 +146,15 @@ fn realloc_block<H: Heaped>(heap: &mut H, ptr: Ptr, n: u64) -> Result<Block, Ref
 
 /// `+ address size`: asks the heap for a block for the entry, unless its address is held.
 fn allocate<H: Heaped>(heap: &mut H, held: &mut Index, entry: Entry) -> Result<Effect, AllocError>
-    requires live { AreLive held.old (H.content heap.old) }
-    ensures comes { IfOk result (λ effect. Comes (bare (H.content heap.old)) (bare (H.content heap.new)) (all_given held.old) (all_given held.new) effect.note.items effect.end
-        (allocation entry.line entry.at entry.addr entry.size (found (all_given held.old) entry.addr) (bare (H.content heap.old)))) }
-    ensures live { OnOk result (AreLive held.new (H.content heap.new)) }
-    ensures unchanged { OnErr result (held.new ≡ held.old) }
+    requires live { AreLive held.old.all (H.content heap.old) }
+    requires room { held.old.room ≡ (H.content heap.old).records }
+    ensures comes { IfOk result (λ effect. Comes (bare (H.content heap.old)) (bare (H.content heap.new)) (all_given held.old.all) (all_given held.new.all) effect.note.items effect.end
+        (allocation entry.line entry.at entry.addr entry.size (found (all_given held.old.all) entry.addr) (bare (H.content heap.old)))) }
+    ensures live { OnOk result (AreLive held.new.all (H.content heap.new)) }
+    ensures memory { OnErr result (MayLack H.lacks) }
+    ensures unchanged { OnErr result (held.new.all ≡ held.old.all) }
     ensures records { (H.content heap.new).records ≡ (H.content heap.old).records }
+    ensures looked { LooksUp 2 held.old held.new }
     ensures bound { H.touches heap.new ≤ H.touches heap.old + 100 }
 {
     if held.contains(entry.addr) {
@@ -159,7 +165,7 @@ fn allocate<H: Heaped>(heap: &mut H, held: &mut Index, entry: Entry) -> Result<E
     match malloc_block(heap, asked_size(entry.size)) {
         Ok(block) => {
             let ptr = block.ptr;
-            held.insert(Holding { entry, ptr })?;
+            held.insert(Holding { entry, ptr });
             Ok(served(block.end))
         }
         Err(Refusal::OutOfMemory) => Err(AllocError),
@@ -174,13 +180,15 @@ fn take<H: Heaped>(
     address: Addr,
     ptr: Ptr,
 ) -> Result<(), AllocError>
-    requires live { AreLive held.old (H.content heap.old) }
-    requires held { IsUnder ptr (held_at held.old address) }
+    requires live { AreLive held.old.all (H.content heap.old) }
+    requires held { IsUnder ptr (held_at held.old.all address) }
     ensures content { OnOk result (bare (H.content heap.new) ≡ without ptr.place (bare (H.content heap.old))) }
-    ensures held { OnOk result ((other : ℕ) → held_at held.new other ≡ (if address == other then None else held_at held.old other)) }
-    ensures live { OnOk result (AreLive held.new (H.content heap.new)) }
-    ensures unchanged { OnErr result (held.new ≡ held.old) }
+    ensures held { OnOk result ((other : ℕ) → held_at held.new.all other ≡ (if address == other then None else held_at held.old.all other)) }
+    ensures live { OnOk result (AreLive held.new.all (H.content heap.new)) }
+    ensures memory { OnErr result (MayLack H.lacks) }
+    ensures unchanged { OnErr result (held.new.all ≡ held.old.all) }
     ensures records { (H.content heap.new).records ≡ (H.content heap.old).records }
+    ensures looked { LooksUp 1 held.old held.new }
     ensures bound { H.touches heap.new ≤ H.touches heap.old + 96 }
 {
     heap.keeps_good();
@@ -194,16 +202,6 @@ fn take<H: Heaped>(
     }
 }
 
-/// The block that an address is held under.
-fn block_of(held: &Index, address: Addr) -> Option<Ptr>
-    ensures { result ≡ option_map (λ holding. holding.ptr) (held_at held.now address) }
-{
-    match held.get(address) {
-        Some(holding) => Some(holding.ptr),
-        None => None,
-    }
-}
-
 /// `- address`: frees the block that the address is held under.
 fn release<H: Heaped>(
     heap: &mut H,
@@ -211,15 +209,17 @@ fn release<H: Heaped>(
     number: u64,
     address: Addr,
 ) -> Result<Effect, AllocError>
-    requires live { AreLive held.old (H.content heap.old) }
-    ensures comes { IfOk result (λ effect. Comes (bare (H.content heap.old)) (bare (H.content heap.new)) (all_given held.old) (all_given held.new) effect.note.items effect.end
-        (released number address (found (all_given held.old) address) (bare (H.content heap.old)))) }
-    ensures live { OnOk result (AreLive held.new (H.content heap.new)) }
-    ensures unchanged { OnErr result (held.new ≡ held.old) }
+    requires live { AreLive held.old.all (H.content heap.old) }
+    ensures comes { IfOk result (λ effect. Comes (bare (H.content heap.old)) (bare (H.content heap.new)) (all_given held.old.all) (all_given held.new.all) effect.note.items effect.end
+        (released number address (found (all_given held.old.all) address) (bare (H.content heap.old)))) }
+    ensures live { OnOk result (AreLive held.new.all (H.content heap.new)) }
+    ensures memory { OnErr result (MayLack H.lacks) }
+    ensures unchanged { OnErr result (held.new.all ≡ held.old.all) }
     ensures records { (H.content heap.new).records ≡ (H.content heap.old).records }
+    ensures looked { LooksUp 2 held.old held.new }
     ensures bound { H.touches heap.new ≤ H.touches heap.old + 96 }
 {
-    let Some(ptr) = block_of(held, address) else {
+    let Some(ptr) = held.block(address) else {
         return Ok(unserved(one_note(number, Kind::NotHeld(address))));
     };
     take(heap, held, address, ptr)?;
@@ -234,14 +234,17 @@ fn reallocate<H: Heaped>(
     ptr: Ptr,
     entry: Entry,
 ) -> Result<Effect, AllocError>
-    requires live { AreLive held.old (H.content heap.old) }
-    requires held { IsUnder ptr (held_at held.old old) }
-    ensures comes { IfOk result (λ effect. Comes (bare (H.content heap.old)) (bare (H.content heap.new)) (all_given held.old) (all_given held.new) effect.note.items effect.end
+    requires live { AreLive held.old.all (H.content heap.old) }
+    requires room { held.old.room ≡ (H.content heap.old).records }
+    requires held { IsUnder ptr (held_at held.old.all old) }
+    ensures comes { IfOk result (λ effect. Comes (bare (H.content heap.old)) (bare (H.content heap.new)) (all_given held.old.all) (all_given held.new.all) effect.note.items effect.end
         (moved entry.line entry.at old ptr.place entry.addr entry.size (bare (H.content heap.old))
         (reallocated (λ one other. true) tt (Some (ptr.place, tt)) (size_asked entry.size) (bare (H.content heap.old))))) }
-    ensures live { OnOk result (AreLive held.new (H.content heap.new)) }
-    ensures unchanged { OnErr result (held.new ≡ held.old) }
+    ensures live { OnOk result (AreLive held.new.all (H.content heap.new)) }
+    ensures memory { OnErr result (MayLack H.lacks) }
+    ensures unchanged { OnErr result (held.new.all ≡ held.old.all) }
     ensures records { (H.content heap.new).records ≡ (H.content heap.old).records }
+    ensures looked { LooksUp 2 held.old held.new }
     ensures bound { H.touches heap.new ≤ H.touches heap.old + 356 }
 {
     heap.keeps_good();
@@ -249,7 +252,7 @@ fn reallocate<H: Heaped>(
     match realloc_block(heap, ptr, asked_size(entry.size)) {
         Ok(block) => {
             let ptr = block.ptr;
-            held.replace(old, Holding { entry, ptr })?;
+            held.replace(old, Holding { entry, ptr });
             Ok(served(block.end))
         }
         Err(Refusal::OutOfMemory) => Err(AllocError),
@@ -261,8 +264,10 @@ fn reallocate<H: Heaped>(
 }
 
 /// Whether the address is another one than the old one, and held.
-fn is_held_too(held: &Index, address: Addr, old: Addr) -> bool
-    ensures { result ≡ (not (address == old) && is_some (held_at held.now address)) }
+fn is_held_too(held: &mut Index, address: Addr, old: Addr) -> bool
+    ensures value { result ≡ (not (address == old) && is_some (held_at held.old.all address)) }
+    ensures unchanged { held.new.all ≡ held.old.all }
+    ensures looked { LooksUp 1 held.old held.new }
 {
     address != old && held.contains(address)
 }
@@ -286,19 +291,22 @@ fn renew<H: Heaped>(
     pending: Option<Addr>,
     entry: Entry,
 ) -> Result<Effect, AllocError>
-    requires live { AreLive held.old (H.content heap.old) }
-    ensures comes { IfOk result (λ effect. Comes (bare (H.content heap.old)) (bare (H.content heap.new)) (all_given held.old) (all_given held.new) effect.note.items effect.end
-        (renewal entry.line entry.at pending entry.addr entry.size (found (all_given held.old)) (bare (H.content heap.old)))) }
-    ensures live { OnOk result (AreLive held.new (H.content heap.new)) }
-    ensures unchanged { OnErr result (held.new ≡ held.old) }
+    requires live { AreLive held.old.all (H.content heap.old) }
+    requires room { held.old.room ≡ (H.content heap.old).records }
+    ensures comes { IfOk result (λ effect. Comes (bare (H.content heap.old)) (bare (H.content heap.new)) (all_given held.old.all) (all_given held.new.all) effect.note.items effect.end
+        (renewal entry.line entry.at pending entry.addr entry.size (found (all_given held.old.all)) (bare (H.content heap.old)))) }
+    ensures live { OnOk result (AreLive held.new.all (H.content heap.new)) }
+    ensures memory { OnErr result (MayLack H.lacks) }
+    ensures unchanged { OnErr result (held.new.all ≡ held.old.all) }
     ensures records { (H.content heap.new).records ≡ (H.content heap.old).records }
+    ensures looked { LooksUp 4 held.old held.new }
     ensures bound { H.touches heap.new ≤ H.touches heap.old + 356 }
 {
     let number = entry.line;
     let Some(old) = pending else {
         return Ok(unserved(one_note(number, Kind::Stray)));
     };
-    let Some(ptr) = block_of(held, old) else {
+    let Some(ptr) = held.block(old) else {
         let more = allocate(heap, held, entry)?;
         let first = Diagnostic {
             line: number,
@@ -321,12 +329,15 @@ pub(crate) fn outcome<H: Heaped>(
     pending: Option<Addr>,
     event: Result<Event, LineFault>,
 ) -> Result<Effect, AllocError>
-    requires live { AreLive held.old (H.content heap.old) }
-    ensures comes { IfOk result (λ effect. Comes (bare (H.content heap.old)) (bare (H.content heap.new)) (all_given held.old) (all_given held.new) effect.note.items effect.end
-        (outcome_of number event pending (found (all_given held.old)) (bare (H.content heap.old)))) }
-    ensures live { OnOk result (AreLive held.new (H.content heap.new)) }
-    ensures unchanged { OnErr result (held.new ≡ held.old) }
+    requires live { AreLive held.old.all (H.content heap.old) }
+    requires room { held.old.room ≡ (H.content heap.old).records }
+    ensures comes { IfOk result (λ effect. Comes (bare (H.content heap.old)) (bare (H.content heap.new)) (all_given held.old.all) (all_given held.new.all) effect.note.items effect.end
+        (outcome_of number event pending (found (all_given held.old.all)) (bare (H.content heap.old)))) }
+    ensures live { OnOk result (AreLive held.new.all (H.content heap.new)) }
+    ensures memory { OnErr result (MayLack H.lacks) }
+    ensures unchanged { OnErr result (held.new.all ≡ held.old.all) }
     ensures records { (H.content heap.new).records ≡ (H.content heap.old).records }
+    ensures looked { LooksUp 4 held.old held.new }
     ensures bound { H.touches heap.new ≤ H.touches heap.old + 356 }
 {
     match event {

@@ -1,0 +1,79 @@
+//! Where an address stands among the spots of an index, and how a spot comes between them.
+
+ghost use Rattle.std.specs.Prelude.{◌≡◌, ◌<◌, ◌≤◌, length, OnOk, IfOk, IfErr};
+ghost use Rattle.std.specs.Vec.{vec_capacity};
+ghost use Rattle.mtrace_replay.specs.Spot.{spot_address, all_held, RiseFrom};
+ghost use Rattle.mtrace_replay.specs.Search.{StandsAt, FitsAt, Compares, IsGap, Enters};
+
+use crate::comparisons::Comparisons;
+use crate::spot::Spot;
+use mtrace_log::Addr;
+use std::cmp::Ordering;
+
+/// Where the spot of the address is; or else where it would be, in order of address. It halves what is left, and
+/// compares at most as many addresses as the number of spots has binary digits.
+pub(crate) fn search(
+    spots: &[Spot],
+    comparisons: &mut Comparisons,
+    address: Addr,
+) -> Result<usize, usize>
+    requires { RiseFrom 0 spots.now }
+    ensures found { IfOk result (StandsAt spots.now address) }
+    ensures absent { IfErr result (FitsAt spots.now address) }
+    ensures compared { Compares (length spots.now) comparisons.old.count comparisons.new.count }
+{
+    let mut low = 0;
+    let mut high = spots.len();
+    while low < high {
+        let middle = low + (high - low) / 2;
+        match spots[middle].compare(address, comparisons) {
+            Ordering::Less => low = middle + 1,
+            Ordering::Equal => return Ok(middle),
+            Ordering::Greater => high = middle,
+        }
+    }
+    Err(low)
+}
+
+/// The vacant spot that is nearest to a place between two spots, or the end where that is nearer.
+fn nearest_gap(spots: &[Spot], room: usize, at: usize) -> usize
+    requires at_most { at ≤ length spots.now }
+    requires within { length spots.now ≤ room }
+    requires free { length (all_held spots.now) < room }
+    ensures { IsGap spots.now room result }
+{
+    let end = spots.len();
+    for distance in 0..end + 1 {
+        let behind = at + distance;
+        if behind < end && spots[behind].is_vacant() || behind == end && end < room {
+            return behind;
+        }
+        if distance < at && spots[at - distance - 1].is_vacant() {
+            return at - distance - 1;
+        }
+    }
+    unreachable!()
+}
+
+/// Puts a spot between the first so many and the others. It takes the nearest vacant spot, so that only what lies
+/// between moves, or else one more place at the end.
+pub(crate) fn enter(spots: &mut Vec<Spot>, room: usize, at: usize, spot: Spot)
+    requires at_most { at ≤ length spots.old.items }
+    requires within { length spots.old.items ≤ room }
+    requires reserved { room ≤ vec_capacity spots.old }
+    requires free { length (all_held spots.old.items) < room }
+    ensures enters { Enters spot at spots.old.items spots.new.items }
+    ensures within { length spots.new.items ≤ room }
+    ensures reserved { vec_capacity spots.new ≡ vec_capacity spots.old }
+{
+    let gap = nearest_gap(spots, room, at);
+    if gap == spots.len() {
+        let _ = spots.insert(at, spot);
+    } else if gap < at {
+        spots[gap..at].rotate_left(1);
+        spots[at - 1] = spot;
+    } else {
+        spots[at..gap + 1].rotate_right(1);
+        spots[at] = spot;
+    }
+}

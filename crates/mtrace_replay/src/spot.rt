@@ -1,0 +1,82 @@
+//! A spot of the index: an address, and what is held under it, if anything is.
+
+ghost use Rattle.std.specs.Prelude.{◌≡◌, ◌+◌, option_map, option_to_list, length, not, is_some};
+ghost use Rattle.std.specs.Ordering.{nat_cmp};
+ghost use Rattle.mtrace_replay.specs.Index.{held_bytes};
+ghost use Rattle.mtrace_replay.specs.Spot.{spot_address, holding_of};
+
+use crate::comparisons::Comparisons;
+use crate::holding::Holding;
+use mtrace_log::Addr;
+use std::cmp::Ordering;
+use tlsf_heap::Ptr;
+
+/// A spot of the index. The address of a vacant one still tells a search which way to go.
+#[derive(Drop)]
+pub(crate) enum Spot {
+    /// An address that is held.
+    Held(Holding),
+    /// An address that was held.
+    Vacant(Addr),
+}
+
+impl Spot {
+    /// The address.
+    pub(crate) fn address(&self) -> Addr
+        ensures { result ≡ spot_address self.now }
+    {
+        match self {
+            Spot::Held(holding) => holding.address(),
+            Spot::Vacant(address) => *address,
+        }
+    }
+
+    /// How the address compares to another one: the one way to compare, which counts.
+    pub(crate) fn compare(&self, address: Addr, comparisons: &mut Comparisons) -> Ordering
+        ensures order { result ≡ nat_cmp (spot_address self.now) address }
+        ensures counted { comparisons.new.count ≡ comparisons.old.count + 1 }
+    {
+        comparisons.tick();
+        self.address().cmp(&address)
+    }
+
+    /// Whether nothing is held.
+    pub(crate) fn is_vacant(&self) -> bool
+        ensures { result ≡ not (is_some (holding_of self.now)) }
+    {
+        match self {
+            Spot::Held(_) => false,
+            Spot::Vacant(_) => true,
+        }
+    }
+
+    /// The block that is held.
+    pub(crate) fn block(&self) -> Option<Ptr>
+        ensures { result ≡ option_map (λ holding. holding.ptr) (holding_of self.now) }
+    {
+        match self {
+            Spot::Held(holding) => Some(holding.ptr),
+            Spot::Vacant(_) => None,
+        }
+    }
+
+    /// How many addresses are held: 1 or 0.
+    pub(crate) fn count(&self) -> u64
+        ensures { result ≡ length (option_to_list (holding_of self.now)) }
+    {
+        match self {
+            Spot::Held(_) => 1,
+            Spot::Vacant(_) => 0,
+        }
+    }
+
+    /// How many bytes were asked for what is held.
+    pub(crate) fn size(&self) -> u64
+        ensures { result ≡ held_bytes (option_to_list (holding_of self.now)) }
+    {
+        match self {
+            Spot::Held(holding) => holding.size(),
+            Spot::Vacant(_) => 0,
+        }
+    }
+}
