@@ -1,3 +1,4 @@
+mod EnterLemmas
 mod FoundLemmas
 mod HeapSteps
 mod HeldFew
@@ -7,8 +8,10 @@ mod LogRows
 mod Moments
 mod RowLemmas
 mod RunLemmas
+mod SearchLemmas
 mod Served
 mod SortedLemmas
+mod SpotLemmas
 mod Standing
 mod StartLemmas
 mod StartSteps

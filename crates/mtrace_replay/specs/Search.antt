@@ -15,10 +15,13 @@ FitsAt spots address at = (at ≤ length spots) × AreBelow address (take at spo
 abbrev pub Compares : ℕ → (before after : ℕ) → Type 0
 Compares most before after = (digits : ℕ) → most < 2 ^ digits → after ≤ before + digits
 
+-- nothing is held there
+abbrev pub IsVacantAt : List Spot → ℕ → Type 0
+IsVacantAt spots at = (at < length spots) × ((default : Spot) → holding_of (slice_index_or spots at default) ≡ None)
+
 -- a vacant spot, or the end where there is room
 abbrev pub IsGap : List Spot → (room at : ℕ) → Type 0
-IsGap spots room at = ((at ≡ length spots) × (length spots < room))
-    ⊎ ((at < length spots) × ((default : Spot) → holding_of (slice_index_or spots at default) ≡ None))
+IsGap spots room at = ((at ≡ length spots) × (length spots < room)) ⊎ IsVacantAt spots at
 
 -- the same spots, but for at most one vacant one
 abbrev pub AreKept : (old new : List Spot) → Type 0

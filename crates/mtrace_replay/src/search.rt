@@ -3,7 +3,7 @@
 ghost use Rattle.std.specs.Prelude.{◌≡◌, ◌<◌, ◌≤◌, length, OnOk, IfOk, IfErr};
 ghost use Rattle.std.specs.Vec.{vec_capacity};
 ghost use Rattle.mtrace_replay.specs.Spot.{spot_address, all_held, RiseFrom};
-ghost use Rattle.mtrace_replay.specs.Search.{StandsAt, FitsAt, Compares, IsGap, Enters};
+ghost use Rattle.mtrace_replay.specs.Search.{StandsAt, FitsAt, Compares, IsVacantAt, IsGap, Enters};
 
 use crate::comparisons::Comparisons;
 use crate::spot::Spot;
@@ -55,6 +55,30 @@ fn nearest_gap(spots: &[Spot], room: usize, at: usize) -> usize
     unreachable!()
 }
 
+/// Puts a spot in place of the vacant one before it; what lies between moves down.
+fn enter_below(spots: &mut [Spot], gap: usize, at: usize, spot: Spot)
+    requires below { gap < at }
+    requires at_most { at ≤ length spots.old }
+    requires vacant { IsVacantAt spots.old gap }
+    ensures enters { Enters spot at spots.old spots.new }
+    ensures len { length spots.new ≡ length spots.old }
+{
+    spots[gap..at].rotate_left(1);
+    spots[at - 1] = spot;
+}
+
+/// Puts a spot in place of the vacant one behind it; what lies between moves up.
+fn enter_above(spots: &mut [Spot], gap: usize, at: usize, spot: Spot)
+    requires above { at ≤ gap }
+    requires within { gap < length spots.old }
+    requires vacant { IsVacantAt spots.old gap }
+    ensures enters { Enters spot at spots.old spots.new }
+    ensures len { length spots.new ≡ length spots.old }
+{
+    spots[at..gap + 1].rotate_right(1);
+    spots[at] = spot;
+}
+
 /// Puts a spot between the first so many and the others. It takes the nearest vacant spot, so that only what lies
 /// between moves, or else one more place at the end.
 pub(crate) fn enter(spots: &mut Vec<Spot>, room: usize, at: usize, spot: Spot)
@@ -70,10 +94,8 @@ pub(crate) fn enter(spots: &mut Vec<Spot>, room: usize, at: usize, spot: Spot)
     if gap == spots.len() {
         let _ = spots.insert(at, spot);
     } else if gap < at {
-        spots[gap..at].rotate_left(1);
-        spots[at - 1] = spot;
+        enter_below(spots, gap, at, spot);
     } else {
-        spots[at..gap + 1].rotate_right(1);
-        spots[at] = spot;
+        enter_above(spots, gap, at, spot);
     }
 }
