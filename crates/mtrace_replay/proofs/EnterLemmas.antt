@@ -11,7 +11,7 @@ use Rattle.mtrace_replay.specs.Search.{IsVacantAt, AreKept, Enters}
 pub parted : (default : Spot) (spots : List Spot) (n : ℕ) → n < length spots → spots ≡ take n spots ++ slice_index_or spots n default ∷ drop (suc n) spots
 parted default spots n within = sym (take-append-drop n spots) ∙ ap (λ rest. take n spots ++ rest) (drop-cons spots n default within)
 
-seam_set : (before rest : List Spot) (was spot : Spot) (n : ℕ) → length before ≡ n → slice_set (before ++ was ∷ rest) n spot ≡ before ++ spot ∷ rest
+pub seam_set : (before rest : List Spot) (was spot : Spot) (n : ℕ) → length before ≡ n → slice_set (before ++ was ∷ rest) n spot ≡ before ++ spot ∷ rest
 seam_set before rest was spot n is = subst (λ k. slice_set (before ++ was ∷ rest) k spot ≡ before ++ spot ∷ rest) is (set-append_seam before was rest spot)
 
 module _ (spots : List Spot) (spot : Spot) (gap at : ℕ) where

@@ -3,6 +3,7 @@ mod FoundLemmas
 mod HeapSteps
 mod HeldFew
 mod HeldLemmas
+mod IndexLemmas
 mod Living
 mod LogRows
 mod Moments

@@ -1,6 +1,7 @@
 -- The spots of an index: their order, and what is held at them.
-use Rattle.std.proofs.Common.{◌≡◌, ℕ, zero, suc, ◌+◌, ◌-◌, ◌*◌, ◌^◌, ◌<◌, ◌≤◌, List, [], ◌∷◌, ◌++◌, take, drop, length, slice_index_or, is_some, true, arith, refl, sym, ap, ◌∙◌, subst}
-use Rattle.std.specs.List.{AllByRecursion}
+use Rattle.std.proofs.Common.{◌≡◌, ℕ, zero, suc, ◌+◌, ◌-◌, ◌*◌, ◌^◌, ◌<◌, ◌≤◌, List, [], ◌∷◌, ◌++◌, take, drop, length, slice_index_or, slice_set, is_some, true, None, inl, inr, arith, refl, sym, ap, ◌∙◌, subst}
+use Rattle.std.specs.Prelude.{option_to_list}
+use Rattle.mtrace_replay.specs.Search.{AreKept}
 use Rattle.mtrace_replay.specs.declared.spot.Spot.{Spot}
 use Rattle.mtrace_replay.specs.declared.spot.Spot.TheVariants.{Held, Vacant}
 use Rattle.mtrace_replay.specs.Spot.{spot_address, holding_of, all_held, RiseFrom, AreBelow, AreAbove}
@@ -37,6 +38,12 @@ above_from default address bound (spot ∷ spots) zero rise within is =
 above_from default address bound (spot ∷ spots) (suc k) rise within is =
     above_from default address (suc (spot_address spot)) spots k rise.1 (omega (arith, within)) is
 
+-- what is held at the spots of two lists
+pub held_append : (one other : List Spot) → all_held (one ++ other) ≡ all_held one ++ all_held other
+held_append [] other = refl
+held_append (Held holding ∷ one) other = ap (λ all. holding ∷ all) (held_append one other)
+held_append (Vacant address ∷ one) other = held_append one other
+
 -- where something is held at each spot, as much is held as there are spots
 pub all_are_held : (spots : List Spot) → ((k : ℕ) → k < length spots → (default : Spot) → is_some (holding_of (slice_index_or spots k default)) ≡ true)
     → length (all_held spots) ≡ length spots
@@ -45,3 +52,76 @@ all_are_held (Held holding ∷ spots) all = ap suc (all_are_held spots (λ k wit
 all_are_held (Vacant address ∷ spots) all =
     let none = all 0 (omega arith) (Vacant address) in
     cc
+
+-- what stands before a spot is below it, and what stands behind it above
+pub below_before : (default : Spot) (bound : ℕ) (spots : List Spot) (k : ℕ) → RiseFrom bound spots → k < length spots → AreBelow (spot_address (slice_index_or spots k default)) (take k spots)
+below_before default bound [] k rise within = absurd (omega (arith, within))
+below_before default bound (spot ∷ spots) zero rise within = tt
+below_before default bound (spot ∷ spots) (suc k) rise within =
+    (not_below default (suc (spot_address spot)) spots k rise.1 (omega (arith, within)), below_before default (suc (spot_address spot)) spots k rise.1 (omega (arith, within)))
+
+pub above_behind : (default : Spot) (bound : ℕ) (spots : List Spot) (k : ℕ) → RiseFrom bound spots → k < length spots → AreAbove (spot_address (slice_index_or spots k default)) (drop (suc k) spots)
+above_behind default bound [] k rise within = absurd (omega (arith, within))
+above_behind default bound (spot ∷ spots) zero rise within = above_all (spot_address spot) (suc (spot_address spot)) spots rise.1 (omega arith)
+above_behind default bound (spot ∷ spots) (suc k) rise within = above_behind default (suc (spot_address spot)) spots k rise.1 (omega (arith, within))
+
+-- a list that rises from a bound rises from a lower one
+pub rise_lower : (bound lower : ℕ) (spots : List Spot) → lower ≤ bound → RiseFrom bound spots → RiseFrom lower spots
+rise_lower bound lower [] less rise = tt
+rise_lower bound lower (spot ∷ spots) less rise = (omega (arith, less, rise.0), rise.1)
+
+-- parts of a list that rises
+pub rise_take : (bound : ℕ) (spots : List Spot) (k : ℕ) → RiseFrom bound spots → RiseFrom bound (take k spots)
+rise_take bound spots zero rise = tt
+rise_take bound [] (suc k) rise = tt
+rise_take bound (spot ∷ spots) (suc k) rise = (rise.0, rise_take (suc (spot_address spot)) spots k rise.1)
+
+pub rise_drop : (bound : ℕ) (spots : List Spot) (k : ℕ) → RiseFrom bound spots → RiseFrom bound (drop k spots)
+rise_drop bound spots zero rise = rise
+rise_drop bound [] (suc k) rise = tt
+rise_drop bound (spot ∷ spots) (suc k) rise = rise_lower (suc (spot_address spot)) bound (drop k spots) (omega (arith, rise.0)) (rise_drop (suc (spot_address spot)) spots k rise.1)
+
+-- one that is above an address rises from there
+pub rise_above : (address bound : ℕ) (spots : List Spot) → RiseFrom bound spots → AreAbove address spots → RiseFrom (suc address) spots
+rise_above address bound [] rise above = tt
+rise_above address bound (spot ∷ spots) rise above = (above.0, rise.1)
+
+-- a spot between lower and higher ones
+pub rise_join : (bound : ℕ) (before : List Spot) (spot : Spot) (behind : List Spot) → RiseFrom bound before → AreBelow (spot_address spot) before → bound ≤ spot_address spot
+    → RiseFrom (suc (spot_address spot)) behind → RiseFrom bound (before ++ spot ∷ behind)
+rise_join bound [] spot behind rise below least above = (least, above)
+rise_join bound (first ∷ before) spot behind rise below least above = (rise.0, rise_join (suc (spot_address first)) before spot behind rise.1 below.1 below.0 above)
+
+-- a spot leaves
+pub rise_without : (bound : ℕ) (before : List Spot) (spot : Spot) (behind : List Spot) → RiseFrom bound (before ++ spot ∷ behind) → RiseFrom bound (before ++ behind)
+rise_without bound [] spot behind rise = rise_lower (suc (spot_address spot)) bound behind (omega (arith, rise.0)) rise.1
+rise_without bound (first ∷ before) spot behind rise = (rise.0, rise_without (suc (spot_address first)) before spot behind rise.1)
+
+pub below_without : (address : ℕ) (before : List Spot) (spot : Spot) (behind : List Spot) → AreBelow address (before ++ spot ∷ behind) → AreBelow address (before ++ behind)
+below_without address [] spot behind below = below.1
+below_without address (first ∷ before) spot behind below = (below.0, below_without address before spot behind below.1)
+
+-- a spot of the same address in place of one
+pub rise_set : (default : Spot) (bound : ℕ) (spots : List Spot) (k : ℕ) (spot : Spot) → RiseFrom bound spots → k < length spots → spot_address (slice_index_or spots k default) ≡ spot_address spot
+    → RiseFrom bound (slice_set spots k spot)
+rise_set default bound [] k spot rise within same = absurd (omega (arith, within))
+rise_set default bound (old ∷ spots) zero spot rise within same = subst (λ a. (bound ≤ a) × RiseFrom (suc a) spots) same rise
+rise_set default bound (old ∷ spots) (suc k) spot rise within same = (rise.0, rise_set default (suc (spot_address old)) spots k spot rise.1 (omega (arith, within)) same)
+
+-- all but at most one vacant spot
+module _ (old new : List Spot) where
+  pub kept_rise : (bound : ℕ) → AreKept old new → RiseFrom bound old → RiseFrom bound new
+  kept_rise bound (inl same) rise = subst (RiseFrom bound) (sym same) rise
+  kept_rise bound (inr (before, spot, behind, vacant, was, is)) rise = subst (RiseFrom bound) (sym is) (rise_without bound before spot behind (subst (RiseFrom bound) was rise))
+
+  pub kept_below : (address : ℕ) → AreKept old new → AreBelow address old → AreBelow address new
+  kept_below address (inl same) below = subst (AreBelow address) (sym same) below
+  kept_below address (inr (before, spot, behind, vacant, was, is)) below = subst (AreBelow address) (sym is) (below_without address before spot behind (subst (AreBelow address) was below))
+
+  pub kept_held : AreKept old new → all_held new ≡ all_held old
+  kept_held (inl same) = ap all_held same
+  kept_held (inr (before, spot, behind, vacant, was, is)) = ap all_held is ∙ sym (held_without before spot behind vacant) ∙ ap all_held (sym was)
+    where
+      held_without : (before : List Spot) (spot : Spot) (behind : List Spot) → holding_of spot ≡ None → all_held (before ++ spot ∷ behind) ≡ all_held (before ++ behind)
+      held_without before spot behind vacant =
+          held_append before (spot ∷ behind) ∙ ap (λ held. all_held before ++ (option_to_list held ++ all_held behind)) vacant ∙ sym (held_append before behind)

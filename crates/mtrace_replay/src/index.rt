@@ -11,7 +11,6 @@ use crate::spot::Spot;
 use mtrace_log::Addr;
 use std::alloc::{AllocError, Global};
 use std::marker::Model;
-use std::slice::Iter;
 use tlsf_heap::Ptr;
 
 /// What is held, in order of address. The spot of an address that is held no more stays vacant, for the same address or
@@ -88,8 +87,9 @@ impl Index {
         let size = holding.size();
         match search(&self.spots, &mut self.comparisons, holding.address()) {
             Ok(at) => {
-                self.blocks = self.blocks + 1 - self.spots[at].count();
-                self.bytes = self.bytes + size - self.spots[at].size();
+                let was = &self.spots[at];
+                self.blocks = self.blocks + 1 - was.count();
+                self.bytes = self.bytes + size - was.size();
                 self.spots[at] = Spot::Held(holding);
             }
             Err(at) => {
@@ -121,8 +121,9 @@ impl Index {
         ensures looked { LooksUp 1 self.old self.new }
     {
         if let Ok(at) = search(&self.spots, &mut self.comparisons, address) {
-            self.blocks -= self.spots[at].count();
-            self.bytes -= self.spots[at].size();
+            let was = &self.spots[at];
+            self.blocks -= was.count();
+            self.bytes -= was.size();
             self.spots[at] = Spot::Vacant(address);
         }
     }
@@ -147,7 +148,7 @@ impl Index {
         ensures entries { result ≡ map (λ holding. holding.entry) self.now.all }
     {
         Entries {
-            spots: self.spots.iter(),
+            spots: self.spots.as_slice(),
         }
     }
 
@@ -162,7 +163,7 @@ impl Index {
 /// Entries in order of address, as an iterator.
 #[derive(Drop)]
 pub struct Entries<'a> {
-    spots: Iter<'a, Spot>,
+    spots: &'a [Spot],
 }
 
 impl<'a> Model for Entries<'a> {
@@ -172,7 +173,7 @@ impl<'a> Model for Entries<'a> {
 
     ghost Value = { List Entry };
 
-    ghost view = { λ entries. map (λ holding. holding.entry) (all_held entries.spots) };
+    ghost view = { λ entries. map (λ holding. holding.entry) (all_held entries.spots.now) };
 }
 
 impl<'a> Iterator for Entries<'a> {
@@ -185,7 +186,8 @@ impl<'a> Iterator for Entries<'a> {
     ghost remaining = { item_count (λ entries. entries) };
 
     fn next(&mut self) -> Option<&'a Entry> {
-        while let Some(spot) = self.spots.next() {
+        while let Some((spot, rest)) = self.spots.split_first() {
+            self.spots = rest;
             if let Spot::Held(holding) = spot {
                 return Some(&holding.entry);
             }

@@ -1,0 +1,48 @@
+use Rattle.std.proofs.Common.{◌+◌, ◌-◌, Some, refl, sym, ap, ◌∙◌, subst, cond, arith}
+use Rattle.std.specs.Prelude.{◌==◌}
+use Rattle.std.specs.Vec.{vec_capacity}
+use Rattle.mtrace_replay.specs.declared.spot.Spot.TheVariants.{Held}
+use Rattle.mtrace_replay.specs.Search.{StandsAt, FitsAt}
+use Rattle.mtrace_replay.specs.Index.{Indexed, IsIndex, held_at}
+use Rattle.mtrace_replay.proofs.IndexLemmas.{set_keeps, set_held, set_count, set_bytes, enters_held, enters_keeps}
+use Rattle.mtrace_replay.proofs.index.Index.insert.Goals as goal
+
+pub overflow_sub-self-in-Ok : goal.overflow_sub-self-in-Ok
+overflow_sub-self-in-Ok c =
+    let address = c.args.holding.entry.addr in
+    let stands = subst (λ a. StandsAt c.self.inside.spots.items a c.in-Ok.at) c.address.ensures (subst (λ all. StandsAt all c.address.result c.in-Ok.at) c.deref.ensures.value c.in-Ok.ensures.found) in
+    let bytes = set_bytes c.self.inside.spots.items address c.in-Ok.at c.self.invariant.rise stands c.index-was.result.now (Held c.args.holding) c.index-was.ensures refl in
+    omega (arith, bytes, c.size.ensures, c.size-size.ensures, c.self.invariant.bytes_are)
+
+pub invariant_of-self : goal.invariant_of-self
+invariant_of-self c =
+    let address = c.args.holding.entry.addr in
+    let stands = subst (λ a. StandsAt c.self.inside.spots.items a c.in-Ok.at) c.address.ensures (subst (λ all. StandsAt all c.address.result c.in-Ok.at) c.deref.ensures.value c.in-Ok.ensures.found) in
+    let count = set_count c.self.inside.spots.items address c.in-Ok.at c.self.invariant.rise stands c.index-was.result.now (Held c.args.holding) c.index-was.ensures refl in
+    let bytes = set_bytes c.self.inside.spots.items address c.in-Ok.at c.self.invariant.rise stands c.index-was.result.now (Held c.args.holding) c.index-was.ensures refl in
+    set_keeps c.self.inside.spots.items address c.in-Ok.at c.self.invariant.rise stands c.index-was.result.now (Held c.args.holding) c.index-was.ensures refl
+    c.self.inside.spots.cap c.self.inside.room c.self.inside.blocks c.self.inside.bytes (c.self.inside.blocks + 1 - c.count.result) (c.self.inside.bytes + c.size-size.result - c.size.result) c.self.invariant
+    (omega (arith, count, c.count.ensures, c.self.invariant.blocks_are)) (omega (arith, bytes, c.size.ensures, c.size-size.ensures, c.self.invariant.bytes_are))
+
+pub returns-in-Ok-clause-held : goal.returns-in-Ok-clause-held
+returns-in-Ok-clause-held c other =
+    let address = c.args.holding.entry.addr in
+    let stands = subst (λ a. StandsAt c.self.inside.spots.items a c.in-Ok.at) c.address.ensures (subst (λ all. StandsAt all c.address.result c.in-Ok.at) c.deref.ensures.value c.in-Ok.ensures.found) in
+    set_held c.self.inside.spots.items address c.in-Ok.at c.self.invariant.rise stands c.index-was.result.now (Held c.args.holding) c.index-was.ensures refl other
+    ∙ ap (λ (index : Indexed). cond (address == other) (Some c.args.holding) (held_at index.all other)) c.self.view_is
+
+pub invariant_of-self-in-Err : goal.invariant_of-self-in-Err
+invariant_of-self-in-Err c =
+    let address = c.args.holding.entry.addr in
+    let fits = subst (λ a. FitsAt c.self.inside.spots.items a c.in-Err.at) c.address.ensures (subst (λ all. FitsAt all c.address.result c.in-Err.at) c.deref.ensures.value c.in-Err.ensures.absent) in
+    subst (λ memory. IsIndex c.enter.new.spots.items memory c.self.inside.room (c.self.inside.blocks + 1) (c.self.inside.bytes + c.size-size.result)) (sym c.enter.ensures.reserved)
+    (enters_keeps c.self.inside.spots.items address c.in-Err.at c.self.invariant.rise fits (Held c.args.holding) refl c.enter.new.spots.items c.enter.ensures.enters
+        (vec_capacity c.self.inside.spots) c.self.inside.room c.self.inside.blocks c.self.inside.bytes (c.self.inside.blocks + 1) (c.self.inside.bytes + c.size-size.result) c.self.invariant c.enter.ensures.within
+        (omega arith) (omega (arith, c.size-size.ensures)))
+
+pub returns-in-Err-clause-held : goal.returns-in-Err-clause-held
+returns-in-Err-clause-held c other =
+    let address = c.args.holding.entry.addr in
+    let fits = subst (λ a. FitsAt c.self.inside.spots.items a c.in-Err.at) c.address.ensures (subst (λ all. FitsAt all c.address.result c.in-Err.at) c.deref.ensures.value c.in-Err.ensures.absent) in
+    enters_held c.self.inside.spots.items address c.in-Err.at c.self.invariant.rise fits (Held c.args.holding) refl c.enter.new.spots.items c.enter.ensures.enters other
+    ∙ ap (λ (index : Indexed). cond (address == other) (Some c.args.holding) (held_at index.all other)) c.self.view_is
