@@ -1,5 +1,5 @@
 -- No more addresses are held than the heap has records.
-use Rattle.std.proofs.Common.{◌≡◌, ◌≢◌, ℕ, ◌*◌, ◌≤◌, Bool, true, false, List, [], ◌∷◌, length, map, Some, sym, ap, ◌∙◌, subst, arith, inl, inr}
+use Rattle.std.proofs.Common.{◌≡◌, ◌≢◌, ℕ, ◌*◌, ◌<◌, ◌≤◌, Bool, cond, true, false, List, [], ◌∷◌, length, map, Some, None, refl, sym, ap, ◌∙◌, subst, arith, inl, inr}
 use Rattle.std.specs.Prelude.{◌==◌, ◌&&◌, ◌||◌}
 use Rattle.std.specs.List.{AllByRecursion, Contains, IsDistinct}
 use Rattle.std.specs.Set.{is_member}
@@ -17,7 +17,7 @@ use Rattle.tlsf_heap.specs.Pools.{most_records}
 use Rattle.std.proofs.lemmas.List.Sums.{sum_by-cons}
 use Rattle.mtrace_replay.specs.Index.{AreInOrder, held_at, held_bytes}
 use Rattle.mtrace_replay.specs.Step.{AreLive}
-use Rattle.mtrace_replay.proofs.SortedLemmas.{AreSorted, has_first, has_more, above, sorted_rest, is_found}
+use Rattle.mtrace_replay.proofs.SortedLemmas.{AreSorted, first_or_rest, has_first, has_more, above, sorted_rest, is_found}
 
 abbrev key : Holding → ℕ
 key holding = holding.entry.addr
@@ -75,16 +75,49 @@ held_places (first ∷ rest) blocks live place has = by_first (λ later. held_pl
       | inr there ↦ later (sym (ap (λ b. b || is_member (λ x y. x == y) (places rest) place) there) ∙ has)
     ]
 
-pub held_few : (holdings : List Holding) (content : Content ℕ) → AreInOrder holdings → IsGood content → AreLive holdings content → length holdings ≤ content.records
-held_few holdings content ordered good are =
-    let sorted = sorted_from_strictly_increasing (map key holdings) ordered in
-    let here : (holding : Holding) → Contains holdings holding → held_at holdings (key holding) ≡ Some holding = λ holding has. is_found key holdings holding sorted has in
-    let apart : Apart holdings = λ one other has has_too same. are.apart (key one) (key other) one other (here one has) (here other has_too) same in
-    let fewer = length-le_from_is_member nat_eq_equiv (places holdings) (map (λ (block : Block ℕ). block.place) (blocks_of content.pools)) (distinct_places holdings sorted apart)
-    (held_places holdings (blocks_of content.pools) (λ holding has. are.live (key holding) holding (here holding has))) in
+-- what is live in blocks of its own is no more than the heap's records
+few_places : (holdings : List Holding) (content : Content ℕ) → IsDistinct (λ a b. a == b) (places holdings)
+    → ((holding : Holding) → Contains holdings holding → is_live (λ slot. slot == holding.ptr.slot) holding.ptr.place (blocks_of content.pools) ≡ true) → IsGood content
+    → length holdings ≤ content.records
+few_places holdings content distinct live good =
+    let fewer = length-le_from_is_member nat_eq_equiv (places holdings) (map (λ (block : Block ℕ). block.place) (blocks_of content.pools)) distinct
+    (held_places holdings (blocks_of content.pools) live) in
     let held : length (places holdings) ≡ length holdings = length-map holdings (λ (holding : Holding). holding.ptr.place) in
     let used : length (map (λ (block : Block ℕ). block.place) (blocks_of content.pools)) ≡ length (blocks_of content.pools) = length-map (blocks_of content.pools) (λ (block : Block ℕ). block.place) in
     omega (arith, fewer, good.blocks_few, held, used)
+
+module _ (holdings : List Holding) (content : Content ℕ) (ordered : AreInOrder holdings) (good : IsGood content) where
+  sorted : AreSorted key holdings
+  sorted = sorted_from_strictly_increasing (map key holdings) ordered
+
+  here : (holding : Holding) → Contains holdings holding → held_at holdings (key holding) ≡ Some holding
+  here holding has = is_found key holdings holding sorted has
+
+  pub held_few : AreLive holdings content → length holdings ≤ content.records
+  held_few are =
+      few_places holdings content
+      (distinct_places holdings sorted (λ one other has has_too same. are.apart (key one) (key other) one other (here one has) (here other has_too) same))
+      (λ holding has. are.live (key holding) holding (here holding has)) good
+
+  -- one more that is live has a record of its own
+  pub held_room : (more : Holding) → held_at holdings (key more) ≡ None → AreLive (more ∷ holdings) content → length holdings < content.records
+  unfolding IsDistinct
+  held_room more absent are = few_places (more ∷ holdings) content (
+        others_differ more.ptr.place holdings (λ other has same. other_key other has (are.apart (key more) (key other) more other first (later other has) same)),
+        distinct_places holdings sorted (λ one other has has_too same. are.apart (key one) (key other) one other (later one has) (later other has_too) same),
+      ) (λ holding has. elim (first_or_rest key more holding holdings has) [
+        | inl is ↦ subst (λ (h : Holding). is_live (λ slot. slot == h.ptr.slot) h.ptr.place (blocks_of content.pools) ≡ true) is (are.live (key more) more first)
+        | inr is ↦ are.live (key holding) holding (later holding is)
+      ]) good
+    where
+      other_key : (other : Holding) → Contains holdings other → key more ≢ key other
+      other_key other has same = let e : None ≡ Some other = sym absent ∙ ap (held_at holdings) same ∙ here other has in cc
+
+      first : held_at (more ∷ holdings) (key more) ≡ Some more
+      first = ap (λ b. cond b (Some more) (held_at holdings (key more))) (eq-eqb (key more) (key more) refl)
+
+      later : (other : Holding) → Contains holdings other → held_at (more ∷ holdings) (key other) ≡ Some other
+      later other has = ap (λ b. cond b (Some more) (held_at holdings (key other))) (ne_eqb (key more) (key other) (other_key other has)) ∙ here other has
 
 -- the sum of the sizes held
 bytes_few : (holdings : List Holding) → ((holding : Holding) → Contains holdings holding → holding.entry.size ≤ greatest_size) → held_bytes holdings ≤ greatest_size * length holdings
@@ -97,7 +130,6 @@ bytes_few (first ∷ rest) small =
 
 pub held_fits : (holdings : List Holding) (content : Content ℕ) → AreInOrder holdings → IsGood content → AreLive holdings content → held_bytes holdings ≤ greatest_size * most_records
 held_fits holdings content ordered good are =
-    let sorted = sorted_from_strictly_increasing (map key holdings) ordered in
     let few = held_few holdings content ordered good are in
-    let bytes = bytes_few holdings (λ holding has. are.small (key holding) holding (is_found key holdings holding sorted has)) in
+    let bytes = bytes_few holdings (λ holding has. are.small (key holding) holding (here holdings content ordered good holding has)) in
     omega (arith, few, bytes, are.records)

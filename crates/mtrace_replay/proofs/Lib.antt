@@ -6,6 +6,7 @@ mod HeldLemmas
 mod IndexLemmas
 mod Living
 mod LogRows
+mod LookLemmas
 mod Moments
 mod RowLemmas
 mod RunLemmas

@@ -44,7 +44,7 @@ some_is : (held : Option Holding) → is_some held ≡ true → (holding : Holdi
 some_is None is = absurd (cc)
 some_is (Some holding) is = (holding, refl)
 
-none_is : (held : Option Holding) → is_some held ≡ false → held ≡ None
+pub none_is : (held : Option Holding) → is_some held ≡ false → held ≡ None
 none_is None is = refl
 none_is (Some holding) is = absurd (cc)
 

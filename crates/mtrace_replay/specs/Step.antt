@@ -55,9 +55,9 @@ pub record AreLive (holdings : List Holding) (content : Content ℕ) : Type 0 wh
 -- what a replay keeps: until memory is refused what is held is live; memory is refused only by a heap that lacks it;
 -- there is at most as much held as there are records, and room for as much; no more lines were served, or refused,
 -- than there were
-pub record Keeps (held : Indexed) (content : Content ℕ) (totals : Totals) (lacks : Type 0) (out_of_memory : Bool) : Type 0 where
+pub record Keeps (held : Indexed) (content : Content ℕ) (totals : Totals) (may_lack : Type 0) (out_of_memory : Bool) : Type 0 where
   pub live : out_of_memory ≡ false → AreLive held.all content
-  pub lacks : out_of_memory ≡ true → lacks
+  pub lacks : out_of_memory ≡ true → may_lack
   pub few : length held.all ≤ content.records
   pub room : held.room ≡ content.records
   pub served : totals.served ≤ totals.lines

@@ -165,6 +165,7 @@ fn allocate<H: Heaped>(heap: &mut H, held: &mut Index, entry: Entry) -> Result<E
     match malloc_block(heap, asked_size(entry.size)) {
         Ok(block) => {
             let ptr = block.ptr;
+            heap.keeps_good();
             held.insert(Holding { entry, ptr });
             Ok(served(block.end))
         }

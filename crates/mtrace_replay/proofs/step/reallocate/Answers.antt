@@ -1,4 +1,4 @@
-use Rattle.std.proofs.Common.{arith, [], ◌+◌, rules, ◌≡◌, ℕ, true, List, Option, Some, None, sym, subst, ap, ◌∙◌}
+use Rattle.std.proofs.Common.{arith, is_some, [], ◌+◌, rules, ◌≡◌, ℕ, true, List, Option, Some, None, sym, subst, ap, ◌∙◌}
 use Rattle.std.specs.Prelude.{◌==◌, Ok}
 use Rattle.tlsf_heap.specs.Bare.{bare}
 use Rattle.tlsf_heap.specs.Content.{Content, blocks_of}
@@ -13,7 +13,8 @@ use Rattle.mtrace_replay.specs.Step.{all_given, Comes}
 use Rattle.mtrace_replay.proofs.HeapSteps.{bare_moved, bare_not_moved}
 use Rattle.mtrace_replay.proofs.Living.{live_after_realloc}
 use Rattle.mtrace_replay.proofs.Served.{moved_small, moved_records}
-use Rattle.mtrace_replay.proofs.HeldFew.{held_fits}
+use Rattle.mtrace_replay.proofs.LookLemmas.{looks_up_fewer}
+use Rattle.mtrace_replay.proofs.HeldFew.{held_few, held_fits}
 use Rattle.mtrace_replay.proofs.StepLemmas.{asked_least, comes_moved, comes_not_moved}
 use Rattle.mtrace_replay.proofs.step.reallocate.Goals as goal
 
@@ -22,15 +23,21 @@ replace-requires g c =
     let old = g.H.Heaped.content c.args.heap.now in
     let asked = asked_least c.args.entry.size in
     let most = moved_small (λ a b. a == b) c.in-Ok.block.ptr.slot c.args.ptr.slot c.args.ptr.place c.asked_size.result old (Some (c.in-Ok.block.ptr.place, c.in-Ok.block.ptr.slot), g.H.Heaped.content c.realloc_block.new.heap) (λ none. omega (arith, asked, c.asked_size.ensures, none)) c.in-Ok.ensures.ok in
-    let fits = held_fits c.args.held.now old c.keeps_order.ensures c.keeps_good.ensures.good c.requires.live in
-    record { room = omega (arith, most, fits, asked, c.asked_size.ensures) }
+    let fits = held_fits c.args.held.now.all old c.keeps_order.ensures c.keeps_good.ensures.good c.requires.live in
+    let few = held_few c.args.held.now.all old c.keeps_order.ensures c.keeps_good.ensures.good c.requires.live in
+    let under = c.requires.held in
+    record {
+      bytes = omega (arith, most, fits, asked, c.asked_size.ensures);
+      held = ap is_some under.1;
+      room = omega (arith, few, c.requires.room);
+    }
 
-pub returns-in_ok-replace-in-Ok-clause-comes : goal.returns-in_ok-replace-in-Ok-clause-comes
-returns-in_ok-replace-in-Ok-clause-comes g c =
+pub returns-in-Ok-clause-comes : goal.returns-in-Ok-clause-comes
+returns-in-Ok-clause-comes g c =
     let old = g.H.Heaped.content c.args.heap.now in
     let new = g.H.Heaped.content c.realloc_block.new.heap in
-    let held = c.args.held.now in
-    let after = c.replace.new.self in
+    let held = c.args.held.now.all in
+    let after = c.replace.new.self.all in
     let entry = c.args.entry in
     let ptr = c.args.ptr in
     let given = c.in-Ok.block.ptr in
@@ -43,25 +50,21 @@ returns-in_ok-replace-in-Ok-clause-comes g c =
     let end = c.served.ensures.end ∙ ap (λ (n : ℕ). Some n) (c.in-Ok.ensures.end ∙ ap (λ (n : ℕ). given.place + n) (sym (size_at-renamed (λ owner. tt) given.place new.pools))) in
     subst (λ notes. Q notes c.served.result.end) (sym c.served.ensures.note) (subst (Q []) (sym end)
     (comes_moved held after (bare old) (bare new) c.args.old ptr.place (record { entry = entry; ptr = given })
-    (ap (λ n. realloc (λ one other. true) tt (Some (ptr.place, tt)) n (bare old)) (sym c.asked_size.ensures) ∙ served) c.in_ok-replace-in-Ok.ensures.held))
+    (ap (λ n. realloc (λ one other. true) tt (Some (ptr.place, tt)) n (bare old)) (sym c.asked_size.ensures) ∙ served) c.replace.ensures.held))
 
-pub returns-in_ok-replace-in-Ok-clause-live : goal.returns-in_ok-replace-in-Ok-clause-live
-returns-in_ok-replace-in-Ok-clause-live g c =
+pub returns-in-Ok-clause-live : goal.returns-in-Ok-clause-live
+returns-in-Ok-clause-live g c =
     let old = g.H.Heaped.content c.args.heap.now in
     let new = g.H.Heaped.content c.realloc_block.new.heap in
     let under = c.requires.held in
     let given = c.in-Ok.block.ptr in
     let asked = asked_least c.args.entry.size in
     let R : Pointer → Type 0 = λ p. realloc (λ a b. a == b) given.slot (Some (p.place, p.slot)) c.asked_size.result old ≡ Ok (Some (given.place, given.slot), new) in
-    live_after_realloc c.args.held.now c.replace.new.self old new c.keeps_good.ensures.good c.requires.live c.args.old under.0 under.1 (record { entry = c.args.entry; ptr = given }) c.asked_size.result
-    (subst R (sym under.2) c.in-Ok.ensures.ok) (omega (arith, asked, c.asked_size.ensures)) (omega (arith, asked, c.asked_size.ensures)) c.in_ok-replace-in-Ok.ensures.held
+    live_after_realloc c.args.held.now.all c.replace.new.self.all old new c.keeps_good.ensures.good c.requires.live c.args.old under.0 under.1 (record { entry = c.args.entry; ptr = given }) c.asked_size.result
+    (subst R (sym under.2) c.in-Ok.ensures.ok) (omega (arith, asked, c.asked_size.ensures)) (omega (arith, asked, c.asked_size.ensures)) c.replace.ensures.held
 
-pub returns-in_ok-replace-in-Ok-clause-records : goal.returns-in_ok-replace-in-Ok-clause-records
-returns-in_ok-replace-in-Ok-clause-records g c =
-    moved_records (λ a b. a == b) c.in-Ok.block.ptr.slot c.args.ptr.slot c.args.ptr.place c.asked_size.result (g.H.Heaped.content c.args.heap.now) (Some (c.in-Ok.block.ptr.place, c.in-Ok.block.ptr.slot), g.H.Heaped.content c.realloc_block.new.heap) c.in-Ok.ensures.ok
-
-pub returns-in_err-replace-in-Ok-clause-records : goal.returns-in_err-replace-in-Ok-clause-records
-returns-in_err-replace-in-Ok-clause-records g c =
+pub returns-in-Ok-clause-records : goal.returns-in-Ok-clause-records
+returns-in-Ok-clause-records g c =
     moved_records (λ a b. a == b) c.in-Ok.block.ptr.slot c.args.ptr.slot c.args.ptr.place c.asked_size.result (g.H.Heaped.content c.args.heap.now) (Some (c.in-Ok.block.ptr.place, c.in-Ok.block.ptr.slot), g.H.Heaped.content c.realloc_block.new.heap) c.in-Ok.ensures.ok
 
 pub returns-in_ok-take-in-Err : goal.returns-in_ok-take-in-Err
@@ -70,8 +73,8 @@ returns-in_ok-take-in-Err g c =
     let middle = g.H.Heaped.content c.realloc_block.new.heap in
     let last = g.H.Heaped.content c.take.new.heap in
     let new = bare last in
-    let held = c.args.held.now in
-    let after = c.take.new.held in
+    let held = c.args.held.now.all in
+    let after = c.take.new.held.all in
     let entry = c.args.entry in
     let ptr = c.args.ptr in
     let under = c.requires.held in
@@ -86,7 +89,9 @@ returns-in_ok-take-in-Err g c =
       comes = subst S (sym c.unserved.ensures) (subst Q (sym c.one_note.ensures) (comes_not_moved held after (bare old) new c.args.old ptr.place entry c.in-Err.refusal
           (ap (λ n. realloc (λ one other. true) tt (Some (ptr.place, tt)) n (bare old)) (sym c.asked_size.ensures) ∙ refused) freed c.in_ok-take-in-Err.ensures.held));
       live = c.in_ok-take-in-Err.ensures.live;
+      memory = tt;
       unchanged = tt;
+      looked = looks_up_fewer 1 1 c.args.held.now c.take.new.held c.take.ensures.looked;
       records = c.take.ensures.records ∙ ap (λ (content : Content ℕ). content.records) c.in-Err.ensures.unchanged;
       bound = omega (arith, c.take.ensures.bound, c.realloc_block.ensures.bound);
     }

@@ -1,7 +1,9 @@
-use Rattle.std.proofs.Common.{None, List, sym, subst, ap, ◌∙◌}
+use Rattle.std.proofs.Common.{None, List, cond, sym, subst, ap, ◌∙◌}
+use Rattle.std.specs.Prelude.{◌==◌}
 use Rattle.tlsf_heap.specs.Bare.{bare}
 use Rattle.tlsf_heap.specs.Pointer.{Pointer}
 use Rattle.mtrace_replay.specs.declared.diagnostic.Diagnostic.{Diagnostic}
+use Rattle.mtrace_replay.specs.declared.holding.Holding.{Holding}
 use Rattle.mtrace_replay.specs.declared.step.Effect.{Effect}
 use Rattle.mtrace_replay.specs.Moment.{release, without}
 use Rattle.mtrace_replay.specs.Index.{held_at}
@@ -12,19 +14,20 @@ use Rattle.mtrace_replay.proofs.step.release.Goals as goal
 pub returns-in_default-clause-comes : goal.returns-in_default-clause-comes
 returns-in_default-clause-comes g c =
     let content = bare (g.H.Heaped.content c.args.heap.now) in
-    let held = c.args.held.now in
+    let held = c.args.held.now.all in
     let P : List Diagnostic → Type 0 = λ notes. Comes content content (all_given held) (all_given held) notes None (release c.args.number c.args.address (found (all_given held) c.args.address) content) in
-    let Q : Effect → Type 0 = λ effect. Comes content content (all_given held) (all_given held) effect.note.items effect.end (release c.args.number c.args.address (found (all_given held) c.args.address) content) in
-    subst Q (sym c.unserved.ensures) (subst P (sym c.one_note.ensures) (comes_not_held held held content content c.args.number c.args.address (under_none (held_at held c.args.address) (sym c.block_of.ensures ∙ c.in_default.is))))
+    let Q : Effect → List Holding → Type 0 = λ effect all. Comes content content (all_given held) (all_given all) effect.note.items effect.end (release c.args.number c.args.address (found (all_given held) c.args.address) content) in
+    subst (Q c.unserved.result) (sym c.block.ensures.unchanged)
+    (subst (λ effect. Q effect held) (sym c.unserved.ensures) (subst P (sym c.one_note.ensures) (comes_not_held held held content content c.args.number c.args.address (under_none (held_at held c.args.address) (sym c.block.ensures.value ∙ c.in_default.is)))))
 
 pub returns-clause-comes : goal.returns-clause-comes
 returns-clause-comes g c =
     let content = bare (g.H.Heaped.content c.args.heap.now) in
     let after = bare (g.H.Heaped.content c.take.new.heap) in
-    let held = c.args.held.now in
-    let new = c.take.new.held in
-    let under = under_some (held_at held c.args.address) c.in-Some.ptr (sym c.block_of.ensures ∙ c.in-Some.is) in
+    let held = c.args.held.now.all in
+    let new = c.take.new.held.all in
+    let under = under_some (held_at held c.args.address) c.in-Some.ptr (sym c.block.ensures.value ∙ c.in-Some.is) in
     let P : List Diagnostic → Type 0 = λ notes. Comes content after (all_given held) (all_given new) notes None (release c.args.number c.args.address (found (all_given held) c.args.address) content) in
     let Q : Effect → Type 0 = λ effect. Comes content after (all_given held) (all_given new) effect.note.items effect.end (release c.args.number c.args.address (found (all_given held) c.args.address) content) in
     subst Q (sym c.unserved-2.ensures) (subst P (sym c.no_note.ensures) (comes_released held new content after c.args.number c.args.address under.0 under.1
-    (c.in_ok-take.ensures.content ∙ ap (λ (ptr : Pointer). without ptr.place content) (sym under.2)) c.in_ok-take.ensures.held))
+    (c.in_ok-take.ensures.content ∙ ap (λ (ptr : Pointer). without ptr.place content) (sym under.2)) (λ other. c.in_ok-take.ensures.held other ∙ ap (λ all. cond (c.args.address == other) None (held_at all other)) c.block.ensures.unchanged)))

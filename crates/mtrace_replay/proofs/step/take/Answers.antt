@@ -33,5 +33,5 @@ returns-in-Ok-clause-live g c =
     let after = g.H.Heaped.content c.free.new.self in
     let under = c.requires.held in
     let P : Pointer → Type 0 = λ ptr. free (λ slot. slot == ptr.slot) ptr.place content ≡ Ok after in
-    live_after_free c.args.held.now c.remove.new.self content after c.keeps_good.ensures.good c.requires.live c.args.address under.0 under.1
+    live_after_free c.args.held.now.all c.remove.new.self.all content after c.keeps_good.ensures.good c.requires.live c.args.address under.0 under.1
     (subst P (sym under.2) c.in-Ok.ensures.ok) c.remove.ensures.held
