@@ -132,3 +132,7 @@ all_pools_stand settings h = omega (arith, (is_started settings h).count)
 -- and with no more records than there can be
 pub started_records : (settings : Settings) → are_bad settings ≡ false → (started settings).records ≤ most_records
 started_records settings h = omega (arith, (is_started settings h).records, (are_good settings h).few_records)
+
+-- as many as the settings say
+pub started_room : (settings : Settings) → are_bad settings ≡ false → (started settings).records ≡ settings.records
+started_room settings h = omega (arith, (is_started settings h).records)

@@ -5,11 +5,12 @@ use Rattle.mtrace_replay.specs.History.{AreHeld, content_after}
 use Rattle.mtrace_replay.specs.Started.{Bare, started}
 use Rattle.mtrace_replay.specs.Totals.{AreTotals}
 use Rattle.mtrace_replay.specs.declared.totals.Totals.{Totals}
+use Rattle.mtrace_replay.specs.Index.{Indexed}
 use Rattle.mtrace_replay.specs.Step.{all_given, AreLive}
 use Rattle.mtrace_replay.proofs.Moments.{moments-none}
 use Rattle.mtrace_replay.proofs.FoundLemmas.{none_held}
 use Rattle.mtrace_replay.proofs.Living.{none_live}
-use Rattle.mtrace_replay.proofs.StartLemmas.{started_records}
+use Rattle.mtrace_replay.proofs.StartLemmas.{started_records, started_room}
 use Rattle.mtrace_replay.proofs.Standing.{totals_none}
 use Rattle.mtrace_replay.proofs.replay.Replay.create.Goals as goal
 
@@ -18,25 +19,28 @@ invariant_of-result g c =
     let heap = g.H.Heaped.content c.in-Ok.heap in
     let few = started_records c.args.settings (sym c.are_bad.ensures ∙ c.if-are_bad.false) in
     let same = ap (λ (content : Bare). content.records) c.in-Ok.ensures in
-    let P : List Holding → Type 0 = λ holdings. AreLive holdings heap in
+    let P : Indexed → Type 0 = λ index. AreLive index.all heap in
+    let held = c.in-Ok-new.ensures in
     record {
-      live = (λ works. subst P (sym c.new.ensures) (none_live heap (omega (arith, few, same))));
-      few = omega (arith, ap (λ (holdings : List Holding). length holdings) c.new.ensures);
-      served = omega (arith, ap (λ (totals : Totals). totals.served) c.new-in-Ok.ensures);
-      refused = omega (arith, ap (λ (totals : Totals). totals.refused) c.new-in-Ok.ensures);
+      live = (λ works. subst P (sym held) (none_live heap (omega (arith, few, same))));
+      lacks = (λ refused. absurd (cc));
+      few = omega (arith, ap (λ (index : Indexed). length index.all) held);
+      room = ap (λ (index : Indexed). index.room) held ∙ sym (same ∙ started_room c.args.settings (sym c.are_bad.ensures ∙ c.if-are_bad.false));
+      served = omega (arith, ap (λ (totals : Totals). totals.served) c.new-2.ensures);
+      refused = omega (arith, ap (λ (totals : Totals). totals.refused) c.new-2.ensures);
     }
 
-pub returns-in-Ok-clause-made : goal.returns-in-Ok-clause-made
-returns-in-Ok-clause-made g c =
+pub returns-clause-made : goal.returns-clause-made
+returns-clause-made g c =
     let start = started c.args.settings in
     let none = moments-none start in
     let P : List Given → List Moment → Type 0 = λ all past. AreHeld all past in
     let T : List Moment → Totals → Type 0 = λ past totals. AreTotals start past totals in
     record {
       works = refl;
-      lines_are = ap (λ (totals : Totals). totals.lines) c.new-in-Ok.ensures;
+      lines_are = ap (λ (totals : Totals). totals.lines) c.new-2.ensures;
       pending_is = refl;
       content_is = c.in-Ok.ensures ∙ ap (content_after start) (sym none);
-      held = subst (P (all_given c.new.result)) (sym none) (subst (λ all. P all []) (ap all_given (sym c.new.ensures)) none_held);
-      totals = subst (λ past. T past c.new-in-Ok.result) (sym none) (subst (T []) (sym c.new-in-Ok.ensures) (totals_none c.args.settings));
+      held = subst (P (all_given c.in-Ok-new.held.all)) (sym none) (subst (λ (index : Indexed). P (all_given index.all) []) (sym c.in-Ok-new.ensures) none_held);
+      totals = subst (λ past. T past c.new-2.result) (sym none) (subst (T []) (sym c.new-2.ensures) (totals_none c.args.settings));
     }

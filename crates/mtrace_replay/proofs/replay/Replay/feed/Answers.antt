@@ -18,7 +18,9 @@ invariant_of-self g c =
     let gone = c.after-self-inside.ensures in
     record {
       live = (λ works. c.in-Ok.ensures.live);
-      few = held_few c.outcome.new.held (g.H.Heaped.content c.outcome.new.heap) c.keeps_order.ensures c.keeps_good.ensures.good c.in-Ok.ensures.live;
+      lacks = c.self.invariant.lacks;
+      room = c.outcome.ensures.looked.room ∙ c.self.invariant.room ∙ sym c.outcome.ensures.records;
+      few = held_few c.outcome.new.held.all (g.H.Heaped.content c.outcome.new.heap) c.keeps_order.ensures c.keeps_good.ensures.good c.in-Ok.ensures.live;
       served = served_within old c.in-Ok.done.end c.has_refusal-is_refused.result c.bytes-bytes.result c.len-blocks.result c.after-self-inside.result gone c.self.invariant.served;
       refused = refused_within old c.in-Ok.done.end c.has_refusal-is_refused.result c.bytes-bytes.result c.len-blocks.result c.after-self-inside.result gone c.self.invariant.refused;
     }
@@ -29,7 +31,8 @@ returns-in-Ok-clause-note g c = λ settings past.
     let new : Replayed = record {
       content = bare (g.H.Heaped.content c.outcome.new.heap);
       touches = g.H.Heaped.touches c.outcome.new.heap;
-      given = all_given c.outcome.new.held;
+      comparisons = c.outcome.new.held.comparisons;
+      given = all_given c.outcome.new.held.all;
       totals = c.after-self-inside.result;
       pending = c.old_address-next.result;
       out_of_memory = c.self.inside.out_of_memory;
@@ -44,10 +47,11 @@ pub returns-in-Ok-clause-stands : goal.returns-in-Ok-clause-stands
 returns-in-Ok-clause-stands g c = λ settings past.
     let line = c.args.line in
     let heap = g.H.Heaped.content c.outcome.new.heap in
-    let holdings = c.outcome.new.held in
+    let holdings = c.outcome.new.held.all in
     let new : Replayed = record {
       content = bare heap;
       touches = g.H.Heaped.touches c.outcome.new.heap;
+      comparisons = c.outcome.new.held.comparisons;
       given = all_given holdings;
       totals = c.after-self-inside.result;
       pending = c.old_address-next.result;
