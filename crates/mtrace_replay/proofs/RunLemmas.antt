@@ -30,7 +30,7 @@ use Rattle.mtrace_replay.specs.Output.{Wrote, Begins}
 use Rattle.mtrace_replay.specs.Replay.{Replayed, StandsFor, entries, added_notes}
 use Rattle.mtrace_replay.specs.declared.report.Report.{Report}
 use Rattle.mtrace_replay.specs.declared.totals.Totals.{Totals}
-use Rattle.mtrace_replay.specs.Run.{Bytes, text_of_notes, whole_text, end_text, StopsAtRead, FailedInPiece, IsPastLastNumber, StopsAtWrite, StopsAtLine, Reports, is_some_note, is_some_entry, LineGives, LineBegins, HasReplayed}
+use Rattle.mtrace_replay.specs.Run.{Bytes, text_of_notes, whole_text, end_text, StopsAtRead, FailedInPiece, IsPastLastNumber, StopsAtWrite, Reports, is_some_note, is_some_entry, LineGives, LineBegins, HasReplayed}
 use Rattle.mtrace_replay.proofs.Moments.{moments-none, moments-line}
 use Rattle.mtrace_replay.proofs.Writing.{Wrote-nothing, Wrote-append, Begins-after, Begins-longer}
 
@@ -186,22 +186,6 @@ underway_write report settings old new replay_old replay_new noted_old start bef
           begun = subst Q (sym (whole_is report settings lines replay_new.given replay_new.totals)) (Begins-longer taken_start taken_new (text_of_notes settings lines) last begun);
         })
       ];
-    }
-
--- memory was refused at a line
-pub underway_memory : (settings : Settings) (old new : Progress) (replay : Replayed) (noted : Bool) (start before after taken_start taken_old taken_new : Bytes) (line : Line)
-    → IsUnderWay settings old replay noted start before taken_start taken_old
-    → GivesLine old new (to_come old before) (to_come new after) line
-    → taken_new ≡ taken_old
-    → StopsAtLine settings start after taken_start taken_new
-underway_memory settings old new replay noted start before after taken_start taken_old taken_new line under given same =
-    record {
-      lines = under.lines;
-      last = line.event;
-      unused = new.held;
-      read = line_read new.status start (to_come old before) (to_come new after) (under.lines ++ line.event ∷ []) line.event given.taken
-          (HasReadSo-line start (to_come old before) (to_come new after) old new line under.lines under.read given);
-      wrote = same ∙ under.wrote;
     }
 
 -- at the end nothing that was asked of the reader is unused

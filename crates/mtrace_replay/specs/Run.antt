@@ -85,20 +85,6 @@ pub record StopsAtWrite (report : Report) (settings : Settings) (left_old left_n
   pub unused : List ℕ
   pub begun : BeginsText report settings left_old (prepend_known unused left_new) taken_old taken_new lines
 
--- memory was refused at the last line that was read: the diagnostics of the lines before it were written
-pub record StopsAtLine (settings : Settings) (left_old left_new taken_old taken_new : Bytes) : Type 0 where
-  pub lines : List Reading
-  pub last : Reading
-  pub unused : List ℕ
-  pub read : HasRead left_old (prepend_known unused left_new) (lines ++ last ∷ []) ⊎ HasReadAll left_old (prepend_known unused left_new) (lines ++ last ∷ [])
-  pub wrote : Wrote taken_old taken_new (text_of_notes settings lines)
-
--- memory was refused at the start, and nothing was read or written, or at a line, and then one flush was asked
-abbrev pub StopsForMemory : {R W : Type 0} → (left : R → Bytes) (taken : W → Bytes) (puts : W → List Call) → Settings → (reader_old reader_new : R) (writer_old writer_new : W) → Type 0
-StopsForMemory left taken puts settings reader_old reader_new writer_old writer_new =
-    ((reader_new ≡ reader_old) × (writer_new ≡ writer_old))
-    ⊎ (StopsAtLine settings (left reader_old) (left reader_new) (taken writer_old) (taken writer_new) × FlushWasAsked (puts writer_old) (puts writer_new))
-
 -- what a run that answers a read fault leaves
 abbrev pub FailsToRead : {R W : Type 0} → (left : R → Bytes) (pulls : R → List Call) (taken : W → Bytes) (puts : W → List Call) → Settings → (reader_old reader_new : R) (writer_old writer_new : W) → Type 0
 FailsToRead left pulls taken puts settings reader_old reader_new writer_old writer_new =

@@ -1,12 +1,15 @@
 //! Laws of the definitions, each the contract of a function that does nothing.
 
 ghost use Rattle.std.specs.Prelude.{◌≡◌, ◌↔◌, ℕ, false, List, length, Some};
+ghost use Rattle.tlsf_heap.specs.Run.{MayLack};
 ghost use Rattle.mtrace_replay.specs.declared.settings.Settings.{Settings};
 ghost use Rattle.mtrace_replay.specs.Started.{Bare, started};
 ghost use Rattle.mtrace_replay.specs.Moment.{Reading, Given, Moment};
 ghost use Rattle.mtrace_replay.specs.History.{AreHeld, held, moments};
 ghost use Rattle.mtrace_replay.specs.Settings.{are_bad};
 ghost use Rattle.mtrace_replay.specs.Held.{IsHeldUnder};
+
+use tlsf_heap::{Heap, Heaped};
 
 /// An address is held under a line exactly where that line asked for it and was served, and no later line
 /// took it.
@@ -24,4 +27,10 @@ pub fn one_list_is_held()
 /// Where settings are not bad, no pool of theirs is refused: the heap starts with all of them.
 pub fn all_pools_stand()
     ensures { (settings : Settings) → are_bad settings ≡ false → length (started settings).pools ≡ settings.pools }
+{}
+
+/// `Heap` lacks no memory. So over it each `feed` and each `finish` succeeds: what a replay needs it took when it was
+/// made.
+pub fn nothing_is_lacked()
+    ensures { MayLack ⟦<Heap as Heaped>⟧.lacks → ⊥ }
 {}

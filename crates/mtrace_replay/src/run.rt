@@ -2,12 +2,13 @@
 
 ghost use Rattle.std.specs.Prelude.{◌≡◌, ◌≢◌, ◌↔◌, ◌+◌, ◌++◌, ◌||◌, false, List, [], IsTrue, IfOk, IfErr, OnOk, OnErr, IsErrOf, Ok, Err, if◌then◌else◌};
 ghost use Rattle.mtrace_log.specs.Trace.{HasGivenAll, HasNotFailed, HasTaken, HasTakenAndFlushed, HasTakenAndFailed, HasFailedToWrite, FlushWasAsked};
+ghost use Rattle.tlsf_heap.specs.Run.{MayLack};
 ghost use Rattle.mtrace_replay.specs.Settings.{are_bad};
 ghost use Rattle.mtrace_replay.specs.Output.{Wrote, Begins};
 ghost use Rattle.mtrace_replay.specs.Texts.{notes_text, report_text};
 ghost use Rattle.mtrace_replay.specs.Moment.{Reading, half};
 ghost use Rattle.mtrace_replay.specs.Replay.{StandsFor, entries};
-ghost use Rattle.mtrace_replay.specs.Run.{end_text, Reports, StopsAtRead, StopsAtWrite, StopsAtLine, StopsForMemory, HasReplayed, LineGives, LineBegins, is_some_note, is_some_entry};
+ghost use Rattle.mtrace_replay.specs.Run.{end_text, Reports, StopsAtRead, StopsAtWrite, HasReplayed, LineGives, LineBegins, is_some_note, is_some_entry};
 
 use crate::diagnostic::Note;
 use crate::line_text::note_text;
@@ -47,7 +48,7 @@ fn replay_line<H: Heaped, W: Sink>(
     ensures write { IsErrOf result RunFault.Write → (settings : Settings) (past : List Reading) → StandsFor replay.old settings past
         → LineBegins replay.new settings line.event past (W.taken writer.old) (W.taken writer.new) }
     ensures failed { IsErrOf result RunFault.Write → HasTakenAndFailed (W.trace writer.old) (W.trace writer.new) }
-    ensures memory { IsErrOf result RunFault.OutOfMemory → writer.new ≡ writer.old }
+    ensures memory { IsErrOf result RunFault.OutOfMemory → MayLack H.lacks }
     ensures no_read { result ≢ Err RunFault.Read }
     ensures no_settings { result ≢ Err RunFault.BadSettings }
 {
@@ -78,8 +79,7 @@ fn replay_lines<H: Heaped, R: Source, W: Sink>(
         → StopsAtRead settings (R.left reader.old) (R.left reader.new) (R.trace reader.old) (R.trace reader.new) (W.taken writer.old) (W.taken writer.new) }
     ensures write { IsErrOf result RunFault.Write → (settings : Settings) → StandsFor replay.old settings []
         → (report : Report) → StopsAtWrite report settings (R.left reader.old) (R.left reader.new) (W.taken writer.old) (W.taken writer.new) }
-    ensures memory { IsErrOf result RunFault.OutOfMemory → (settings : Settings) → StandsFor replay.old settings []
-        → StopsAtLine settings (R.left reader.old) (R.left reader.new) (W.taken writer.old) (W.taken writer.new) }
+    ensures memory { IsErrOf result RunFault.OutOfMemory → MayLack H.lacks }
     ensures no_settings { result ≢ Err RunFault.BadSettings }
 {
     let mut lines = Lines::new();
@@ -184,8 +184,7 @@ fn run_report<R: Source, W: Sink>(
     ensures write_fault { IsErrOf result RunFault.Write
         → StopsAtWrite report settings (R.left reader.old) (R.left reader.new) (W.taken writer.old) (W.taken writer.new) }
     ensures writer_failed { IsErrOf result RunFault.Write → HasFailedToWrite (W.trace writer.old) (W.trace writer.new) }
-    ensures no_memory { IsErrOf result RunFault.OutOfMemory
-        → StopsForMemory R.left W.taken W.trace settings reader.old reader.new writer.old writer.new }
+    ensures no_memory { IsErrOf result RunFault.OutOfMemory → (reader.new ≡ reader.old) × (writer.new ≡ writer.old) }
     ensures reader_not_failed { result ≢ Err RunFault.Read → HasNotFailed (R.trace reader.old) (R.trace reader.new) }
 
     // Bad settings come exactly where they are bad, and then nothing is done.
@@ -200,26 +199,26 @@ fn run_report<R: Source, W: Sink>(
     match replay_lines(reader, writer, &mut replay) {
         Ok(noted) => finish(writer, &mut replay, noted, report),
         Err(RunFault::Write) => Err(RunFault::Write),
-        Err(fault) => {
+        Err(RunFault::Read) => {
             ask_flush(writer);
-            Err(fault)
+            Err(RunFault::Read)
         }
+        Err(_) => unreachable!(),
     }
 }
 
 /// Reads a log of mtrace(3), replays it on a heap by the settings, and writes what is wrong with its
 /// lines, each as it comes, and then the report of leaks: what is held at the end of the log.
 ///
-/// The writer is flushed once at the end, but not after `Write`, `BadSettings` or memory refused at the
-/// start; after another fault it doesn't matter whether that succeeds.
+/// The writer is flushed once at the end, but not after `Write`, `BadSettings` or `OutOfMemory`; after `Read` it doesn't
+/// matter whether that succeeds. Memory is taken at the start alone, for the heap's records and for what is held.
 ///
 /// # Errors
 ///
 /// `Read` where the reader failed, or line 2^64 would come: then what is wrong with the lines before is
 /// written. `Write` where the writer answered an error, took no byte of some, or failed its flush: then a
-/// beginning of the text is written. `OutOfMemory` where memory is refused: at the start, and then nothing
-/// is read or written, or at a line, and then what is wrong with the lines before is written.
-/// `BadSettings` exactly where the settings are bad: then nothing is read or written.
+/// beginning of the text is written. `OutOfMemory` where memory is refused, and then nothing is read or
+/// written. `BadSettings` exactly where the settings are bad: then nothing is read or written.
 pub fn run_leaks<R: Source, W: Sink>(
     alloc: Global,
     reader: &mut R,
@@ -238,8 +237,7 @@ pub fn run_leaks<R: Source, W: Sink>(
     ensures write_fault { IsErrOf result RunFault.Write
         → StopsAtWrite Report.Leaks settings (R.left reader.old) (R.left reader.new) (W.taken writer.old) (W.taken writer.new) }
     ensures writer_failed { IsErrOf result RunFault.Write → HasFailedToWrite (W.trace writer.old) (W.trace writer.new) }
-    ensures no_memory { IsErrOf result RunFault.OutOfMemory
-        → StopsForMemory R.left W.taken W.trace settings reader.old reader.new writer.old writer.new }
+    ensures no_memory { IsErrOf result RunFault.OutOfMemory → (reader.new ≡ reader.old) × (writer.new ≡ writer.old) }
     ensures reader_not_failed { result ≢ Err RunFault.Read → HasNotFailed (R.trace reader.old) (R.trace reader.new) }
 
     // Bad settings come exactly where they are bad, and then nothing is done.
@@ -253,16 +251,15 @@ pub fn run_leaks<R: Source, W: Sink>(
 /// lines, each as it comes, and then the report of the peak: what the lines come to in sum, and what is free
 /// at the end of the log.
 ///
-/// The writer is flushed once at the end, but not after `Write`, `BadSettings` or memory refused at the
-/// start; after another fault it doesn't matter whether that succeeds.
+/// The writer is flushed once at the end, but not after `Write`, `BadSettings` or `OutOfMemory`; after `Read` it doesn't
+/// matter whether that succeeds. Memory is taken at the start alone, for the heap's records and for what is held.
 ///
 /// # Errors
 ///
 /// `Read` where the reader failed, or line 2^64 would come: then what is wrong with the lines before is
 /// written. `Write` where the writer answered an error, took no byte of some, or failed its flush: then a
-/// beginning of the text is written. `OutOfMemory` where memory is refused: at the start, and then nothing
-/// is read or written, or at a line, and then what is wrong with the lines before is written.
-/// `BadSettings` exactly where the settings are bad: then nothing is read or written.
+/// beginning of the text is written. `OutOfMemory` where memory is refused, and then nothing is read or
+/// written. `BadSettings` exactly where the settings are bad: then nothing is read or written.
 pub fn run_peak<R: Source, W: Sink>(
     alloc: Global,
     reader: &mut R,
@@ -281,8 +278,7 @@ pub fn run_peak<R: Source, W: Sink>(
     ensures write_fault { IsErrOf result RunFault.Write
         → StopsAtWrite Report.Peak settings (R.left reader.old) (R.left reader.new) (W.taken writer.old) (W.taken writer.new) }
     ensures writer_failed { IsErrOf result RunFault.Write → HasFailedToWrite (W.trace writer.old) (W.trace writer.new) }
-    ensures no_memory { IsErrOf result RunFault.OutOfMemory
-        → StopsForMemory R.left W.taken W.trace settings reader.old reader.new writer.old writer.new }
+    ensures no_memory { IsErrOf result RunFault.OutOfMemory → (reader.new ≡ reader.old) × (writer.new ≡ writer.old) }
     ensures reader_not_failed { result ≢ Err RunFault.Read → HasNotFailed (R.trace reader.old) (R.trace reader.new) }
 
     // Bad settings come exactly where they are bad, and then nothing is done.
@@ -296,16 +292,15 @@ pub fn run_peak<R: Source, W: Sink>(
 /// lines, each as it comes, and then the report of the walk: the pools at the end of the log, each with its
 /// blocks.
 ///
-/// The writer is flushed once at the end, but not after `Write`, `BadSettings` or memory refused at the
-/// start; after another fault it doesn't matter whether that succeeds.
+/// The writer is flushed once at the end, but not after `Write`, `BadSettings` or `OutOfMemory`; after `Read` it doesn't
+/// matter whether that succeeds. Memory is taken at the start alone, for the heap's records and for what is held.
 ///
 /// # Errors
 ///
 /// `Read` where the reader failed, or line 2^64 would come: then what is wrong with the lines before is
 /// written. `Write` where the writer answered an error, took no byte of some, or failed its flush: then a
-/// beginning of the text is written. `OutOfMemory` where memory is refused: at the start, and then nothing
-/// is read or written, or at a line, and then what is wrong with the lines before is written.
-/// `BadSettings` exactly where the settings are bad: then nothing is read or written.
+/// beginning of the text is written. `OutOfMemory` where memory is refused, and then nothing is read or
+/// written. `BadSettings` exactly where the settings are bad: then nothing is read or written.
 pub fn run_walk<R: Source, W: Sink>(
     alloc: Global,
     reader: &mut R,
@@ -324,8 +319,7 @@ pub fn run_walk<R: Source, W: Sink>(
     ensures write_fault { IsErrOf result RunFault.Write
         → StopsAtWrite Report.Walk settings (R.left reader.old) (R.left reader.new) (W.taken writer.old) (W.taken writer.new) }
     ensures writer_failed { IsErrOf result RunFault.Write → HasFailedToWrite (W.trace writer.old) (W.trace writer.new) }
-    ensures no_memory { IsErrOf result RunFault.OutOfMemory
-        → StopsForMemory R.left W.taken W.trace settings reader.old reader.new writer.old writer.new }
+    ensures no_memory { IsErrOf result RunFault.OutOfMemory → (reader.new ≡ reader.old) × (writer.new ≡ writer.old) }
     ensures reader_not_failed { result ≢ Err RunFault.Read → HasNotFailed (R.trace reader.old) (R.trace reader.new) }
 
     // Bad settings come exactly where they are bad, and then nothing is done.

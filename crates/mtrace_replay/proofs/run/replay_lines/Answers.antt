@@ -3,7 +3,7 @@ use Rattle.mtrace_log.specs.Progress.{Progress, CallsFor}
 use Rattle.mtrace_log.specs.declared.call.Call.TheVariants.{Gave, Took, Failed}
 use Rattle.mtrace_log.proofs.TraceLemmas.{moved_none, moved_append, moved_then_append}
 use Rattle.mtrace_log.proofs.CallLemmas.{calls_more, calls_of_line, calls_to_end, calls_to_fault}
-use Rattle.mtrace_replay.proofs.RunLemmas.{IsUnderWay, underway_start, underway_line, underway_end, underway_fault, underway_write, underway_memory, same_error}
+use Rattle.mtrace_replay.proofs.RunLemmas.{IsUnderWay, underway_start, underway_line, underway_end, underway_fault, underway_write, same_error}
 use Rattle.mtrace_replay.proofs.run.replay_lines.Goals as goal
 
 pub loop-line-init : goal.loop-line-init
@@ -84,10 +84,3 @@ returns-in-Err-replay_line-clause-write g c = λ e settings stands report.
     (g.W.Sink.taken c.args.writer.now) (g.W.Sink.taken c.loop-line.writer) (g.W.Sink.taken c.replay_line.new.writer) c.in-Ok-Some.line
     under given (wrote settings (reverse under.lines) under.stands)
 
-pub returns-in-Err-replay_line-clause-memory : goal.returns-in-Err-replay_line-clause-memory
-returns-in-Err-replay_line-clause-memory g c = λ e settings stands.
-    let given = rw c.in-Ok-Some.field-0-is at c.in-Ok-Some.ensures.line in
-    underway_memory settings c.loop-line.lines c.next.new.self c.loop-line.replay c.loop-line.noted
-    (g.R.Source.left c.args.reader.now) (g.R.Source.left c.loop-line.reader) (g.R.Source.left c.next.new.reader)
-    (g.W.Sink.taken c.args.writer.now) (g.W.Sink.taken c.loop-line.writer) (g.W.Sink.taken c.replay_line.new.writer) c.in-Ok-Some.line
-    (c.loop-line.invariant.under_way settings stands) given (ap g.W.Sink.taken (c.in-Err-replay_line.ensures.memory (same_error _ Bool _ _ e)))

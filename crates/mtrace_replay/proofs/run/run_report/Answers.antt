@@ -2,7 +2,6 @@ use Rattle.std.proofs.Common.{Bool, sym, subst, inr}
 use Rattle.std.proofs.lemmas.Result.{on_ok_weaker}
 use Rattle.mtrace_log.specs.declared.call.Call.TheVariants.{Took, Flushed}
 use Rattle.mtrace_log.proofs.TraceLemmas.{moved_then_append, flush_after, failed_after}
-use Rattle.mtrace_replay.specs.Run.{Bytes, StopsAtLine}
 use Rattle.mtrace_replay.proofs.RunLemmas.{reports_by, report_write, same_error}
 use Rattle.mtrace_replay.proofs.run.run_report.Goals as goal
 
@@ -34,11 +33,5 @@ returns-in-Ok-replay_lines-clause-writer_failed g c = λ e.
     let taken = c.in-Ok-replay_lines.ensures.writer_took (λ e. cc) in
     failed_after _ _ _ taken (rw e at c.finish.ensures.failed)
 
-pub returns-clause-flush_asked : goal.returns-clause-flush_asked
-returns-clause-flush_asked g c = λ e. flush_after _ _ _ (c.in-Err.ensures.writer_took (λ is. cc)) c.ask_flush.ensures.asked
-
-pub returns-clause-no_memory : goal.returns-clause-no_memory
-returns-clause-no_memory g c = λ e.
-    let P : Bytes → Type 0 = λ taken. StopsAtLine c.args.settings (g.R.Source.left c.args.reader.now) (g.R.Source.left c.replay_lines.new.reader) (g.W.Sink.taken c.args.writer.now) taken in
-    let at_line = subst P (sym c.ask_flush.ensures.kept) (c.in-Err.ensures.memory (same_error _ Bool _ _ e) c.args.settings c.in-Ok.ensures.made) in
-    inr (at_line, flush_after _ _ _ (c.in-Err.ensures.writer_took (λ is. cc)) c.ask_flush.ensures.asked)
+pub returns-in-Err-Read-clause-flush_asked : goal.returns-in-Err-Read-clause-flush_asked
+returns-in-Err-Read-clause-flush_asked g c = λ e. flush_after _ _ _ (c.in-Err-Read.ensures.writer_took (λ is. cc)) c.ask_flush.ensures.asked
