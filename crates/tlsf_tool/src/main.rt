@@ -14,7 +14,7 @@ use crate::service::serve;
 use crate::words::command;
 use mtrace_log::{FromRead, ToWrite};
 use mtrace_replay::{RunFault, Settings};
-use std::io::{BufReader, BufWriter, Read};
+use std::io::{BufWriter, Read};
 use std::process::ExitCode;
 use std::{env, fs, io};
 
@@ -41,18 +41,14 @@ fn serve_log<R: Read + Drop>(
     settings: Settings,
     log: R,
 ) -> Result<u8, ToolFault> {
-    let no_memory = ToolFault::Run(RunFault::OutOfMemory);
-    let (Ok(reader), Ok(writer)) = (
-        BufReader::new(rt.alloc(), log),
-        BufWriter::new(rt.alloc(), rt.stdout()),
-    ) else {
-        return Err(no_memory);
+    let Ok(writer) = BufWriter::new(rt.alloc(), rt.stdout()) else {
+        return Err(ToolFault::Run(RunFault::OutOfMemory));
     };
     Ok(serve(
         rt.alloc(),
         name,
         settings,
-        &mut FromRead::new(reader),
+        &mut FromRead::new(log),
         &mut ToWrite::new(writer),
         &mut ToWrite::new(rt.stderr()),
     ))

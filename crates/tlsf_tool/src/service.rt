@@ -3,7 +3,7 @@
 ghost use Rattle.std.specs.Prelude.{◌≡◌, ◌≢◌, ◌⊎◌, ◌↔◌, ◌≤◌, IsTrue, IfOk, OnOk, IsErrOf, Err};
 ghost use Rattle.mtrace_replay.specs.Settings.{are_bad};
 ghost use Rattle.mtrace_log.specs.Trace.{HasGivenAll, HasNotFailed, HasTakenAndFlushed, HasFailedToWrite, FlushWasAsked};
-ghost use Rattle.mtrace_replay.specs.Run.{Reports, StopsAtRead, StopsAtWrite, FailsToRead, FailsToWrite, StopsForMemory};
+ghost use Rattle.mtrace_replay.specs.Run.{Reports, StopsAtRead, StopsAtWrite, FailsToRead, FailsToWrite};
 ghost use Rattle.mtrace_replay.specs.declared.status.Status.TheVariants.{Clean, Found};
 ghost use Rattle.tlsf_tool.specs.Statuses.{report_of};
 
@@ -43,8 +43,7 @@ fn run_named<R: Source, W: Sink>(
     ensures write_fault { IsErrOf result RunFault.Write
         → StopsAtWrite (report_of name) settings (R.left reader.old) (R.left reader.new) (W.taken writer.old) (W.taken writer.new) }
     ensures writer_failed { IsErrOf result RunFault.Write → HasFailedToWrite (W.trace writer.old) (W.trace writer.new) }
-    ensures no_memory { IsErrOf result RunFault.OutOfMemory
-        → StopsForMemory R.left W.taken W.trace settings reader.old reader.new writer.old writer.new }
+    ensures no_memory { IsErrOf result RunFault.OutOfMemory → (reader.new ≡ reader.old) × (writer.new ≡ writer.old) }
     ensures reader_not_failed { result ≢ Err RunFault.Read → HasNotFailed (R.trace reader.old) (R.trace reader.new) }
     ensures bad_settings { IsErrOf result RunFault.BadSettings ↔ IsTrue (are_bad settings) }
     ensures nothing_done { IsErrOf result RunFault.BadSettings → (reader.new ≡ reader.old) × (writer.new ≡ writer.old) }
@@ -78,7 +77,7 @@ pub fn serve<R: Source, W: Sink, E: Sink>(
     ensures failed { result ≡ 3
         → FailsToRead R.left R.trace W.taken W.trace settings reader.old reader.new writer.old writer.new
         ⊎ FailsToWrite (report_of name) R.left R.trace W.taken W.trace settings reader.old reader.new writer.old writer.new }
-    ensures memory { result ≡ 4 → StopsForMemory R.left W.taken W.trace settings reader.old reader.new writer.old writer.new }
+    ensures memory { result ≡ 4 → (reader.new ≡ reader.old) × (writer.new ≡ writer.old) }
     ensures reader_not_failed { result ≡ 4 → HasNotFailed (R.trace reader.old) (R.trace reader.new) }
     ensures known { result ≤ 4 }
 {
