@@ -1,10 +1,12 @@
 use super::{Lines, State};
+use crate::buffer::Buffer;
 use crate::memory::MemorySource;
 use crate::{Event, ReadFault};
 
 // So many lines were read.
 fn after(count: u64) -> Lines {
     Lines {
+        buffer: Buffer::new(),
         count,
         state: State::Reading,
     }
