@@ -41,16 +41,16 @@ pub struct Lines {
 
 impl Model for Lines {
     ghost use Rattle.std.specs.Prelude.{◌≡◌, []};
-    ghost use Rattle.mtrace_log.specs.Progress.{Progress};
+    ghost use Rattle.mtrace_log.specs.Progress.{Progress, Faulted};
     ghost use Rattle.mtrace_log.specs.State.{status_of};
-    ghost use Rattle.mtrace_log.specs.declared.lines.State.TheVariants as state;
+    ghost use Rattle.mtrace_log.specs.declared.line.ReadFault.TheVariants.{ReaderFailed};
 
     ghost Value = { Progress };
 
     ghost view = { λ lines. record { held = lines.buffer; count = lines.count; status = status_of lines.state } };
 
     // The reader is asked where each byte is read, so nothing is held where it failed.
-    ghost invariant = { λ lines. lines.state ≡ state.Failed → lines.buffer ≡ [] };
+    ghost invariant = { λ lines. status_of lines.state ≡ Faulted ReaderFailed → lines.buffer ≡ [] };
 }
 
 impl Lines {
@@ -144,21 +144,24 @@ impl Lines {
         ensures reads { ReadsOn R.left R.trace self.old self.new reader.old reader.new result }
         ensures nothing_held { IfErr result (λ fault. fault ≡ ReaderFailed → self.new.held ≡ []) }
     {
-        if self.buffer.is_empty() {
-            match self.buffer.refill(reader) {
-                Ok(0) => {
-                    self.state = State::Ended;
-                    return Ok(None);
-                }
-                Ok(_) => {}
-                Err(Failed) => {
-                    self.state = State::Failed;
-                    return Err(ReadFault::ReaderFailed);
-                }
+        if !self.buffer.is_empty() {
+            self.state = State::Full;
+            return Err(ReadFault::TooManyLines);
+        }
+        match self.buffer.refill(reader) {
+            Ok(0) => {
+                self.state = State::Ended;
+                Ok(None)
+            }
+            Ok(_) => {
+                self.state = State::Full;
+                Err(ReadFault::TooManyLines)
+            }
+            Err(Failed) => {
+                self.state = State::Failed;
+                Err(ReadFault::ReaderFailed)
             }
         }
-        self.state = State::Full;
-        Err(ReadFault::TooManyLines)
     }
 
     // A line that says this, with the next number.

@@ -1,5 +1,5 @@
 //! The pieces of a stream between newlines, where they don't lie whole in the buffer.
-ghost use Rattle.std.specs.Prelude.{◌≡◌, [], OnFalse};
+ghost use Rattle.std.specs.Prelude.{◌≡◌, []};
 ghost use Rattle.std.specs.Io.KnownBytes.{prepend_known};
 ghost use Rattle.mtrace_log.specs.LineBuffer.{TakesFront, TakesPiece, CallsUpTo};
 ghost use Rattle.mtrace_log.specs.declared.pieces.Stop.TheVariants.{Failed as PieceFailed};
