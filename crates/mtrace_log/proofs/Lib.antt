@@ -7,6 +7,7 @@ pub mod EventLemmas
 pub mod SpellingLemmas
 pub mod TraceLemmas
 pub mod LineLemmas
+pub mod PieceLemmas
 pub mod ReadLemmas
 pub mod CallLemmas
 mod Vectors

@@ -2,7 +2,7 @@
 use Rattle.std.proofs.Common.{◌≡◌, ℕ, List, [], ◌∷◌, ◌++◌, Option, Some, None, refl, sym, ap, ◌∙◌, append_assoc}
 use Rattle.std.specs.List.{AllByRecursion}
 use Rattle.std.specs.Io.KnownBytes.{prepend_known}
-use Rattle.mtrace_log.specs.Bytes.{Lacks}
+use Rattle.mtrace_log.specs.Bytes.{Lacks, newline}
 
 -- P holds of each element of two lists
 pub AllByRecursion-append : {X : Type 0} (P : X → Type 0) (xs ys : List X) → AllByRecursion P xs → AllByRecursion P ys → AllByRecursion P (xs ++ ys)
@@ -36,3 +36,9 @@ pub prepend_known-step : (xs ys : List ℕ) (before middle after : Option (List 
     → before ≡ prepend_known (xs ++ ys) after
 prepend_known-step xs ys before middle after first second =
     first ∙ ap (prepend_known xs) second ∙ sym (prepend_known-append xs ys after)
+
+-- known bytes with a newline in them are what stands before it, with the newline, and then the rest
+pub prepend_known-line : (bytes line rest : List ℕ) (known : Option (List ℕ)) → bytes ≡ line ++ newline ∷ rest
+    → prepend_known bytes known ≡ prepend_known (line ++ newline ∷ []) (prepend_known rest known)
+prepend_known-line bytes line rest known cut =
+    ap (λ text. prepend_known text known) (cut ∙ sym (append_assoc line (newline ∷ []) rest)) ∙ prepend_known-append (line ++ newline ∷ []) rest known

@@ -1,10 +1,10 @@
 -- Traces one behind the other.
 use Rattle.std.proofs.Common.{◌≡◌, ℕ, zero, suc, ◌<◌, List, [], ◌∷◌, ◌++◌, map, Result, Ok, Err, refl, sym, ap, ◌∙◌, append_assoc, arith, inl, inr}
 use Rattle.std.proofs.lemmas.List.{map-append}
-use Rattle.mtrace_log.specs.Trace.{pulled, offered, flushed, Moved, MovedThen, HasTaken, HasFailedToWrite, FlushWasAsked}
+use Rattle.mtrace_log.specs.Trace.{pulled, offered, flushed, Moved, MovedThen, HasGiven, HasTaken, HasFailedToWrite, FlushWasAsked}
 use Rattle.mtrace_log.specs.declared.failed.Failed.{Failed as Failure}
 use Rattle.mtrace_log.specs.declared.call.Call.{Call}
-use Rattle.mtrace_log.specs.declared.call.Call.TheVariants.{Gave, Ended, Took, Flushed, FlushFailed, Failed}
+use Rattle.mtrace_log.specs.declared.call.Call.TheVariants.{Gave, Took, Flushed, FlushFailed, Failed}
 
 -- no call
 pub moved_none : (by : ℕ → Call) (trace : List Call) → Moved by trace trace
@@ -41,6 +41,10 @@ moved_then_last by last old middle new first then = record { middle = middle; mo
 pub pulled_some : (count : ℕ) → 0 < count → pulled (Ok count) ≡ Gave count
 pulled_some zero some = absurd (omega arith)
 pulled_some (suc count) some = refl
+
+-- a reader that gave pieces, and then some bytes more
+pub gave_more : (count : ℕ) (old middle new : List Call) → 0 < count → HasGiven old middle → new ≡ pulled (Ok count) ∷ middle → HasGiven old new
+gave_more count old middle new some before told = moved_more Gave count old middle new before (told ∙ ap (λ call. call ∷ middle) (pulled_some count some))
 
 -- a writer that took some bytes
 pub offered_some : (bytes count : ℕ) → 0 < count → offered bytes (Ok count) ≡ Took count

@@ -1,5 +1,5 @@
 -- What the buffer of a line holds, and how a piece of a text ended.
-use Rattle.std.specs.Prelude.{◌≡◌, ℕ, ◌<◌, List, [], ◌∷◌, ◌++◌, length, Option, MatchBool}
+use Rattle.std.specs.Prelude.{◌≡◌, ℕ, ◌<◌, List, [], ◌∷◌, ◌++◌, length, Option, Bool, MatchBool}
 use Rattle.std.specs.Io.KnownBytes.{prepend_known, IsAtEnd}
 use Rattle.mtrace_log.specs.Bytes.{Lacks, newline}
 use Rattle.mtrace_log.specs.Spelling.{longest_line}
@@ -12,6 +12,14 @@ use Rattle.mtrace_log.specs.declared.pieces.Stop.TheVariants.{Newline, End, Fail
 -- the buffer holds the piece, or knows that it is too long to be kept
 abbrev pub Holds : LineBuffer → List ℕ → Type 0
 Holds buffer piece = MatchBool buffer.too_long (longest_line < length piece) (buffer.bytes.items ≡ piece)
+
+-- what stood unread before the first newline came onto the line, and the newline was passed over; or,
+-- where there was none, all of it, and nothing is unread
+pub record TakesFront (line_old line_new : LineBuffer) (ended : Bool) (old new : List ℕ) : Type 0 where
+  pub front : List ℕ
+  pub no_newline : Lacks newline front
+  pub taken : MatchBool ended (old ≡ front ++ newline ∷ new) ((old ≡ front) × (new ≡ []))
+  pub held : (piece : List ℕ) → Holds line_old piece → Holds line_new (piece ++ front)
 
 -- a piece was taken from the text: with its newline, or up to the end, or until the reader failed
 abbrev pub TakesUpTo : Stop → List ℕ → Option (List ℕ) → Option (List ℕ) → Type 0

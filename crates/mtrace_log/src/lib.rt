@@ -5,6 +5,7 @@
 #![tactic(auto)]
 
 mod addr;
+mod buffer;
 mod call;
 mod event;
 mod failed;

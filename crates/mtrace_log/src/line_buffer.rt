@@ -1,4 +1,4 @@
-ghost use Rattle.std.specs.Prelude.{◌≡◌, ℕ, ◌++◌, ◌∷◌, [], List, length, IsTrue, ◌↔◌};
+ghost use Rattle.std.specs.Prelude.{◌≡◌, ℕ, ◌++◌, [], List, length, IsTrue, ◌↔◌};
 ghost use Rattle.mtrace_log.specs.LineBuffer.{Holds};
 ghost use Rattle.mtrace_log.specs.Reading.{Reads};
 
@@ -31,15 +31,13 @@ impl LineBuffer {
         !self.too_long && self.bytes.is_empty()
     }
 
-    // One more byte.
-    pub(crate) fn push(&mut self, byte: u8)
-        ensures { (piece : List ℕ) → Holds self.old piece → Holds self.new (piece ++ byte ∷ []) }
+    // More bytes.
+    pub(crate) fn extend(&mut self, more: &[u8])
+        ensures { (piece : List ℕ) → Holds self.old piece → Holds self.new (piece ++ more.now) }
     {
-        if self.bytes.is_full() {
+        if self.bytes.try_extend_from_slice(more).is_err() {
             self.too_long = true;
-            return;
         }
-        self.bytes.push(byte);
     }
 
     // What the line says.

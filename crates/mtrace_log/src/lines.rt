@@ -1,14 +1,14 @@
-ghost use Rattle.std.specs.Prelude.{◌≡◌, ℕ, ◌+◌, ◌<◌, List, [], length, IfOk, IfErr, IfSome, IfNone};
-ghost use Rattle.mtrace_log.specs.Reading.{Reads};
+ghost use Rattle.std.specs.Prelude.{◌≡◌, ℕ, ◌+◌, ◌<◌, List, [], length, IfOk, IfErr, IfSome, IfNone, Result};
 ghost use Rattle.mtrace_log.specs.Progress.{Progress, Reading, Ended, to_come, greatest_number, GivesLine, FindsEnd, GivesFault, ReadsOn, CallsFor};
-ghost use Rattle.mtrace_log.specs.State.{held_by, status_of};
-ghost use Rattle.mtrace_log.specs.LineBuffer.{Holds};
+ghost use Rattle.mtrace_log.specs.State.{status_of};
 ghost use Rattle.mtrace_log.specs.declared.line.ReadFault.TheVariants.{ReaderFailed};
 
+use crate::buffer::Buffer;
+use crate::event::{Event, LineFault};
 use crate::failed::Failed;
 use crate::line::{Line, ReadFault};
-use crate::line_buffer::LineBuffer;
-use crate::pieces::{Stop, pull_byte, read_piece};
+use crate::line_reader::read_line;
+use crate::pieces::{Stop, read_piece};
 use crate::source::Source;
 use std::marker::Model;
 
@@ -24,8 +24,8 @@ enum State {
     Ended,
     // The reader failed.
     Failed,
-    // There is no number left for the line that begins with this byte.
-    Full(u8),
+    // There is no number left for a line that is to come.
+    Full,
 }
 
 /// The lines of a stream, numbered from 1, each with what it says.
@@ -34,17 +34,23 @@ enum State {
 /// isn't empty; an empty line between newlines counts and is `NotALine`.
 #[derive(Drop)]
 pub struct Lines {
+    buffer: Buffer,
     count: u64,
     state: State,
 }
 
 impl Model for Lines {
-    ghost use Rattle.mtrace_log.specs.Progress.{Progress};
-    ghost use Rattle.mtrace_log.specs.State.{held_by, status_of};
+    ghost use Rattle.std.specs.Prelude.{◌≡◌, []};
+    ghost use Rattle.mtrace_log.specs.Progress.{Progress, Faulted};
+    ghost use Rattle.mtrace_log.specs.State.{status_of};
+    ghost use Rattle.mtrace_log.specs.declared.line.ReadFault.TheVariants.{ReaderFailed};
 
     ghost Value = { Progress };
 
-    ghost view = { λ lines. record { held = held_by lines.state; count = lines.count; status = status_of lines.state } };
+    ghost view = { λ lines. record { held = lines.buffer; count = lines.count; status = status_of lines.state } };
+
+    // The reader is asked where each byte is read, so nothing is held where it failed.
+    ghost invariant = { λ lines. status_of lines.state ≡ Faulted ReaderFailed → lines.buffer ≡ [] };
 }
 
 impl Lines {
@@ -53,6 +59,7 @@ impl Lines {
         ensures { result ≡ record { held = []; count = 0; status = Reading } }
     {
         Lines {
+            buffer: Buffer::new(),
             count: 0,
             state: State::Reading,
         }
@@ -84,7 +91,7 @@ impl Lines {
             State::Reading => self.read_next(reader),
             State::Ended => Ok(None),
             State::Failed => Err(ReadFault::ReaderFailed),
-            State::Full(_) => Err(ReadFault::TooManyLines),
+            State::Full => Err(ReadFault::TooManyLines),
         }
     }
 
@@ -97,19 +104,35 @@ impl Lines {
         if self.count == u64::MAX {
             return self.find_end(reader);
         }
-        let (buffer, stop) = read_piece(reader);
+        let Some(bytes) = self.buffer.first_line() else {
+            return self.read_across(reader);
+        };
+        let event = read_line(bytes);
+        let count = bytes.len();
+        self.buffer.skip(count + 1);
+        Ok(Some(self.give(event)))
+    }
+
+    // The next line, where its newline isn't in the buffer.
+    fn read_across<R: Source>(&mut self, reader: &mut R) -> Result<Option<Line>, ReadFault>
+        requires reading { self.old.status ≡ Reading }
+        requires room { self.old.count < greatest_number }
+        ensures reads { ReadsOn R.left R.trace self.old self.new reader.old reader.new result }
+        ensures nothing_held { IfErr result (λ fault. fault ≡ ReaderFailed → self.new.held ≡ []) }
+    {
+        let (line, stop) = read_piece(&mut self.buffer, reader);
         match stop {
-            Stop::Newline => Ok(Some(self.give(&buffer, State::Reading))),
+            Stop::Newline => Ok(Some(self.give(line.read()))),
             Stop::Failed => {
                 self.state = State::Failed;
                 Err(ReadFault::ReaderFailed)
             }
             Stop::End => {
-                if buffer.is_empty() {
-                    self.state = State::Ended;
+                self.state = State::Ended;
+                if line.is_empty() {
                     return Ok(None);
                 }
-                Ok(Some(self.give(&buffer, State::Ended)))
+                Ok(Some(self.give(line.read())))
             }
         }
     }
@@ -121,13 +144,17 @@ impl Lines {
         ensures reads { ReadsOn R.left R.trace self.old self.new reader.old reader.new result }
         ensures nothing_held { IfErr result (λ fault. fault ≡ ReaderFailed → self.new.held ≡ []) }
     {
-        match pull_byte(reader) {
-            Ok(None) => {
+        if !self.buffer.is_empty() {
+            self.state = State::Full;
+            return Err(ReadFault::TooManyLines);
+        }
+        match self.buffer.refill(reader) {
+            Ok(0) => {
                 self.state = State::Ended;
                 Ok(None)
             }
-            Ok(Some(byte)) => {
-                self.state = State::Full(byte);
+            Ok(_) => {
+                self.state = State::Full;
                 Err(ReadFault::TooManyLines)
             }
             Err(Failed) => {
@@ -137,18 +164,16 @@ impl Lines {
         }
     }
 
-    // The line of these bytes, with the next number.
-    fn give(&mut self, buffer: &LineBuffer, state: State) -> Line
+    // A line that says this, with the next number.
+    fn give(&mut self, event: Result<Event, LineFault>) -> Line
         requires { self.old.count < greatest_number }
-        ensures number { result.number ≡ self.old.count + 1 }
-        ensures lines { self.new ≡ record { held = held_by state; count = result.number; status = status_of state } }
-        ensures event { (piece : List ℕ) → Holds buffer.now piece → Reads piece result.event }
+        ensures line { result ≡ record { number = self.old.count + 1; event = event } }
+        ensures lines { self.new ≡ record self.old { count = result.number } }
     {
         self.count += 1;
-        self.state = state;
         Line {
             number: self.count,
-            event: buffer.read(),
+            event,
         }
     }
 }

@@ -1,9 +1,10 @@
-//! The pieces of a stream between newlines.
-ghost use Rattle.std.specs.Prelude.{◌≡◌, ◌<◌, ◌≤◌, ◌∷◌, [], IfOk, IfSome, IfNone, OnErr};
-ghost use Rattle.std.specs.Io.KnownBytes.{prepend_known, IsAtEnd};
-ghost use Rattle.mtrace_log.specs.declared.call.Call.TheVariants.{Gave, Ended, Failed as PullFailed};
-ghost use Rattle.mtrace_log.specs.LineBuffer.{TakesPiece, CallsUpTo};
+//! The pieces of a stream between newlines, where they don't lie whole in the buffer.
+ghost use Rattle.std.specs.Prelude.{◌≡◌, []};
+ghost use Rattle.std.specs.Io.KnownBytes.{prepend_known};
+ghost use Rattle.mtrace_log.specs.LineBuffer.{TakesFront, TakesPiece, CallsUpTo};
+ghost use Rattle.mtrace_log.specs.declared.pieces.Stop.TheVariants.{Failed as PieceFailed};
 
+use crate::buffer::Buffer;
 use crate::failed::Failed;
 use crate::line_buffer::LineBuffer;
 use crate::source::Source;
@@ -16,36 +17,37 @@ pub(crate) enum Stop {
     Failed,
 }
 
-// The next byte, if there is one.
-pub(crate) fn pull_byte<R: Source>(reader: &mut R) -> Result<Option<u8>, Failed>
-    ensures byte { IfOk result (λ found. IfSome found (λ b. R.left reader.old ≡ prepend_known (b ∷ []) (R.left reader.new))) }
-    ensures falls { IfOk result (λ found. IfSome found (λ b. R.budget reader.new < R.budget reader.old)) }
-    ensures end { IfOk result (λ found. IfNone found ((R.left reader.old ≡ R.left reader.new) × IsAtEnd (R.left reader.new))) }
-    ensures kept { OnErr result (R.left reader.old ≡ R.left reader.new) }
-    ensures gave { IfOk result (λ found. IfSome found (λ b. R.trace reader.new ≡ Gave 1 ∷ R.trace reader.old)) }
-    ensures ended { IfOk result (λ found. IfNone found (R.trace reader.new ≡ Ended ∷ R.trace reader.old)) }
-    ensures failed { OnErr result (R.trace reader.new ≡ PullFailed ∷ R.trace reader.old) }
+// Takes the unread bytes before the first newline onto the line, and passes over the newline. Where
+// there is none, takes them all and answers false.
+fn take_front(buffer: &mut Buffer, line: &mut LineBuffer) -> bool
+    ensures { TakesFront line.old line.new result buffer.old buffer.new }
 {
-    let mut bytes = [0u8];
-    match reader.pull(&mut bytes) {
-        Ok(0) => Ok(None),
-        Ok(_) => Ok(Some(bytes[0])),
-        Err(failed) => Err(failed),
-    }
+    let Some(front) = buffer.first_line() else {
+        line.extend(buffer.unread());
+        buffer.skip_all();
+        return false;
+    };
+    line.extend(front);
+    let count = front.len();
+    buffer.skip(count + 1);
+    true
 }
 
 // The next piece, and how it ended.
-pub(crate) fn read_piece<R: Source>(reader: &mut R) -> (LineBuffer, Stop)
-    ensures piece { TakesPiece result.0 result.1 (R.left reader.old) (R.left reader.new) }
+pub(crate) fn read_piece<R: Source>(buffer: &mut Buffer, reader: &mut R) -> (LineBuffer, Stop)
+    ensures piece { TakesPiece result.0 result.1 (prepend_known buffer.old (R.left reader.old)) (prepend_known buffer.new (R.left reader.new)) }
     ensures calls { CallsUpTo result.1 (R.trace reader.old) (R.trace reader.new) }
+    ensures nothing_held { result.1 ≡ PieceFailed → buffer.new ≡ [] }
 {
-    let mut buffer = LineBuffer::new();
+    let mut line = LineBuffer::new();
     loop {
-        match pull_byte(reader) {
-            Ok(Some(b'\n')) => return (buffer, Stop::Newline),
-            Ok(Some(byte)) => buffer.push(byte),
-            Ok(None) => return (buffer, Stop::End),
-            Err(Failed) => return (buffer, Stop::Failed),
+        if take_front(buffer, &mut line) {
+            return (line, Stop::Newline);
+        }
+        match buffer.refill(reader) {
+            Ok(0) => return (line, Stop::End),
+            Ok(_) => {}
+            Err(Failed) => return (line, Stop::Failed),
         }
     }
 }

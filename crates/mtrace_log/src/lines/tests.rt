@@ -1,10 +1,12 @@
 use super::{Lines, State};
+use crate::buffer::Buffer;
 use crate::memory::MemorySource;
 use crate::{Event, ReadFault};
 
 // So many lines were read.
 fn after(count: u64) -> Lines {
     Lines {
+        buffer: Buffer::new(),
         count,
         state: State::Reading,
     }
@@ -12,14 +14,17 @@ fn after(count: u64) -> Lines {
 
 #[test]
 fn has_no_number_for_one_more_line(rt: HostRuntime) {
-    let mut reader = MemorySource::in_pieces(b"= End\n\n", 1);
-    let mut lines = after(u64::MAX - 1);
-    let last = lines.next(&mut reader);
-    assert!(rt;
-        matches!(&last, Ok(Some(line)) if line.number == u64::MAX && line.event == Ok(Event::End))
-    );
-    assert!(rt; lines.next(&mut reader) == Err(ReadFault::TooManyLines));
-    assert!(rt; lines.next(&mut reader) == Err(ReadFault::TooManyLines));
+    // The line past the last number is asked for, or it is in the buffer.
+    for piece in [1usize, 7] {
+        let mut reader = MemorySource::in_pieces(b"= End\n\n", piece.max(1));
+        let mut lines = after(u64::MAX - 1);
+        let last = lines.next(&mut reader);
+        assert!(rt;
+            matches!(&last, Ok(Some(line)) if line.number == u64::MAX && line.event == Ok(Event::End))
+        );
+        assert!(rt; lines.next(&mut reader) == Err(ReadFault::TooManyLines));
+        assert!(rt; lines.next(&mut reader) == Err(ReadFault::TooManyLines));
+    }
 }
 
 #[test]

@@ -1,15 +1,26 @@
-use Rattle.std.proofs.Common.{rules, arith}
-use Rattle.std.proofs.lemmas.Grind.{common_steps}
-use Rattle.mtrace_log.specs.declared.call.Call.TheVariants.{Gave}
-use Rattle.mtrace_log.proofs.TraceLemmas.{moved_more}
+use Rattle.std.proofs.Common.{◌∙◌, arith}
+use Rattle.mtrace_log.proofs.TraceLemmas.{gave_more}
+use Rattle.mtrace_log.proofs.PieceLemmas.{piece_to_newline, piece_filled, piece_to_end, at_end-nil, left-same}
 use Rattle.mtrace_log.proofs.pieces.read_piece.Goals as goal
 
-pub returns-in-Ok-Some-eq10-clause-calls : goal.returns-in-Ok-Some-eq10-clause-calls
-returns-in-Ok-Some-eq10-clause-calls g c =
-    let gave = rw c.in-Ok-Some-eq10.field-0-is at c.in-Ok-Some-eq10.ensures.gave in
-    moved_more Gave 1 _ _ _ c.loop-buffer.invariant.calls gave
+pub returns-then-take_front-clause-piece : goal.returns-then-take_front-clause-piece
+returns-then-take_front-clause-piece g c =
+    piece_to_newline c.loop-line.line c.take_front.new.line c.loop-line.buffer c.take_front.new.buffer _ _ c.loop-line.invariant.piece c.if-take_front.ensures
 
-pub loop-buffer-preserved : goal.loop-buffer-preserved
-loop-buffer-preserved g c =
-    let gave = rw c.in-Ok-Some.field-0-is at c.in-Ok-Some.ensures.gave in
-    record { piece = grind (arith, common_steps); calls = moved_more Gave 1 _ _ _ c.loop-buffer.invariant.calls gave }
+pub returns-in-Ok-eq0-clause-piece : goal.returns-in-Ok-eq0-clause-piece
+returns-in-Ok-eq0-clause-piece g c =
+    piece_to_end _ _ _
+    (piece_filled c.loop-line.line c.take_front.new.line c.loop-line.buffer c.take_front.new.buffer c.refill.new.self _ _ _ c.loop-line.invariant.piece c.if-take_front.ensures c.in-Ok-eq0.ensures.bytes)
+    (at_end-nil c.refill.new.self _ (c.in-Ok-eq0.ensures.count ∙ c.in-Ok-eq0.field-0-test) (c.in-Ok-eq0.ensures.end c.in-Ok-eq0.field-0-test))
+
+pub loop-line-preserved : goal.loop-line-preserved
+loop-line-preserved g c =
+    record {
+      piece = piece_filled c.loop-line.line c.take_front.new.line c.loop-line.buffer c.take_front.new.buffer c.refill.new.self _ _ _ c.loop-line.invariant.piece c.if-take_front.ensures c.in-Ok.ensures.bytes;
+      calls = gave_more c.in-Ok.field-0 _ _ _ (omega (arith, c.in-Ok.field-0-test)) c.loop-line.invariant.calls c.in-Ok.ensures.told;
+    }
+
+pub returns-in-Err-clause-piece : goal.returns-in-Err-clause-piece
+returns-in-Err-clause-piece g c =
+    piece_filled c.loop-line.line c.take_front.new.line c.loop-line.buffer c.take_front.new.buffer c.refill.new.self _ _ _ c.loop-line.invariant.piece c.if-take_front.ensures
+    (left-same c.refill.new.self _ _ c.in-Err.ensures.failed.0 c.in-Err.ensures.failed.1)

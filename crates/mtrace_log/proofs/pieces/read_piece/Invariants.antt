@@ -1,16 +1,16 @@
-use Rattle.std.proofs.Common.{◌≡◌}
+use Rattle.std.specs.Io.KnownBytes.{prepend_known}
 use Rattle.mtrace_log.specs.LineBuffer.{TakesPiece}
 use Rattle.mtrace_log.specs.Trace.{HasGiven}
 use Rattle.mtrace_log.specs.declared.pieces.Stop.TheVariants.{Failed}
 use Rattle.mtrace_log.proofs.pieces.read_piece.Given as goal
 
 -- a piece was taken that hasn't ended, and the reader hasn't failed
-abbrev pub invariant-loop-buffer : goal.invariant-loop-buffer
-invariant-loop-buffer g l = record {
-  piece : TakesPiece l.buffer Failed (g.R.Source.left l.fn.reader) (g.R.Source.left l.reader);
+abbrev pub invariant-loop-line : goal.invariant-loop-line
+invariant-loop-line g l = record {
+  piece : TakesPiece l.line Failed (prepend_known l.fn.buffer (g.R.Source.left l.fn.reader)) (prepend_known l.buffer (g.R.Source.left l.reader));
   calls : HasGiven (g.R.Source.trace l.fn.reader) (g.R.Source.trace l.reader);
 }
 
 -- how many more pieces the reader gives
-abbrev pub decreases-loop-buffer : goal.decreases-loop-buffer
-decreases-loop-buffer g l = g.R.Source.budget l.reader
+abbrev pub decreases-loop-line : goal.decreases-loop-line
+decreases-loop-line g l = g.R.Source.budget l.reader
