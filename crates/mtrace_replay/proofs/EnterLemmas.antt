@@ -1,11 +1,10 @@
 -- A spot comes between others: what a rotation leaves.
-use Rattle.std.proofs.Common.{◌≡◌, ℕ, suc, ◌+◌, ◌-◌, ◌<◌, ◌≤◌, inl, inr, List, [], ◌∷◌, ◌++◌, take, drop, length, slice_index_or, slice_set, None, arith, refl, sym, ap, ◌∙◌, subst}
+use Rattle.std.proofs.Common.{◌≡◌, ℕ, suc, ◌+◌, ◌-◌, ◌<◌, ◌≤◌, inl, inr, List, [], ◌∷◌, ◌++◌, take, drop, length, slice_index_or, slice_set, arith, refl, sym, ap, ◌∙◌, subst}
 use Rattle.std.proofs.Math.Seq.{take-suc, drop-cons, set-append_seam, take-append-add}
 use Rattle.std.proofs.lemmas.List.{take-append-drop, get_or-drop, length-take-le, length-drop, length-append, append_assoc, drop-drop, drop_at, take_at}
 use borrow.Rule.Slice.PartMut.{mid_of, put_mid}
 use Rattle.mtrace_replay.specs.declared.spot.Spot.{Spot}
-use Rattle.mtrace_replay.specs.Spot.{holding_of}
-use Rattle.mtrace_replay.specs.Search.{IsVacantAt, AreKept, Enters}
+use Rattle.mtrace_replay.specs.Search.{IsVacantAt, Enters}
 
 -- a list in three parts, the second the element there
 pub parted : (default : Spot) (spots : List Spot) (n : ℕ) → n < length spots → spots ≡ take n spots ++ slice_index_or spots n default ∷ drop (suc n) spots
@@ -24,8 +23,13 @@ module _ (spots : List Spot) (spot : Spot) (gap at : ℕ) where
       → turned ≡ drop (length (mid_of at k spots) - 1) (mid_of at k spots) ++ take (length (mid_of at k spots) - 1) (mid_of at k spots)
       → Enters spot at spots (slice_set (put_mid at k spots turned) at spot)
   entered_above above is_vacant turned k k_is after =
-      record { before = take at spots; behind = between ++ drop k tail; before_kept = inl refl; behind_kept = inr (between, vacant, drop k tail, is_vacant.1 spot, tail_is, refl);
-          whole = ap (λ ys. slice_set (take at spots ++ (ys ++ drop k tail)) at spot) turned_is ∙ seam_set (take at spots) (between ++ drop k tail) vacant spot at (length-take-le at spots (omega (arith, above, is_vacant.0))) }
+      record {
+        before = take at spots;
+        behind = between ++ drop k tail;
+        before_kept = inl refl;
+        behind_kept = inr (between, vacant, drop k tail, is_vacant.1 spot, tail_is, refl);
+        whole = ap (λ ys. slice_set (take at spots ++ (ys ++ drop k tail)) at spot) turned_is ∙ seam_set (take at spots) (between ++ drop k tail) vacant spot at (length-take-le at spots (omega (arith, above, is_vacant.0)));
+      }
     where
       tail : List Spot
       tail = drop at spots

@@ -103,12 +103,12 @@ module _ (holdings : List Holding) (content : Content ℕ) (ordered : AreInOrder
   pub held_room : (more : Holding) → held_at holdings (key more) ≡ None → AreLive (more ∷ holdings) content → length holdings < content.records
   unfolding IsDistinct
   held_room more absent are = few_places (more ∷ holdings) content (
-        others_differ more.ptr.place holdings (λ other has same. other_key other has (are.apart (key more) (key other) more other first (later other has) same)),
-        distinct_places holdings sorted (λ one other has has_too same. are.apart (key one) (key other) one other (later one has) (later other has_too) same),
-      ) (λ holding has. elim (first_or_rest key more holding holdings has) [
-        | inl is ↦ subst (λ (h : Holding). is_live (λ slot. slot == h.ptr.slot) h.ptr.place (blocks_of content.pools) ≡ true) is (are.live (key more) more first)
-        | inr is ↦ are.live (key holding) holding (later holding is)
-      ]) good
+    others_differ more.ptr.place holdings (λ other has same. other_key other has (are.apart (key more) (key other) more other first (later other has) same)),
+    distinct_places holdings sorted (λ one other has has_too same. are.apart (key one) (key other) one other (later one has) (later other has_too) same),
+  ) (λ holding has. elim (first_or_rest key more holding holdings has) [
+    | inl is ↦ subst (λ (h : Holding). is_live (λ slot. slot == h.ptr.slot) h.ptr.place (blocks_of content.pools) ≡ true) is (are.live (key more) more first)
+    | inr is ↦ are.live (key holding) holding (later holding is)
+  ]) good
     where
       other_key : (other : Holding) → Contains holdings other → key more ≢ key other
       other_key other has same = let e : None ≡ Some other = sym absent ∙ ap (held_at holdings) same ∙ here other has in cc

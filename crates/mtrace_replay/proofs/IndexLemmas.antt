@@ -1,10 +1,9 @@
 -- What is held at the spots of an index, and how it changes where one spot does.
-use Rattle.std.proofs.Common.{◌≡◌, ℕ, Bool, cond, zero, suc, ◌+◌, ◌<◌, ◌≤◌, List, [], ◌∷◌, ◌++◌, take, drop, length, is_some, slice_index_or, slice_set, Option, Some, None, true, false, Less, inl, inr, arith, refl, sym, ap, ◌∙◌, subst}
+use Rattle.std.proofs.Common.{◌≡◌, ℕ, Bool, cond, suc, ◌+◌, ◌<◌, ◌≤◌, List, [], ◌∷◌, ◌++◌, take, drop, length, is_some, slice_index_or, slice_set, Option, Some, None, true, false, Less, arith, refl, sym, ap, ◌∙◌, subst}
 use Rattle.std.specs.Prelude.{◌==◌, option_to_list}
 use Rattle.std.specs.List.{AllByRecursion}
 use Rattle.std.specs.List.Sorted.{IsStrictlySortedBy}
 use Rattle.std.specs.Ordering.{nat_cmp}
-use Rattle.std.proofs.Math.Seq.{set-append_seam}
 use Rattle.std.proofs.lemmas.Bool.Decides.{nat_tests}
 use Rattle.std.proofs.lemmas.List.{length-append, length-take-le, length-set, take-append-drop}
 use Rattle.std.proofs.lemmas.List.Sums.{sum_by-append}
@@ -13,7 +12,7 @@ use Rattle.mtrace_replay.specs.declared.holding.Holding.{Holding}
 use Rattle.mtrace_replay.specs.declared.spot.Spot.{Spot}
 use Rattle.mtrace_replay.specs.declared.spot.Spot.TheVariants.{Held, Vacant}
 use Rattle.mtrace_replay.specs.Spot.{spot_address, holding_of, all_held, RiseFrom, AreBelow, AreAbove}
-use Rattle.mtrace_replay.specs.Search.{StandsAt, FitsAt, AreKept, Enters}
+use Rattle.mtrace_replay.specs.Search.{StandsAt, FitsAt, Enters}
 use Rattle.mtrace_replay.specs.Index.{addresses, held_at, held_bytes, AreInOrder, IsIndex}
 use Rattle.mtrace_replay.proofs.SpotLemmas.{held_append, below_before, above_behind, rise_take, rise_drop, rise_above, rise_join, rise_set, kept_rise, kept_below, kept_held}
 use Rattle.mtrace_replay.proofs.EnterLemmas.{parted, seam_set}
@@ -220,7 +219,7 @@ module _ (spots : List Spot) (address at : ℕ) (rise : RiseFrom 0 spots) where
           (subst (λ a. AreBelow a enters.before) (sym its) (kept_below (take at spots) enters.before address enters.before_kept fits.1))
           (omega arith)
           (subst (λ a. RiseFrom (suc a) enters.behind) (sym its) (kept_rise (drop at spots) enters.behind (suc address) enters.behind_kept
-              (rise_above address 0 (drop at spots) (rise_drop 0 spots at rise) fits.2))))
+          (rise_above address 0 (drop at spots) (rise_drop 0 spots at rise) fits.2))))
 
       pub enters_held : (q : ℕ) → held_at (all_held new) q ≡ cond (address == q) (holding_of spot) (held_at (all_held spots) q)
       enters_held = changes_held address None (holding_of spot) (all_held spots) (all_held new) enters_changes

@@ -1,5 +1,5 @@
 -- So many look-ups, one after the other.
-use Rattle.std.proofs.Common.{◌≡◌, ℕ, ◌+◌, ◌*◌, ◌≤◌, arith, ◌∙◌}
+use Rattle.std.proofs.Common.{ℕ, ◌+◌, arith, ◌∙◌}
 use Rattle.mtrace_replay.specs.Index.{Indexed, LooksUp}
 
 -- one after the other

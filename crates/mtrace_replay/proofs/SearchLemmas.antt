@@ -1,11 +1,10 @@
 -- A search by halves: what is left, and how often it compares.
-use Rattle.std.proofs.Common.{◌≡◌, ℕ, zero, suc, ◌+◌, ◌-◌, ◌*◌, ◌/◌, ◌^◌, ◌<◌, ◌≤◌, List, [], take, drop, length, is_some, true, slice_index_or, arith, Less, Greater, refl, sym, ap, ◌∙◌, subst}
+use Rattle.std.proofs.Common.{◌≡◌, ℕ, zero, suc, ◌+◌, ◌-◌, ◌/◌, ◌^◌, ◌<◌, ◌≤◌, List, take, drop, length, is_some, true, slice_index_or, arith, Less, Greater, refl, sym, subst}
 use Rattle.std.proofs.lemmas.List.{drop_all}
 use Rattle.std.proofs.lemmas.Bool.Decides.{nat_tests}
 use Rattle.std.specs.Ordering.{nat_cmp}
 use Rattle.mtrace_replay.specs.declared.spot.Spot.{Spot}
-use Rattle.mtrace_replay.specs.Spot.{spot_address, holding_of, all_held, RiseFrom, AreBelow, AreAbove}
-use Rattle.mtrace_replay.specs.Search.{FitsAt, Compares}
+use Rattle.mtrace_replay.specs.Spot.{spot_address, holding_of, RiseFrom, AreBelow, AreAbove}
 use Rattle.mtrace_replay.proofs.SpotLemmas.{below_up_to, above_from}
 
 is_less : {a b : ℕ} → nat_cmp a b ≡ Less → a < b

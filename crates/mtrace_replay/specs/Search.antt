@@ -1,5 +1,5 @@
 -- Where an address stands among the spots of an index, and where it enters.
-use Rattle.std.specs.Prelude.{◌≡◌, ◌⊎◌, ℕ, ◌+◌, ◌<◌, ◌≤◌, ◌^◌, List, ◌∷◌, ◌++◌, length, take, drop, slice_index_or, Some, None}
+use Rattle.std.specs.Prelude.{◌≡◌, ◌⊎◌, ℕ, ◌+◌, ◌<◌, ◌≤◌, ◌^◌, List, ◌∷◌, ◌++◌, length, take, drop, slice_index_or, None}
 use Rattle.mtrace_replay.specs.declared.spot.Spot.{Spot}
 use Rattle.mtrace_replay.specs.Spot.{spot_address, holding_of, AreBelow, AreAbove}
 

@@ -83,4 +83,3 @@ returns-in-Err-replay_line-clause-write g c = λ e settings stands report.
     (g.R.Source.left c.args.reader.now) (g.R.Source.left c.loop-line.reader) (g.R.Source.left c.next.new.reader)
     (g.W.Sink.taken c.args.writer.now) (g.W.Sink.taken c.loop-line.writer) (g.W.Sink.taken c.replay_line.new.writer) c.in-Ok-Some.line
     under given (wrote settings (reverse under.lines) under.stands)
-

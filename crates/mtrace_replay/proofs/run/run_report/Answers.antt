@@ -1,8 +1,7 @@
-use Rattle.std.proofs.Common.{Bool, sym, subst, inr}
 use Rattle.std.proofs.lemmas.Result.{on_ok_weaker}
 use Rattle.mtrace_log.specs.declared.call.Call.TheVariants.{Took, Flushed}
 use Rattle.mtrace_log.proofs.TraceLemmas.{moved_then_append, flush_after, failed_after}
-use Rattle.mtrace_replay.proofs.RunLemmas.{reports_by, report_write, same_error}
+use Rattle.mtrace_replay.proofs.RunLemmas.{reports_by, report_write}
 use Rattle.mtrace_replay.proofs.run.run_report.Goals as goal
 
 pub returns-in-Ok-replay_lines-clause-finished : goal.returns-in-Ok-replay_lines-clause-finished

@@ -64,4 +64,4 @@ returns-clause-comes g c =
     let there = ap (λ (ptr : Pointer). moved entry.line entry.at old ptr.place entry.addr entry.size content (realloc (λ one other. true) tt (Some (ptr.place, tt)) (asked_size entry.size) content)) under.2 in
     let P : Moment → List Holding → Type 0 = λ moment all. IfOk c.reallocate.result (λ effect. Comes content after (all_given all) (all_given new) effect.note.items effect.end moment) in
     subst (λ moment. P moment held) (sym (is ∙ there)) (subst (P (moved entry.line entry.at old c.in-Some-block.ptr.place entry.addr entry.size content
-        (realloc (λ one other. true) tt (Some (c.in-Some-block.ptr.place, tt)) (asked_size entry.size) content))) same c.reallocate.ensures.comes)
+    (realloc (λ one other. true) tt (Some (c.in-Some-block.ptr.place, tt)) (asked_size entry.size) content))) same c.reallocate.ensures.comes)

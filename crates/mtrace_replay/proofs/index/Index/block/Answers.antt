@@ -14,11 +14,11 @@ returns-clause-value c =
     let address = c.args.address in
     let seen = ap (λ index. held_at index.all address) c.self.view_is in
     elim c.match-search.branch [
-      in-Ok w ↦ w.result-is ∙ w.block.ensures
+      | in-Ok w ↦ w.result-is ∙ w.block.ensures
           ∙ ap (option_map (λ (holding : Holding). holding.ptr))
           (sym (held_there spots address w.in-Ok.at c.self.invariant.rise (subst (λ all. StandsAt all address w.in-Ok.at) c.deref.ensures.value w.in-Ok.ensures.found)
           w.index.result.now (Vacant address) w.index.ensures refl) ∙ seen)
-    | in-Err w ↦ w.result-is
+      | in-Err w ↦ w.result-is
           ∙ ap (option_map (λ (holding : Holding). holding.ptr))
           (sym (nothing_there spots address w.in-Err.field-0 c.self.invariant.rise (subst (λ all. FitsAt all address w.in-Err.field-0) c.deref.ensures.value w.in-Err.ensures.absent)) ∙ seen)
     ]

@@ -37,8 +37,8 @@ invariant_of-self-in-Err c =
     let fits = subst (λ a. FitsAt c.self.inside.spots.items a c.in-Err.at) c.address.ensures (subst (λ all. FitsAt all c.address.result c.in-Err.at) c.deref.ensures.value c.in-Err.ensures.absent) in
     subst (λ memory. IsIndex c.enter.new.spots.items memory c.self.inside.room (c.self.inside.blocks + 1) (c.self.inside.bytes + c.size-size.result)) (sym c.enter.ensures.reserved)
     (enters_keeps c.self.inside.spots.items address c.in-Err.at c.self.invariant.rise fits (Held c.args.holding) refl c.enter.new.spots.items c.enter.ensures.enters
-        (vec_capacity c.self.inside.spots) c.self.inside.room c.self.inside.blocks c.self.inside.bytes (c.self.inside.blocks + 1) (c.self.inside.bytes + c.size-size.result) c.self.invariant c.enter.ensures.within
-        (omega arith) (omega (arith, c.size-size.ensures)))
+    (vec_capacity c.self.inside.spots) c.self.inside.room c.self.inside.blocks c.self.inside.bytes (c.self.inside.blocks + 1) (c.self.inside.bytes + c.size-size.result) c.self.invariant c.enter.ensures.within
+    (omega arith) (omega (arith, c.size-size.ensures)))
 
 pub returns-in-Err-clause-held : goal.returns-in-Err-clause-held
 returns-in-Err-clause-held c other =

@@ -1,4 +1,4 @@
-use Rattle.std.proofs.Common.{◌-◌, None, is_some, true, length, arith, refl, sym, ap, ◌∙◌, subst, cond}
+use Rattle.std.proofs.Common.{◌-◌, None, is_some, length, arith, refl, sym, ap, ◌∙◌, subst, cond}
 use Rattle.std.specs.Prelude.{◌==◌}
 use Rattle.mtrace_replay.specs.declared.spot.Spot.TheVariants.{Vacant}
 use Rattle.mtrace_replay.specs.Spot.{holding_of}

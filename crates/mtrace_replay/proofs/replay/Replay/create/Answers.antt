@@ -1,5 +1,4 @@
 use Rattle.std.proofs.Common.{List, [], length, refl, sym, subst, ap, ◌∙◌, arith}
-use Rattle.mtrace_replay.specs.declared.holding.Holding.{Holding}
 use Rattle.mtrace_replay.specs.Moment.{Given, Moment}
 use Rattle.mtrace_replay.specs.History.{AreHeld, content_after}
 use Rattle.mtrace_replay.specs.Started.{Bare, started}
