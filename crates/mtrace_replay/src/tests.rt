@@ -2,13 +2,14 @@
 
 ghost use Rattle.std.specs.Prelude.{◌≡◌, false};
 
+mod random_lines;
 mod refused_memory;
 mod rows;
 mod starts;
 mod sums;
 
 use crate::*;
-use mtrace_log::{Line, read_line};
+use mtrace_log::{Event, Line, LineFault, read_line};
 use std::alloc::Global;
 use std::process::Abort;
 use tlsf_heap::{Heap, Heaped, PlainHeap, Refusal};
@@ -35,14 +36,18 @@ impl<H: Heaped> Fed<H> {
     }
 
     fn feed(&mut self, rt: &impl Abort, text: &str) -> Result<Note, ReplayFault> {
+        self.feed_event(rt, read_line(text.as_bytes()))
+    }
+
+    fn feed_event(
+        &mut self,
+        rt: &impl Abort,
+        event: Result<Event, LineFault>,
+    ) -> Result<Note, ReplayFault> {
         let Some(number) = self.lines.checked_add(1) else {
             panic!(rt; "too many lines");
         };
-        let line = Line {
-            number,
-            event: read_line(text.as_bytes()),
-        };
-        let answer = self.replay.feed(line);
+        let answer = self.replay.feed(Line { number, event });
         self.lines = number;
         answer
     }

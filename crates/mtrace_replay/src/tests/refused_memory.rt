@@ -1,8 +1,9 @@
 //! Memory is refused at any call. Each test passes whichever allocation is refused, and where none is.
 
 use super::*;
-use mtrace_log::Source;
 use mtrace_log::memory::{MemorySink, MemorySource};
+use mtrace_log::{Source, ToWrite};
+use std::io;
 
 const SETTINGS: Settings = Settings {
     pool: 4096,
@@ -58,8 +59,9 @@ fn expect_held_after<H: Heaped>(rt: &impl Abort, replay: &Replay<H>, lines: u64)
     assert!(rt; held.next().is_none(), "too many are held after {lines}");
 }
 
-/// Feeds all of the lines. Where memory is refused at one of them, each call behind it is refused too.
-fn sees_refused_memory<H: Heaped>(rt: &impl Abort, alloc: Global) {
+/// Feeds all of the lines. Where memory is refused at one of them, which only a heap that lacks some can do, each call
+/// behind it is refused too.
+fn sees_refused_memory<H: Heaped>(rt: &impl Abort, alloc: Global, may_lack: bool) {
     let mut fed = match Fed::<H>::create(alloc, SETTINGS) {
         Ok(fed) => fed,
         Err(fault) => {
@@ -81,6 +83,7 @@ fn sees_refused_memory<H: Heaped>(rt: &impl Abort, alloc: Global) {
                 }
                 Err(fault) => {
                     assert_eq!(rt; fault, ReplayFault::OutOfMemory, "{text}");
+                    assert!(rt; may_lack, "{text}");
                     is_refused = true;
                 }
             }
@@ -99,19 +102,9 @@ fn sees_refused_memory<H: Heaped>(rt: &impl Abort, alloc: Global) {
 
 #[test]
 fn refused_memory(rt: HostRuntime) {
-    sees_refused_memory::<Heap>(&rt, rt.alloc());
-    sees_refused_memory::<PlainHeap>(&rt, rt.alloc());
+    sees_refused_memory::<Heap>(&rt, rt.alloc(), false);
+    sees_refused_memory::<PlainHeap>(&rt, rt.alloc(), true);
 }
-
-/// Lines, each with its diagnostic's text.
-const NOTED: [(&str, &str); 6] = [
-    ("- 0x10\n", "line 1: 0x10 is not held\n"),
-    ("+ 0x10 0x1\n", ""),
-    ("- 0x20\n", "line 3: 0x20 is not held\n"),
-    ("+ 0x20 0x1\n", ""),
-    ("= Stop\n", "line 5: not a line\n"),
-    ("+ 0x30 0x1\n", ""),
-];
 
 const LOG: &[u8] = b"- 0x10\n+ 0x10 0x1\n- 0x20\n+ 0x20 0x1\n= Stop\n+ 0x30 0x1\n";
 
@@ -131,21 +124,7 @@ fn bytes_left(rt: &impl Abort, reader: &mut MemorySource<'_>) -> usize {
     left
 }
 
-/// How many bytes the diagnostics of the lines have that stand before the line which ends behind so many
-/// bytes of the log.
-fn noted_before(end: usize) -> usize {
-    let mut read: usize = 0;
-    let mut noted: usize = 0;
-    for (line, text) in NOTED {
-        read = read.saturating_add(line.len());
-        if read < end {
-            noted = noted.saturating_add(text.len());
-        }
-    }
-    noted
-}
-
-/// The reader gives one byte a call, so that it gave the line where memory was refused and nothing behind it.
+/// Where memory is refused, nothing is read or written.
 #[test]
 fn run_with_refused_memory(rt: HostRuntime) {
     let mut reader = MemorySource::in_pieces(LOG, 1);
@@ -159,12 +138,18 @@ fn run_with_refused_memory(rt: HostRuntime) {
         Err(RunFault::Write) => assert!(rt; TEXT.starts_with(writer.bytes())),
         Err(fault) => {
             assert_eq!(rt; fault, RunFault::OutOfMemory);
-            let read = LOG.len().saturating_sub(bytes_left(&rt, &mut reader));
-            let noted = noted_before(read);
-            assert!(rt;
-                writer.bytes().len() == noted && TEXT.starts_with(writer.bytes()),
-                "{read}"
-            );
+            assert_eq!(rt; bytes_left(&rt, &mut reader), LOG.len());
+            assert!(rt; writer.bytes().is_empty());
         }
     }
+}
+
+/// A run takes memory twice. With a writer that takes none, it fails where the first or the second allocation is
+/// refused, and with no later one.
+#[test]
+fn memory_taken_twice(rt: HostRuntime) {
+    let mut reader = MemorySource::in_pieces(LOG, 7);
+    let mut writer = ToWrite::new(io::sink());
+    let answer = run_leaks(rt.alloc(), &mut reader, &mut writer, SETTINGS);
+    assert!(rt; answer == Ok(Status::Found));
 }

@@ -1,6 +1,6 @@
 //! A log that glibc 2.36 wrote for a C program that only allocates.
 
-use super::rows::{WHOLE, expect_report};
+use super::rows::{PIECES, expect_report};
 use mtrace_replay::Settings;
 
 /// What glibc's tracer wrote.
@@ -99,7 +99,7 @@ Total: 42 blocks, 4074 bytes.\n";
 
 #[test]
 fn log_of_glibc(rt: HostRuntime) {
-    for piece in [WHOLE, 1] {
+    for piece in PIECES {
         expect_report(
             &rt,
             rt.alloc(),

@@ -1,6 +1,6 @@
 //! The reports of the peak and of the walk, in one piece and in pieces of one byte and of seven.
 
-use super::rows::{SMALL, WHOLE};
+use super::rows::{PIECES, SMALL, WHOLE};
 use crate::asked::Name;
 use crate::service::serve;
 use mtrace_log::memory::{MemorySink, MemorySource};
@@ -128,7 +128,7 @@ fn expect_row(rt: &impl Abort, alloc: Global, row: &Row, piece: usize) {
 #[test]
 fn peak_and_walk(rt: HostRuntime) {
     for row in &ROWS {
-        for piece in [WHOLE, 1, 7] {
+        for piece in PIECES {
             expect_row(&rt, rt.alloc(), row, piece);
         }
     }

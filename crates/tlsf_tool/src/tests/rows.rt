@@ -1,5 +1,5 @@
 //! Logs with the text, the status and the line on standard error that they come to, in one piece and in
-//! pieces of one byte and of seven.
+//! pieces of one byte, of seven, and of about as many as the buffer of `Lines` has.
 
 use crate::asked::Name;
 use crate::service::serve;
@@ -178,6 +178,9 @@ const ROWS: [Row; 19] = [
 /// The longest piece that a reader is asked to give.
 pub const WHOLE: usize = 1 << 20;
 
+/// The longest pieces that the rows are tried with. The buffer of `Lines` has 4,096 bytes.
+pub const PIECES: [usize; 6] = [WHOLE, 1, 7, 4095, 4096, 4097];
+
 /// The report of leaks of what the reader gives; compares the status and the line on standard error.
 pub fn expect_status<R: Source, W: Sink>(
     rt: &impl Abort,
@@ -225,7 +228,7 @@ pub fn expect_report(
 #[test]
 fn rows_in_one_piece_and_in_pieces(rt: HostRuntime) {
     for row in &ROWS {
-        for piece in [WHOLE, 1, 7] {
+        for piece in PIECES {
             expect_report(
                 &rt,
                 rt.alloc(),
@@ -255,7 +258,7 @@ fn longest_line(rt: HostRuntime) -> Result<(), Fail> {
     let longest = long_line(rt.alloc(), LONGEST_LOCATION)?;
     assert_eq!(rt; longest.len(), LONGEST_LINE);
     let longer = long_line(rt.alloc(), LONGEST_LOCATION + 1)?;
-    for piece in [WHOLE, 1] {
+    for piece in PIECES {
         expect_report(
             &rt,
             rt.alloc(),

@@ -1,7 +1,7 @@
 //! A log that glibc 2.36 wrote for tests/logs/words.c, on a heap that is too small for it. On the heap where
 //! no settings are given tests/program replays it.
 
-use super::rows::{WHOLE, expect_report};
+use super::rows::{PIECES, expect_report};
 use mtrace_replay::Settings;
 
 /// One pool of 4096 bytes and 48 records.
@@ -235,7 +235,7 @@ Total: 19 blocks, 1300 bytes.\n";
 
 #[test]
 fn words_of_glibc(rt: HostRuntime) {
-    for piece in [WHOLE, 1, 7] {
+    for piece in PIECES {
         expect_report(
             &rt,
             rt.alloc(),
