@@ -11,7 +11,7 @@ loop-number-preserved c =
       begun =
           rw e.items
           (begun_vacant c.args.count c.loop-number.items.items c.loop-number.first c.loop-number.number begun
-          (let less : c.loop-number.number < c.args.count = c.loop-number-test.true in less) c.vacant.result c.vacant.ensures);
+          (let less : c.loop-number.number < c.args.count = c.loop-number-test.true in less) c.pack.result (c.pack.ensures ∙ c.vacant.ensures));
     }
 
 pub invariant_of-result : goal.invariant_of-result
