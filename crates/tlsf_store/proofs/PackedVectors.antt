@@ -1,6 +1,6 @@
 -- Packed records at their ends: the words, and the records that they stand for.
 use Rattle.std.proofs.Common.{◌≡◌, refl, Some, None}
-use Rattle.tlsf_store.specs.declared.records.State.TheVariants.{Vacant, Free, Live}
+use Rattle.tlsf_store.specs.declared.records.State.TheVariants.{Free, Live}
 use Rattle.tlsf_store.specs.Records.{blank}
 use Rattle.tlsf_store.specs.Packed.{unpacked, link_of}
 
@@ -16,11 +16,10 @@ first_slot = refl
 vacant_without_links : unpacked (record { place = 0; size_word = 0; prev = 65535; next = 65535; prev_free = 65535; next_free = 65535 }) ≡ blank
 vacant_without_links = refl
 
--- the last of a chain of vacant records, and one before it
+-- one of the chain of vacant records
 vacant_before_slot_7 : unpacked (record { place = 0; size_word = 0; prev = 65535; next = 7; prev_free = 65535; next_free = 65535 }) ≡ record blank { next = Some 7 }
 vacant_before_slot_7 = refl
 
--- sixty-four free bytes from place 0 on, a pool of their own
 free_of_64 : unpacked (record { place = 0; size_word = 0x41; prev = 65535; next = 65535; prev_free = 65535; next_free = 65535 }) ≡ record { place = 0; size = 64; state = Free; prev = None; next = None; prev_free = None; next_free = None }
 free_of_64 = refl
 
