@@ -31,6 +31,6 @@ unpacked p =
       next_free = link_of p.next_free;
     }
 
--- the codes are 0, 1 and 2
+-- every code is 0, 1 or 2
 abbrev pub IsPacked : Inside → Type 0
 IsPacked p = p.size_word % unit < 3
