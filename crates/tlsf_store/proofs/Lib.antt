@@ -1,4 +1,5 @@
 mod Chains
+mod PackedVectors
 pub mod RecordLaws
 mod TableLaws
 mod TableMaking

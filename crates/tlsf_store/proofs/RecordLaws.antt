@@ -1,12 +1,12 @@
 -- Vacant records counted, and records written and read back.
-use Rattle.std.proofs.Common.{◌≡◌, ◌≢◌, ℕ, zero, suc, ◌+◌, ◌<◌, ◌≤◌, true, false, cond, List, length, set, replicate, ap, refl, arith}
+use Rattle.std.proofs.Common.{◌≡◌, ◌≢◌, ℕ, zero, suc, ◌+◌, ◌<◌, ◌≤◌, true, false, cond, List, length, set, replicate, Option, Some, None, ap, refl, arith}
 use Rattle.std.proofs.lemmas.Bool.{cond-true, cond-false}
 use Rattle.std.proofs.lemmas.List.{get_or-set_same, get_or-set_other}
 use Rattle.std.proofs.lemmas.List.Sums.{sum_by-set, sum_by-cons, count_by-le-length}
 use Rattle.tlsf_store.specs.declared.records.State.{State}
 use Rattle.tlsf_store.specs.declared.records.State.TheVariants.{Vacant, Free, Live}
 use Rattle.tlsf_store.specs.declared.records.Record.{Record}
-use Rattle.tlsf_store.specs.Records.{blank, record_at, is_vacant, vacant_count}
+use Rattle.tlsf_store.specs.Records.{blank, record_at, is_vacant, vacant_count, IsBelow, IsKept}
 
 -- what a record adds to the count of vacant records
 abbrev pub mark : Record → ℕ
@@ -62,3 +62,19 @@ record_at-set_same records slot r within = get_or-set_same records slot r blank 
 -- each other record is as it was
 pub record_at-set_other : (records : List Record) (slot q : ℕ) (r : Record) → q ≢ slot → record_at (set records slot r) q ≡ record_at records q
 record_at-set_other records slot q r other = get_or-set_other records slot q r blank other
+
+-- what a table keeps, a longer one keeps
+below_more : (count more : ℕ) (link : Option ℕ) → count ≤ more → IsBelow count link → IsBelow more link
+below_more count more None most below = tt
+below_more count more (Some slot) most below = omega arith
+
+pub kept_more : (count more : ℕ) (r : Record) → count ≤ more → IsKept count r → IsKept more r
+kept_more count more r most kept =
+    record {
+      place = kept.place;
+      size = kept.size;
+      prev = below_more count more r.prev most kept.prev;
+      next = below_more count more r.next most kept.next;
+      prev_free = below_more count more r.prev_free most kept.prev_free;
+      next_free = below_more count more r.next_free most kept.next_free;
+    }

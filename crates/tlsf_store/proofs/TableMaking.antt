@@ -61,13 +61,19 @@ begun_below count records (Some slot) number begun less =
     let within : slot < length records = begins.first.0 in
     omega (arith, begun.long)
 
+-- a vacant record linked to the one before is one that the table keeps
+pub begun_kept : (count : ℕ) (records : List Record) (first : Option ℕ) (number : ℕ) → IsBegun count records first number → number < count →
+    (r : Record) → r ≡ record blank { next = first } → IsKept count r
+begun_kept count records first number begun less r is =
+    let kept : IsKept count (record blank { next = first }) =
+    record { place = refl; size = refl; prev = tt; next = begun_below count records first number begun less; prev_free = tt; next_free = tt } in
+    subst (λ v. IsKept count v) (sym is) kept
+
 pub begun_vacant : (count : ℕ) (records : List Record) (first : Option ℕ) (number : ℕ) → IsBegun count records first number → number < count →
     (r : Record) → r ≡ record blank { next = first } → IsBegun count (records ++ r ∷ []) (Some number) (number + 1)
 begun_vacant count records first number begun less r is =
-    let kept : IsKept count (record blank { next = first }) =
-    record { place = refl; size = refl; prev = tt; next = begun_below count records first number begun less; prev_free = tt; next_free = tt } in
     begun_more count records first number begun r (ap (λ v. is_vacant v.state) is) (ap (λ v. v.next) is)
-    (subst (λ v. IsKept count v) (sym is) kept)
+    (begun_kept count records first number begun less r is)
 
 -- a whole table of vacant records
 pub begun_all : (count : ℕ) (records : List Record) (first : Option ℕ) → IsBegun count records first count → count ≤ most_records →

@@ -1,5 +1,6 @@
 pub mod Cells
 pub mod CountedCells
+pub mod Packed
 pub mod Records
 pub mod Table
 pub mod VacantChain

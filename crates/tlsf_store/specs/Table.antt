@@ -1,4 +1,4 @@
--- The table of records as it stands in memory: vacant records keep the chain in their links.
+-- The records of a table as it keeps them, unpacked: vacant records keep the chain in their links.
 use Rattle.std.specs.Prelude.{◌≡◌, ℕ, ◌<◌, ◌≤◌, List, Option, length, true, All}
 use Rattle.tlsf_store.specs.declared.records.State.{State}
 use Rattle.tlsf_store.specs.declared.records.State.TheVariants.{Vacant, Free, Live}

@@ -4,6 +4,7 @@
 
 mod counted;
 mod errors;
+mod packed;
 mod pools;
 mod records;
 mod slots;

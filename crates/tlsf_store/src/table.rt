@@ -4,14 +4,15 @@ ghost use Rattle.std.specs.Prelude.{◌≡◌, ◌<◌, ◌≤◌, ◌≢◌, If
 ghost use Rattle.tlsf_store.specs.declared.records.State.TheVariants.{Vacant, Free};
 ghost use Rattle.tlsf_store.specs.Records.{most_records, blank, blank_in, record_at, vacant_count, IsKept};
 
+use super::packed::Packed;
 use super::{Record, Slot, State};
 use std::alloc::{AllocError, Global};
 use std::marker::Model;
 
-/// All the records of a store. A vacant one keeps the next vacant one as its link `next`.
+/// All the records of a store, packed. A vacant one keeps the next vacant one as its link `next`.
 #[derive(Drop)]
 pub(crate) struct Table {
-    items: Vec<Record>,
+    items: Vec<Packed>,
     first: Option<Slot>,
     vacant: u32,
 }
@@ -37,7 +38,7 @@ impl Table {
         let mut items = Vec::with_capacity(alloc, count as usize)?;
         let mut first = None;
         for number in 0..count {
-            items.push_reserved(Record::vacant(first));
+            items.push_reserved(Packed::pack(Record::vacant(first)));
             first = Some(Slot(number as u16));
         }
         Ok(Table {
@@ -62,7 +63,7 @@ impl Table {
         ensures kept { IsKept (length self.now) result }
         ensures vacant { result.state ≡ Vacant → result ≡ blank }
     {
-        self.items[slot.index()].seen()
+        self.items[slot.index()].unpack().seen()
     }
 
     /// Writes a record that isn't vacant over one that isn't.
@@ -73,7 +74,8 @@ impl Table {
         requires kept { IsKept (length self.old) value }
         ensures { self.new ≡ slice_set self.old slot value }
     {
-        self.items[slot.index()] = value;
+        let item = &mut self.items[slot.index()];
+        *item = Packed::pack(value);
     }
 
     /// How many records are vacant.
@@ -94,8 +96,8 @@ impl Table {
             return None;
         };
         let index = slot.index();
-        self.first = self.items[index].next;
-        self.items[index] = Record::blank(State::Free);
+        self.first = self.items[index].next();
+        self.items[index] = Packed::pack(Record::blank(State::Free));
         self.vacant -= 1;
         Some(slot)
     }
@@ -106,7 +108,7 @@ impl Table {
         requires used { (record_at self.old slot).state ≢ Vacant }
         ensures { self.new ≡ slice_set self.old slot blank }
     {
-        self.items[slot.index()] = Record::vacant(self.first);
+        self.items[slot.index()] = Packed::pack(Record::vacant(self.first));
         self.first = Some(slot);
         self.vacant += 1;
     }

@@ -1,5 +1,9 @@
 //! Rows of the store, and each call once.
 
+ghost use Rattle.std.specs.Prelude.{◌↔◌, IsTrue, length};
+ghost use Rattle.tlsf_store.specs.Records.{IsBelow};
+
+use super::packed::Packed;
 use super::*;
 use std::process::Abort;
 use tlsf_class::{Class, UNIT};
@@ -17,32 +21,43 @@ fn read(rt: &impl Abort, store: &mut Store, slot: Slot) -> Record {
     store.read(slot)
 }
 
+/// Whether a link is missing, or a slot of this store.
+fn is_below(store: &Store, link: Option<Slot>) -> bool
+    ensures { IsTrue result ↔ IsBelow (length store.now.cells.records) link }
+{
+    match link {
+        None => true,
+        Some(slot) => u32::from(slot.0) < store.records(),
+    }
+}
+
 /// Writes over a record of which the caller knows that it isn't vacant.
-fn write(
-    rt: &impl Abort,
-    store: &mut Store,
-    slot: Slot,
-    place: u32,
-    size: u32,
-    state: State,
-    link: Option<Slot>,
-) {
+fn write(rt: &impl Abort, store: &mut Store, slot: Slot, value: Record) {
     assert!(rt; u32::from(slot.0) < store.records());
     assert!(rt; store.read(slot).state != State::Vacant);
-    assert!(rt; place % UNIT == 0 && size % UNIT == 0 && state != State::Vacant);
-    if let Some(other) = link {
-        assert!(rt; u32::from(other.0) < store.records());
-    }
-    let value = Record {
+    assert!(rt; value.place % UNIT == 0 && value.size % UNIT == 0);
+    assert!(rt; value.state != State::Vacant);
+    assert!(rt; is_below(store, value.prev) && is_below(store, value.next));
+    assert!(rt; is_below(store, value.prev_free) && is_below(store, value.next_free));
+    store.write(slot, value);
+}
+
+/// A record of these fields.
+fn row(
+    (place, size): (u32, u32),
+    state: State,
+    (prev, next): (Option<Slot>, Option<Slot>),
+    (prev_free, next_free): (Option<Slot>, Option<Slot>),
+) -> Record {
+    Record {
         place,
         size,
         state,
-        prev: None,
-        next: link,
-        prev_free: None,
-        next_free: None,
-    };
-    store.write(slot, value);
+        prev,
+        next,
+        prev_free,
+        next_free,
+    }
 }
 
 #[test]
@@ -133,7 +148,8 @@ fn records_are_kept(rt: HostRuntime) {
     };
     let taken = read(&rt, &mut store, slot);
     assert_eq!(rt; (taken.place, taken.size, taken.state), (0, 0, State::Free));
-    write(&rt, &mut store, slot, 16, 104, State::Live, Some(slot));
+    let value = row((16, 104), State::Live, (None, Some(slot)), (None, None));
+    write(&rt, &mut store, slot, value);
     let kept = read(&rt, &mut store, slot);
     assert_eq!(rt; (kept.place, kept.size, kept.state), (16, 104, State::Live));
     assert_eq!(rt;
@@ -190,4 +206,60 @@ fn pools_are_kept(rt: HostRuntime) {
     store.set_pool(7, pool);
     assert_eq!(rt; store.pool(7), pool);
     assert_eq!(rt; store.pool(0), None);
+}
+
+/// A packed record has sixteen bytes: two words and four links of half a word.
+#[test]
+fn size_of_a_packed_record(rt: HostRuntime) {
+    assert_eq!(rt; size_of::<Packed>(), 16);
+}
+
+/// A record is read as it was written, and as a vacant one when it is given back.
+fn survives(rt: &impl Abort, store: &mut Store, value: Record) {
+    let Some(slot) = store.take_vacant() else {
+        panic!(rt; "no slot");
+    };
+    write(rt, store, slot, value);
+    assert_eq!(rt; read(rt, store, slot), value);
+    give(rt, store, slot);
+    let given = read(rt, store, slot);
+    assert_eq!(rt;
+        (given.place, given.size, given.state),
+        (0, 0, State::Vacant)
+    );
+    assert_eq!(rt; (given.prev, given.next), (None, None));
+    assert_eq!(rt; (given.prev_free, given.next_free), (None, None));
+}
+
+/// A link to the least slot.
+const FIRST: Option<Slot> = Some(Slot(0));
+
+/// A link to the greatest slot.
+const LAST: Option<Slot> = Some(Slot(65_534));
+
+/// The greatest place and the greatest size.
+const MOST: u32 = 4_294_967_288;
+
+/// Records at the ends of what is packed: each link present and missing, the least and the greatest place,
+/// size and slot, free and live.
+#[test]
+fn packed_records_survive(rt: HostRuntime) {
+    let Ok(mut store) = Store::create(rt.alloc(), MOST_RECORDS) else {
+        panic!(rt; "no store");
+    };
+    for value in [
+        row((0, 0), State::Free, (None, None), (None, None)),
+        row((8, 64), State::Free, (LAST, None), (None, FIRST)),
+        row((8, 64), State::Live, (None, LAST), (FIRST, None)),
+        row((0, MOST), State::Live, (FIRST, LAST), (Some(Slot(1)), LAST)),
+        row(
+            (MOST, 8),
+            State::Free,
+            (LAST, FIRST),
+            (LAST, Some(Slot(32_768))),
+        ),
+        row((MOST, MOST), State::Live, (None, None), (LAST, None)),
+    ] {
+        survives(&rt, &mut store, value);
+    }
 }

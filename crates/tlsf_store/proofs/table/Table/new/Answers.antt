@@ -1,6 +1,14 @@
 use Rattle.std.proofs.Common.{◌≡◌, ◌∙◌, ◌<◌, subst, arith}
-use Rattle.tlsf_store.proofs.TableMaking.{IsBegun, begun_vacant, begun_all}
+use Rattle.tlsf_store.specs.Records.{most_records}
+use Rattle.tlsf_store.proofs.RecordLaws.{kept_more}
+use Rattle.tlsf_store.proofs.TableMaking.{IsBegun, begun_kept, begun_vacant, begun_all}
 use Rattle.tlsf_store.proofs.table.Table.new.Goals as goal
+
+pub pack-requires : goal.pack-requires
+pack-requires c =
+    let less : c.loop-number.number < c.args.count = c.loop-number-test.true in
+    kept_more c.args.count most_records c.vacant.result c.requires
+    (begun_kept c.args.count c.loop-number.items.items c.loop-number.first c.loop-number.number c.loop-number.invariant.begun less c.vacant.result c.vacant.ensures)
 
 pub loop-number-preserved : goal.loop-number-preserved
 loop-number-preserved c =
@@ -11,7 +19,7 @@ loop-number-preserved c =
       begun =
           rw e.items
           (begun_vacant c.args.count c.loop-number.items.items c.loop-number.first c.loop-number.number begun
-          (let less : c.loop-number.number < c.args.count = c.loop-number-test.true in less) c.vacant.result c.vacant.ensures);
+          (let less : c.loop-number.number < c.args.count = c.loop-number-test.true in less) c.pack.result (c.pack.ensures ∙ c.vacant.ensures));
     }
 
 pub invariant_of-result : goal.invariant_of-result

@@ -1,0 +1,97 @@
+//! A record as the table keeps it, in sixteen bytes.
+
+ghost use Rattle.std.specs.Prelude.{◌≡◌};
+ghost use Rattle.tlsf_store.specs.Records.{most_records, IsBelow, IsKept};
+ghost use Rattle.tlsf_store.specs.Packed.{link_of};
+
+use super::{Record, Slot, State};
+use std::marker::Model;
+use tlsf_class::UNIT;
+
+/// The word of a missing link. Every slot is below it.
+const MISSING: u16 = 65_535;
+
+/// A record in sixteen bytes. The size word is the size, a multiple of the unit, and below the unit the
+/// state: 0 for vacant, 1 for free, 2 for live.
+#[derive(Drop)]
+pub(crate) struct Packed {
+    place: u32,
+    size_word: u32,
+    prev: u16,
+    next: u16,
+    prev_free: u16,
+    next_free: u16,
+}
+
+const _: () = prove!(size_of::<Packed>() == 16);
+
+impl Model for Packed {
+    ghost use Rattle.tlsf_store.specs.declared.records.Record.{Record};
+
+    ghost Value = { Record };
+
+    ghost use Rattle.tlsf_store.specs.Packed.{unpacked, IsPacked};
+
+    ghost view = { unpacked };
+
+    ghost invariant = { IsPacked };
+}
+
+impl Packed {
+    /// Packs a record whose size is a multiple of the unit, and whose links are slots of a table.
+    pub(crate) fn pack(value: Record) -> Packed
+        requires { IsKept most_records value }
+        ensures { result ≡ value }
+    {
+        Packed {
+            place: value.place,
+            size_word: value.size + value.state as u32,
+            prev: link_word(value.prev),
+            next: link_word(value.next),
+            prev_free: link_word(value.prev_free),
+            next_free: link_word(value.next_free),
+        }
+    }
+
+    /// The record that was packed.
+    pub(crate) fn unpack(&self) -> Record
+        ensures { result ≡ self.now }
+    {
+        let code = self.size_word % UNIT;
+        Record {
+            place: self.place,
+            size: self.size_word - code,
+            state: match code {
+                0 => State::Vacant,
+                1 => State::Free,
+                _ => State::Live,
+            },
+            prev: link(self.prev),
+            next: link(self.next),
+            prev_free: link(self.prev_free),
+            next_free: link(self.next_free),
+        }
+    }
+
+    /// The record's link `next`.
+    pub(crate) fn next(&self) -> Option<Slot>
+        ensures { result ≡ self.now.next }
+    {
+        link(self.next)
+    }
+}
+
+/// The word of a link.
+fn link_word(link: Option<Slot>) -> u16
+    requires { IsBelow most_records link }
+    ensures { link_of result ≡ link }
+{
+    link.map_or(MISSING, |slot| slot.0)
+}
+
+/// The link of a word.
+fn link(word: u16) -> Option<Slot>
+    ensures { result ≡ link_of word }
+{
+    (word != MISSING).then_some(Slot(word))
+}
