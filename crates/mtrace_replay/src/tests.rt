@@ -5,6 +5,7 @@ ghost use Rattle.std.specs.Prelude.{◌≡◌, false};
 mod random_lines;
 mod refused_memory;
 mod rows;
+mod sizes;
 mod starts;
 mod sums;
 
