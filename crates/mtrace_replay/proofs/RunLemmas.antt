@@ -1,5 +1,5 @@
 -- A run under way, and how it goes on and ends.
-use Rattle.std.proofs.Common.{◌≡◌, ◌≢◌, ℕ, suc, ◌+◌, Bool, false, ◌||◌, List, [], ◌∷◌, ◌++◌, length, refl, sym, ap, ◌∙◌, subst, arith, Some, None, reverse, ◌⊎◌, inl, inr, length-append, append_assoc, if◌then◌else◌, not, ◌==◌, ◌<◌, drop}
+use Rattle.std.proofs.Common.{true, ◌≡◌, ◌≢◌, ℕ, suc, ◌+◌, Bool, false, ◌||◌, List, [], ◌∷◌, ◌++◌, length, refl, sym, ap, ◌∙◌, subst, arith, Some, None, reverse, ◌⊎◌, inl, inr, length-append, append_assoc, if◌then◌else◌, not, ◌==◌, ◌<◌, drop}
 use Rattle.std.specs.Prelude.{Result, Ok, Err, IfOk, OnOk, IsErrOf}
 use Rattle.std.proofs.Math.ListN.{get_or}
 use Rattle.std.proofs.Math.Seq.{drop-cons}
@@ -98,6 +98,10 @@ notes_text-next items all index item same below is =
 pub some_note-is : (all : List Diagnostic) → not (length all == 0) ≡ is_some_note all
 some_note-is [] = refl
 some_note-is (note ∷ all) = grind (arith, nat_tests)
+
+pub no_note-is : (all : List Diagnostic) → (length all == 0) ≡ true → all ≡ []
+no_note-is [] is = refl
+no_note-is (note ∷ all) is = absurd (grind (arith, nat_tests))
 
 -- one line more
 pub underway_line : (settings : Settings) (old new : Progress) (replay_old replay_new : Replayed) (noted_old more : Bool) (start before after taken_start taken_old taken_new : Bytes) (line : Line)

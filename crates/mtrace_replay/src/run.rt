@@ -55,8 +55,11 @@ fn replay_line<H: Heaped, W: Sink>(
     let Ok(note) = replay.feed(line) else {
         return Err(RunFault::OutOfMemory);
     };
+    if note.is_empty() {
+        return Ok(false);
+    }
     match put_note(writer, &note) {
-        Ok(()) => Ok(!note.is_empty()),
+        Ok(()) => Ok(true),
         Err(_) => Err(RunFault::Write),
     }
 }
