@@ -10,7 +10,7 @@ use memchr::memchr;
 use std::marker::Model;
 
 // How many bytes a buffer holds.
-pub(crate) const BUFFER_SIZE: usize = 4096;
+const BUFFER_SIZE: usize = 4096;
 
 // The bytes from `start` up to `end` are unread.
 #[derive(Drop)]
@@ -83,7 +83,7 @@ impl Buffer {
         self.start = self.end;
     }
 
-    // Asks the reader once, where no byte is unread.
+    // Asks the reader once for a buffer of bytes, where none is unread, and answers how many it gave.
     pub(crate) fn refill<R: Source>(&mut self, reader: &mut R) -> Result<usize, Failed>
         requires { self.old ≡ [] }
         ensures count { IfOk result (λ count. length self.new ≡ count) }

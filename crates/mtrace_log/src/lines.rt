@@ -49,7 +49,7 @@ impl Model for Lines {
 
     ghost view = { λ lines. record { held = lines.buffer; count = lines.count; status = status_of lines.state } };
 
-    // The reader is asked where each byte is read, so nothing is held where it failed.
+    // The reader is asked only where no byte is unread, so nothing is held once it failed.
     ghost invariant = { λ lines. status_of lines.state ≡ Faulted ReaderFailed → lines.buffer ≡ [] };
 }
 

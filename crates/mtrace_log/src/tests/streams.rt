@@ -5,7 +5,7 @@ use std::process::Abort;
 // What a reader gives at most in one call: less than a buffer, a buffer, more, or all at once.
 const PIECES: [usize; 9] = [1, 2, 3, 7, 64, 4095, 4096, 4097, usize::MAX];
 
-// What a line says, as far as the rows tell: the size of an allocation, or the fault.
+// What a line says, as far as the rows tell it.
 #[derive(Clone, Copy, Drop)]
 enum Said {
     Start,
