@@ -104,12 +104,6 @@ own_address : (spot : Spot) → AllByRecursion (λ (held : Holding). held.entry.
 own_address (Held holding) = (refl, tt)
 own_address (Vacant address) = tt
 
--- as much is held as there are spots, or less
-pub held_within : (spots : List Spot) → length (all_held spots) ≤ length spots
-held_within [] = omega arith
-held_within (Held holding ∷ spots) = let later = held_within spots in omega (arith, later)
-held_within (Vacant address ∷ spots) = let later = held_within spots in omega (arith, later)
-
 first_least : (address bound : ℕ) (spots : List Spot) → address < bound → RiseFrom bound spots → AllByRecursion (λ other. nat_cmp address other ≡ Less) (addresses (all_held spots))
 first_least address bound [] less rise = tt
 first_least address bound (Held holding ∷ spots) less rise =

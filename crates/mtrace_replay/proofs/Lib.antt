@@ -8,6 +8,7 @@ mod Living
 mod LogRows
 mod LookLemmas
 mod Moments
+mod RoomLemmas
 mod RowLemmas
 mod RunLemmas
 mod SearchLemmas

@@ -44,6 +44,12 @@ held_append [] other = refl
 held_append (Held holding ∷ one) other = ap (λ all. holding ∷ all) (held_append one other)
 held_append (Vacant address ∷ one) other = held_append one other
 
+-- as much is held as there are spots, or less
+pub held_within : (spots : List Spot) → length (all_held spots) ≤ length spots
+held_within [] = omega arith
+held_within (Held holding ∷ spots) = let later = held_within spots in omega (arith, later)
+held_within (Vacant address ∷ spots) = let later = held_within spots in omega (arith, later)
+
 -- where something is held at each spot, as much is held as there are spots
 pub all_are_held : (spots : List Spot) → ((k : ℕ) → k < length spots → (default : Spot) → is_some (holding_of (slice_index_or spots k default)) ≡ true)
     → length (all_held spots) ≡ length spots

@@ -6,7 +6,7 @@ ghost use Rattle.mtrace_replay.specs.Index.{held_at, held_bytes, AreInOrder, Loo
 use crate::comparisons::Comparisons;
 use crate::entry::Entry;
 use crate::holding::Holding;
-use crate::search::{enter, search};
+use crate::search::{enter, make_room, search};
 use crate::spot::Spot;
 use mtrace_log::Addr;
 use std::alloc::{AllocError, Global};
@@ -93,6 +93,7 @@ impl Index {
                 self.spots[at] = Spot::Held(holding);
             }
             Err(at) => {
+                let at = make_room(&mut self.spots, self.room, self.blocks, at);
                 self.blocks += 1;
                 self.bytes += size;
                 enter(&mut self.spots, self.room, at, Spot::Held(holding));

@@ -181,8 +181,8 @@ impl<H: Heaped> Replay<H> {
         ensures memory { OnErr result (MayLack H.lacks) }
         ensures unchanged { OnErr result (entries self.new ≡ entries self.old) }
         ensures totals_unchanged { OnErr result (self.new.totals ≡ self.old.totals) }
-        ensures bound { self.new.touches ≤ self.old.touches + 384 }
         ensures compared { (digits : ℕ) → self.old.content.records < 2 ^ digits → self.new.comparisons ≤ self.old.comparisons + 4 * digits }
+        ensures bound { self.new.touches ≤ self.old.touches + 384 }
     {
         if self.out_of_memory {
             return Err(ReplayFault::OutOfMemory);
@@ -218,8 +218,8 @@ impl<H: Heaped> Replay<H> {
         ensures note { IfOk result (λ note. note.items ≡ half self.now.totals.lines self.now.pending) }
         ensures fault { IfErr result (λ fault. fault ≡ ReplayFault.OutOfMemory) }
         ensures for_good { OnErr result (self.now.out_of_memory ≡ true) }
-        ensures works { OnOk result (self.now.out_of_memory ≡ false) }
         ensures memory { OnErr result (MayLack H.lacks) }
+        ensures works { OnOk result (self.now.out_of_memory ≡ false) }
     {
         if self.out_of_memory {
             return Err(ReplayFault::OutOfMemory);

@@ -1,6 +1,6 @@
 //! Where an address stands among the spots of an index, and how a spot comes between them.
 
-ghost use Rattle.std.specs.Prelude.{◌≡◌, ◌<◌, ◌≤◌, length, OnOk, IfOk, IfErr};
+ghost use Rattle.std.specs.Prelude.{◌≡◌, ℕ, ◌<◌, ◌≤◌, length, IfOk, IfErr};
 ghost use Rattle.std.specs.Vec.{vec_capacity};
 ghost use Rattle.mtrace_replay.specs.Spot.{spot_address, all_held, RiseFrom};
 ghost use Rattle.mtrace_replay.specs.Search.{StandsAt, FitsAt, Compares, IsVacantAt, IsGap, Enters};
@@ -33,6 +33,50 @@ pub(crate) fn search(
         }
     }
     Err(low)
+}
+
+/// How many spots are held.
+fn count_held(spots: &[Spot]) -> u64
+    ensures { result ≡ length (all_held spots.now) }
+{
+    let mut count = 0;
+    for spot in spots {
+        count += spot.count();
+    }
+    count
+}
+
+/// No vacant spot is near where there are so many held ones before and behind.
+const NEAR: usize = 64;
+
+/// Whether there is no place at the end and no vacant spot near, though there are more vacant ones elsewhere.
+fn is_crowded(spots: &[Spot], room: usize, held: u64, at: usize) -> bool
+    requires { at ≤ length spots.now }
+{
+    let low = at.saturating_sub(NEAR);
+    let high = spots.len().min(at.saturating_add(NEAR));
+    spots.len() == room
+        && (room as u64).saturating_sub(held) > NEAR as u64
+        && !spots[low..high].iter().any(|spot| spot.is_vacant())
+}
+
+/// Leaves all vacant spots out where it is crowded about a place between two spots. Then there is room at the end for as
+/// many as there were vacant, so what this takes is little for each of those that come there. Answers where the place
+/// is then.
+pub(crate) fn make_room(spots: &mut Vec<Spot>, room: usize, held: u64, at: usize) -> usize
+    requires { at ≤ length spots.old.items }
+    ensures same { all_held spots.new.items ≡ all_held spots.old.items }
+    ensures within { length spots.new.items ≤ length spots.old.items }
+    ensures reserved { vec_capacity spots.new ≡ vec_capacity spots.old }
+    ensures rise { RiseFrom 0 spots.old.items → RiseFrom 0 spots.new.items }
+    ensures fits { (address : ℕ) → FitsAt spots.old.items address at → FitsAt spots.new.items address result }
+{
+    if !is_crowded(spots, room, held, at) {
+        return at;
+    }
+    let before = count_held(&spots[..at]);
+    spots.retain(|spot| !spot.is_vacant());
+    before as usize
 }
 
 /// The vacant spot that is nearest to a place between two spots, or the end where that is nearer.

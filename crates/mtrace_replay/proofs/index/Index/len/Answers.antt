@@ -1,5 +1,5 @@
 use Rattle.std.proofs.Common.{arith}
-use Rattle.mtrace_replay.proofs.IndexLemmas.{held_within}
+use Rattle.mtrace_replay.proofs.SpotLemmas.{held_within}
 use Rattle.mtrace_replay.proofs.index.Index.len.Goals as goal
 
 pub returns-clause-small : goal.returns-clause-small
