@@ -93,7 +93,8 @@ fn read_marked(bytes: &[u8]) -> Option<(u8, Option<Addr>, Option<u64>)>
     Some((mark, addr, size))
 }
 
-// The event with this place, mark and fields.
+// The event with this place, mark and fields. Each arm returns by itself, which saves a copy of the event.
+#[inline(always)]
 fn event_of(
     at: Option<Location>,
     mark: u8,
@@ -103,12 +104,12 @@ fn event_of(
     ensures { HasForm (marked at mark addr size) result }
 {
     match (mark, addr, size) {
-        (b'+', addr, Some(size)) => Ok(Event::Alloc { at, addr, size }),
-        (b'-', Some(addr), None) => Ok(Event::Free { at, addr }),
-        (b'<', Some(addr), None) => Ok(Event::Old { at, addr }),
-        (b'>', Some(addr), Some(size)) => Ok(Event::New { at, addr, size }),
-        (b'!', addr, Some(size)) => Ok(Event::Failed { at, addr, size }),
-        _ => Err(LineFault::NotALine),
+        (b'+', addr, Some(size)) => return Ok(Event::Alloc { at, addr, size }),
+        (b'-', Some(addr), None) => return Ok(Event::Free { at, addr }),
+        (b'<', Some(addr), None) => return Ok(Event::Old { at, addr }),
+        (b'>', Some(addr), Some(size)) => return Ok(Event::New { at, addr, size }),
+        (b'!', addr, Some(size)) => return Ok(Event::Failed { at, addr, size }),
+        _ => return Err(LineFault::NotALine),
     }
 }
 
@@ -121,24 +122,6 @@ fn behind_at(bytes: &[u8]) -> Option<&[u8]>
         return None;
     };
     Some(rest)
-}
-
-// A line behind `@ `, which isn't too long. The location is made last, and once.
-fn read_located(bytes: &[u8]) -> Result<Event, LineFault>
-    requires { length bytes.now + 2 ≤ LONGEST_LINE }
-    ensures { Reads (codes "@ " ++ bytes.now) result }
-{
-    let Some((place, rest)) = split_at_space(bytes) else {
-        return Err(LineFault::NotALine);
-    };
-    let Some((mark, addr, size)) = read_marked(rest) else {
-        return Err(LineFault::NotALine);
-    };
-    let at = Location::new(place);
-    if at.is_none() {
-        return Err(LineFault::NotALine);
-    }
-    event_of(at, mark, addr, size)
 }
 
 // A line that isn't too long, and not behind `@ `.
@@ -173,8 +156,19 @@ pub fn read_line(bytes: &[u8]) -> Result<Event, LineFault>
     if bytes.len() > LONGEST_LINE {
         return Err(LineFault::TooLong);
     }
-    match behind_at(bytes) {
-        Some(rest) => read_located(rest),
-        None => read_unlocated(bytes),
+    let Some(located) = behind_at(bytes) else {
+        return read_unlocated(bytes);
+    };
+    let Some((place, marked)) = split_at_space(located) else {
+        return Err(LineFault::NotALine);
+    };
+    let Some((mark, addr, size)) = read_marked(marked) else {
+        return Err(LineFault::NotALine);
+    };
+    // The location is made last, and once.
+    let at = Location::new(place);
+    if at.is_none() {
+        return Err(LineFault::NotALine);
     }
+    event_of(at, mark, addr, size)
 }
