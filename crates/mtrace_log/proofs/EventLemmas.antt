@@ -1,17 +1,22 @@
 -- A line read by its parts: a size, the fields behind a mark, and what stands behind a place.
-use Rattle.std.proofs.Common.{◌≡◌, ◌≢◌, ℕ, zero, suc, List, [], ◌∷◌, ◌++◌, get_or, drop, Option, Some, None, IfSome, MatchOption, codes, refl, sym, ap, ◌∙◌, subst, arith, append_assoc}
+use Rattle.std.proofs.Common.{◌≡◌, ◌≢◌, ℕ, zero, suc, ◌≤◌, List, [], ◌∷◌, ◌++◌, length, get_or, drop, Option, Some, None, IfSome, true, false, Result, Ok, Err, codes, refl, sym, ap, ◌∙◌, subst, arith, append_assoc}
+use Rattle.std.specs.Option.{SomeIff, is_some}
+use Rattle.std.proofs.lemmas.Bool.{false≢true}
 use Rattle.mtrace_log.specs.Bytes.{Lacks, space}
 use Rattle.mtrace_log.specs.Address.{IsAddress, address_text, size_text, pointer_text}
 use Rattle.mtrace_log.specs.Location.{IsLocation}
-use Rattle.mtrace_log.specs.Spelling.{location_text, spell, IsEvent}
+use Rattle.mtrace_log.specs.Spelling.{location_text, spell, IsEvent, longest_line}
 use Rattle.mtrace_log.specs.Form.{Form, fields_text, form_text, form}
 use Rattle.mtrace_log.specs.Form.Form.{alone, marked}
-use Rattle.mtrace_log.specs.Fields.{Finds, IsSize, AreFields, IsBehind}
+use Rattle.mtrace_log.specs.Fields.{Finds, IsSize, AreFields, HasForm}
+use Rattle.mtrace_log.specs.Reading.{Reads}
 use Rattle.mtrace_log.specs.declared.event.Event.{Event}
 use Rattle.mtrace_log.specs.declared.event.Event.TheVariants.{Start, End, Alloc, Free, Old, New, Failed}
+use Rattle.mtrace_log.specs.declared.event.LineFault.{LineFault}
+use Rattle.mtrace_log.specs.declared.event.LineFault.TheVariants.{TooLong, NotALine}
 use Rattle.mtrace_log.proofs.TextLemmas.{split-same, Lacks-middle}
 use Rattle.mtrace_log.proofs.FieldLemmas.{Lacks-pointer_text, Lacks-location, size_text-above}
-use Rattle.mtrace_log.proofs.FormLemmas.{fields_text-same, spell-form, Fits, Fits-form, IsEvent-form, HasShape, HasShape-form}
+use Rattle.mtrace_log.proofs.FormLemmas.{behind-same, spell-form, Fits, Fits-form, IsEvent-form, HasShape, HasShape-form}
 
 -- a size that isn't `0` is read as an address
 pub size-from_address : (bytes : List ℕ) (found : Option ℕ) → bytes ≢ codes "0" → Finds IsAddress address_text bytes found → Finds IsSize size_text bytes found
@@ -42,30 +47,38 @@ size-fits size n is fits = subst (λ s. IfSome s IsSize) is fits
 
 -- ---- behind a place
 
--- what reads as an event of that place
-abbrev pub FindsBehind : Option (List ℕ) → List ℕ → Option Event → Type 0
-FindsBehind place bytes found = MatchOption found ((event : Event) → IsBehind place bytes event → ⊥) (IsBehind place bytes)
+-- behind that place the bytes are the line of the event
+pub record IsBehind (place : Option (List ℕ)) (bytes : List ℕ) (event : Event) : Type 0 where
+  pub mark : ℕ
+  pub pointer : Option ℕ
+  pub size : Option ℕ
+  pub is : form event ≡ marked place mark pointer size
+  pub fits : AreFields pointer size
+  pub spelled : bytes ≡ mark ∷ space ∷ fields_text pointer size
 
--- a mark with its fields is found by the mark and the fields
-pub behind-fields : (place : Option (List ℕ)) (bytes rest : List ℕ) (mark : ℕ) (event : Event) → bytes ≡ mark ∷ space ∷ rest → IsBehind place bytes event
-    → (pointer : Option ℕ) × (size : Option ℕ) × (form event ≡ marked place mark pointer size) × AreFields pointer size × (rest ≡ fields_text pointer size)
-behind-fields place bytes rest mark event cut read =
-    let same : mark ∷ space ∷ rest ≡ read.mark ∷ space ∷ fields_text read.pointer read.size = sym cut ∙ read.spelled in
-    let marks : mark ≡ read.mark = ap (λ text. get_or text 0 0) same in
-    (read.pointer, read.size, read.is ∙ ap (λ k. marked place k read.pointer read.size) (sym marks), read.fits, ap (drop 2) same)
+-- behind a mark and a space the rest is the same
+pub marked-cut : (mark other : ℕ) (rest last : List ℕ) → mark ∷ space ∷ rest ≡ other ∷ space ∷ last → rest ≡ last
+marked-cut mark other rest last same = ap (drop 2) same
+
+-- what has no mark and fields is no event's line behind any place
+abbrev pub HasNoFields : List ℕ → Type 0
+HasNoFields bytes = (parts : ℕ × Option ℕ × Option ℕ) → AreFields parts.1 parts.2 → bytes ≢ parts.0 ∷ space ∷ fields_text parts.1 parts.2
+
+pub behind-no_fields : (place : Option (List ℕ)) (bytes : List ℕ) (event : Event) → HasNoFields bytes → IsBehind place bytes event → ⊥
+behind-no_fields place bytes event none read = none (read.mark, read.pointer, read.size) read.fits read.spelled
+
+-- what reads as an event of that place
+abbrev pub ReadsBehind : Option (List ℕ) → List ℕ → Result Event LineFault → Type 0
+ReadsBehind place bytes (Ok event) = IsBehind place bytes event
+ReadsBehind place bytes (Err fault) = (fault ≡ NotALine) × ((event : Event) → IsBehind place bytes event → ⊥)
 
 -- what has a mark and fields is the event with these
-abbrev pub FindsForm : Form → Option Event → Type 0
-FindsForm f found = MatchOption found ((event : Event) → form event ≢ f) (λ event. form event ≡ f)
-
-pub behind-from_form : (place : Option (List ℕ)) (bytes rest : List ℕ) (mark : ℕ) (pointer size : Option ℕ) (found : Option Event) → bytes ≡ mark ∷ space ∷ rest → AreFields pointer size → rest ≡ fields_text pointer size
-    → FindsForm (marked place mark pointer size) found → FindsBehind place bytes found
-behind-from_form place bytes rest mark pointer size None cut fits same none = λ event read.
-    let (p, n, is, fields, spelled) = behind-fields place bytes rest mark event cut read in
-    let parts = fields_text-same pointer p size n (sym same ∙ spelled) in
-    none event (is ∙ ap (λ q. marked place mark q n) (sym parts.0) ∙ ap (λ m. marked place mark pointer m) (sym parts.1))
-behind-from_form place bytes rest mark pointer size (Some event) cut fits same is =
-    record { mark = mark; pointer = pointer; size = size; is = is; fits = fits; spelled = cut ∙ ap (λ back. mark ∷ space ∷ back) same }
+pub behind-from_form : (place : Option (List ℕ)) (bytes : List ℕ) (mark : ℕ) (pointer size : Option ℕ) (found : Result Event LineFault) → AreFields pointer size → bytes ≡ mark ∷ space ∷ fields_text pointer size
+    → HasForm (marked place mark pointer size) found → ReadsBehind place bytes found
+behind-from_form place bytes mark pointer size (Ok event) fits spelled is =
+    record { mark = mark; pointer = pointer; size = size; is = is; fits = fits; spelled = spelled }
+behind-from_form place bytes mark pointer size (Err fault) fits spelled none =
+    (none.0, λ event read. none.1 event (read.is ∙ behind-same place read.mark mark read.pointer pointer read.size size (sym read.spelled ∙ spelled)))
 
 -- what was read behind a place is the line of the event
 pub behind-spelled : (place : Option (List ℕ)) (bytes : List ℕ) (event : Event) → IfSome place IsLocation → IsBehind place bytes event
@@ -108,13 +121,27 @@ located-cut bytes place rest event lacks cut valid same =
     let parts = split-same space place location rest last lacks (Lacks-location space location (omega arith) is.allowed) (sym cut ∙ spelled) in
     (subst IsLocation (sym parts.0) is, subst (λ l. IsBehind (Some l) rest event) (sym parts.0) (subst (λ r. IsBehind (Some location) r event) (sym parts.1) behind))
 
--- a line behind `@ ` is found by what stands behind its place
-pub located-from_behind : (bytes place rest : List ℕ) (found : Option Event) → Lacks space place → bytes ≡ place ++ space ∷ rest → IsLocation place → FindsBehind (Some place) rest found
-    → Finds IsEvent spell (64 ∷ 32 ∷ bytes) found
-located-from_behind bytes place rest None lacks cut valid none = λ event fits same. none event (located-cut bytes place rest event lacks cut fits same).1
-located-from_behind bytes place rest (Some event) lacks cut valid read =
+-- a location that was made of a place, or none
+pub made-none : (place : List ℕ) (at : Option (List ℕ)) → SomeIff at (IsLocation place) place → is_some at ≡ false → ¬ IsLocation place
+made-none place None made none = made
+made-none place (Some location) made none = absurd (false≢true (sym none))
+
+pub made-some : (place : List ℕ) (at : Option (List ℕ)) → SomeIff at (IsLocation place) place → is_some at ≡ true → IsLocation place × (at ≡ Some place)
+made-some place None made some = absurd (false≢true some)
+made-some place (Some location) made some = (made.0, ap (λ l. Some l) made.1)
+
+too_long-other : TooLong ≡ NotALine → ⊥
+too_long-other same = cc
+
+-- a line behind `@ ` is read by what stands behind its place
+pub located-from_behind : (bytes place rest : List ℕ) (found : Result Event LineFault) → Lacks space place → bytes ≡ place ++ space ∷ rest → IsLocation place → length (64 ∷ 32 ∷ bytes) ≤ longest_line
+    → ReadsBehind (Some place) rest found → Reads (64 ∷ 32 ∷ bytes) found
+located-from_behind bytes place rest (Ok event) lacks cut valid short read =
     let whole = behind-spelled (Some place) rest event valid read in
     (whole.0, ap (λ text. 64 ∷ 32 ∷ text) (cut ∙ sym (append_assoc place (space ∷ []) rest)) ∙ whole.1)
+located-from_behind bytes place rest (Err TooLong) lacks cut valid short none = absurd (too_long-other none.0)
+located-from_behind bytes place rest (Err NotALine) lacks cut valid short none =
+    (short, λ event fits same. none.1 event (located-cut bytes place rest event lacks cut fits same).1)
 
 -- ---- a line without a place
 
@@ -137,7 +164,8 @@ unlocated bytes (Old place address) start end other valid same = unlocated-form 
 unlocated bytes (New place address size) start end other valid same = unlocated-form bytes (New place address size) place 62 (Some address) (Some size) refl (Fits-form (New place address size) valid) other same
 unlocated bytes (Failed place address size) start end other valid same = unlocated-form bytes (Failed place address size) place 33 address (Some size) refl (Fits-form (Failed place address size) valid) other same
 
-pub unlocated-from_behind : (bytes : List ℕ) (found : Option Event) → bytes ≢ codes "= Start" → bytes ≢ codes "= End" → ((rest : List ℕ) → bytes ≢ 64 ∷ 32 ∷ rest) → FindsBehind None bytes found
-    → Finds IsEvent spell bytes found
-unlocated-from_behind bytes None start end other none = λ event valid same. none event (unlocated bytes event start end other valid same)
-unlocated-from_behind bytes (Some event) start end other read = behind-spelled None bytes event tt read
+pub unlocated-from_behind : (bytes : List ℕ) (found : Result Event LineFault) → bytes ≢ codes "= Start" → bytes ≢ codes "= End" → ((rest : List ℕ) → bytes ≢ 64 ∷ 32 ∷ rest) → length bytes ≤ longest_line
+    → ReadsBehind None bytes found → Reads bytes found
+unlocated-from_behind bytes (Ok event) start end other short read = behind-spelled None bytes event tt read
+unlocated-from_behind bytes (Err TooLong) start end other short none = absurd (too_long-other none.0)
+unlocated-from_behind bytes (Err NotALine) start end other short none = (short, λ event valid same. none.1 event (unlocated bytes event start end other valid same))

@@ -1,15 +1,11 @@
--- The fields of a line: what bytes they lack, where they end, and that they tell their values.
-use Rattle.std.proofs.Common.{◌≡◌, ◌≢◌, ℕ, zero, suc, ◌+◌, ◌-◌, ◌<◌, ◌≤◌, cond, List, [], ◌∷◌, ◌++◌, length, map, get_or, take, drop, Option, Some, None, position, ◌==◌, refl, sym, ap, ◌∙◌, subst, arith, drop-cons, take-append-drop, add-one, length-drop, lt-ltb, le_refl, inl, inr, eqb-true}
+-- The fields of a line: what bytes they lack, and that they tell their values.
+use Rattle.std.proofs.Common.{◌≡◌, ◌≢◌, ℕ, zero, suc, ◌<◌, ◌≤◌, List, [], ◌∷◌, length, map, get_or, drop, Option, Some, None, refl, ap, ◌∙◌, arith}
 use Rattle.std.specs.Char.{digit_char}
 use Rattle.std.specs.Int.Digits.{digits_of, AllBelowBase}
-use Rattle.std.specs.List.{AllByRecursion, position_or_len}
-use Rattle.std.proofs.lemmas.List.Quantifiers.{position-Some}
-use Rattle.std.proofs.lemmas.List.Sums.{fails_before_first}
-use Rattle.std.proofs.lemmas.List.{take_all}
-use Rattle.std.proofs.lemmas.Bool.{cases_lt, eqb-false}
+use Rattle.std.specs.List.{AllByRecursion}
 use Rattle.std.proofs.lemmas.Bool.Decides.{nat_tests}
 use Rattle.std.proofs.lemmas.Int.Digits.{all_below_base_digits_of, same_from_digits_of}
-use Rattle.mtrace_log.specs.Bytes.{Lacks, space}
+use Rattle.mtrace_log.specs.Bytes.{Lacks}
 use Rattle.mtrace_log.specs.Address.{hex_digits, address_text, size_text, pointer_text}
 use Rattle.mtrace_log.specs.Location.{IsLocationByte}
 
@@ -38,48 +34,6 @@ Lacks-size_text b (suc n) small = Lacks-address_text b (suc n) small
 pub Lacks-location : (b : ℕ) (bytes : List ℕ) → b ≤ 32 → AllByRecursion IsLocationByte bytes → Lacks b bytes
 Lacks-location b [] small allowed = tt
 Lacks-location b (c ∷ bytes) small allowed = (λ e. absurd (omega (arith, allowed.0.0)), Lacks-location b bytes small allowed.1)
-
--- ---- where a field ends
-
-Lacks-take : (b : ℕ) (xs : List ℕ) (n : ℕ) → ((k : ℕ) → k < n → k < length xs → get_or xs k 0 ≢ b) → Lacks b (take n xs)
-Lacks-take b [] zero other = tt
-Lacks-take b [] (suc n) other = tt
-Lacks-take b (x ∷ xs) zero other = tt
-Lacks-take b (x ∷ xs) (suc n) other = (other 0 (omega arith) (omega arith), Lacks-take b xs n (λ k below within. other (suc k) (omega arith) (omega arith)))
-
-none_some : {n : ℕ} → None ≡ Some n → ⊥
-none_some same = cc
-
--- no space
-pub position-none : (xs : List ℕ) → None ≡ position (λ b. b == space) xs → Lacks space xs
-position-none xs none =
-    elim (cases_lt (position_or_len (λ b. b == space) xs) (length xs)) [
-      | inl within ↦ absurd (none_some (none ∙ ap (λ test. cond test (Some (position_or_len (λ b. b == space) xs)) None) (lt-ltb (position_or_len (λ b. b == space) xs) (length xs) within)))
-      | inr past ↦ subst (Lacks space) (take_all (length xs) xs (le_refl (length xs))) (Lacks-take space xs (length xs) (λ k below within. eqb-false (get_or xs k 0) space (fails_before_first (λ b. b == space) xs k 0 (omega arith))))
-    ]
-
--- the rest of a list, as a slice takes it
-take-rest : (i : ℕ) (xs : List ℕ) → take (length xs - i) (drop i xs) ≡ drop i xs
-take-rest i xs = rw (← length-drop i xs) (take_all (length (drop i xs)) (drop i xs) (le_refl (length (drop i xs))))
-
--- the first space
-pub position-some : (xs : List ℕ) (i : ℕ) → Some i ≡ position (λ b. b == space) xs
-    → Lacks space (take i xs) × (xs ≡ take i xs ++ space ∷ take (length xs - (i + 1)) (drop (i + 1) xs))
-position-some xs i found =
-    let (within, passes, before) = position-Some (λ b. b == space) xs i 0 (sym found) in
-    let here : get_or xs i 0 ≡ space = eqb-true (get_or xs i 0) space passes in
-    let rest : drop i xs ≡ get_or xs i 0 ∷ drop (i + 1) xs = rw (add-one, drop-cons xs i 0) refl in (
-      Lacks-take space xs i (λ k below inside. eqb-false (get_or xs k 0) space (before k below)),
-      sym (take-append-drop i xs) ∙ ap (λ back. take i xs ++ back) (rest ∙ ap (λ b. b ∷ drop (i + 1) xs) here)
-          ∙ ap (λ back. take i xs ++ space ∷ back) (sym (take-rest (i + 1) xs)),
-    )
-
--- what stands behind two bytes
-abbrev pub behind_two : List ℕ → List ℕ
-behind_two bytes = take (length bytes - 2) (drop 2 bytes)
-
-pub behind_two-is : (a b : ℕ) (rest : List ℕ) → behind_two (a ∷ b ∷ rest) ≡ rest
-behind_two-is a b rest = take-rest 2 (a ∷ b ∷ rest)
 
 -- ---- fields tell their values
 

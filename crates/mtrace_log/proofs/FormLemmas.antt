@@ -99,7 +99,7 @@ fields_text-same p q (Some m) (Some n) same =
     (pointer_text-same p q parts.0, ap (λ k. Some k) (size_text-same m n parts.1))
 
 -- a mark and the fields behind it
-behind-same : (place : Option (List ℕ)) (mark other : ℕ) (p q m n : Option ℕ) → mark ∷ space ∷ fields_text p m ≡ other ∷ space ∷ fields_text q n
+pub behind-same : (place : Option (List ℕ)) (mark other : ℕ) (p q m n : Option ℕ) → mark ∷ space ∷ fields_text p m ≡ other ∷ space ∷ fields_text q n
     → marked place mark p m ≡ marked place other q n
 behind-same place mark other p q m n same =
     let marks : mark ≡ other = ap (λ text. get_or text 0 0) same in

@@ -1,10 +1,10 @@
 -- What the readers of the fields of a line answer.
-use Rattle.std.specs.Prelude.{◌≡◌, ◌≢◌, ℕ, ◌^◌, ◌<◌, List, ◌∷◌, Option, IfSome, MatchOption}
-use Rattle.mtrace_log.specs.Bytes.{space}
+use Rattle.std.specs.Prelude.{◌≡◌, ◌≢◌, ℕ, ◌^◌, ◌<◌, List, Option, IfSome, MatchOption, Result, Ok, Err}
 use Rattle.mtrace_log.specs.Address.{IsAddress}
-use Rattle.mtrace_log.specs.Form.{form, fields_text}
-use Rattle.mtrace_log.specs.Form.Form.{marked}
+use Rattle.mtrace_log.specs.Form.{Form, form}
 use Rattle.mtrace_log.specs.declared.event.Event.{Event}
+use Rattle.mtrace_log.specs.declared.event.LineFault.{LineFault}
+use Rattle.mtrace_log.specs.declared.event.LineFault.TheVariants.{NotALine}
 
 -- the answer is the value that the bytes spell, or none where they spell none
 abbrev pub Finds : {X : Type 0} → (X → Type 0) → (X → List ℕ) → List ℕ → Option X → Type 0
@@ -22,11 +22,7 @@ IsSize size = size < 2 ^ 64
 abbrev pub AreFields : Option ℕ → Option ℕ → Type 0
 AreFields pointer size = IsPointer pointer × IfSome size IsSize
 
--- behind that place the bytes are the line of the event
-pub record IsBehind (place : Option (List ℕ)) (bytes : List ℕ) (event : Event) : Type 0 where
-  pub mark : ℕ
-  pub pointer : Option ℕ
-  pub size : Option ℕ
-  pub is : form event ≡ marked place mark pointer size
-  pub fits : AreFields pointer size
-  pub spelled : bytes ≡ mark ∷ space ∷ fields_text pointer size
+-- the answer is the event of that form, or no line where no event has it
+abbrev pub HasForm : Form → Result Event LineFault → Type 0
+HasForm shape (Ok event) = form event ≡ shape
+HasForm shape (Err fault) = (fault ≡ NotALine) × ((event : Event) → form event ≢ shape)

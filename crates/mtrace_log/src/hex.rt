@@ -50,8 +50,8 @@ fn digit_of(byte: u8) -> Option<u8>
     ensures { MatchOption result ((d : ℕ) → d < 16 → byte ≢ digit_char d) (λ d. (d < 16) × (byte ≡ digit_char d)) }
 {
     match byte {
-        b'0'..=b'9' => Some(byte - b'0'),
-        b'a'..=b'f' => Some(byte - b'a' + 10),
+        // The low four bits, and 9 more for a letter: no branch by which of the two it is.
+        b'0'..=b'9' | b'a'..=b'f' => Some(byte % 16 + byte / 64 * 9),
         _ => None,
     }
 }

@@ -1,35 +1,27 @@
-ghost use Rattle.std.specs.Prelude.{◌≡◌, ◌≢◌, ℕ, ◌<◌, ◌++◌, ◌∷◌, List, length, codes, position, ◌==◌, Option, Err, Some, MatchOption};
+ghost use Rattle.std.specs.Prelude.{◌≡◌, ◌≢◌, ℕ, ◌+◌, ◌<◌, ◌≤◌, ◌++◌, ◌∷◌, List, length, codes, Err, MatchOption};
 ghost use Rattle.mtrace_log.specs.Bytes.{Lacks, space};
 ghost use Rattle.mtrace_log.specs.Address.{pointer_text, size_text};
-ghost use Rattle.mtrace_log.specs.Spelling.{spell, IsEvent};
-ghost use Rattle.mtrace_log.specs.Form.{form, fields_text};
+ghost use Rattle.mtrace_log.specs.Form.{fields_text};
 ghost use Rattle.mtrace_log.specs.Form.Form.{marked};
-ghost use Rattle.mtrace_log.specs.Fields.{Finds, IsPointer, IsSize, AreFields, IsBehind};
+ghost use Rattle.mtrace_log.specs.Fields.{Finds, IsPointer, IsSize, AreFields, HasForm};
 ghost use Rattle.mtrace_log.specs.Reading.{Reads};
-ghost use Rattle.mtrace_log.specs.declared.event.Event.{Event as LineEvent};
 ghost use Rattle.mtrace_log.specs.declared.event.LineFault.TheVariants.{TooLong};
 
 use crate::addr::Addr;
 use crate::event::{Event, LineFault};
 use crate::hex;
 use crate::location::Location;
+use memchr::memchr;
 
 /// The longest line of any event, in bytes without its newline.
 pub const LONGEST_LINE: usize = 297;
-
-// Where the first space is.
-fn first_space(bytes: &[u8]) -> Option<usize>
-    ensures { result ≡ position (λ b. b == space) bytes.now }
-{
-    bytes.iter().position(|b| *b == b' ')
-}
 
 // What stands before the first space, and what behind it.
 fn split_at_space(bytes: &[u8]) -> Option<(&[u8], &[u8])>
     ensures { MatchOption result (Lacks space bytes.now)
         (λ parts. Lacks space parts.0.now × (bytes.now ≡ parts.0.now ++ space ∷ parts.1.now)) }
 {
-    let Some(at) = first_space(bytes) else {
+    let Some(at) = memchr(b' ', bytes) else {
         return None;
     };
     Some((&bytes[..at], &bytes[at + 1..]))
@@ -77,21 +69,6 @@ fn read_fields(bytes: &[u8]) -> Option<(Option<Addr>, Option<u64>)>
     Some((addr, Some(size)))
 }
 
-// The event with this place, mark and fields.
-fn event_of(at: Option<Location>, mark: u8, addr: Option<Addr>, size: Option<u64>) -> Option<Event>
-    ensures { MatchOption result ((event : LineEvent) → form event ≢ marked at mark addr size)
-        (λ event. form event ≡ marked at mark addr size) }
-{
-    match (mark, addr, size) {
-        (b'+', addr, Some(size)) => Some(Event::Alloc { at, addr, size }),
-        (b'-', Some(addr), None) => Some(Event::Free { at, addr }),
-        (b'<', Some(addr), None) => Some(Event::Old { at, addr }),
-        (b'>', Some(addr), Some(size)) => Some(Event::New { at, addr, size }),
-        (b'!', addr, Some(size)) => Some(Event::Failed { at, addr, size }),
-        _ => None,
-    }
-}
-
 // The first byte, where a space follows it, and what stands behind that space.
 fn split_mark(bytes: &[u8]) -> Option<(u8, &[u8])>
     ensures { MatchOption result ((mark : ℕ) (rest : List ℕ) → bytes.now ≢ mark ∷ space ∷ rest)
@@ -103,9 +80,9 @@ fn split_mark(bytes: &[u8]) -> Option<(u8, &[u8])>
     Some((*mark, rest))
 }
 
-// A mark, a space and fields, behind their place or without one.
-fn read_marked(at: Option<Location>, bytes: &[u8]) -> Option<Event>
-    ensures { MatchOption result ((event : LineEvent) → IsBehind at bytes.now event → ⊥) (IsBehind at bytes.now) }
+// A mark, a space and fields.
+fn read_marked(bytes: &[u8]) -> Option<(u8, Option<Addr>, Option<u64>)>
+    ensures { Finds (λ parts. AreFields parts.1 parts.2) (λ parts. parts.0 ∷ space ∷ fields_text parts.1 parts.2) bytes.now result }
 {
     let Some((mark, fields)) = split_mark(bytes) else {
         return None;
@@ -113,7 +90,27 @@ fn read_marked(at: Option<Location>, bytes: &[u8]) -> Option<Event>
     let Some((addr, size)) = read_fields(fields) else {
         return None;
     };
-    event_of(at, mark, addr, size)
+    Some((mark, addr, size))
+}
+
+// The event with this place, mark and fields. Each arm returns by itself, which saves a copy of the event.
+#[inline(always)]
+fn event_of(
+    at: Option<Location>,
+    mark: u8,
+    addr: Option<Addr>,
+    size: Option<u64>,
+) -> Result<Event, LineFault>
+    ensures { HasForm (marked at mark addr size) result }
+{
+    match (mark, addr, size) {
+        (b'+', addr, Some(size)) => return Ok(Event::Alloc { at, addr, size }),
+        (b'-', Some(addr), None) => return Ok(Event::Free { at, addr }),
+        (b'<', Some(addr), None) => return Ok(Event::Old { at, addr }),
+        (b'>', Some(addr), Some(size)) => return Ok(Event::New { at, addr, size }),
+        (b'!', addr, Some(size)) => return Ok(Event::Failed { at, addr, size }),
+        _ => return Err(LineFault::NotALine),
+    }
 }
 
 // What stands behind `@ `.
@@ -127,33 +124,22 @@ fn behind_at(bytes: &[u8]) -> Option<&[u8]>
     Some(rest)
 }
 
-// A line behind `@ `.
-fn read_located(bytes: &[u8]) -> Option<Event>
-    ensures { Finds IsEvent spell (codes "@ " ++ bytes.now) result }
-{
-    let Some((place, rest)) = split_at_space(bytes) else {
-        return None;
-    };
-    let Some(location) = Location::new(place) else {
-        return None;
-    };
-    read_marked(Some(location), rest)
-}
-
-// The event whose spelling the bytes are.
-fn read_event(bytes: &[u8]) -> Option<Event>
-    ensures { Finds IsEvent spell bytes.now result }
+// A line that isn't too long, and not behind `@ `.
+fn read_unlocated(bytes: &[u8]) -> Result<Event, LineFault>
+    requires short { length bytes.now ≤ LONGEST_LINE }
+    requires unlocated { (rest : List ℕ) → bytes.now ≢ codes "@ " ++ rest }
+    ensures { Reads bytes.now result }
 {
     if bytes == b"= Start".as_slice() {
-        return Some(Event::Start);
+        return Ok(Event::Start);
     }
     if bytes == b"= End".as_slice() {
-        return Some(Event::End);
+        return Ok(Event::End);
     }
-    if let Some(rest) = behind_at(bytes) {
-        return read_located(rest);
-    }
-    read_marked(None, bytes)
+    let Some((mark, addr, size)) = read_marked(bytes) else {
+        return Err(LineFault::NotALine);
+    };
+    event_of(None, mark, addr, size)
 }
 
 /// What a line says, given without its newline.
@@ -170,5 +156,19 @@ pub fn read_line(bytes: &[u8]) -> Result<Event, LineFault>
     if bytes.len() > LONGEST_LINE {
         return Err(LineFault::TooLong);
     }
-    read_event(bytes).ok_or(LineFault::NotALine)
+    let Some(located) = behind_at(bytes) else {
+        return read_unlocated(bytes);
+    };
+    let Some((place, marked)) = split_at_space(located) else {
+        return Err(LineFault::NotALine);
+    };
+    let Some((mark, addr, size)) = read_marked(marked) else {
+        return Err(LineFault::NotALine);
+    };
+    // The location is made last, and once.
+    let at = Location::new(place);
+    if at.is_none() {
+        return Err(LineFault::NotALine);
+    }
+    event_of(at, mark, addr, size)
 }

@@ -30,7 +30,11 @@ impl Model for Location {
 fn are_location_bytes(bytes: &[u8]) -> bool
     ensures { IsTrue result ↔ EachIndex bytes.now (λ k. IsLocationByte (slice_index bytes.now k)) }
 {
-    bytes.iter().all(|b| *b > b' ' && *b != 0x7F)
+    let mut all = true;
+    for b in bytes {
+        all &= (*b > b' ') & (*b != 0x7F);
+    }
+    all
 }
 
 impl Location {
@@ -41,9 +45,10 @@ impl Location {
         if bytes.is_empty() || !are_location_bytes(bytes) {
             return None;
         }
-        let Ok(text) = ArrayVec::try_from(bytes) else {
+        let mut text = ArrayVec::new();
+        if text.try_extend_from_slice(bytes).is_err() {
             return None;
-        };
+        }
         Some(Location { text })
     }
 
