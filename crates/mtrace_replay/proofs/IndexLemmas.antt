@@ -179,33 +179,30 @@ module _ (spots : List Spot) (address at : ℕ) (rise : RiseFrom 0 spots) where
     old_parts : all_held spots ≡ all_held (take at spots) ++ all_held (drop at spots)
     old_parts = ap all_held (sym (take-append-drop at spots)) ∙ held_append (take at spots) (drop at spots)
 
-    pub not_held : Changes address None None (all_held spots) (all_held spots)
-    not_held = record {
+    comes_between : (now : Option Holding) (new : List Holding) → AllByRecursion (λ (held : Holding). held.entry.addr ≡ address) (option_to_list now)
+        → new ≡ all_held (take at spots) ++ (option_to_list now ++ all_held (drop at spots)) → Changes address None now (all_held spots) new
+    comes_between now new its new_parts = record {
       before = all_held (take at spots);
       behind = all_held (drop at spots);
       below = all_below address (take at spots) fits.1;
       above = all_above address (drop at spots) fits.2;
       was_its = tt;
-      now_its = tt;
+      now_its = its;
       old_is = old_parts;
-      new_is = old_parts;
+      new_is = new_parts;
     }
+
+    pub not_held : Changes address None None (all_held spots) (all_held spots)
+    not_held = comes_between None (all_held spots) tt old_parts
 
     -- a spot of it enters
     module _ (spot : Spot) (its : spot_address spot ≡ address) (new : List Spot) (enters : Enters spot at spots new) where
       pub enters_changes : Changes address None (holding_of spot) (all_held spots) (all_held new)
-      enters_changes = record {
-        before = all_held (take at spots);
-        behind = all_held (drop at spots);
-        below = all_below address (take at spots) fits.1;
-        above = all_above address (drop at spots) fits.2;
-        was_its = tt;
-        now_its = subst (λ a. AllByRecursion (λ (held : Holding). held.entry.addr ≡ a) (option_to_list (holding_of spot))) its (own_address spot);
-        old_is = old_parts;
-        new_is = ap all_held enters.whole ∙ held_append enters.before (spot ∷ enters.behind)
-            ∙ ap (λ all. all ++ (option_to_list (holding_of spot) ++ all_held enters.behind)) (kept_held (take at spots) enters.before enters.before_kept)
-            ∙ ap (λ all. all_held (take at spots) ++ (option_to_list (holding_of spot) ++ all)) (kept_held (drop at spots) enters.behind enters.behind_kept);
-      }
+      enters_changes = comes_between (holding_of spot) (all_held new)
+          (subst (λ a. AllByRecursion (λ (held : Holding). held.entry.addr ≡ a) (option_to_list (holding_of spot))) its (own_address spot))
+          (ap all_held enters.whole ∙ held_append enters.before (spot ∷ enters.behind)
+          ∙ ap (λ all. all ++ (option_to_list (holding_of spot) ++ all_held enters.behind)) (kept_held (take at spots) enters.before enters.before_kept)
+          ∙ ap (λ all. all_held (take at spots) ++ (option_to_list (holding_of spot) ++ all)) (kept_held (drop at spots) enters.behind enters.behind_kept))
 
       pub enters_rise : RiseFrom 0 new
       enters_rise = subst (RiseFrom 0) (sym enters.whole) (rise_join 0 enters.before spot enters.behind

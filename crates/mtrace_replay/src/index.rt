@@ -3,7 +3,6 @@
 ghost use Rattle.std.specs.Prelude.{◌≡◌, ℕ, ◌+◌, ◌<◌, ◌≤◌, ◌^◌, option_map, [], length, map, None, Some, IfOk, if◌then◌else◌, ◌==◌, is_some, true};
 ghost use Rattle.mtrace_replay.specs.Index.{held_at, held_bytes, AreInOrder, LooksUp};
 
-use crate::comparisons::Comparisons;
 use crate::entry::Entry;
 use crate::holding::Holding;
 use crate::search::{enter, make_room, search};
@@ -12,6 +11,7 @@ use mtrace_log::Addr;
 use std::alloc::{AllocError, Global};
 use std::marker::Model;
 use tlsf_heap::Ptr;
+use tlsf_store::GhostCount;
 
 /// What is held, in order of address. The spot of an address that is held no more stays vacant, for the same address or
 /// for one near it, so that an address which comes again moves nothing.
@@ -21,7 +21,7 @@ pub(crate) struct Index {
     room: usize,
     blocks: u64,
     bytes: u64,
-    comparisons: Comparisons,
+    comparisons: GhostCount,
 }
 
 impl Model for Index {
@@ -51,7 +51,7 @@ impl Index {
             room,
             blocks: 0,
             bytes: 0,
-            comparisons: Comparisons::new(),
+            comparisons: GhostCount::new(),
         })
     }
 

@@ -2,7 +2,6 @@
 //! reports of what was not freed, of the peak, and of the heap's blocks.
 #![tactic(auto)]
 
-mod comparisons;
 mod diagnostic;
 mod entry;
 mod free;

@@ -5,16 +5,16 @@ ghost use Rattle.std.specs.Vec.{vec_capacity};
 ghost use Rattle.mtrace_replay.specs.Spot.{spot_address, all_held, RiseFrom};
 ghost use Rattle.mtrace_replay.specs.Search.{StandsAt, FitsAt, Compares, IsVacantAt, IsGap, Enters};
 
-use crate::comparisons::Comparisons;
 use crate::spot::Spot;
 use mtrace_log::Addr;
 use std::cmp::Ordering;
+use tlsf_store::GhostCount;
 
 /// Where the spot of the address is; or else where it would be, in order of address. It halves what is left, and
 /// compares at most as many addresses as the number of spots has binary digits.
 pub(crate) fn search(
     spots: &[Spot],
-    comparisons: &mut Comparisons,
+    comparisons: &mut GhostCount,
     address: Addr,
 ) -> Result<usize, usize>
     requires { RiseFrom 0 spots.now }

@@ -5,11 +5,11 @@ ghost use Rattle.std.specs.Ordering.{nat_cmp};
 ghost use Rattle.mtrace_replay.specs.Index.{held_bytes};
 ghost use Rattle.mtrace_replay.specs.Spot.{spot_address, holding_of};
 
-use crate::comparisons::Comparisons;
 use crate::holding::Holding;
 use mtrace_log::Addr;
 use std::cmp::Ordering;
 use tlsf_heap::Ptr;
+use tlsf_store::GhostCount;
 
 /// A spot of the index. The address of a vacant one still tells a search which way to go.
 #[derive(Drop)]
@@ -21,8 +21,8 @@ pub(crate) enum Spot {
 }
 
 impl Spot {
-    /// The address.
-    pub(crate) fn address(&self) -> Addr
+    // The address, for `compare` alone.
+    fn address(&self) -> Addr
         ensures { result ≡ spot_address self.now }
     {
         match self {
@@ -32,7 +32,7 @@ impl Spot {
     }
 
     /// How the address compares to another one: the one way to compare, which counts.
-    pub(crate) fn compare(&self, address: Addr, comparisons: &mut Comparisons) -> Ordering
+    pub(crate) fn compare(&self, address: Addr, comparisons: &mut GhostCount) -> Ordering
         ensures order { result ≡ nat_cmp (spot_address self.now) address }
         ensures counted { comparisons.new.count ≡ comparisons.old.count + 1 }
     {

@@ -7,8 +7,8 @@ ghost use Rattle.tlsf_store.specs.declared.records.State.TheVariants.{Vacant};
 ghost use Rattle.tlsf_store.specs.Records.{most_records, blank, record_at, vacant_count, IsBelow, IsKept};
 ghost use Rattle.tlsf_store.specs.Cells.{with_record, with_head, with_level_word, with_step_word, with_pool, with_taken, head_at, pool_at, most_pools, empty_cells, IsPoolBelow};
 
+use super::ghost_count::GhostCount;
 use super::table::Table;
-use super::touches::Touches;
 use super::{Pool, Record, Slot, StoreError};
 use std::alloc::Global;
 use std::marker::Model;
@@ -34,7 +34,7 @@ pub struct Store {
     level_word: u32,
     step_words: [u32; STEP_WORDS],
     pools: [Option<Pool>; MOST_POOLS],
-    touches: Touches,
+    touches: GhostCount,
 }
 
 impl Model for Store {
@@ -78,7 +78,7 @@ impl Store {
             level_word: 0,
             step_words: [0; STEP_WORDS],
             pools: [None; MOST_POOLS],
-            touches: Touches::new(),
+            touches: GhostCount::new(),
         })
     }
 

@@ -4,6 +4,7 @@
 
 mod counted;
 mod errors;
+mod ghost_count;
 mod packed;
 mod pools;
 mod records;
@@ -11,10 +12,10 @@ mod slots;
 mod table;
 #[cfg(test)]
 mod tests;
-mod touches;
 
 pub use counted::{MOST_POOLS, MOST_RECORDS, Store};
 pub use errors::StoreError;
+pub use ghost_count::GhostCount;
 pub use pools::Pool;
 pub use records::{Record, State};
 pub use slots::Slot;

@@ -53,19 +53,18 @@ fn expect_line<R: Source>(
     }
 }
 
+// The next lines are so many starts, from the first on.
+fn expect_starts<R: Source>(rt: &impl Abort, lines: &mut Lines, reader: &mut R, starts: u64) {
+    for before in 0..starts {
+        expect_line(rt, lines, reader, before.wrapping_add(1), &Said::Start);
+    }
+}
+
 // The lines of a text are so many starts, and then these.
 fn expect_lines(rt: &impl Abort, text: &[u8], piece: usize, starts: u64, rows: &[Said]) {
     let mut reader = MemorySource::in_pieces(text, piece.max(1));
     let mut lines = Lines::new();
-    for before in 0..starts {
-        expect_line(
-            rt,
-            &mut lines,
-            &mut reader,
-            before.wrapping_add(1),
-            &Said::Start,
-        );
-    }
+    expect_starts(rt, &mut lines, &mut reader, starts);
     let mut number = starts;
     for said in rows {
         number = number.wrapping_add(1);
@@ -202,15 +201,7 @@ fn asks_where_the_buffer_is_used_up(rt: HostRuntime) {
     append(&rt, &mut text, b"= Start\n", 600);
     let mut reader = MemorySource::in_pieces(text.as_slice(), usize::MAX);
     let mut lines = Lines::new();
-    for before in 0..512u64 {
-        expect_line(
-            &rt,
-            &mut lines,
-            &mut reader,
-            before.wrapping_add(1),
-            &Said::Start,
-        );
-    }
+    expect_starts(&rt, &mut lines, &mut reader, 512);
     // Of 4,800 bytes it was asked for 4,096.
     let mut rest = [0u8; 1000];
     assert!(rt; reader.pull(&mut rest) == Ok(704));
@@ -239,15 +230,7 @@ fn stops_where_the_reader_fails_behind_a_full_buffer(rt: HostRuntime) {
     for (piece, calls) in [(4096usize, 1u64), (1024, 4), (1, 4096)] {
         let mut reader = MemorySource::failing_after(text.as_slice(), piece.max(1), calls);
         let mut lines = Lines::new();
-        for before in 0..511u64 {
-            expect_line(
-                &rt,
-                &mut lines,
-                &mut reader,
-                before.wrapping_add(1),
-                &Said::Start,
-            );
-        }
+        expect_starts(&rt, &mut lines, &mut reader, 511);
         assert!(rt; lines.next(&mut reader) == Err(ReadFault::ReaderFailed));
         // The reader would go on, and isn't asked.
         assert!(rt; lines.next(&mut reader) == Err(ReadFault::ReaderFailed));

@@ -1,4 +1,4 @@
--- The comparisons made are one more than those given: the count is ghost, and the struct has no field at run time.
+-- The count made is one more than the one given: it is ghost, and the struct has no field at run time.
 use mathlib.Core.Path.{refl}
 use mathlib.Core.List.{[], ◌∷◌}
 use Rattle.std.specs.Prelude.{◌+◌}
@@ -28,11 +28,11 @@ use denote.Triple.Entry.{on_entry, alive, Args}
 use denote.Triple.Spec.{Meets, triple_of}
 use denote.Triple.Table.{entered}
 use denote.Triple.Walked.{says, stay_none_ref, Stays, walk_of, Walks, ends_at, walked, Goes-none_ref, walk_Meets}
-use Rattle.mtrace_replay.specs.contracts.comparisons.Comparisons.after.Key.{name as key}
-use Rattle.mtrace_replay.specs.contracts.comparisons.Comparisons.after as f
-use Rattle.mtrace_replay.proofs.comparisons.Comparisons.after.Statement as stated
-use Rattle.mtrace_replay.proofs.comparisons.Comparisons.after.Code as code
-use Rattle.mtrace_replay.specs.contracts.comparisons.Comparisons as made
+use Rattle.tlsf_store.specs.contracts.ghost_count.GhostCount.after.Key.{name as key}
+use Rattle.tlsf_store.specs.contracts.ghost_count.GhostCount.after as f
+use Rattle.tlsf_store.proofs.ghost_count.GhostCount.after.Statement as stated
+use Rattle.tlsf_store.proofs.ghost_count.GhostCount.after.Code as code
+use Rattle.tlsf_store.specs.contracts.ghost_count.GhostCount as made
 
 abbrev stayed : Stays (f.ended).signature.params (f.ended).kept
 stayed = (stay_none_ref (0 ∷ []) tt (plain (λ _. made.the_row)) yes, tt)

@@ -1,4 +1,4 @@
--- The touches made are none: the count is ghost, and the struct has no field at run time.
+-- The count made is zero: it is ghost, and the struct has no field at run time.
 use mathlib.Core.Path.{refl}
 use mathlib.Core.List.{[], ◌∷◌}
 use seplogic.Ra.Ura.{Ura}
@@ -21,11 +21,11 @@ use denote.Triple.Entry.{on_entry, alive}
 use denote.Triple.Spec.{Meets, triple_of}
 use denote.Triple.Table.{entered}
 use denote.Triple.Walked.{says, Stays, walk_of, Walks, ends_at, walked, walk_Meets}
-use Rattle.tlsf_store.specs.contracts.touches.Touches.new.Key.{name as key}
-use Rattle.tlsf_store.specs.contracts.touches.Touches.new as f
-use Rattle.tlsf_store.proofs.touches.Touches.new.Statement as stated
-use Rattle.tlsf_store.proofs.touches.Touches.new.Code as code
-use Rattle.tlsf_store.specs.contracts.touches.Touches as made
+use Rattle.tlsf_store.specs.contracts.ghost_count.GhostCount.new.Key.{name as key}
+use Rattle.tlsf_store.specs.contracts.ghost_count.GhostCount.new as f
+use Rattle.tlsf_store.proofs.ghost_count.GhostCount.new.Statement as stated
+use Rattle.tlsf_store.proofs.ghost_count.GhostCount.new.Code as code
+use Rattle.tlsf_store.specs.contracts.ghost_count.GhostCount as made
 
 abbrev stayed : Stays (f.ended).signature.params (f.ended).kept
 stayed = tt
