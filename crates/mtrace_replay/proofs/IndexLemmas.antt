@@ -11,10 +11,10 @@ use Rattle.std.proofs.lemmas.Map.Keys.{IsStrictlyIncreasing-from_sorted}
 use Rattle.mtrace_replay.specs.declared.holding.Holding.{Holding}
 use Rattle.mtrace_replay.specs.declared.spot.Spot.{Spot}
 use Rattle.mtrace_replay.specs.declared.spot.Spot.TheVariants.{Held, Vacant}
-use Rattle.mtrace_replay.specs.Spot.{spot_address, holding_of, all_held, RiseFrom, AreBelow, AreAbove}
+use Rattle.mtrace_replay.specs.Spot.{spot_address, least_behind, Holds, holding_of, all_held, RiseFrom, AreBelow, AreAbove}
 use Rattle.mtrace_replay.specs.Search.{StandsAt, FitsAt, Enters}
 use Rattle.mtrace_replay.specs.Index.{addresses, held_at, held_bytes, AreInOrder, IsIndex}
-use Rattle.mtrace_replay.proofs.SpotLemmas.{held_append, below_before, above_behind, rise_take, rise_drop, rise_above, rise_join, rise_set, kept_rise, kept_below, kept_held}
+use Rattle.mtrace_replay.proofs.SpotLemmas.{holds_address, holds_above, rise_lower, held_append, below_before, above_behind, rise_take, rise_drop, rise_above, rise_join, rise_set, kept_rise, kept_below, kept_held}
 use Rattle.mtrace_replay.proofs.EnterLemmas.{parted, seam_set}
 
 -- what is held changes at one address, from `was` to `now`; before it stand lower addresses, behind it higher ones
@@ -92,7 +92,7 @@ module _ (address : ℕ) (was now : Option Holding) (old new : List Holding) (ch
 
 all_below : (address : ℕ) (spots : List Spot) → AreBelow address spots → AllByRecursion (λ (held : Holding). held.entry.addr < address) (all_held spots)
 all_below address [] below = tt
-all_below address (Held holding ∷ spots) below = (below.0, all_below address spots below.1)
+all_below address (Held holding ∷ spots) below = (omega (arith, below.0), all_below address spots below.1)
 all_below address (Vacant old ∷ spots) below = all_below address spots below.1
 
 all_above : (address : ℕ) (spots : List Spot) → AreAbove address spots → AllByRecursion (λ (held : Holding). address < held.entry.addr) (all_held spots)
@@ -109,23 +109,23 @@ first_least address bound [] less rise = tt
 first_least address bound (Held holding ∷ spots) less rise =
     let above : address < holding.entry.addr = omega (arith, less, rise.0) in
     (grind (arith, nat_tests), first_least address (suc holding.entry.addr) spots (omega (arith, above)) rise.1)
-first_least address bound (Vacant old ∷ spots) less rise = first_least address (suc old) spots (omega (arith, less, rise.0)) rise.1
+first_least address bound (Vacant old ∷ spots) less rise = first_least address old spots (omega (arith, less, rise.0)) rise.1
 
 -- the addresses of what is held rise
 rise_sorted : (bound : ℕ) (spots : List Spot) → RiseFrom bound spots → IsStrictlySortedBy nat_cmp (addresses (all_held spots))
 unfolding IsStrictlySortedBy
 rise_sorted bound [] rise = tt
 rise_sorted bound (Held holding ∷ spots) rise = (first_least holding.entry.addr (suc holding.entry.addr) spots (omega arith) rise.1, rise_sorted (suc holding.entry.addr) spots rise.1)
-rise_sorted bound (Vacant address ∷ spots) rise = rise_sorted (suc address) spots rise.1
+rise_sorted bound (Vacant address ∷ spots) rise = rise_sorted address spots rise.1
 
 pub index_in_order : (spots : List Spot) → RiseFrom 0 spots → AreInOrder (all_held spots)
 index_in_order spots rise = IsStrictlyIncreasing-from_sorted (addresses (all_held spots)) (rise_sorted 0 spots rise)
 
 module _ (spots : List Spot) (address at : ℕ) (rise : RiseFrom 0 spots) where
   -- the spot of the address is replaced
-  module _ (stands : StandsAt spots address at) (was spot : Spot) (there : was ≡ slice_index_or spots at was) (its : spot_address spot ≡ address) where
+  module _ (stands : StandsAt spots address at) (was spot : Spot) (there : was ≡ slice_index_or spots at was) (its : spot_address spot ≡ address) (least : least_behind spot ≤ suc address) where
     was_its_address : spot_address was ≡ address
-    was_its_address = ap spot_address there ∙ stands.1 was
+    was_its_address = ap spot_address there ∙ holds_address (slice_index_or spots at was) address (stands.1 was)
 
     parts : spots ≡ take at spots ++ was ∷ drop (suc at) spots
     parts = parted was spots at stands.0 ∙ ap (λ s. take at spots ++ s ∷ drop (suc at) spots) (sym there)
@@ -137,8 +137,8 @@ module _ (spots : List Spot) (address at : ℕ) (rise : RiseFrom 0 spots) where
     set_changes = record {
       before = all_held (take at spots);
       behind = all_held (drop (suc at) spots);
-      below = all_below address (take at spots) (subst (λ a. AreBelow a (take at spots)) (stands.1 was) (below_before was 0 spots at rise stands.0));
-      above = all_above address (drop (suc at) spots) (subst (λ a. AreAbove a (drop (suc at) spots)) (stands.1 was) (above_behind was 0 spots at rise stands.0));
+      below = all_below address (take at spots) (subst (λ a. AreBelow a (take at spots)) (holds_address (slice_index_or spots at was) address (stands.1 was)) (below_before was 0 spots at rise stands.0));
+      above = all_above address (drop (suc at) spots) (above_behind was 0 address spots at rise stands.0 (stands.1 was));
       was_its = subst (λ a. AllByRecursion (λ (held : Holding). held.entry.addr ≡ a) (option_to_list (holding_of was))) was_its_address (own_address was);
       now_its = subst (λ a. AllByRecursion (λ (held : Holding). held.entry.addr ≡ a) (option_to_list (holding_of spot))) its (own_address spot);
       old_is = ap all_held parts ∙ held_append (take at spots) (was ∷ drop (suc at) spots);
@@ -146,10 +146,19 @@ module _ (spots : List Spot) (address at : ℕ) (rise : RiseFrom 0 spots) where
     }
 
     pub set_rises : RiseFrom 0 (slice_set spots at spot)
-    set_rises = rise_set was 0 spots at spot rise stands.0 (stands.1 was ∙ sym its)
+    set_rises = rise_set was 0 spots at spot rise stands.0 (holds_address (slice_index_or spots at was) address (stands.1 was) ∙ sym its)
+        (omega (arith, least, holds_above (slice_index_or spots at was) address (stands.1 was)))
 
     pub set_held : (q : ℕ) → held_at (all_held (slice_set spots at spot)) q ≡ cond (address == q) (holding_of spot) (held_at (all_held spots) q)
     set_held = changes_held address (holding_of was) (holding_of spot) (all_held spots) (all_held (slice_set spots at spot)) set_changes
+
+    -- one address was held there
+    pub one_was : length (option_to_list (holding_of was)) ≡ 1
+    one_was = ap (λ s. length (option_to_list (holding_of s))) there ∙ one_at (slice_index_or spots at was) (stands.1 was)
+      where
+        one_at : (spot : Spot) → Holds spot address → length (option_to_list (holding_of spot)) ≡ 1
+        one_at (Held holding) holds = refl
+        one_at (Vacant vacant) holds = absurd holds
 
     -- what was held under the address
     pub held_there : held_at (all_held spots) address ≡ holding_of was
@@ -196,7 +205,7 @@ module _ (spots : List Spot) (address at : ℕ) (rise : RiseFrom 0 spots) where
     not_held = comes_between None (all_held spots) tt old_parts
 
     -- a spot of it enters
-    module _ (spot : Spot) (its : spot_address spot ≡ address) (new : List Spot) (enters : Enters spot at spots new) where
+    module _ (spot : Spot) (its : spot_address spot ≡ address) (least : least_behind spot ≤ suc address) (new : List Spot) (enters : Enters spot at spots new) where
       pub enters_changes : Changes address None (holding_of spot) (all_held spots) (all_held new)
       enters_changes = comes_between (holding_of spot) (all_held new)
           (subst (λ a. AllByRecursion (λ (held : Holding). held.entry.addr ≡ a) (option_to_list (holding_of spot))) its (own_address spot))
@@ -209,7 +218,7 @@ module _ (spots : List Spot) (address at : ℕ) (rise : RiseFrom 0 spots) where
           (kept_rise (take at spots) enters.before 0 enters.before_kept (rise_take 0 spots at rise))
           (subst (λ a. AreBelow a enters.before) (sym its) (kept_below (take at spots) enters.before address enters.before_kept fits.1))
           (omega arith)
-          (subst (λ a. RiseFrom (suc a) enters.behind) (sym its) (kept_rise (drop at spots) enters.behind (suc address) enters.behind_kept
+          (rise_lower (suc address) (least_behind spot) enters.behind least (kept_rise (drop at spots) enters.behind (suc address) enters.behind_kept
           (rise_above address 0 (drop at spots) (rise_drop 0 spots at rise) fits.2))))
 
       pub enters_held : (q : ℕ) → held_at (all_held new) q ≡ cond (address == q) (holding_of spot) (held_at (all_held spots) q)
@@ -233,6 +242,18 @@ module _ (spots : List Spot) (address at : ℕ) (rise : RiseFrom 0 spots) (fits 
 
   pub nothing_removed : (q : ℕ) → held_at (all_held spots) q ≡ cond (address == q) None (held_at (all_held spots) q)
   nothing_removed = changes_held address None None (all_held spots) (all_held spots) (not_held spots address at rise fits)
+
+-- the same is held at other spots
+pub arranged_keeps : (spots new : List Spot) (memory new_memory room blocks bytes : ℕ) → IsIndex spots memory room blocks bytes → all_held new ≡ all_held spots → RiseFrom 0 new → length new ≤ room → room ≤ new_memory
+    → IsIndex new new_memory room blocks bytes
+arranged_keeps spots new memory new_memory room blocks bytes kept same rise within reserved = record {
+  rise = rise;
+  within = within;
+  reserved = reserved;
+  few = kept.few;
+  blocks_are = kept.blocks_are ∙ sym (ap (length {A = Holding}) same);
+  bytes_are = kept.bytes_are ∙ sym (ap held_bytes same);
+}
 
 pub one_held : (held : Option Holding) → is_some held ≡ true → length (option_to_list held) ≡ 1
 one_held (Some holding) is = refl

@@ -1,3 +1,4 @@
+mod ArrangeLemmas
 mod EnterLemmas
 mod FoundLemmas
 mod HeapSteps
@@ -8,7 +9,6 @@ mod Living
 mod LogRows
 mod LookLemmas
 mod Moments
-mod RoomLemmas
 mod RowLemmas
 mod RunLemmas
 mod SearchLemmas

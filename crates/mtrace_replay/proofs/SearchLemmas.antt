@@ -1,17 +1,9 @@
 -- A search by halves: what is left, and how often it compares.
-use Rattle.std.proofs.Common.{◌≡◌, ℕ, zero, suc, ◌+◌, ◌-◌, ◌/◌, ◌^◌, ◌<◌, ◌≤◌, List, take, drop, length, is_some, true, slice_index_or, arith, Less, Greater, refl, sym, subst}
+use Rattle.std.proofs.Common.{◌≡◌, ℕ, zero, suc, ◌+◌, ◌-◌, ◌/◌, ◌^◌, ◌<◌, ◌≤◌, List, take, drop, length, is_some, true, slice_index_or, arith, refl, sym, subst}
 use Rattle.std.proofs.lemmas.List.{drop_all}
-use Rattle.std.proofs.lemmas.Bool.Decides.{nat_tests}
-use Rattle.std.specs.Ordering.{nat_cmp}
 use Rattle.mtrace_replay.specs.declared.spot.Spot.{Spot}
-use Rattle.mtrace_replay.specs.Spot.{spot_address, holding_of, RiseFrom, AreBelow, AreAbove}
+use Rattle.mtrace_replay.specs.Spot.{spot_address, least_behind, holding_of, RiseFrom, AreBelow, AreAbove}
 use Rattle.mtrace_replay.proofs.SpotLemmas.{below_up_to, above_from}
-
-is_less : {a b : ℕ} → nat_cmp a b ≡ Less → a < b
-is_less {a} {b} h = grind (arith, nat_tests)
-
-is_greater : {a b : ℕ} → nat_cmp a b ≡ Greater → b < a
-is_greater {a} {b} h = grind (arith, nat_tests)
 
 -- so many comparisons were made of those that the digits allow, and the rest is enough for what is left
 pub record Afford (digits before count left : ℕ) : Type 0 where
@@ -64,24 +56,24 @@ module _ (spots : List Spot) (address before low high count : ℕ) (rise : RiseF
     next = omega arith
 
     -- the spot in the middle is below the address
-    pub go_above : nat_cmp (spot_address spot) address ≡ Less → Searching spots address (middle + 1) high before after
-    go_above order = record {
+    pub go_above : least_behind spot ≤ address → Searching spots address (middle + 1) high before after
+    go_above less = record {
       in_order = omega (arith, some);
       within = has.within;
       below = subst (λ k. AreBelow address (take k spots)) next (below_up_to spot address 0 spots middle rise (omega (arith, some, has.within))
-          (subst (λ s. spot_address s < address) (sym is) (is_less order)));
+          (subst (λ s. least_behind s ≤ address) (sym is) less));
       above = has.above;
       afford = λ digits few. subst (λ n. Afford digits before n (high - (middle + 1))) (sym counted)
           (half_left digits before count (high - low) (high - (middle + 1)) (has.afford digits few) (omega (arith, some)) (omega (arith, some)));
     }
 
     -- it is above the address
-    pub go_below : nat_cmp (spot_address spot) address ≡ Greater → Searching spots address low middle before after
-    go_below order = record {
+    pub go_below : address < spot_address spot → Searching spots address low middle before after
+    go_below greater = record {
       in_order = omega arith;
       within = omega (arith, some, has.within);
       below = has.below;
-      above = above_from spot address 0 spots middle rise (omega (arith, some, has.within)) (subst (λ s. address < spot_address s) (sym is) (is_greater order));
+      above = above_from spot address 0 spots middle rise (omega (arith, some, has.within)) (subst (λ s. address < spot_address s) (sym is) greater);
       afford = λ digits few. subst (λ n. Afford digits before n (middle - low)) (sym counted)
           (half_left digits before count (high - low) (middle - low) (has.afford digits few) (omega (arith, some)) (omega (arith, some)));
     }

@@ -4,39 +4,53 @@ use Rattle.std.specs.Prelude.{option_to_list}
 use Rattle.mtrace_replay.specs.Search.{AreKept}
 use Rattle.mtrace_replay.specs.declared.spot.Spot.{Spot}
 use Rattle.mtrace_replay.specs.declared.spot.Spot.TheVariants.{Held, Vacant}
-use Rattle.mtrace_replay.specs.Spot.{spot_address, holding_of, all_held, RiseFrom, AreBelow, AreAbove}
+use Rattle.mtrace_replay.specs.Spot.{spot_address, least_behind, Holds, holding_of, all_held, RiseFrom, AreBelow, AreAbove}
+
+-- what is behind a spot is not below its address
+pub not_lower : (spot : Spot) → spot_address spot ≤ least_behind spot
+not_lower (Held holding) = omega arith
+not_lower (Vacant address) = omega arith
+
+-- a spot that holds an address has it, and only higher ones are behind it
+pub holds_address : (spot : Spot) (address : ℕ) → Holds spot address → spot_address spot ≡ address
+holds_address (Held holding) address holds = holds
+holds_address (Vacant vacant) address holds = absurd holds
+
+pub holds_above : (spot : Spot) (address : ℕ) → Holds spot address → least_behind spot ≡ suc address
+holds_above (Held holding) address holds = ap suc holds
+holds_above (Vacant vacant) address holds = absurd holds
 
 -- a spot of a list that rises is not below the bound
 pub not_below : (default : Spot) (bound : ℕ) (spots : List Spot) (k : ℕ) → RiseFrom bound spots → k < length spots → bound ≤ spot_address (slice_index_or spots k default)
 not_below default bound [] k rise within = absurd (omega (arith, within))
 not_below default bound (spot ∷ spots) zero rise within = rise.0
 not_below default bound (spot ∷ spots) (suc k) rise within =
-    let later = not_below default (suc (spot_address spot)) spots k rise.1 (omega (arith, within)) in
-    omega (arith, rise.0, later)
+    let later = not_below default (least_behind spot) spots k rise.1 (omega (arith, within)) in
+    omega (arith, rise.0, later, not_lower spot)
 
 -- what stands up to a spot below the address is below it
 pub below_up_to : (default : Spot) (address bound : ℕ) (spots : List Spot) (k : ℕ) → RiseFrom bound spots → k < length spots
-    → spot_address (slice_index_or spots k default) < address → AreBelow address (take (suc k) spots)
+    → least_behind (slice_index_or spots k default) ≤ address → AreBelow address (take (suc k) spots)
 below_up_to default address bound [] k rise within is = absurd (omega (arith, within))
 below_up_to default address bound (spot ∷ spots) zero rise within is = (is, tt)
 below_up_to default address bound (spot ∷ spots) (suc k) rise within is =
-    let later = not_below default (suc (spot_address spot)) spots k rise.1 (omega (arith, within)) in
-    (omega (arith, later, is), below_up_to default address (suc (spot_address spot)) spots k rise.1 (omega (arith, within)) is)
+    let later = not_below default (least_behind spot) spots k rise.1 (omega (arith, within)) in
+    (omega (arith, later, is, not_lower (slice_index_or spots k default)), below_up_to default address (least_behind spot) spots k rise.1 (omega (arith, within)) is)
 
 -- a list that rises from above the address is above it
 pub above_all : (address bound : ℕ) (spots : List Spot) → RiseFrom bound spots → address < bound → AreAbove address spots
 above_all address bound [] rise is = tt
 above_all address bound (spot ∷ spots) rise is =
-    (omega (arith, rise.0, is), above_all address (suc (spot_address spot)) spots rise.1 (omega (arith, rise.0, is)))
+    (omega (arith, rise.0, is), above_all address (least_behind spot) spots rise.1 (omega (arith, rise.0, is, not_lower spot)))
 
 -- what stands from a spot above the address on is above it
 pub above_from : (default : Spot) (address bound : ℕ) (spots : List Spot) (k : ℕ) → RiseFrom bound spots → k < length spots
     → address < spot_address (slice_index_or spots k default) → AreAbove address (drop k spots)
 above_from default address bound [] k rise within is = absurd (omega (arith, within))
 above_from default address bound (spot ∷ spots) zero rise within is =
-    (is, above_all address (suc (spot_address spot)) spots rise.1 (omega (arith, is)))
+    (is, above_all address (least_behind spot) spots rise.1 (omega (arith, is, not_lower spot)))
 above_from default address bound (spot ∷ spots) (suc k) rise within is =
-    above_from default address (suc (spot_address spot)) spots k rise.1 (omega (arith, within)) is
+    above_from default address (least_behind spot) spots k rise.1 (omega (arith, within)) is
 
 -- what is held at the spots of two lists
 pub held_append : (one other : List Spot) → all_held (one ++ other) ≡ all_held one ++ all_held other
@@ -64,12 +78,12 @@ pub below_before : (default : Spot) (bound : ℕ) (spots : List Spot) (k : ℕ) 
 below_before default bound [] k rise within = absurd (omega (arith, within))
 below_before default bound (spot ∷ spots) zero rise within = tt
 below_before default bound (spot ∷ spots) (suc k) rise within =
-    (not_below default (suc (spot_address spot)) spots k rise.1 (omega (arith, within)), below_before default (suc (spot_address spot)) spots k rise.1 (omega (arith, within)))
+    (not_below default (least_behind spot) spots k rise.1 (omega (arith, within)), below_before default (least_behind spot) spots k rise.1 (omega (arith, within)))
 
-pub above_behind : (default : Spot) (bound : ℕ) (spots : List Spot) (k : ℕ) → RiseFrom bound spots → k < length spots → AreAbove (spot_address (slice_index_or spots k default)) (drop (suc k) spots)
-above_behind default bound [] k rise within = absurd (omega (arith, within))
-above_behind default bound (spot ∷ spots) zero rise within = above_all (spot_address spot) (suc (spot_address spot)) spots rise.1 (omega arith)
-above_behind default bound (spot ∷ spots) (suc k) rise within = above_behind default (suc (spot_address spot)) spots k rise.1 (omega (arith, within))
+pub above_behind : (default : Spot) (bound address : ℕ) (spots : List Spot) (k : ℕ) → RiseFrom bound spots → k < length spots → Holds (slice_index_or spots k default) address → AreAbove address (drop (suc k) spots)
+above_behind default bound address [] k rise within holds = absurd (omega (arith, within))
+above_behind default bound address (spot ∷ spots) zero rise within holds = above_all address (least_behind spot) spots rise.1 (omega (arith, holds_above spot address holds))
+above_behind default bound address (spot ∷ spots) (suc k) rise within holds = above_behind default (least_behind spot) address spots k rise.1 (omega (arith, within)) holds
 
 -- a list that rises from a bound rises from a lower one
 pub rise_lower : (bound lower : ℕ) (spots : List Spot) → lower ≤ bound → RiseFrom bound spots → RiseFrom lower spots
@@ -80,12 +94,12 @@ rise_lower bound lower (spot ∷ spots) less rise = (omega (arith, less, rise.0)
 pub rise_take : (bound : ℕ) (spots : List Spot) (k : ℕ) → RiseFrom bound spots → RiseFrom bound (take k spots)
 rise_take bound spots zero rise = tt
 rise_take bound [] (suc k) rise = tt
-rise_take bound (spot ∷ spots) (suc k) rise = (rise.0, rise_take (suc (spot_address spot)) spots k rise.1)
+rise_take bound (spot ∷ spots) (suc k) rise = (rise.0, rise_take (least_behind spot) spots k rise.1)
 
 pub rise_drop : (bound : ℕ) (spots : List Spot) (k : ℕ) → RiseFrom bound spots → RiseFrom bound (drop k spots)
 rise_drop bound spots zero rise = rise
 rise_drop bound [] (suc k) rise = tt
-rise_drop bound (spot ∷ spots) (suc k) rise = rise_lower (suc (spot_address spot)) bound (drop k spots) (omega (arith, rise.0)) (rise_drop (suc (spot_address spot)) spots k rise.1)
+rise_drop bound (spot ∷ spots) (suc k) rise = rise_lower (least_behind spot) bound (drop k spots) (omega (arith, rise.0, not_lower spot)) (rise_drop (least_behind spot) spots k rise.1)
 
 -- one that is above an address rises from there
 pub rise_above : (address bound : ℕ) (spots : List Spot) → RiseFrom bound spots → AreAbove address spots → RiseFrom (suc address) spots
@@ -94,14 +108,14 @@ rise_above address bound (spot ∷ spots) rise above = (above.0, rise.1)
 
 -- a spot between lower and higher ones
 pub rise_join : (bound : ℕ) (before : List Spot) (spot : Spot) (behind : List Spot) → RiseFrom bound before → AreBelow (spot_address spot) before → bound ≤ spot_address spot
-    → RiseFrom (suc (spot_address spot)) behind → RiseFrom bound (before ++ spot ∷ behind)
+    → RiseFrom (least_behind spot) behind → RiseFrom bound (before ++ spot ∷ behind)
 rise_join bound [] spot behind rise below least above = (least, above)
-rise_join bound (first ∷ before) spot behind rise below least above = (rise.0, rise_join (suc (spot_address first)) before spot behind rise.1 below.1 below.0 above)
+rise_join bound (first ∷ before) spot behind rise below least above = (rise.0, rise_join (least_behind first) before spot behind rise.1 below.1 below.0 above)
 
 -- a spot leaves
 pub rise_without : (bound : ℕ) (before : List Spot) (spot : Spot) (behind : List Spot) → RiseFrom bound (before ++ spot ∷ behind) → RiseFrom bound (before ++ behind)
-rise_without bound [] spot behind rise = rise_lower (suc (spot_address spot)) bound behind (omega (arith, rise.0)) rise.1
-rise_without bound (first ∷ before) spot behind rise = (rise.0, rise_without (suc (spot_address first)) before spot behind rise.1)
+rise_without bound [] spot behind rise = rise_lower (least_behind spot) bound behind (omega (arith, rise.0, not_lower spot)) rise.1
+rise_without bound (first ∷ before) spot behind rise = (rise.0, rise_without (least_behind first) before spot behind rise.1)
 
 pub below_without : (address : ℕ) (before : List Spot) (spot : Spot) (behind : List Spot) → AreBelow address (before ++ spot ∷ behind) → AreBelow address (before ++ behind)
 below_without address [] spot behind below = below.1
@@ -109,10 +123,10 @@ below_without address (first ∷ before) spot behind below = (below.0, below_wit
 
 -- a spot of the same address in place of one
 pub rise_set : (default : Spot) (bound : ℕ) (spots : List Spot) (k : ℕ) (spot : Spot) → RiseFrom bound spots → k < length spots → spot_address (slice_index_or spots k default) ≡ spot_address spot
-    → RiseFrom bound (slice_set spots k spot)
-rise_set default bound [] k spot rise within same = absurd (omega (arith, within))
-rise_set default bound (old ∷ spots) zero spot rise within same = subst (λ a. (bound ≤ a) × RiseFrom (suc a) spots) same rise
-rise_set default bound (old ∷ spots) (suc k) spot rise within same = (rise.0, rise_set default (suc (spot_address old)) spots k spot rise.1 (omega (arith, within)) same)
+    → least_behind spot ≤ least_behind (slice_index_or spots k default) → RiseFrom bound (slice_set spots k spot)
+rise_set default bound [] k spot rise within same less = absurd (omega (arith, within))
+rise_set default bound (old ∷ spots) zero spot rise within same less = (subst (λ a. bound ≤ a) same rise.0, rise_lower (least_behind old) (least_behind spot) spots less rise.1)
+rise_set default bound (old ∷ spots) (suc k) spot rise within same less = (rise.0, rise_set default (least_behind old) spots k spot rise.1 (omega (arith, within)) same less)
 
 -- all but at most one vacant spot
 module _ (old new : List Spot) where

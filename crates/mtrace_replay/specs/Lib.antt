@@ -6,6 +6,7 @@ pub mod Held
 pub mod Spot
 pub mod Index
 pub mod Search
+pub mod Arrange
 pub mod Step
 pub mod Replay
 pub mod Texts

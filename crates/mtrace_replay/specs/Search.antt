@@ -1,13 +1,13 @@
 -- Where an address stands among the spots of an index, and where it enters.
 use Rattle.std.specs.Prelude.{◌≡◌, ◌⊎◌, ℕ, ◌+◌, ◌<◌, ◌≤◌, ◌^◌, List, ◌∷◌, ◌++◌, length, take, drop, slice_index_or, None}
 use Rattle.mtrace_replay.specs.declared.spot.Spot.{Spot}
-use Rattle.mtrace_replay.specs.Spot.{spot_address, holding_of, AreBelow, AreAbove}
+use Rattle.mtrace_replay.specs.Spot.{Holds, holding_of, AreBelow, AreAbove}
 
--- the spot there has the address
+-- the address is held at the spot there
 abbrev pub StandsAt : List Spot → ℕ → ℕ → Type 0
-StandsAt spots address at = (at < length spots) × ((default : Spot) → spot_address (slice_index_or spots at default) ≡ address)
+StandsAt spots address at = (at < length spots) × ((default : Spot) → Holds (slice_index_or spots at default) address)
 
--- no spot has the address; in order of address it would stand there
+-- the address is not held; in order of address it would stand there
 abbrev pub FitsAt : List Spot → ℕ → ℕ → Type 0
 FitsAt spots address at = (at ≤ length spots) × AreBelow address (take at spots) × AreAbove address (drop at spots)
 

@@ -1,5 +1,5 @@
 -- The spots of an index, as a list in order of address.
-use Rattle.std.specs.Prelude.{ℕ, suc, ◌<◌, ◌≤◌, ⊤, List, [], ◌∷◌, ◌++◌, Option, Some, None, option_to_list}
+use Rattle.std.specs.Prelude.{◌≡◌, ℕ, suc, ◌<◌, ◌≤◌, ⊤, List, [], ◌∷◌, ◌++◌, Option, Some, None, option_to_list}
 use Rattle.std.specs.List.{AllByRecursion}
 use Rattle.mtrace_replay.specs.declared.holding.Holding.{Holding}
 use Rattle.mtrace_replay.specs.declared.spot.Spot.{Spot}
@@ -8,6 +8,16 @@ use Rattle.mtrace_replay.specs.declared.spot.Spot.TheVariants.{Held, Vacant}
 abbrev pub spot_address : Spot → ℕ
 spot_address (Held holding) = holding.entry.addr
 spot_address (Vacant address) = address
+
+-- the least address that can be held behind a spot: a vacant one may stand before its own address
+abbrev pub least_behind : Spot → ℕ
+least_behind (Held holding) = suc holding.entry.addr
+least_behind (Vacant address) = address
+
+-- the address is held at a spot
+abbrev pub Holds : Spot → ℕ → Type 0
+Holds (Held holding) address = holding.entry.addr ≡ address
+Holds (Vacant vacant) address = ⊥
 
 -- what is held at a spot
 abbrev pub holding_of : Spot → Option Holding
@@ -19,14 +29,14 @@ abbrev pub all_held : List Spot → List Holding
 all_held [] = []
 all_held (spot ∷ spots) = option_to_list (holding_of spot) ++ all_held spots
 
--- the addresses rise, and none is below the bound
+-- the spots are in order of address, and none is below the bound
 abbrev pub RiseFrom : ℕ → List Spot → Type 0
 RiseFrom bound [] = ⊤
-RiseFrom bound (spot ∷ spots) = (bound ≤ spot_address spot) × RiseFrom (suc (spot_address spot)) spots
+RiseFrom bound (spot ∷ spots) = (bound ≤ spot_address spot) × RiseFrom (least_behind spot) spots
 
--- all addresses are below, or above, this one
+-- this address may stand behind all of them, or before all of them
 abbrev pub AreBelow : ℕ → List Spot → Type 0
-AreBelow address spots = AllByRecursion (λ spot. spot_address spot < address) spots
+AreBelow address spots = AllByRecursion (λ spot. least_behind spot ≤ address) spots
 
 abbrev pub AreAbove : ℕ → List Spot → Type 0
 AreAbove address spots = AllByRecursion (λ spot. address < spot_address spot) spots

@@ -3,9 +3,10 @@
 ghost use Rattle.std.specs.Prelude.{◌≡◌, ℕ, ◌+◌, ◌<◌, ◌≤◌, ◌^◌, option_map, [], length, map, None, Some, IfOk, if◌then◌else◌, ◌==◌, is_some, true};
 ghost use Rattle.mtrace_replay.specs.Index.{held_at, held_bytes, AreInOrder, LooksUp};
 
+use crate::arrange::arrange;
 use crate::entry::Entry;
 use crate::holding::Holding;
-use crate::search::{enter, make_room, search};
+use crate::search::{enter, search};
 use crate::spot::Spot;
 use mtrace_log::Addr;
 use std::alloc::{AllocError, Global};
@@ -21,6 +22,7 @@ pub(crate) struct Index {
     room: usize,
     blocks: u64,
     bytes: u64,
+    moved: usize,
     comparisons: GhostCount,
 }
 
@@ -51,6 +53,7 @@ impl Index {
             room,
             blocks: 0,
             bytes: 0,
+            moved: 0,
             comparisons: GhostCount::new(),
         })
     }
@@ -87,16 +90,19 @@ impl Index {
         let size = holding.size();
         match search(&self.spots, &mut self.comparisons, holding.address()) {
             Ok(at) => {
-                let was = &self.spots[at];
-                self.blocks = self.blocks + 1 - was.count();
-                self.bytes = self.bytes + size - was.size();
+                self.bytes = self.bytes + size - self.spots[at].size();
                 self.spots[at] = Spot::Held(holding);
             }
             Err(at) => {
-                let at = make_room(&mut self.spots, self.room, self.blocks, at);
+                let at_end = at == self.spots.len();
                 self.blocks += 1;
                 self.bytes += size;
-                enter(&mut self.spots, self.room, at, Spot::Held(holding));
+                let moved = enter(&mut self.spots, self.room, at, Spot::Held(holding));
+                self.moved = self.moved.saturating_add(moved);
+                if self.moved > self.spots.len() {
+                    self.moved = 0;
+                    arrange(&mut self.spots, self.room, at_end);
+                }
             }
         }
     }
@@ -122,9 +128,8 @@ impl Index {
         ensures looked { LooksUp 1 self.old self.new }
     {
         if let Ok(at) = search(&self.spots, &mut self.comparisons, address) {
-            let was = &self.spots[at];
-            self.blocks -= was.count();
-            self.bytes -= was.size();
+            self.bytes -= self.spots[at].size();
+            self.blocks -= 1;
             self.spots[at] = Spot::Vacant(address);
         }
     }

@@ -2,6 +2,7 @@
 //! reports of what was not freed, of the peak, and of the heap's blocks.
 #![tactic(auto)]
 
+mod arrange;
 mod diagnostic;
 mod entry;
 mod free;

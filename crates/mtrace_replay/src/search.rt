@@ -35,50 +35,6 @@ pub(crate) fn search(
     Err(low)
 }
 
-/// How many spots are held.
-fn count_held(spots: &[Spot]) -> u64
-    ensures { result ≡ length (all_held spots.now) }
-{
-    let mut count = 0;
-    for spot in spots {
-        count += spot.count();
-    }
-    count
-}
-
-/// No vacant spot is near where there are so many held ones before and behind.
-const NEAR: usize = 64;
-
-/// Whether there is no place at the end and no vacant spot near, though there are more vacant ones elsewhere.
-fn is_crowded(spots: &[Spot], room: usize, held: u64, at: usize) -> bool
-    requires { at ≤ length spots.now }
-{
-    let low = at.saturating_sub(NEAR);
-    let high = spots.len().min(at.saturating_add(NEAR));
-    spots.len() == room
-        && (room as u64).saturating_sub(held) > NEAR as u64
-        && !spots[low..high].iter().any(|spot| spot.is_vacant())
-}
-
-/// Leaves all vacant spots out where it is crowded about a place between two spots. Then there is room at the end for as
-/// many as there were vacant, so what this takes is little for each of those that come there. Answers where the place
-/// is then.
-pub(crate) fn make_room(spots: &mut Vec<Spot>, room: usize, held: u64, at: usize) -> usize
-    requires { at ≤ length spots.old.items }
-    ensures same { all_held spots.new.items ≡ all_held spots.old.items }
-    ensures within { length spots.new.items ≤ length spots.old.items }
-    ensures reserved { vec_capacity spots.new ≡ vec_capacity spots.old }
-    ensures rise { RiseFrom 0 spots.old.items → RiseFrom 0 spots.new.items }
-    ensures fits { (address : ℕ) → FitsAt spots.old.items address at → FitsAt spots.new.items address result }
-{
-    if !is_crowded(spots, room, held, at) {
-        return at;
-    }
-    let before = count_held(&spots[..at]);
-    spots.retain(|spot| !spot.is_vacant());
-    before as usize
-}
-
 /// The vacant spot that is nearest to a place between two spots, or the end where that is nearer.
 fn nearest_gap(spots: &[Spot], room: usize, at: usize) -> usize
     requires at_most { at ≤ length spots.now }
@@ -124,8 +80,8 @@ fn enter_above(spots: &mut [Spot], gap: usize, at: usize, spot: Spot)
 }
 
 /// Puts a spot between the first so many and the others. It takes the nearest vacant spot, so that only what lies
-/// between moves, or else one more place at the end.
-pub(crate) fn enter(spots: &mut Vec<Spot>, room: usize, at: usize, spot: Spot)
+/// between moves, or else one more place at the end. Answers how many spots moved.
+pub(crate) fn enter(spots: &mut Vec<Spot>, room: usize, at: usize, spot: Spot) -> usize
     requires at_most { at ≤ length spots.old.items }
     requires within { length spots.old.items ≤ room }
     requires reserved { room ≤ vec_capacity spots.old }
@@ -142,4 +98,5 @@ pub(crate) fn enter(spots: &mut Vec<Spot>, room: usize, at: usize, spot: Spot)
     } else {
         enter_above(spots, gap, at, spot);
     }
+    gap.abs_diff(at)
 }

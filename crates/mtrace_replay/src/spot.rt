@@ -1,9 +1,10 @@
 //! A spot of the index: an address, and what is held under it, if anything is.
 
-ghost use Rattle.std.specs.Prelude.{◌≡◌, ◌+◌, option_map, option_to_list, length, not, is_some};
-ghost use Rattle.std.specs.Ordering.{nat_cmp};
+ghost use Rattle.std.specs.Prelude.{◌≡◌, ◌+◌, ◌<◌, ◌≤◌, option_map, option_to_list, not, is_some};
+ghost use Rattle.std.specs.Ordering.{MatchOrdering};
+ghost use Rattle.mtrace_replay.specs.declared.spot.Spot.TheVariants.{Vacant};
 ghost use Rattle.mtrace_replay.specs.Index.{held_bytes};
-ghost use Rattle.mtrace_replay.specs.Spot.{spot_address, holding_of};
+ghost use Rattle.mtrace_replay.specs.Spot.{spot_address, least_behind, Holds, holding_of};
 
 use crate::holding::Holding;
 use mtrace_log::Addr;
@@ -21,23 +22,27 @@ pub(crate) enum Spot {
 }
 
 impl Spot {
-    // The address, for `compare` alone.
-    fn address(&self) -> Addr
-        ensures { result ≡ spot_address self.now }
-    {
-        match self {
-            Spot::Held(holding) => holding.address(),
-            Spot::Vacant(address) => *address,
-        }
-    }
-
-    /// How the address compares to another one: the one way to compare, which counts.
+    /// How the spot stands to an address; a vacant one stands before its own. The one way to compare, which counts.
     pub(crate) fn compare(&self, address: Addr, comparisons: &mut GhostCount) -> Ordering
-        ensures order { result ≡ nat_cmp (spot_address self.now) address }
+        ensures order { MatchOrdering result (least_behind self.now ≤ address) (Holds self.now address) (address < spot_address self.now) }
         ensures counted { comparisons.new.count ≡ comparisons.old.count + 1 }
     {
         comparisons.tick();
-        self.address().cmp(&address)
+        match self {
+            Spot::Held(holding) => holding.address().cmp(&address),
+            Spot::Vacant(vacant) if address < *vacant => Ordering::Greater,
+            Spot::Vacant(_) => Ordering::Less,
+        }
+    }
+
+    /// A vacant spot that may stand before this one.
+    pub(crate) fn gap(&self) -> Spot
+        ensures { result ≡ Vacant (spot_address self.now) }
+    {
+        match self {
+            Spot::Held(holding) => Spot::Vacant(holding.address()),
+            Spot::Vacant(address) => Spot::Vacant(*address),
+        }
     }
 
     /// Whether nothing is held.
@@ -57,16 +62,6 @@ impl Spot {
         match self {
             Spot::Held(holding) => Some(holding.ptr),
             Spot::Vacant(_) => None,
-        }
-    }
-
-    /// How many addresses are held: 1 or 0.
-    pub(crate) fn count(&self) -> u64
-        ensures { result ≡ length (option_to_list (holding_of self.now)) }
-    {
-        match self {
-            Spot::Held(_) => 1,
-            Spot::Vacant(_) => 0,
         }
     }
 

@@ -1,0 +1,6 @@
+use Rattle.std.proofs.Common.{arith}
+use Rattle.mtrace_replay.proofs.ArrangeLemmas.{moved_up}
+use Rattle.mtrace_replay.proofs.arrange.move_up.Goals as goal
+
+pub returns-clause-moved : goal.returns-clause-moved
+returns-clause-moved c = moved_up c.args.spots.now c.loop-at.spots c.args.from c.loop-at.at c.requires (omega (arith, c.loop-at-test.false)) c.loop-at.invariant

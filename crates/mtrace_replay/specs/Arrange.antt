@@ -1,0 +1,9 @@
+-- How vacant spots come to stand among held ones.
+use Rattle.std.specs.Prelude.{ℕ, List, [], ◌∷◌, ◌++◌, replicate}
+use Rattle.mtrace_replay.specs.declared.spot.Spot.{Spot}
+use Rattle.mtrace_replay.specs.declared.spot.Spot.TheVariants.{Vacant}
+use Rattle.mtrace_replay.specs.Spot.{spot_address}
+
+-- a spot behind so many vacant ones that may stand before it
+abbrev pub behind_gaps : ℕ → Spot → List Spot
+behind_gaps count spot = replicate count (Vacant (spot_address spot)) ++ spot ∷ []
