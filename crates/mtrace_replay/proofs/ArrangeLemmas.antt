@@ -8,7 +8,7 @@ use Rattle.mtrace_replay.specs.declared.holding.Holding.{Holding}
 use Rattle.mtrace_replay.specs.declared.spot.Spot.{Spot}
 use Rattle.mtrace_replay.specs.declared.spot.Spot.TheVariants.{Held, Vacant}
 use Rattle.mtrace_replay.specs.Spot.{spot_address, least_behind, holding_of, all_held, RiseFrom}
-use Rattle.mtrace_replay.specs.Arrange.{behind_gaps}
+use Rattle.mtrace_replay.specs.Arrange.{behind_vacant}
 use Rattle.mtrace_replay.proofs.SpotLemmas.{rise_lower, held_append}
 
 -- as the code asks
@@ -28,47 +28,47 @@ kept-rise bound [] rise = tt
 kept-rise bound (Held holding ∷ spots) rise = (rise.0, kept-rise (suc holding.entry.addr) spots rise.1)
 kept-rise bound (Vacant address ∷ spots) rise = rise_lower address bound (kept spots) rise.0 (kept-rise address spots rise.1)
 
--- the first spot stands last, and gaps before it, so far as they are made
+-- the first spot stands last, and vacant ones before it, so far as they are made
 pub record MovesUp (old now : List Spot) (from at : ℕ) : Type 0 where
   pub len : length now ≡ length old
   pub last : (default : Spot) → slice_index_or now (length old - 1) default ≡ slice_index_or old 0 default
-  pub gaps : (k : ℕ) → from ≤ k → k < at → (default : Spot) → slice_index_or now k default ≡ Vacant (spot_address (slice_index_or old 0 default))
+  pub vacant : (k : ℕ) → from ≤ k → k < at → (default : Spot) → slice_index_or now k default ≡ Vacant (spot_address (slice_index_or old 0 default))
 
 -- so many times one thing, and then another
-pub filled_up : (gap last : Spot) (count : ℕ) (spots : List Spot) → length spots ≡ suc count → ((k : ℕ) → k < count → slice_index_or spots k gap ≡ gap) → slice_index_or spots count gap ≡ last
-    → spots ≡ replicate count gap ++ last ∷ []
-filled_up gap last zero (spot ∷ []) len each is = ap (λ s. s ∷ []) is
-filled_up gap last zero (spot ∷ other ∷ spots) len each is = absurd (omega (arith, len))
-filled_up gap last (suc count) (spot ∷ spots) len each is =
+pub filled_up : (filler last : Spot) (count : ℕ) (spots : List Spot) → length spots ≡ suc count → ((k : ℕ) → k < count → slice_index_or spots k filler ≡ filler) → slice_index_or spots count filler ≡ last
+    → spots ≡ replicate count filler ++ last ∷ []
+filled_up filler last zero (spot ∷ []) len each is = ap (λ s. s ∷ []) is
+filled_up filler last zero (spot ∷ other ∷ spots) len each is = absurd (omega (arith, len))
+filled_up filler last (suc count) (spot ∷ spots) len each is =
     ap (λ s. s ∷ spots) (each 0 (omega arith))
-    ∙ ap (λ all. gap ∷ all) (filled_up gap last count spots (omega (arith, len)) (λ k within. each (suc k) (omega (arith, within))) is)
-filled_up gap last count [] len each is = absurd (omega (arith, len))
+    ∙ ap (λ all. filler ∷ all) (filled_up filler last count spots (omega (arith, len)) (λ k within. each (suc k) (omega (arith, within))) is)
+filled_up filler last count [] len each is = absurd (omega (arith, len))
 
-pub moved_up : (old now : List Spot) (from at : ℕ) → from < length old → length old - 1 ≤ at → MovesUp old now from at → (default : Spot) → drop from now ≡ behind_gaps (length old - 1 - from) (slice_index_or old 0 default)
+pub moved_up : (old now : List Spot) (from at : ℕ) → from < length old → length old - 1 ≤ at → MovesUp old now from at → (default : Spot) → drop from now ≡ behind_vacant (length old - 1 - from) (slice_index_or old 0 default)
 moved_up [] now from at within last moves default = absurd (omega (arith, within))
 moved_up (first ∷ old) now from at within last moves default =
-    filled_up gap first (suc (length old) - 1 - from) (drop from now) (omega (arith, length-drop from now, moves.len, within))
-    (λ k less. get_or-drop from now k gap ∙ moves.gaps (from + k) (omega arith) (omega (arith, less, within, last)) gap)
-    (get_or-drop from now (suc (length old) - 1 - from) gap ∙ ap (λ n. slice_index_or now n gap) (omega (arith, within)) ∙ moves.last gap)
+    filled_up filler first (suc (length old) - 1 - from) (drop from now) (omega (arith, length-drop from now, moves.len, within))
+    (λ k less. get_or-drop from now k filler ∙ moves.vacant (from + k) (omega arith) (omega (arith, less, within, last)) filler)
+    (get_or-drop from now (suc (length old) - 1 - from) filler ∙ ap (λ n. slice_index_or now n filler) (omega (arith, within)) ∙ moves.last filler)
   where
-    gap : Spot
-    gap = Vacant (spot_address first)
+    filler : Spot
+    filler = Vacant (spot_address first)
 
--- gaps come before a spot
-gaps_first : (bound : ℕ) (spot : Spot) (count : ℕ) (behind : List Spot) → bound ≤ spot_address spot → RiseFrom (least_behind spot) behind → RiseFrom bound (replicate count (Vacant (spot_address spot)) ++ spot ∷ behind)
-gaps_first bound spot zero behind least rise = (least, rise)
-gaps_first bound spot (suc count) behind least rise = (least, gaps_first (spot_address spot) spot count behind (omega arith) rise)
+-- vacant spots come before a spot
+vacant_first : (bound : ℕ) (spot : Spot) (count : ℕ) (behind : List Spot) → bound ≤ spot_address spot → RiseFrom (least_behind spot) behind → RiseFrom bound (replicate count (Vacant (spot_address spot)) ++ spot ∷ behind)
+vacant_first bound spot zero behind least rise = (least, rise)
+vacant_first bound spot (suc count) behind least rise = (least, vacant_first (spot_address spot) spot count behind (omega arith) rise)
 
-gaps_rise : (bound : ℕ) (before : List Spot) (spot : Spot) (count : ℕ) (behind : List Spot) → RiseFrom bound (before ++ spot ∷ behind) → RiseFrom bound (before ++ (replicate count (Vacant (spot_address spot)) ++ spot ∷ behind))
-gaps_rise bound [] spot count behind rise = gaps_first bound spot count behind rise.0 rise.1
-gaps_rise bound (first ∷ before) spot count behind rise = (rise.0, gaps_rise (least_behind first) before spot count behind rise.1)
+vacant_rise : (bound : ℕ) (before : List Spot) (spot : Spot) (count : ℕ) (behind : List Spot) → RiseFrom bound (before ++ spot ∷ behind) → RiseFrom bound (before ++ (replicate count (Vacant (spot_address spot)) ++ spot ∷ behind))
+vacant_rise bound [] spot count behind rise = vacant_first bound spot count behind rise.0 rise.1
+vacant_rise bound (first ∷ before) spot count behind rise = (rise.0, vacant_rise (least_behind first) before spot count behind rise.1)
 
 none_held : (address count : ℕ) → all_held (replicate count (Vacant address)) ≡ []
 none_held address zero = refl
 none_held address (suc count) = none_held address count
 
-gaps_held : (before : List Spot) (address count : ℕ) (behind : List Spot) → all_held (before ++ (replicate count (Vacant address) ++ behind)) ≡ all_held (before ++ behind)
-gaps_held before address count behind =
+vacant_held : (before : List Spot) (address count : ℕ) (behind : List Spot) → all_held (before ++ (replicate count (Vacant address) ++ behind)) ≡ all_held (before ++ behind)
+vacant_held before address count behind =
     held_append before (replicate count (Vacant address) ++ behind)
     ∙ ap (λ all. all_held before ++ all) (held_append (replicate count (Vacant address)) behind ∙ ap (λ all. all ++ all_held behind) (none_held address count))
     ∙ sym (held_append before behind)
@@ -77,10 +77,10 @@ gaps_held before address count behind =
 pub number_before : (n : ℕ) → 0 < n → n ≡ suc (n - 1)
 number_before n some = omega (arith, some)
 
--- no gap comes before the first spot
-pub no_share : (gaps at held share : ℕ) → at ≡ 0 → share ≡ min (gaps * at) (2 ^ 64 - 1) → share / held ≡ 0
-no_share gaps at held share first is =
-    let none : gaps * at ≡ 0 = ap (λ n. gaps * n) first ∙ mul-zero gaps in
+-- no vacant spot comes before the first one
+pub no_share : (vacant at held share : ℕ) → at ≡ 0 → share ≡ min (vacant * at) (2 ^ 64 - 1) → share / held ≡ 0
+no_share vacant at held share first is =
+    let none : vacant * at ≡ 0 = ap (λ n. vacant * n) first ∙ mul-zero vacant in
     let zero_share : share ≡ 0 = omega (arith, is, none) in
     ap (λ n. n / held) zero_share ∙ zero-div held
 
@@ -103,7 +103,7 @@ pub record Spreads (spots : List Spot) (at end : ℕ) (all : List Holding) : Typ
 
 -- one spot more moves up
 module _ (spots part : List Spot) (at end start : ℕ) (all : List Holding) (has : Spreads spots (suc at) end all) (above : at ≤ start) (below : start < end)
-    (len : length part ≡ length (mid_of at (end - at) spots)) (moved : drop (start - at) part ≡ behind_gaps (length (mid_of at (end - at) spots) - 1 - (start - at)) (slice_index_or (mid_of at (end - at) spots) 0 (Vacant 0))) where
+    (len : length part ≡ length (mid_of at (end - at) spots)) (moved : drop (start - at) part ≡ behind_vacant (length (mid_of at (end - at) spots) - 1 - (start - at)) (slice_index_or (mid_of at (end - at) spots) 0 (Vacant 0))) where
   abbrev spot : Spot
   spot = slice_index_or spots at (Vacant 0)
 
@@ -133,8 +133,8 @@ module _ (spots part : List Spot) (at end start : ℕ) (all : List Holding) (has
       ap (λ n. drop n new) (omega (arith, before_length, above))
       ∙ drop-append-add (take at spots) (part ++ drop (end - at) (drop at spots)) (start - at)
       ∙ drop-append-le (start - at) part (drop (end - at) (drop at spots)) (omega (arith, part_length, below))
-      ∙ ap (λ first. first ++ drop (end - at) (drop at spots)) (moved ∙ ap (behind_gaps count) spot_is)
-      ∙ ap (λ rest. behind_gaps count spot ++ rest) rest_is
+      ∙ ap (λ first. first ++ drop (end - at) (drop at spots)) (moved ∙ ap (behind_vacant count) spot_is)
+      ∙ ap (λ rest. behind_vacant count spot ++ rest) rest_is
       ∙ append_assoc (replicate count (Vacant (spot_address spot))) (spot ∷ []) (drop end spots)
 
   old_is : take (suc at) spots ++ drop end spots ≡ take at spots ++ spot ∷ drop end spots
@@ -150,6 +150,6 @@ module _ (spots part : List Spot) (at end start : ℕ) (all : List Holding) (has
   spread_on = record {
     in_order = above;
     within = omega (arith, below, has.within, spread_length);
-    rise = subst (RiseFrom 0) (sym new_is) (gaps_rise 0 (take at spots) spot count (drop end spots) (subst (RiseFrom 0) old_is has.rise));
-    same = ap all_held new_is ∙ gaps_held (take at spots) (spot_address spot) count (spot ∷ drop end spots) ∙ ap all_held (sym old_is) ∙ has.same;
+    rise = subst (RiseFrom 0) (sym new_is) (vacant_rise 0 (take at spots) spot count (drop end spots) (subst (RiseFrom 0) old_is has.rise));
+    same = ap all_held new_is ∙ vacant_held (take at spots) (spot_address spot) count (spot ∷ drop end spots) ∙ ap all_held (sym old_is) ∙ has.same;
   }

@@ -5,5 +5,5 @@ use Rattle.mtrace_replay.specs.declared.spot.Spot.TheVariants.{Vacant}
 use Rattle.mtrace_replay.specs.Spot.{spot_address}
 
 -- a spot behind so many vacant ones that may stand before it
-abbrev pub behind_gaps : ℕ → Spot → List Spot
-behind_gaps count spot = replicate count (Vacant (spot_address spot)) ++ spot ∷ []
+abbrev pub behind_vacant : ℕ → Spot → List Spot
+behind_vacant count spot = replicate count (Vacant (spot_address spot)) ++ spot ∷ []

@@ -4,28 +4,28 @@ ghost use Rattle.std.specs.Prelude.{◌≡◌, ◌+◌, ◌-◌, ◌<◌, ◌≤
 ghost use Rattle.std.specs.Vec.{vec_capacity};
 ghost use Rattle.mtrace_replay.specs.declared.spot.Spot.{Spot};
 ghost use Rattle.mtrace_replay.specs.Spot.{all_held, RiseFrom};
-ghost use Rattle.mtrace_replay.specs.Arrange.{behind_gaps};
+ghost use Rattle.mtrace_replay.specs.Arrange.{behind_vacant};
 
 use crate::spot::Spot;
 
-// At most so many gaps come to stand before each held spot.
-const GAPS: usize = 3;
+// At most so many vacant spots come to stand before each held one.
+const VACANT: usize = 3;
 
-/// Moves the first spot to the end, with gaps before it from there on.
+/// Moves the first spot to the end, with vacant ones before it from there on.
 fn move_up(spots: &mut [Spot], from: usize)
     requires { from < length spots.old }
     ensures moved { (default : Spot) → drop from spots.new
-        ≡ behind_gaps (length spots.old - 1 - from) (slice_index_or spots.old 0 default) }
+        ≡ behind_vacant (length spots.old - 1 - from) (slice_index_or spots.old 0 default) }
     ensures len { length spots.new ≡ length spots.old }
 {
     let last = spots.len() - 1;
     spots.swap(0, last);
     for at in from..last {
-        spots[at] = spots[last].gap();
+        spots[at] = spots[last].vacant_before();
     }
 }
 
-/// Spreads gaps evenly among the first so many spots, over all that follow.
+/// Spreads the first so many spots evenly over all places, with vacant ones before them.
 fn spread(spots: &mut [Spot], held: usize)
     requires some { 0 < held }
     requires within { held ≤ length spots.old }
@@ -34,12 +34,12 @@ fn spread(spots: &mut [Spot], held: usize)
     ensures rise { RiseFrom 0 spots.new }
     ensures len { length spots.new ≡ length spots.old }
 {
-    let gaps = spots.len() - held;
+    let vacant = spots.len() - held;
     let mut end = spots.len();
     let mut at = held;
     while at > 0 {
         at -= 1;
-        let before = gaps.saturating_mul(at) / held;
+        let before = vacant.saturating_mul(at) / held;
         let start = at.saturating_add(before).min(end - 1);
         move_up(&mut spots[at..end], start - at);
         end = start;
@@ -47,19 +47,19 @@ fn spread(spots: &mut [Spot], held: usize)
 }
 
 /// Appends so many vacant spots, which are in no order.
-fn grow(spots: &mut Vec<Spot>, gaps: usize)
-    requires { length spots.old.items + gaps ≤ vec_capacity spots.old }
+fn grow(spots: &mut Vec<Spot>, vacant: usize)
+    requires { length spots.old.items + vacant ≤ vec_capacity spots.old }
     ensures first { take (length spots.old.items) spots.new.items ≡ spots.old.items }
     ensures more { length spots.old.items ≤ length spots.new.items }
-    ensures len { length spots.new.items ≤ length spots.old.items + gaps }
+    ensures len { length spots.new.items ≤ length spots.old.items + vacant }
     ensures reserved { vec_capacity spots.old ≤ vec_capacity spots.new }
 {
-    for _ in 0..gaps {
+    for _ in 0..vacant {
         let Some(last) = spots.last() else {
             return;
         };
-        let gap = last.gap();
-        let _ = spots.push(gap);
+        let spot = last.vacant_before();
+        let _ = spots.push(spot);
     }
 }
 
@@ -78,6 +78,6 @@ pub(crate) fn arrange(spots: &mut Vec<Spot>, room: usize, at_end: bool)
     if at_end || held == 0 {
         return;
     }
-    grow(spots, ((room - held) / 2).min(held.saturating_mul(GAPS)));
+    grow(spots, ((room - held) / 2).min(held.saturating_mul(VACANT)));
     spread(spots, held);
 }

@@ -36,7 +36,7 @@ impl Spot {
     }
 
     /// A vacant spot that may stand before this one.
-    pub(crate) fn gap(&self) -> Spot
+    pub(crate) fn vacant_before(&self) -> Spot
         ensures { result ≡ Vacant (spot_address self.now) }
     {
         match self {
