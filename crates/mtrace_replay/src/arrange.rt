@@ -8,9 +8,6 @@ ghost use Rattle.mtrace_replay.specs.Arrange.{behind_vacant};
 
 use crate::spot::Spot;
 
-// At most so many vacant spots come to stand before each held one.
-const VACANT: usize = 3;
-
 /// Moves the first spot to the end, with vacant ones before it from there on.
 fn move_up(spots: &mut [Spot], from: usize)
     requires { from < length spots.old }
@@ -63,7 +60,8 @@ fn grow(spots: &mut Vec<Spot>, vacant: usize)
     }
 }
 
-/// Puts the room that is left to the end; or half of it there, and half as vacant spots evenly among the held ones.
+/// Puts the room that is left to the end; or only half of it, and spreads the other half, or as many vacant spots as there
+/// are held ones, evenly among these.
 pub(crate) fn arrange(spots: &mut Vec<Spot>, room: usize, at_end: bool)
     requires within { length spots.old.items ≤ room }
     requires reserved { room ≤ vec_capacity spots.old }
@@ -78,6 +76,6 @@ pub(crate) fn arrange(spots: &mut Vec<Spot>, room: usize, at_end: bool)
     if at_end || held == 0 {
         return;
     }
-    grow(spots, ((room - held) / 2).min(held.saturating_mul(VACANT)));
+    grow(spots, ((room - held) / 2).min(held));
     spread(spots, held);
 }
