@@ -14,7 +14,7 @@ use Rattle.mtrace_replay.specs.declared.spot.Spot.TheVariants.{Held, Vacant}
 use Rattle.mtrace_replay.specs.Spot.{spot_address, least_behind, Holds, holding_of, all_held, RiseFrom, AreBelow, AreAbove}
 use Rattle.mtrace_replay.specs.Search.{StandsAt, FitsAt, Enters}
 use Rattle.mtrace_replay.specs.Index.{addresses, held_at, held_bytes, AreInOrder, IsIndex}
-use Rattle.mtrace_replay.proofs.SpotLemmas.{holds_address, holds_above, rise_lower, held_append, below_before, above_behind, rise_take, rise_drop, rise_above, rise_join, rise_set, kept_rise, kept_below, kept_held}
+use Rattle.mtrace_replay.proofs.SpotLemmas.{not_higher, holds_address, holds_above, rise_lower, held_append, below_before, above_behind, rise_take, rise_drop, rise_above, rise_join, rise_set, kept_rise, kept_below, kept_held}
 use Rattle.mtrace_replay.proofs.EnterLemmas.{parted, seam_set}
 
 -- what is held changes at one address, from `was` to `now`; before it stand lower addresses, behind it higher ones
@@ -123,7 +123,7 @@ index_in_order spots rise = IsStrictlyIncreasing-from_sorted (addresses (all_hel
 
 module _ (spots : List Spot) (address at : ℕ) (rise : RiseFrom 0 spots) where
   -- the spot of the address is replaced
-  module _ (stands : StandsAt spots address at) (was spot : Spot) (there : was ≡ slice_index_or spots at was) (its : spot_address spot ≡ address) (least : least_behind spot ≤ suc address) where
+  module _ (stands : StandsAt spots address at) (was spot : Spot) (there : was ≡ slice_index_or spots at was) (its : spot_address spot ≡ address) where
     was_its_address : spot_address was ≡ address
     was_its_address = ap spot_address there ∙ holds_address (slice_index_or spots at was) address (stands.1 was)
 
@@ -147,7 +147,7 @@ module _ (spots : List Spot) (address at : ℕ) (rise : RiseFrom 0 spots) where
 
     pub set_rises : RiseFrom 0 (slice_set spots at spot)
     set_rises = rise_set was 0 spots at spot rise stands.0 (holds_address (slice_index_or spots at was) address (stands.1 was) ∙ sym its)
-        (omega (arith, least, holds_above (slice_index_or spots at was) address (stands.1 was)))
+        (omega (arith, its, not_higher spot, holds_above (slice_index_or spots at was) address (stands.1 was)))
 
     pub set_held : (q : ℕ) → held_at (all_held (slice_set spots at spot)) q ≡ cond (address == q) (holding_of spot) (held_at (all_held spots) q)
     set_held = changes_held address (holding_of was) (holding_of spot) (all_held spots) (all_held (slice_set spots at spot)) set_changes
@@ -205,7 +205,7 @@ module _ (spots : List Spot) (address at : ℕ) (rise : RiseFrom 0 spots) where
     not_held = comes_between None (all_held spots) tt old_parts
 
     -- a spot of it enters
-    module _ (spot : Spot) (its : spot_address spot ≡ address) (least : least_behind spot ≤ suc address) (new : List Spot) (enters : Enters spot at spots new) where
+    module _ (spot : Spot) (its : spot_address spot ≡ address) (new : List Spot) (enters : Enters spot at spots new) where
       pub enters_changes : Changes address None (holding_of spot) (all_held spots) (all_held new)
       enters_changes = comes_between (holding_of spot) (all_held new)
           (subst (λ a. AllByRecursion (λ (held : Holding). held.entry.addr ≡ a) (option_to_list (holding_of spot))) its (own_address spot))
@@ -218,7 +218,7 @@ module _ (spots : List Spot) (address at : ℕ) (rise : RiseFrom 0 spots) where
           (kept_rise (take at spots) enters.before 0 enters.before_kept (rise_take 0 spots at rise))
           (subst (λ a. AreBelow a enters.before) (sym its) (kept_below (take at spots) enters.before address enters.before_kept fits.1))
           (omega arith)
-          (rise_lower (suc address) (least_behind spot) enters.behind least (kept_rise (drop at spots) enters.behind (suc address) enters.behind_kept
+          (rise_lower (suc address) (least_behind spot) enters.behind (omega (arith, its, not_higher spot)) (kept_rise (drop at spots) enters.behind (suc address) enters.behind_kept
           (rise_above address 0 (drop at spots) (rise_drop 0 spots at rise) fits.2))))
 
       pub enters_held : (q : ℕ) → held_at (all_held new) q ≡ cond (address == q) (holding_of spot) (held_at (all_held spots) q)

@@ -11,6 +11,11 @@ pub not_lower : (spot : Spot) → spot_address spot ≤ least_behind spot
 not_lower (Held holding) = omega arith
 not_lower (Vacant address) = omega arith
 
+-- and it may be the next one
+pub not_higher : (spot : Spot) → least_behind spot ≤ suc (spot_address spot)
+not_higher (Held holding) = omega arith
+not_higher (Vacant address) = omega arith
+
 -- a spot that holds an address has it, and only higher ones are behind it
 pub holds_address : (spot : Spot) (address : ℕ) → Holds spot address → spot_address spot ≡ address
 holds_address (Held holding) address holds = holds

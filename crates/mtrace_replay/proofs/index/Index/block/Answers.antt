@@ -1,4 +1,4 @@
-use Rattle.std.proofs.Common.{arith, refl, sym, ap, ◌∙◌, subst}
+use Rattle.std.proofs.Common.{refl, sym, ap, ◌∙◌, subst}
 use Rattle.std.specs.Prelude.{option_map}
 use Rattle.mtrace_replay.specs.declared.holding.Holding.{Holding}
 use Rattle.mtrace_replay.specs.declared.spot.Spot.TheVariants.{Vacant}
@@ -17,7 +17,7 @@ returns-clause-value c =
       | in-Ok w ↦ w.result-is ∙ w.block.ensures
           ∙ ap (option_map (λ (holding : Holding). holding.ptr))
           (sym (held_there spots address w.in-Ok.at c.self.invariant.rise (subst (λ all. StandsAt all address w.in-Ok.at) c.deref.ensures.value w.in-Ok.ensures.found)
-          w.index.result.now (Vacant address) w.index.ensures refl (omega arith)) ∙ seen)
+          w.index.result.now (Vacant address) w.index.ensures refl) ∙ seen)
       | in-Err w ↦ w.result-is
           ∙ ap (option_map (λ (holding : Holding). holding.ptr))
           (sym (nothing_there spots address w.in-Err.field-0 c.self.invariant.rise (subst (λ all. FitsAt all address w.in-Err.field-0) c.deref.ensures.value w.in-Err.ensures.absent)) ∙ seen)

@@ -11,16 +11,16 @@ pub overflow_sub-self : goal.overflow_sub-self
 overflow_sub-self c =
     let address = c.args.holding.entry.addr in
     let stands = subst (λ a. StandsAt c.self.inside.spots.items a c.in-Ok.at) c.address.ensures (subst (λ all. StandsAt all c.address.result c.in-Ok.at) c.deref.ensures.value c.in-Ok.ensures.found) in
-    let bytes = set_bytes c.self.inside.spots.items address c.in-Ok.at c.self.invariant.rise stands c.index.result.now (Held c.args.holding) c.index.ensures refl (omega arith) in
+    let bytes = set_bytes c.self.inside.spots.items address c.in-Ok.at c.self.invariant.rise stands c.index.result.now (Held c.args.holding) c.index.ensures refl in
     omega (arith, bytes, c.size.ensures, c.size-size.ensures, c.self.invariant.bytes_are)
 
 pub invariant_of-self : goal.invariant_of-self
 invariant_of-self c =
     let address = c.args.holding.entry.addr in
     let stands = subst (λ a. StandsAt c.self.inside.spots.items a c.in-Ok.at) c.address.ensures (subst (λ all. StandsAt all c.address.result c.in-Ok.at) c.deref.ensures.value c.in-Ok.ensures.found) in
-    let one = one_was c.self.inside.spots.items address c.in-Ok.at c.self.invariant.rise stands c.index.result.now (Held c.args.holding) c.index.ensures refl (omega arith) in
-    let bytes = set_bytes c.self.inside.spots.items address c.in-Ok.at c.self.invariant.rise stands c.index.result.now (Held c.args.holding) c.index.ensures refl (omega arith) in
-    set_keeps c.self.inside.spots.items address c.in-Ok.at c.self.invariant.rise stands c.index.result.now (Held c.args.holding) c.index.ensures refl (omega arith)
+    let one = one_was c.self.inside.spots.items address c.in-Ok.at c.self.invariant.rise stands c.index.result.now (Held c.args.holding) c.index.ensures refl in
+    let bytes = set_bytes c.self.inside.spots.items address c.in-Ok.at c.self.invariant.rise stands c.index.result.now (Held c.args.holding) c.index.ensures refl in
+    set_keeps c.self.inside.spots.items address c.in-Ok.at c.self.invariant.rise stands c.index.result.now (Held c.args.holding) c.index.ensures refl
     c.self.inside.spots.cap c.self.inside.room c.self.inside.blocks c.self.inside.bytes c.self.inside.blocks (c.self.inside.bytes + c.size-size.result - c.size.result) c.self.invariant
     (omega (arith, one)) (omega (arith, bytes, c.size.ensures, c.size-size.ensures, c.self.invariant.bytes_are))
 
@@ -28,20 +28,20 @@ pub returns-in-Ok-clause-held : goal.returns-in-Ok-clause-held
 returns-in-Ok-clause-held c other =
     let address = c.args.holding.entry.addr in
     let stands = subst (λ a. StandsAt c.self.inside.spots.items a c.in-Ok.at) c.address.ensures (subst (λ all. StandsAt all c.address.result c.in-Ok.at) c.deref.ensures.value c.in-Ok.ensures.found) in
-    set_held c.self.inside.spots.items address c.in-Ok.at c.self.invariant.rise stands c.index.result.now (Held c.args.holding) c.index.ensures refl (omega arith) other
+    set_held c.self.inside.spots.items address c.in-Ok.at c.self.invariant.rise stands c.index.result.now (Held c.args.holding) c.index.ensures refl other
     ∙ ap (λ (index : Indexed). cond (address == other) (Some c.args.holding) (held_at index.all other)) c.self.view_is
 
 pub arrange-requires-clause-rise : goal.arrange-requires-clause-rise
 arrange-requires-clause-rise c =
     let fits = subst (λ a. FitsAt c.self.inside.spots.items a c.in-Err.at) c.address.ensures (subst (λ all. FitsAt all c.address.result c.in-Err.at) c.deref.ensures.value c.in-Err.ensures.absent) in
-    enters_rise c.self.inside.spots.items c.args.holding.entry.addr c.in-Err.at c.self.invariant.rise fits (Held c.args.holding) refl (omega arith) c.enter-moved.new.spots.items c.enter-moved.ensures.enters
+    enters_rise c.self.inside.spots.items c.args.holding.entry.addr c.in-Err.at c.self.invariant.rise fits (Held c.args.holding) refl c.enter-moved.new.spots.items c.enter-moved.ensures.enters
 
 pub invariant_of-self-then-self-len : goal.invariant_of-self-then-self-len
 invariant_of-self-then-self-len c =
     let address = c.args.holding.entry.addr in
     let fits = subst (λ a. FitsAt c.self.inside.spots.items a c.in-Err.at) c.address.ensures (subst (λ all. FitsAt all c.address.result c.in-Err.at) c.deref.ensures.value c.in-Err.ensures.absent) in
     arranged_keeps c.enter-moved.new.spots.items c.arrange.new.spots.items (vec_capacity c.self.inside.spots) (vec_capacity c.arrange.new.spots) c.self.inside.room (c.self.inside.blocks + 1) (c.self.inside.bytes + c.size-size.result)
-    (enters_keeps c.self.inside.spots.items address c.in-Err.at c.self.invariant.rise fits (Held c.args.holding) refl (omega arith) c.enter-moved.new.spots.items c.enter-moved.ensures.enters
+    (enters_keeps c.self.inside.spots.items address c.in-Err.at c.self.invariant.rise fits (Held c.args.holding) refl c.enter-moved.new.spots.items c.enter-moved.ensures.enters
     (vec_capacity c.self.inside.spots) c.self.inside.room c.self.inside.blocks c.self.inside.bytes (c.self.inside.blocks + 1) (c.self.inside.bytes + c.size-size.result) c.self.invariant c.enter-moved.ensures.within
     (omega arith) (omega (arith, c.size-size.ensures)))
     c.arrange.ensures.same c.arrange.ensures.rise c.arrange.ensures.within c.arrange.ensures.reserved
@@ -51,7 +51,7 @@ invariant_of-self-else-self-len c =
     let address = c.args.holding.entry.addr in
     let fits = subst (λ a. FitsAt c.self.inside.spots.items a c.in-Err.at) c.address.ensures (subst (λ all. FitsAt all c.address.result c.in-Err.at) c.deref.ensures.value c.in-Err.ensures.absent) in
     subst (λ memory. IsIndex c.enter-moved.new.spots.items memory c.self.inside.room (c.self.inside.blocks + 1) (c.self.inside.bytes + c.size-size.result)) (sym c.enter-moved.ensures.reserved)
-    (enters_keeps c.self.inside.spots.items address c.in-Err.at c.self.invariant.rise fits (Held c.args.holding) refl (omega arith) c.enter-moved.new.spots.items c.enter-moved.ensures.enters
+    (enters_keeps c.self.inside.spots.items address c.in-Err.at c.self.invariant.rise fits (Held c.args.holding) refl c.enter-moved.new.spots.items c.enter-moved.ensures.enters
     (vec_capacity c.self.inside.spots) c.self.inside.room c.self.inside.blocks c.self.inside.bytes (c.self.inside.blocks + 1) (c.self.inside.bytes + c.size-size.result) c.self.invariant c.enter-moved.ensures.within
     (omega arith) (omega (arith, c.size-size.ensures)))
 
@@ -60,12 +60,12 @@ returns-then-self-len-clause-held c other =
     let address = c.args.holding.entry.addr in
     let fits = subst (λ a. FitsAt c.self.inside.spots.items a c.in-Err.at) c.address.ensures (subst (λ all. FitsAt all c.address.result c.in-Err.at) c.deref.ensures.value c.in-Err.ensures.absent) in
     ap (λ all. held_at all other) c.arrange.ensures.same
-    ∙ enters_held c.self.inside.spots.items address c.in-Err.at c.self.invariant.rise fits (Held c.args.holding) refl (omega arith) c.enter-moved.new.spots.items c.enter-moved.ensures.enters other
+    ∙ enters_held c.self.inside.spots.items address c.in-Err.at c.self.invariant.rise fits (Held c.args.holding) refl c.enter-moved.new.spots.items c.enter-moved.ensures.enters other
     ∙ ap (λ (index : Indexed). cond (address == other) (Some c.args.holding) (held_at index.all other)) c.self.view_is
 
 pub returns-else-self-len-clause-held : goal.returns-else-self-len-clause-held
 returns-else-self-len-clause-held c other =
     let address = c.args.holding.entry.addr in
     let fits = subst (λ a. FitsAt c.self.inside.spots.items a c.in-Err.at) c.address.ensures (subst (λ all. FitsAt all c.address.result c.in-Err.at) c.deref.ensures.value c.in-Err.ensures.absent) in
-    enters_held c.self.inside.spots.items address c.in-Err.at c.self.invariant.rise fits (Held c.args.holding) refl (omega arith) c.enter-moved.new.spots.items c.enter-moved.ensures.enters other
+    enters_held c.self.inside.spots.items address c.in-Err.at c.self.invariant.rise fits (Held c.args.holding) refl c.enter-moved.new.spots.items c.enter-moved.ensures.enters other
     ∙ ap (λ (index : Indexed). cond (address == other) (Some c.args.holding) (held_at index.all other)) c.self.view_is
