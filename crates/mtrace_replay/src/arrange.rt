@@ -60,8 +60,8 @@ fn grow(spots: &mut Vec<Spot>, vacant: usize)
     }
 }
 
-/// Puts the room that is left to the end; or only half of it, and spreads the other half, or as many vacant spots as there
-/// are held ones, evenly among these.
+/// Puts the room that is left to the end; or spreads three quarters of it, or as many vacant spots as there are held ones,
+/// evenly among these, and puts the rest to the end.
 pub(crate) fn arrange(spots: &mut Vec<Spot>, room: usize, at_end: bool)
     requires within { length spots.old.items ≤ room }
     requires reserved { room ≤ vec_capacity spots.old }
@@ -76,6 +76,6 @@ pub(crate) fn arrange(spots: &mut Vec<Spot>, room: usize, at_end: bool)
     if at_end || held == 0 {
         return;
     }
-    grow(spots, ((room - held) / 2).min(held));
+    grow(spots, ((room - held) / 4 * 3).min(held));
     spread(spots, held);
 }
