@@ -93,10 +93,12 @@ pub(crate) fn enter(spots: &mut Vec<Spot>, room: usize, at: usize, spot: Spot) -
     let gap = nearest_gap(spots, room, at);
     if gap == spots.len() {
         let _ = spots.insert(at, spot);
+        gap - at
     } else if gap < at {
         enter_below(spots, gap, at, spot);
+        at - gap - 1
     } else {
         enter_above(spots, gap, at, spot);
+        gap - at
     }
-    gap.abs_diff(at)
 }

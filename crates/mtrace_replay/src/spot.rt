@@ -22,16 +22,25 @@ pub(crate) enum Spot {
 }
 
 impl Spot {
+    // The address, for `compare` and a spot before this one.
+    fn address(&self) -> Addr
+        ensures { result ≡ spot_address self.now }
+    {
+        match self {
+            Spot::Held(holding) => holding.address(),
+            Spot::Vacant(address) => *address,
+        }
+    }
+
     /// How the spot stands to an address; a vacant one stands before its own. The one way to compare, which counts.
     pub(crate) fn compare(&self, address: Addr, comparisons: &mut GhostCount) -> Ordering
         ensures order { MatchOrdering result (least_behind self.now ≤ address) (Holds self.now address) (address < spot_address self.now) }
         ensures counted { comparisons.new.count ≡ comparisons.old.count + 1 }
     {
         comparisons.tick();
-        match self {
-            Spot::Held(holding) => holding.address().cmp(&address),
-            Spot::Vacant(vacant) if address < *vacant => Ordering::Greater,
-            Spot::Vacant(_) => Ordering::Less,
+        match self.address().cmp(&address) {
+            Ordering::Equal if self.is_vacant() => Ordering::Less,
+            order => order,
         }
     }
 
@@ -39,10 +48,7 @@ impl Spot {
     pub(crate) fn vacant_before(&self) -> Spot
         ensures { result ≡ Vacant (spot_address self.now) }
     {
-        match self {
-            Spot::Held(holding) => Spot::Vacant(holding.address()),
-            Spot::Vacant(address) => Spot::Vacant(*address),
-        }
+        Spot::Vacant(self.address())
     }
 
     /// Whether nothing is held.
