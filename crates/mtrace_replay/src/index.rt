@@ -15,7 +15,8 @@ use tlsf_heap::Ptr;
 use tlsf_store::GhostCount;
 
 /// What is held, in order of address. The spot of an address that is held no more stays vacant, for the same address or
-/// for one near it, so that an address which comes again moves nothing.
+/// for one near it, so that an address which comes again moves nothing. Where much has moved for new addresses, the spots
+/// are arranged anew.
 #[derive(Drop)]
 pub(crate) struct Index {
     spots: Vec<Spot>,
