@@ -144,11 +144,15 @@ fn run_with_refused_memory(rt: HostRuntime) {
     }
 }
 
+/// Addresses that fall, so that the index is arranged anew.
+const FALLING: &[u8] =
+    b"+ 0x70 0x1\n+ 0x60 0x1\n+ 0x50 0x1\n+ 0x40 0x1\n+ 0x30 0x1\n+ 0x20 0x1\n= Stop\n- 0x40\n";
+
 /// A run takes memory twice. With a writer that takes none, it fails where the first or the second allocation is
 /// refused, and with no later one.
 #[test]
 fn memory_taken_twice(rt: HostRuntime) {
-    let mut reader = MemorySource::in_pieces(LOG, 7);
+    let mut reader = MemorySource::in_pieces(FALLING, 7);
     let mut writer = ToWrite::new(io::sink());
     let answer = run_leaks(rt.alloc(), &mut reader, &mut writer, SETTINGS);
     assert!(rt; answer == Ok(Status::Found));
