@@ -63,14 +63,14 @@ vacant_rise : (bound : ℕ) (before : List Spot) (spot : Spot) (count : ℕ) (be
 vacant_rise bound [] spot count behind rise = vacant_first bound spot count behind rise.0 rise.1
 vacant_rise bound (first ∷ before) spot count behind rise = (rise.0, vacant_rise (least_behind first) before spot count behind rise.1)
 
-none_held : (address count : ℕ) → all_held (replicate count (Vacant address)) ≡ []
-none_held address zero = refl
-none_held address (suc count) = none_held address count
+vacant_none : (address count : ℕ) → all_held (replicate count (Vacant address)) ≡ []
+vacant_none address zero = refl
+vacant_none address (suc count) = vacant_none address count
 
 vacant_held : (before : List Spot) (address count : ℕ) (behind : List Spot) → all_held (before ++ (replicate count (Vacant address) ++ behind)) ≡ all_held (before ++ behind)
 vacant_held before address count behind =
     held_append before (replicate count (Vacant address) ++ behind)
-    ∙ ap (λ all. all_held before ++ all) (held_append (replicate count (Vacant address)) behind ∙ ap (λ all. all ++ all_held behind) (none_held address count))
+    ∙ ap (λ all. all_held before ++ all) (held_append (replicate count (Vacant address)) behind ∙ ap (λ all. all ++ all_held behind) (vacant_none address count))
     ∙ sym (held_append before behind)
 
 -- the number before one that isn't zero

@@ -1,5 +1,5 @@
 -- What is held at the spots of an index, and how it changes where one spot does.
-use Rattle.std.proofs.Common.{◌≡◌, ℕ, Bool, cond, suc, ◌+◌, ◌<◌, ◌≤◌, List, [], ◌∷◌, ◌++◌, take, drop, length, is_some, slice_index_or, slice_set, Option, Some, None, true, false, Less, arith, refl, sym, ap, ◌∙◌, subst}
+use Rattle.std.proofs.Common.{◌≡◌, ℕ, Bool, cond, suc, ◌+◌, ◌<◌, ◌≤◌, List, [], ◌∷◌, ◌++◌, take, drop, length, slice_index_or, slice_set, Option, Some, None, true, false, Less, arith, refl, sym, ap, ◌∙◌, subst}
 use Rattle.std.specs.Prelude.{◌==◌, option_to_list}
 use Rattle.std.specs.List.{AllByRecursion}
 use Rattle.std.specs.List.Sorted.{IsStrictlySortedBy}
@@ -254,7 +254,3 @@ arranged_keeps spots new memory new_memory room blocks bytes kept same rise with
   blocks_are = kept.blocks_are ∙ sym (ap (length {A = Holding}) same);
   bytes_are = kept.bytes_are ∙ sym (ap held_bytes same);
 }
-
-pub one_held : (held : Option Holding) → is_some held ≡ true → length (option_to_list held) ≡ 1
-one_held (Some holding) is = refl
-one_held None is = cc

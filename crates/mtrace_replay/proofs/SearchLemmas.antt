@@ -1,8 +1,9 @@
 -- A search by halves: what is left, and how often it compares.
-use Rattle.std.proofs.Common.{◌≡◌, ℕ, zero, suc, ◌+◌, ◌-◌, ◌/◌, ◌^◌, ◌<◌, ◌≤◌, List, take, drop, length, is_some, true, slice_index_or, arith, refl, sym, subst}
+use Rattle.std.proofs.Common.{◌≡◌, ℕ, zero, suc, ◌+◌, ◌-◌, ◌/◌, ◌^◌, ◌<◌, ◌≤◌, List, take, drop, length, is_some, true, slice_index_or, arith, Ordering, Less, Greater, refl, sym, subst}
 use Rattle.std.proofs.lemmas.List.{drop_all}
+use Rattle.std.specs.Ordering.{MatchOrdering}
 use Rattle.mtrace_replay.specs.declared.spot.Spot.{Spot}
-use Rattle.mtrace_replay.specs.Spot.{spot_address, least_behind, holding_of, RiseFrom, AreBelow, AreAbove}
+use Rattle.mtrace_replay.specs.Spot.{spot_address, least_behind, Holds, holding_of, RiseFrom, AreBelow, AreAbove}
 use Rattle.mtrace_replay.proofs.SpotLemmas.{below_up_to, above_from}
 
 -- so many comparisons were made of those that the digits allow, and the rest is enough for what is left
@@ -22,6 +23,14 @@ half_left digits before count left less can some fewer = by_rest can.rest refl
       spent = omega (arith, can.spent, is);
       enough = omega (arith, fewer, subst (λ r. left < 2 ^ r) is can.enough);
     }
+
+-- what a comparison tells
+module _ (spot : Spot) (address : ℕ) where
+  pub less_tells : (order : Ordering) → MatchOrdering order (least_behind spot ≤ address) (Holds spot address) (address < spot_address spot) → order ≡ Less → least_behind spot ≤ address
+  less_tells order tells is = subst (λ o. MatchOrdering o (least_behind spot ≤ address) (Holds spot address) (address < spot_address spot)) is tells
+
+  pub greater_tells : (order : Ordering) → MatchOrdering order (least_behind spot ≤ address) (Holds spot address) (address < spot_address spot) → order ≡ Greater → address < spot_address spot
+  greater_tells order tells is = subst (λ o. MatchOrdering o (least_behind spot ≤ address) (Holds spot address) (address < spot_address spot)) is tells
 
 -- the address is above what stands before `low`, and below what stands from `high` on
 pub record Searching (spots : List Spot) (address low high before count : ℕ) : Type 0 where

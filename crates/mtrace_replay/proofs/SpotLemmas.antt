@@ -11,7 +11,7 @@ pub not_lower : (spot : Spot) → spot_address spot ≤ least_behind spot
 not_lower (Held holding) = omega arith
 not_lower (Vacant address) = omega arith
 
--- and it may be the next one
+-- the address after that of a spot may be behind it
 pub not_higher : (spot : Spot) → least_behind spot ≤ suc (spot_address spot)
 not_higher (Held holding) = omega arith
 not_higher (Vacant address) = omega arith

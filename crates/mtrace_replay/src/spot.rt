@@ -17,7 +17,7 @@ use tlsf_store::GhostCount;
 pub(crate) enum Spot {
     /// An address that is held.
     Held(Holding),
-    /// An address that was held.
+    /// Nothing is held: the address was, or it is that of the next spot that is.
     Vacant(Addr),
 }
 

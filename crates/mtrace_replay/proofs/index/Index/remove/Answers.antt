@@ -1,10 +1,9 @@
 use Rattle.std.proofs.Common.{◌-◌, None, is_some, length, arith, refl, sym, ap, ◌∙◌, subst, cond}
 use Rattle.std.specs.Prelude.{◌==◌}
 use Rattle.mtrace_replay.specs.declared.spot.Spot.TheVariants.{Vacant}
-use Rattle.mtrace_replay.specs.Spot.{holding_of}
 use Rattle.mtrace_replay.specs.Search.{StandsAt, FitsAt}
 use Rattle.mtrace_replay.specs.Index.{Indexed, held_at, held_bytes}
-use Rattle.mtrace_replay.proofs.IndexLemmas.{set_keeps, set_held, set_count, set_bytes, one_was, held_there, nothing_there, nothing_removed, one_held}
+use Rattle.mtrace_replay.proofs.IndexLemmas.{set_keeps, set_held, set_count, set_bytes, one_was, nothing_there, nothing_removed}
 use Rattle.mtrace_replay.proofs.index.Index.remove.Goals as goal
 
 pub overflow_sub-self : goal.overflow_sub-self
@@ -40,10 +39,8 @@ pub returns-in-Ok-clause-fewer : goal.returns-in-Ok-clause-fewer
 returns-in-Ok-clause-fewer c some =
     let spots = c.self.inside.spots.items in
     let stands = subst (λ all. StandsAt all c.args.address c.in-Ok.at) c.deref.ensures.value c.in-Ok.ensures.found in
-    let there = held_there spots c.args.address c.in-Ok.at c.self.invariant.rise stands c.index.result.now (Vacant c.args.address) c.index.ensures refl in
     let count = set_count spots c.args.address c.in-Ok.at c.self.invariant.rise stands c.index.result.now (Vacant c.args.address) c.index.ensures refl in
-    let seen = ap (λ (index : Indexed). is_some (held_at index.all c.args.address)) c.self.view_is in
-    let one = one_held (holding_of c.index.result.now) (ap is_some (sym there) ∙ seen ∙ some) in
+    let one = one_was spots c.args.address c.in-Ok.at c.self.invariant.rise stands c.index.result.now (Vacant c.args.address) c.index.ensures refl in
     omega (arith, count, one, ap (λ (index : Indexed). length index.all) c.self.view_is)
 
 pub returns-in-Ok-clause-bytes : goal.returns-in-Ok-clause-bytes
