@@ -1,5 +1,5 @@
 -- What contracts see of a heap: its content, how often its store was touched, and the rows from each slot on.
-use Rattle.std.specs.Prelude.{ℕ, List}
+use Rattle.std.specs.Prelude.{◌≡◌, ℕ, List}
 use Rattle.tlsf_heap.specs.declared.row.Row.{Row}
 use Rattle.tlsf_store.specs.CountedCells.{CountedCells}
 use Rattle.tlsf_heap.specs.Content.{Pool, Content}
@@ -18,3 +18,8 @@ counted store = record { content = content_of store.cells; touches = store.touch
 -- where the pool begins, and its bytes
 abbrev pub range_of : {A : Type 0} → Pool A → ℕ × ℕ
 range_of pool = (pool.base, pool.bytes)
+
+-- the content is as it was, and each cursor stands where it stood, with the rows that are to come
+pub record IsUnchanged (old new : Counted) : Type 0 where
+  pub content : new.content ≡ old.content
+  pub rows : new.rows ≡ old.rows

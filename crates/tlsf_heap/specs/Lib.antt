@@ -14,6 +14,7 @@ pub mod Touches
 pub mod Counted
 pub mod GoodSlots
 pub mod Rows
+pub mod Heaped
 pub mod Walk
 pub mod Run
 pub mod Bare

@@ -6,7 +6,7 @@ mod lists;
 #[cfg(test)]
 mod tests;
 
-ghost use Rattle.std.specs.Prelude.{◌≡◌, ◌+◌, ◌≤◌, ◌↔◌, IsTrue, true, length};
+ghost use Rattle.std.specs.Prelude.{◌≡◌, ◌+◌, ◌<◌, ◌≤◌, ◌↔◌, IsTrue, true, length};
 ghost use Rattle.tlsf_store.specs.Records.{vacant_count};
 ghost use Rattle.tlsf_heap.specs.Inner.Following.{Stands};
 
@@ -20,7 +20,7 @@ use tlsf_store::Store;
 pub(crate) fn check(store: &mut Store) -> bool
     ensures sound { Stands store.old.cells → result ≡ true }
     ensures cells { store.new.cells ≡ store.old.cells }
-    ensures floor { store.old.touches ≤ store.new.touches }
+    ensures read { store.old.touches < store.new.touches }
 {
     let Some(chains) = tally_chains(store) else {
         return false;

@@ -41,6 +41,7 @@ impl Heap {
     ghost use Rattle.std.specs.Prelude.{◌≡◌, ◌≢◌, true, ℕ, ◌+◌, ◌%◌, ◌<◌, ◌≤◌, ◌==◌, ◌⊎◌, ◌↔◌, [], ◌∷◌, map, Ok, Err, IfOk, IfErr, IfSome, IfNone, OnOk, OnErr};
     ghost use Rattle.tlsf_store.specs.declared.errors.StoreError.TheVariants.{BadCount};
     ghost use Rattle.tlsf_store.specs.Records.{most_records};
+    ghost use Rattle.tlsf_heap.specs.Touches.{AtMost};
     ghost use Rattle.tlsf_heap.specs.Good.{IsGood};
     ghost use Rattle.tlsf_heap.specs.GoodSlots.{HasGoodSlots, slot_times};
     ghost use Rattle.tlsf_heap.specs.Content.{blocks_of};
@@ -54,7 +55,7 @@ impl Heap {
     ghost use Rattle.tlsf_heap.specs.Readings.{rows_behind, is_at_row};
     ghost use Rattle.tlsf_heap.specs.Walk.{IsWalk, walk_touches};
     ghost use Rattle.tlsf_heap.specs.Pools.{created, add_pool as added, remove_pool as removed};
-    ghost use Rattle.tlsf_heap.specs.Counted.{range_of};
+    ghost use Rattle.tlsf_heap.specs.Counted.{range_of, IsUnchanged};
     ghost use Rattle.tlsf_heap.specs.Implied.{NoneFits, NoneFitsAligned, HasFewRecords, HasFewRecordsAndOne, HasAlignedBlocks, HasDisjointBlocks, ListsFreeBlocks, ListsNothingElse};
     ghost use Rattle.tlsf_heap.specs.declared.refusal.Refusal.TheVariants.{NoFit, TableFull};
 
@@ -75,7 +76,7 @@ impl Heap {
         }
     }
 
-    /// A pool of `bytes` bytes from the place `base` on, as one free block. At most 64 touches.
+    /// A pool of `bytes` bytes from the place `base` on, as one free block. At most 29 touches.
     ///
     /// # Errors
     ///
@@ -88,15 +89,13 @@ impl Heap {
         ensures refused { IfErr result (λ refusal. added base bytes self.old.content ≡ Err refusal) }
         ensures table_full { result ≡ Err TableFull → HasFewRecords self.old.content }
         ensures never_memory { result ≢ Err Refusal.OutOfMemory }
-        ensures unchanged { OnErr result (self.new.content ≡ self.old.content) }
-        ensures others { OnErr result (self.new.rows ≡ self.old.rows) }
-        ensures floor { self.old.touches ≤ self.new.touches }
-        ensures bound { self.new.touches ≤ self.old.touches + 64 }
+        ensures unchanged { OnErr result (IsUnchanged self.old self.new) }
+        ensures bound { AtMost 29 self.old.touches self.new.touches }
     {
         add_pool(&mut self.store, base, bytes)
     }
 
-    /// The pool that begins at the place `base` is gone. At most 64 touches.
+    /// The pool that begins at the place `base` is gone. At most 30 touches.
     ///
     /// # Errors
     ///
@@ -105,17 +104,15 @@ impl Heap {
         ensures ok { OnOk result (removed base self.old.content ≡ Ok self.new.content) }
         ensures refused { IfErr result (λ refusal. removed base self.old.content ≡ Err refusal) }
         ensures never_memory { result ≢ Err Refusal.OutOfMemory }
-        ensures unchanged { OnErr result (self.new.content ≡ self.old.content) }
-        ensures others { OnErr result (self.new.rows ≡ self.old.rows) }
-        ensures floor { self.old.touches ≤ self.new.touches }
-        ensures bound { self.new.touches ≤ self.old.touches + 64 }
+        ensures unchanged { OnErr result (IsUnchanged self.old self.new) }
+        ensures bound { AtMost 30 self.old.touches self.new.touches }
     {
         remove_pool(&mut self.store, base)
     }
 
     /// A live block of at least `n` bytes: the first of the first list that isn't empty, at or above the
     /// class from which each block holds `n` bytes, rounded up to the unit. What is left of it behind
-    /// these bytes is a free block. At most 96 touches.
+    /// these bytes is a free block. At most 32 touches.
     ///
     /// # Errors
     ///
@@ -130,10 +127,8 @@ impl Heap {
         ensures no_fit { result ≡ Err NoFit → NoneFits n self.old.content }
         ensures table_full { result ≡ Err TableFull → HasFewRecords self.old.content }
         ensures never_memory { result ≢ Err Refusal.OutOfMemory }
-        ensures unchanged { OnErr result (self.new.content ≡ self.old.content) }
-        ensures others { OnErr result (self.new.rows ≡ self.old.rows) }
-        ensures floor { self.old.touches ≤ self.new.touches }
-        ensures bound { self.new.touches ≤ self.old.touches + 96 }
+        ensures unchanged { OnErr result (IsUnchanged self.old self.new) }
+        ensures bound { AtMost 32 self.old.touches self.new.touches }
     {
         malloc(&mut self.store, n)
     }
@@ -141,7 +136,7 @@ impl Heap {
     /// A live block of at least `n` bytes, rounded up to the unit, that begins at a multiple of `align`. It is
     /// carved from the first of the first list that isn't empty, at or above the class from which each block
     /// holds `n` bytes, rounded up, and for an alignment above the unit `align` less the unit more. What is left
-    /// in front of it and behind it are free blocks; the one in front enters its list first. At most 160
+    /// in front of it and behind it are free blocks; the one in front enters its list first. At most 56
     /// touches.
     ///
     /// # Errors
@@ -159,16 +154,14 @@ impl Heap {
         ensures no_fit { result ≡ Err NoFit → NoneFitsAligned align n self.old.content }
         ensures table_full { result ≡ Err TableFull → HasFewRecordsAndOne self.old.content }
         ensures never_memory { result ≢ Err Refusal.OutOfMemory }
-        ensures unchanged { OnErr result (self.new.content ≡ self.old.content) }
-        ensures others { OnErr result (self.new.rows ≡ self.old.rows) }
-        ensures floor { self.old.touches ≤ self.new.touches }
-        ensures bound { self.new.touches ≤ self.old.touches + 160 }
+        ensures unchanged { OnErr result (IsUnchanged self.old self.new) }
+        ensures bound { AtMost 56 self.old.touches self.new.touches }
     {
         memalign(&mut self.store, align, n)
     }
 
     /// The block becomes free. It and its free neighbours in the pool are one free block then, the first
-    /// of its class's list. At most 96 touches.
+    /// of its class's list. At most 50 touches.
     ///
     /// # Errors
     ///
@@ -177,10 +170,8 @@ impl Heap {
         ensures ok { OnOk result (freed (λ slot. slot == ptr.slot) ptr.place self.old.content ≡ Ok self.new.content) }
         ensures refused { IfErr result (λ refusal. freed (λ slot. slot == ptr.slot) ptr.place self.old.content ≡ Err refusal) }
         ensures never_memory { result ≢ Err Refusal.OutOfMemory }
-        ensures unchanged { OnErr result (self.new.content ≡ self.old.content) }
-        ensures others { OnErr result (self.new.rows ≡ self.old.rows) }
-        ensures floor { self.old.touches ≤ self.new.touches }
-        ensures bound { self.new.touches ≤ self.old.touches + 96 }
+        ensures unchanged { OnErr result (IsUnchanged self.old self.new) }
+        ensures bound { AtMost 50 self.old.touches self.new.touches }
     {
         free(&mut self.store, ptr)
     }
@@ -189,7 +180,7 @@ impl Heap {
     /// the free block behind it, or smaller. Else a new block is given, and the old one is freed; which bytes
     /// are copied is the caller's. Without a pointer it is `malloc`. The answer to 0 bytes is `None`, and the
     /// block is freed. A block that gets smaller stays as it is where no free block is behind it and each record
-    /// is in use. At most 256 touches.
+    /// is in use. At most 87 touches.
     ///
     /// # Errors
     ///
@@ -202,15 +193,13 @@ impl Heap {
         ensures refused { IfErr result (λ refusal. (slot : ℕ) → reallocated (λ a b. a == b) slot (place_and_slot ptr) n self.old.content ≡ Err refusal) }
         ensures table_full { result ≡ Err TableFull → HasFewRecords self.old.content }
         ensures never_memory { result ≢ Err Refusal.OutOfMemory }
-        ensures unchanged { OnErr result (self.new.content ≡ self.old.content) }
-        ensures others { OnErr result (self.new.rows ≡ self.old.rows) }
-        ensures floor { self.old.touches ≤ self.new.touches }
-        ensures bound { self.new.touches ≤ self.old.touches + 256 }
+        ensures unchanged { OnErr result (IsUnchanged self.old self.new) }
+        ensures bound { AtMost 87 self.old.touches self.new.touches }
     {
         realloc(&mut self.store, ptr, n)
     }
 
-    /// The size of a live block, in bytes. At most four touches.
+    /// The size of a live block, in bytes. At most two touches.
     ///
     /// # Errors
     ///
@@ -219,10 +208,8 @@ impl Heap {
         ensures ok { IfOk result (λ bytes. sized (λ slot. slot == ptr.slot) ptr.place self.old.content ≡ Ok bytes) }
         ensures refused { IfErr result (λ refusal. sized (λ slot. slot == ptr.slot) ptr.place self.old.content ≡ Err refusal) }
         ensures never_memory { result ≢ Err Refusal.OutOfMemory }
-        ensures others { self.new.rows ≡ self.old.rows }
-        ensures unchanged { self.new.content ≡ self.old.content }
-        ensures floor { self.old.touches ≤ self.new.touches }
-        ensures bound { self.new.touches ≤ self.old.touches + 4 }
+        ensures unchanged { IsUnchanged self.old self.new }
+        ensures bound { AtMost 2 self.old.touches self.new.touches }
     {
         block_size(&mut self.store, ptr)
     }
@@ -230,10 +217,8 @@ impl Heap {
     /// Where each pool begins and how many bytes it has, in order of base. At most eight touches.
     pub fn pools(&mut self) -> ArrayVec<(u64, u64), MOST_POOLS>
         ensures value { result.items ≡ map range_of self.old.content.pools }
-        ensures others { self.new.rows ≡ self.old.rows }
-        ensures unchanged { self.new.content ≡ self.old.content }
-        ensures floor { self.old.touches ≤ self.new.touches }
-        ensures bound { self.new.touches ≤ self.old.touches + 8 }
+        ensures unchanged { IsUnchanged self.old self.new }
+        ensures bound { AtMost 8 self.old.touches self.new.touches }
     {
         let entries = entries(&mut self.store);
         pool_ranges(entries.as_slice())
@@ -248,32 +233,28 @@ impl Heap {
         ensures ok { IfOk result (λ cursor. rows_from base self.old.content.pools ≡ Ok (rows_behind self.new.rows cursor)) }
         ensures stands { IfOk result (λ cursor. is_at_row self.new.rows cursor) }
         ensures refused { IfErr result (λ refusal. rows_from base self.old.content.pools ≡ Err refusal) }
-        ensures others { self.new.rows ≡ self.old.rows }
-        ensures unchanged { self.new.content ≡ self.old.content }
-        ensures floor { self.old.touches ≤ self.new.touches }
-        ensures bound { self.new.touches ≤ self.old.touches + 4 }
+        ensures unchanged { IsUnchanged self.old self.new }
+        ensures bound { AtMost 4 self.old.touches self.new.touches }
     {
         first(&mut self.store, base)
     }
 
-    /// The row at the cursor, and the cursor behind it; none behind the last row of the pool. At most
-    /// four touches, and none where there is no row.
+    /// The row at the cursor, and the cursor behind it; none behind the last row of the pool. One
+    /// touch, and none where there is no row.
     pub fn row(&mut self, cursor: Cursor) -> Option<(Row, Cursor)>
         requires { is_at_row self.old.rows cursor }
         ensures some { IfSome result (λ given. rows_behind self.old.rows cursor ≡ given.0 ∷ rows_behind self.new.rows given.1) }
         ensures next_stands { IfSome result (λ given. is_at_row self.new.rows given.1) }
         ensures none { IfNone result (rows_behind self.old.rows cursor ≡ []) }
-        ensures others { self.new.rows ≡ self.old.rows }
-        ensures unchanged { self.new.content ≡ self.old.content }
-        ensures floor { self.old.touches ≤ self.new.touches }
-        ensures bound { IfSome result (λ given. self.new.touches ≤ self.old.touches + 4) }
+        ensures unchanged { IsUnchanged self.old self.new }
+        ensures bound { IfSome result (λ given. AtMost 1 self.old.touches self.new.touches) }
         ensures no_touch { IfNone result (self.new.touches ≡ self.old.touches) }
     {
         row(&mut self.store, cursor)
     }
 
     /// Calls `visit` at each row of the pool that begins at the place `base`, once and in order. At most four
-    /// touches, and four more for each row.
+    /// touches, and one more for each row.
     ///
     /// # Errors
     ///
@@ -282,10 +263,8 @@ impl Heap {
         requires { F.IsAlwaysCallable visit }
         ensures ok { OnOk result ((last : F) × IsWalk (λ p x q. F.step p x tt q) base self.old.content.pools visit last) }
         ensures refused { IfErr result (λ refusal. rows_from base self.old.content.pools ≡ Err refusal) }
-        ensures others { self.new.rows ≡ self.old.rows }
-        ensures unchanged { self.new.content ≡ self.old.content }
-        ensures floor { self.old.touches ≤ self.new.touches }
-        ensures bound { self.new.touches ≤ self.old.touches + walk_touches (rows_from base self.old.content.pools) }
+        ensures unchanged { IsUnchanged self.old self.new }
+        ensures bound { AtMost (walk_touches (rows_from base self.old.content.pools)) self.old.touches self.new.touches }
     {
         walk(&mut self.store, base, &mut visit)
     }
@@ -295,12 +274,11 @@ impl Heap {
     /// ones side by side; the list of each class is linked both ways and has free blocks of that class alone; the
     /// bitmaps agree with the lists; there are as many free blocks in lists as in pools, and as many blocks and
     /// vacant records as records. Each record in use is read, and each list, bitmap word and pool entry: how
-    /// many touches that takes isn't promised.
+    /// many touches that takes isn't promised, but it is some.
     pub fn check(&mut self) -> bool
         ensures whole { result ≡ true }
-        ensures others { self.new.rows ≡ self.old.rows }
-        ensures unchanged { self.new.content ≡ self.old.content }
-        ensures floor { self.old.touches ≤ self.new.touches }
+        ensures unchanged { IsUnchanged self.old self.new }
+        ensures read { self.old.touches < self.new.touches }
     {
         check(&mut self.store)
     }

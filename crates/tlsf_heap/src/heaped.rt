@@ -16,6 +16,8 @@ ghost use Rattle.tlsf_heap.specs.Pointer.{place_and_slot, slot_of};
 ghost use Rattle.tlsf_heap.specs.Good.{IsGood};
 ghost use Rattle.tlsf_heap.specs.GoodSlots.{HasGoodSlots, slot_times};
 ghost use Rattle.tlsf_heap.specs.Counted.{range_of};
+ghost use Rattle.tlsf_heap.specs.Touches.{AtMost};
+ghost use Rattle.tlsf_heap.specs.Heaped.{IsUnchanged};
 ghost use Rattle.tlsf_heap.specs.Rows.{rows_from};
 
 use crate::{Cursor, Ptr, Refusal, Row};
@@ -67,11 +69,8 @@ pub trait Heaped: Drop {
         ensures ok { OnOk result (added base bytes (content self.old) ≡ Ok (content self.new)) }
         ensures refused { IfErr result (λ refusal. refusal ≢ Refusal.OutOfMemory → added base bytes (content self.old) ≡ Err refusal) }
         ensures memory { IfErr result (λ refusal. refusal ≡ Refusal.OutOfMemory → lacks self.old) }
-        ensures unchanged { OnErr result (content self.new ≡ content self.old) }
-        ensures others_stand { OnErr result ((other : Cursor) → stands self.old other → stands self.new other) }
-        ensures others { OnErr result ((other : Cursor) → rest self.new other ≡ rest self.old other) }
-        ensures floor { touches self.old ≤ touches self.new }
-        ensures bound { touches self.new ≤ touches self.old + 64 };
+        ensures unchanged { OnErr result (IsUnchanged content stands rest self.old self.new) }
+        ensures bound { AtMost 64 (touches self.old) (touches self.new) };
 
     /// The pool that begins at the place `base` is gone. At most 64 touches.
     ///
@@ -83,11 +82,8 @@ pub trait Heaped: Drop {
         ensures ok { OnOk result (removed base (content self.old) ≡ Ok (content self.new)) }
         ensures refused { IfErr result (λ refusal. refusal ≢ Refusal.OutOfMemory → removed base (content self.old) ≡ Err refusal) }
         ensures memory { IfErr result (λ refusal. refusal ≡ Refusal.OutOfMemory → lacks self.old) }
-        ensures unchanged { OnErr result (content self.new ≡ content self.old) }
-        ensures others_stand { OnErr result ((other : Cursor) → stands self.old other → stands self.new other) }
-        ensures others { OnErr result ((other : Cursor) → rest self.new other ≡ rest self.old other) }
-        ensures floor { touches self.old ≤ touches self.new }
-        ensures bound { touches self.new ≤ touches self.old + 64 };
+        ensures unchanged { OnErr result (IsUnchanged content stands rest self.old self.new) }
+        ensures bound { AtMost 64 (touches self.old) (touches self.new) };
 
     /// A live block of at least `n` bytes, with a slot that no other live block has. At most 96 touches.
     ///
@@ -102,11 +98,8 @@ pub trait Heaped: Drop {
         ensures slot_new { IfOk result (λ ptr. slot_times ptr.slot (blocks_of (content self.old).pools) ≡ 0) }
         ensures refused { IfErr result (λ refusal. refusal ≢ Refusal.OutOfMemory → (slot : ℕ) → served slot n (content self.old) ≡ Err refusal) }
         ensures memory { IfErr result (λ refusal. refusal ≡ Refusal.OutOfMemory → lacks self.old) }
-        ensures unchanged { OnErr result (content self.new ≡ content self.old) }
-        ensures others_stand { OnErr result ((other : Cursor) → stands self.old other → stands self.new other) }
-        ensures others { OnErr result ((other : Cursor) → rest self.new other ≡ rest self.old other) }
-        ensures floor { touches self.old ≤ touches self.new }
-        ensures bound { touches self.new ≤ touches self.old + 96 };
+        ensures unchanged { OnErr result (IsUnchanged content stands rest self.old self.new) }
+        ensures bound { AtMost 96 (touches self.old) (touches self.new) };
 
     /// A live block of at least `n` bytes that begins at a multiple of `align`, with a slot that no other live
     /// block has. At most 160 touches.
@@ -123,11 +116,8 @@ pub trait Heaped: Drop {
         ensures slot_new { IfOk result (λ ptr. slot_times ptr.slot (blocks_of (content self.old).pools) ≡ 0) }
         ensures refused { IfErr result (λ refusal. refusal ≢ Refusal.OutOfMemory → (slot : ℕ) → aligned slot align n (content self.old) ≡ Err refusal) }
         ensures memory { IfErr result (λ refusal. refusal ≡ Refusal.OutOfMemory → lacks self.old) }
-        ensures unchanged { OnErr result (content self.new ≡ content self.old) }
-        ensures others_stand { OnErr result ((other : Cursor) → stands self.old other → stands self.new other) }
-        ensures others { OnErr result ((other : Cursor) → rest self.new other ≡ rest self.old other) }
-        ensures floor { touches self.old ≤ touches self.new }
-        ensures bound { touches self.new ≤ touches self.old + 160 };
+        ensures unchanged { OnErr result (IsUnchanged content stands rest self.old self.new) }
+        ensures bound { AtMost 160 (touches self.old) (touches self.new) };
 
     /// The live block with the pointer's place and slot becomes free, and is joined with its free
     /// neighbours. At most 96 touches.
@@ -140,11 +130,8 @@ pub trait Heaped: Drop {
         ensures ok { OnOk result (freed (λ slot. slot == ptr.slot) ptr.place (content self.old) ≡ Ok (content self.new)) }
         ensures refused { IfErr result (λ refusal. refusal ≢ Refusal.OutOfMemory → freed (λ slot. slot == ptr.slot) ptr.place (content self.old) ≡ Err refusal) }
         ensures memory { IfErr result (λ refusal. refusal ≡ Refusal.OutOfMemory → lacks self.old) }
-        ensures unchanged { OnErr result (content self.new ≡ content self.old) }
-        ensures others_stand { OnErr result ((other : Cursor) → stands self.old other → stands self.new other) }
-        ensures others { OnErr result ((other : Cursor) → rest self.new other ≡ rest self.old other) }
-        ensures floor { touches self.old ≤ touches self.new }
-        ensures bound { touches self.new ≤ touches self.old + 96 };
+        ensures unchanged { OnErr result (IsUnchanged content stands rest self.old self.new) }
+        ensures bound { AtMost 96 (touches self.old) (touches self.new) };
 
     /// The block with room for `n` bytes, in its place where it can have them, else under a new pointer; none
     /// for 0 bytes, for then it is freed. Without a pointer it is `malloc`. At most 256 touches.
@@ -159,11 +146,8 @@ pub trait Heaped: Drop {
         ensures slot_new { IfOk result (λ given. IfSome given (λ p. ptr ≢ Some p → slot_times p.slot (blocks_of (content self.old).pools) ≡ 0)) }
         ensures refused { IfErr result (λ refusal. refusal ≢ Refusal.OutOfMemory → (slot : ℕ) → reallocated (λ a b. a == b) slot (place_and_slot ptr) n (content self.old) ≡ Err refusal) }
         ensures memory { IfErr result (λ refusal. refusal ≡ Refusal.OutOfMemory → lacks self.old) }
-        ensures unchanged { OnErr result (content self.new ≡ content self.old) }
-        ensures others_stand { OnErr result ((other : Cursor) → stands self.old other → stands self.new other) }
-        ensures others { OnErr result ((other : Cursor) → rest self.new other ≡ rest self.old other) }
-        ensures floor { touches self.old ≤ touches self.new }
-        ensures bound { touches self.new ≤ touches self.old + 256 };
+        ensures unchanged { OnErr result (IsUnchanged content stands rest self.old self.new) }
+        ensures bound { AtMost 256 (touches self.old) (touches self.new) };
 
     /// The size of a live block, in bytes. At most four touches.
     ///
@@ -174,20 +158,14 @@ pub trait Heaped: Drop {
         ensures ok { IfOk result (λ bytes. sized (λ slot. slot == ptr.slot) ptr.place (content self.old) ≡ Ok bytes) }
         ensures refused { IfErr result (λ refusal. sized (λ slot. slot == ptr.slot) ptr.place (content self.old) ≡ Err refusal) }
         ensures never_memory { result ≢ Err Refusal.OutOfMemory }
-        ensures others_stand { (other : Cursor) → stands self.old other → stands self.new other }
-        ensures others { (other : Cursor) → rest self.new other ≡ rest self.old other }
-        ensures unchanged { content self.new ≡ content self.old }
-        ensures floor { touches self.old ≤ touches self.new }
-        ensures bound { touches self.new ≤ touches self.old + 4 };
+        ensures unchanged { IsUnchanged content stands rest self.old self.new }
+        ensures bound { AtMost 4 (touches self.old) (touches self.new) };
 
     /// Where each pool begins and how many bytes it has, in order of base. At most eight touches.
     fn pools(&mut self) -> ArrayVec<(u64, u64), MOST_POOLS>
         ensures value { result.items ≡ map range_of (content self.old).pools }
-        ensures others_stand { (other : Cursor) → stands self.old other → stands self.new other }
-        ensures others { (other : Cursor) → rest self.new other ≡ rest self.old other }
-        ensures unchanged { content self.new ≡ content self.old }
-        ensures floor { touches self.old ≤ touches self.new }
-        ensures bound { touches self.new ≤ touches self.old + 8 };
+        ensures unchanged { IsUnchanged content stands rest self.old self.new }
+        ensures bound { AtMost 8 (touches self.old) (touches self.new) };
 
     /// The cursor at the first row of the pool that begins at the place `base`. At most four touches.
     ///
@@ -198,11 +176,8 @@ pub trait Heaped: Drop {
         ensures ok { IfOk result (λ cursor. rows_from base (content self.old).pools ≡ Ok (rest self.new cursor)) }
         ensures stands { IfOk result (λ cursor. stands self.new cursor) }
         ensures refused { IfErr result (λ refusal. rows_from base (content self.old).pools ≡ Err refusal) }
-        ensures others_stand { (other : Cursor) → stands self.old other → stands self.new other }
-        ensures others { (other : Cursor) → rest self.new other ≡ rest self.old other }
-        ensures unchanged { content self.new ≡ content self.old }
-        ensures floor { touches self.old ≤ touches self.new }
-        ensures bound { touches self.new ≤ touches self.old + 4 };
+        ensures unchanged { IsUnchanged content stands rest self.old self.new }
+        ensures bound { AtMost 4 (touches self.old) (touches self.new) };
 
     /// The row at the cursor, and the cursor behind it; none behind the last row of the pool. At most
     /// four touches, and none where there is no row.
@@ -211,11 +186,8 @@ pub trait Heaped: Drop {
         ensures some { IfSome result (λ given. rest self.old cursor ≡ given.0 ∷ rest self.new given.1) }
         ensures next_stands { IfSome result (λ given. stands self.new given.1) }
         ensures none { IfNone result (rest self.old cursor ≡ []) }
-        ensures others_stand { (other : Cursor) → stands self.old other → stands self.new other }
-        ensures others { (other : Cursor) → rest self.new other ≡ rest self.old other }
-        ensures unchanged { content self.new ≡ content self.old }
-        ensures floor { touches self.old ≤ touches self.new }
-        ensures bound { IfSome result (λ given. touches self.new ≤ touches self.old + 4) }
+        ensures unchanged { IsUnchanged content stands rest self.old self.new }
+        ensures bound { IfSome result (λ given. AtMost 4 (touches self.old) (touches self.new)) }
         ensures no_touch { IfNone result (touches self.new ≡ touches self.old) };
 
     /// Says what every heap keeps, and does nothing. Its pools are covered by their blocks end to end, and

@@ -1,6 +1,7 @@
 //! A run of requests on a heap.
 
 ghost use Rattle.std.specs.Prelude.{◌≡◌, ◌≢◌, ◌+◌, ◌≤◌, All, IfOk, IfErr, OnErr};
+ghost use Rattle.tlsf_heap.specs.Touches.{AtMost};
 ghost use Rattle.tlsf_heap.specs.Run.{MayLack, Step, Run, most_touches};
 
 use crate::{Answer, Heaped, Refusal, Request};
@@ -10,8 +11,7 @@ use tlsf_store::StoreError;
 /// The heap's answer to one request.
 fn answer<H: Heaped>(heap: &mut H, request: Request) -> Answer
     ensures step { Step (MayLack H.lacks) request result (H.content heap.old) (H.content heap.new) }
-    ensures floor { H.touches heap.old ≤ H.touches heap.new }
-    ensures bound { H.touches heap.new ≤ H.touches heap.old + most_touches request }
+    ensures bound { AtMost (most_touches request) (H.touches heap.old) (H.touches heap.new) }
 {
     match request {
         Request::AddPool(base, bytes) => match heap.add_pool(base, bytes) {

@@ -30,7 +30,7 @@ pub(super) struct Front {
 pub(super) fn tally_chains(store: &mut Store) -> Option<Tally>
     ensures sound { (stands : Stands store.old.cells) → result ≡ Some (tally_of (nodes_of stands.layout.areas)) }
     ensures cells { store.new.cells ≡ store.old.cells }
-    ensures floor { store.old.touches ≤ store.new.touches }
+    ensures read { store.old.touches < store.new.touches }
 {
     let mut tally = Tally { blocks: 0, free: 0 };
     for number in 0..MOST_POOLS as u32 {
@@ -48,7 +48,7 @@ fn tally_pool(store: &mut Store, number: u32) -> Option<Tally>
     ensures few { IfSome result (λ tally. tally.blocks ≤ most_records) }
     ensures few_free { IfSome result (λ tally. tally.free ≤ tally.blocks) }
     ensures cells { store.new.cells ≡ store.old.cells }
-    ensures floor { store.old.touches ≤ store.new.touches }
+    ensures read { store.old.touches < store.new.touches }
 {
     match store.pool(number) {
         Some(pool) => tally_chain(store, pool),

@@ -13,7 +13,7 @@ loop-request-preserved g c =
       room = c.push_reserved.ensures.capacity ∙ c.loop-request.invariant.room;
       answered = rw (longer, c.push_reserved.ensures.items)
           (run-more _ _ c.loop-request.answers.items asked c.answer-given.result _ _ _ _ _ _ c.loop-request.invariant.answered
-          c.answer-given.ensures.step c.answer-given.ensures.floor c.answer-given.ensures.bound);
+          c.answer-given.ensures.step c.answer-given.ensures.bound.floor c.answer-given.ensures.bound.bound);
     }
 
 pub returns-clause-memory : goal.returns-clause-memory

@@ -19,7 +19,7 @@ returns-in_err-chain-clause-sound c = λ stands.
 pub loop-number-preserved : goal.loop-number-preserved
 loop-number-preserved c = record {
   cells = c.tally_pool.ensures.cells ∙ c.loop-number.invariant.cells;
-  floor = omega arith;
+  read = omega arith;
   few = omega (arith, c.in_ok-chain.ensures.few);
   few_free = omega (arith, c.in_ok-chain.ensures.few_free);
   told = λ stands.

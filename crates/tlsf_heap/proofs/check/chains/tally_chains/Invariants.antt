@@ -1,4 +1,4 @@
-use Rattle.std.proofs.Common.{◌≡◌, ◌*◌, ◌≤◌, drop}
+use Rattle.std.proofs.Common.{◌≡◌, ◌+◌, ◌*◌, ◌≤◌, drop}
 use Rattle.tlsf_store.specs.Records.{most_records}
 use Rattle.tlsf_heap.specs.Inner.Following.{Stands}
 use Rattle.tlsf_heap.specs.Inner.Nodes.{nodes_of}
@@ -9,7 +9,7 @@ use Rattle.tlsf_heap.proofs.check.chains.tally_chains.Given as goal
 abbrev pub invariant-loop-number : goal.invariant-loop-number
 invariant-loop-number l = record {
   cells : l.store.cells ≡ l.fn.store.cells;
-  floor : l.fn.store.touches ≤ l.store.touches;
+  read : l.fn.store.touches + l.number ≤ l.store.touches;
   few : l.tally.blocks ≤ l.number * most_records;
   few_free : l.tally.free ≤ l.tally.blocks;
   told : (stands : Stands l.fn.store.cells) → IsSum l.tally (tally_of (nodes_of (drop l.number stands.layout.areas))) (tally_of (nodes_of stands.layout.areas));

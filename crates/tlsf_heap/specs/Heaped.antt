@@ -1,0 +1,11 @@
+-- What every heap leaves as it was.
+use Rattle.std.specs.Prelude.{◌≡◌, ℕ, List}
+use Rattle.tlsf_heap.specs.declared.cursor.Cursor.{Cursor}
+use Rattle.tlsf_heap.specs.declared.row.Row.{Row}
+use Rattle.tlsf_heap.specs.Content.{Content}
+
+-- the content is as it was, and each cursor stands where it stood, with the rows that are to come
+pub record IsUnchanged {H : Type 0} (content_of : H → Content ℕ) (stands : H → Cursor → Type 0) (rest : H → Cursor → List Row) (old new : H) : Type 0 where
+  pub content : content_of new ≡ content_of old
+  pub cursors : (cursor : Cursor) → stands old cursor → stands new cursor
+  pub rows : (cursor : Cursor) → rest new cursor ≡ rest old cursor
