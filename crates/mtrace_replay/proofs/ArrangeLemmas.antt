@@ -86,13 +86,12 @@ no_share vacant at held share first is =
 
 -- one spot more stands behind those that there were
 module _ (old before : List Spot) (spot : Spot) (counter : ℕ) (first : take (length old) before ≡ old) (more : length old ≤ length before) (most : length before ≤ length old + counter) where
-  pub grown : (b : Bool) (now : List Spot) → now ≡ cond b (before ++ spot ∷ []) before → (take (length old) now ≡ old) × (length old ≤ length now) × (length now ≤ length old + (counter + 1))
-  grown true now is = (
+  pub grown : (now : List Spot) → now ≡ before ++ spot ∷ [] → (take (length old) now ≡ old) × (length old ≤ length now) × (length now ≤ length old + (counter + 1))
+  grown now is = (
     ap (take (length old)) is ∙ take-append-le (length old) before (spot ∷ []) more ∙ first,
     omega (arith, more, ap (length {A = Spot}) is, length-append before (spot ∷ [])),
     omega (arith, most, ap (length {A = Spot}) is, length-append before (spot ∷ [])),
   )
-  grown false now is = (ap (take (length old)) is ∙ first, omega (arith, more, ap (length {A = Spot}) is), omega (arith, most, ap (length {A = Spot}) is))
 
 -- what stands before `at` and from `end` on is in order, and holds all; what is between is overwritten
 pub record Spreads (spots : List Spot) (at end : ℕ) (all : List Holding) : Type 0 where

@@ -244,12 +244,12 @@ module _ (spots : List Spot) (address at : ℕ) (rise : RiseFrom 0 spots) (fits 
   nothing_removed = changes_held address None None (all_held spots) (all_held spots) (not_held spots address at rise fits)
 
 -- the same is held at other spots
-pub arranged_keeps : (spots new : List Spot) (memory new_memory room blocks bytes : ℕ) → IsIndex spots memory room blocks bytes → all_held new ≡ all_held spots → RiseFrom 0 new → length new ≤ room → room ≤ new_memory
+pub arranged_keeps : (spots new : List Spot) (memory new_memory room blocks bytes : ℕ) → IsIndex spots memory room blocks bytes → all_held new ≡ all_held spots → RiseFrom 0 new → length new ≤ room → new_memory ≡ memory
     → IsIndex new new_memory room blocks bytes
 arranged_keeps spots new memory new_memory room blocks bytes kept same rise within reserved = record {
   rise = rise;
   within = within;
-  reserved = reserved;
+  reserved = reserved ∙ kept.reserved;
   few = kept.few;
   blocks_are = kept.blocks_are ∙ sym (ap (length {A = Holding}) same);
   bytes_are = kept.bytes_are ∙ sym (ap held_bytes same);

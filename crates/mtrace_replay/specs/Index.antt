@@ -32,12 +32,13 @@ pub record LooksUp (times : ℕ) (old new : Indexed) : Type 0 where
   pub room : new.room ≡ old.room
   pub compared : (digits : ℕ) → old.room < 2 ^ digits → new.comparisons ≤ old.comparisons + times * digits
 
--- what an index keeps: the addresses of its spots rise; there are no more spots than room, and memory for that many;
+-- what an index keeps: the addresses of its spots rise; there are no more spots than room, and memory for
+-- exactly that many;
 -- how much is held, and of how many bytes
 pub record IsIndex (spots : List Spot) (memory room blocks bytes : ℕ) : Type 0 where
   pub rise : RiseFrom 0 spots
   pub within : length spots ≤ room
-  pub reserved : room ≤ memory
+  pub reserved : memory ≡ room
   pub few : room < 2 ^ 32
   pub blocks_are : blocks ≡ length (all_held spots)
   pub bytes_are : bytes ≡ held_bytes (all_held spots)

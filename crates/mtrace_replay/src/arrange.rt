@@ -49,14 +49,14 @@ fn grow(spots: &mut Vec<Spot>, vacant: usize)
     ensures first { take (length spots.old.items) spots.new.items ≡ spots.old.items }
     ensures more { length spots.old.items ≤ length spots.new.items }
     ensures len { length spots.new.items ≤ length spots.old.items + vacant }
-    ensures reserved { vec_capacity spots.old ≤ vec_capacity spots.new }
+    ensures reserved { vec_capacity spots.new ≡ vec_capacity spots.old }
 {
     for _ in 0..vacant {
         let Some(last) = spots.last() else {
             return;
         };
         let spot = last.vacant_before();
-        let _ = spots.push(spot);
+        spots.push_reserved(spot);
     }
 }
 
@@ -69,7 +69,7 @@ pub(crate) fn arrange(spots: &mut Vec<Spot>, room: usize, at_end: bool)
     ensures same { all_held spots.new.items ≡ all_held spots.old.items }
     ensures rise { RiseFrom 0 spots.new.items }
     ensures within { length spots.new.items ≤ room }
-    ensures reserved { room ≤ vec_capacity spots.new }
+    ensures reserved { vec_capacity spots.new ≡ vec_capacity spots.old }
 {
     spots.retain(|spot| !spot.is_vacant());
     let held = spots.len();

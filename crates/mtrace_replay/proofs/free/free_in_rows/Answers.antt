@@ -17,5 +17,5 @@ loop-next-preserved g c =
       all = append_assoc kept.past size later ∙ ap (λ sizes. kept.past ++ sizes) (sym (ap (flat_map free_size) some)) ∙ kept.all;
       blocks = omega (arith, kept.blocks, count, c.joined-free.ensures.blocks, c.free_in_row.ensures.blocks);
       bytes = omega (arith, kept.bytes, count, c.joined-free.ensures.bytes, c.free_in_row.ensures.bytes);
-      same = c.in-Some.ensures.unchanged ∙ kept.same;
+      same = c.in-Some.ensures.unchanged.content ∙ kept.same;
     }

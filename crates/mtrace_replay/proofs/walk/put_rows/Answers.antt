@@ -16,7 +16,7 @@ loop-next-preserved g c =
           (flat_map row_text (g.H.Heaped.rest c.row.new.self c.in-Some.next.1))
           c.loop-next.invariant.put (ap (flat_map row_text) c.in-Some.ensures.some) (subst P (c.as_slice.ensures.value ∙ c.row_text.ensures) c.in_ok-put_all.ensures.all);
       took = moved_append Took _ _ _ c.loop-next.invariant.took c.in_ok-put_all.ensures.took;
-      same = c.in-Some.ensures.unchanged ∙ c.loop-next.invariant.same;
+      same = c.in-Some.ensures.unchanged.content ∙ c.loop-next.invariant.same;
     }
 
 pub returns-in_err-put_all-clause-beginning : goal.returns-in_err-put_all-clause-beginning

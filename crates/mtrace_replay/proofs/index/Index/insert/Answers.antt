@@ -44,7 +44,7 @@ invariant_of-self-then-self-len c =
     (enters_keeps c.self.inside.spots.items address c.in-Err.at c.self.invariant.rise fits (Held c.args.holding) refl c.enter-moved.new.spots.items c.enter-moved.ensures.enters
     (vec_capacity c.self.inside.spots) c.self.inside.room c.self.inside.blocks c.self.inside.bytes (c.self.inside.blocks + 1) (c.self.inside.bytes + c.size-size.result) c.self.invariant c.enter-moved.ensures.within
     (omega arith) (omega (arith, c.size-size.ensures)))
-    c.arrange.ensures.same c.arrange.ensures.rise c.arrange.ensures.within c.arrange.ensures.reserved
+    c.arrange.ensures.same c.arrange.ensures.rise c.arrange.ensures.within (c.arrange.ensures.reserved ∙ c.enter-moved.ensures.reserved)
 
 pub invariant_of-self-else-self-len : goal.invariant_of-self-else-self-len
 invariant_of-self-else-self-len c =
