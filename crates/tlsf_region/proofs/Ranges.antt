@@ -7,7 +7,7 @@ use Rattle.tlsf_class.specs.Rounding.{round}
 use Rattle.tlsf_heap.specs.declared.refusal.Refusal.{Refusal}
 use Rattle.tlsf_heap.specs.declared.refusal.Refusal.TheVariants.{ZeroSize, TableFull, BadPointer, BadPool, PoolsFull, BadAlign, PoolInUse}
 use Rattle.tlsf_heap.specs.Content.{Block, Pool, Content, blocks_of, size_at, used_records}
-use Rattle.tlsf_heap.specs.Counted.{range_of}
+use Rattle.tlsf_heap.specs.Counted.{Counted, IsUnchanged, range_of}
 use Rattle.tlsf_heap.specs.Lists.{pick}
 use Rattle.tlsf_heap.specs.Malloc.{gap, replaced_in, cut, allocated, malloc_picked, malloc_rounded, malloc}
 use Rattle.tlsf_heap.specs.Free.{is_live, free_next, without_block, after_free, free}
@@ -143,14 +143,14 @@ module _ {A : Type 0} where
       (ends_in_order end (record { base = base; bytes = bytes; blocks = gap base bytes }) content.pools below ends)))
 
 -- what a call that leaves where the pools lie, or is refused, leaves of a region
-pub still_within : {X : Type 0} (result : Result X Refusal) (old new : Content ℕ) (bytes : List ℕ) → OnOk result (ranges new ≡ ranges old) → OnErr result (new ≡ old) → IsWithin old bytes → IsWithin new bytes
+pub still_within : {X : Type 0} (result : Result X Refusal) (old new : Counted) (bytes : List ℕ) → OnOk result (ranges new.content ≡ ranges old.content) → OnErr result (IsUnchanged old new) → IsWithin old.content bytes → IsWithin new.content bytes
 still_within (Ok x) old new bytes ok err within = record { places = within.places; pools = subst (EndBelow (length bytes)) (sym ok) within.pools }
-still_within (Err why) old new bytes ok err within = subst (λ content. IsWithin content bytes) (sym err) within
+still_within (Err why) old new bytes ok err within = subst (λ content. IsWithin content bytes) (sym err.content) within
 
 -- what a call leaves that leaves each pool's end below the region's, or is refused
-pub ends_within : {X : Type 0} (result : Result X Refusal) (old new : Content ℕ) (bytes : List ℕ) → OnOk result (EndBelow (length bytes) (ranges new)) → OnErr result (new ≡ old) → IsWithin old bytes → IsWithin new bytes
+pub ends_within : {X : Type 0} (result : Result X Refusal) (old new : Counted) (bytes : List ℕ) → OnOk result (EndBelow (length bytes) (ranges new.content)) → OnErr result (IsUnchanged old new) → IsWithin old.content bytes → IsWithin new.content bytes
 ends_within (Ok x) old new bytes ok err within = record { places = within.places; pools = ok }
-ends_within (Err why) old new bytes ok err within = subst (λ content. IsWithin content bytes) (sym err) within
+ends_within (Err why) old new bytes ok err within = subst (λ content. IsWithin content bytes) (sym err.content) within
 
 -- where the pools lie as they did, the region stays as it was to be
 pub within_kept : (old new : Content ℕ) (bytes : List ℕ) → ranges new ≡ ranges old → IsWithin old bytes → IsWithin new bytes

@@ -26,6 +26,11 @@ pub record IsWithin (content : Content ℕ) (bytes : List ℕ) : Type 0 where
   pub places : length bytes ≤ end_of_places
   pub pools : EndBelow (length bytes) (map range_of content.pools)
 
+-- the heap's content is as it was, and each cursor stands where it stood, with the rows that are to come
+pub record IsUnchanged (old new : CountedRegion) : Type 0 where
+  pub content : new.content ≡ old.content
+  pub rows : new.rows ≡ old.rows
+
 -- its heap was read, in at most so many touches
 pub record WasRead (most : ℕ) (old new : CountedRegion) : Type 0 where
   pub content : new.content ≡ old.content

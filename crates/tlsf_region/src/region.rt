@@ -48,7 +48,8 @@ impl Region {
     ghost use Rattle.tlsf_heap.specs.declared.refusal.Refusal.TheVariants.{NoFit, TableFull};
     ghost use Rattle.tlsf_region.specs.Pools.{add_pool_within};
     ghost use Rattle.tlsf_region.specs.Realloc.{bytes_after_realloc};
-    ghost use Rattle.tlsf_region.specs.Region.{IsWithin, WasRead};
+    ghost use Rattle.tlsf_heap.specs.Touches.{AtMost};
+    ghost use Rattle.tlsf_region.specs.Region.{IsWithin, IsUnchanged, WasRead};
     ghost use Rattle.tlsf_region.specs.Bytes.{block_bytes, live_bytes};
     ghost use Rattle.tlsf_region.specs.Lends.{ends_read, lends_from, lends_block};
     ghost use Rattle.std.specs.Borrow.{sem};
@@ -84,7 +85,7 @@ impl Region {
         Ok(Region { heap, bytes })
     }
 
-    /// A pool of `bytes` bytes from the place `base` on, as one free block. At most 64 touches.
+    /// A pool of `bytes` bytes from the place `base` on, as one free block. At most 29 touches.
     ///
     /// # Errors
     ///
@@ -97,11 +98,9 @@ impl Region {
         ensures refused { IfErr result (λ refusal. add_pool_within (length self.old.bytes) base bytes self.old.content ≡ Err refusal) }
         ensures table_full { result ≡ Err TableFull → HasFewRecords self.old.content }
         ensures never_memory { result ≢ Err Refusal.OutOfMemory }
-        ensures unchanged { OnErr result (self.new.content ≡ self.old.content) }
-        ensures others { OnErr result (self.new.rows ≡ self.old.rows) }
+        ensures unchanged { OnErr result (IsUnchanged self.old self.new) }
         ensures bytes { self.new.bytes ≡ self.old.bytes }
-        ensures floor { self.old.touches ≤ self.new.touches }
-        ensures bound { self.new.touches ≤ self.old.touches + 64 }
+        ensures bound { AtMost 29 self.old.touches self.new.touches }
     {
         let len = self.bytes.len() as u64;
         if base > len || bytes > len - base {
@@ -110,7 +109,7 @@ impl Region {
         self.heap.add_pool(base, bytes)
     }
 
-    /// The pool that begins at the place `base` is gone; its bytes stay as they are. At most 64 touches.
+    /// The pool that begins at the place `base` is gone; its bytes stay as they are. At most 30 touches.
     ///
     /// # Errors
     ///
@@ -119,17 +118,15 @@ impl Region {
         ensures ok { OnOk result (removed base self.old.content ≡ Ok self.new.content) }
         ensures refused { IfErr result (λ refusal. removed base self.old.content ≡ Err refusal) }
         ensures never_memory { result ≢ Err Refusal.OutOfMemory }
-        ensures unchanged { OnErr result (self.new.content ≡ self.old.content) }
-        ensures others { OnErr result (self.new.rows ≡ self.old.rows) }
+        ensures unchanged { OnErr result (IsUnchanged self.old self.new) }
         ensures bytes { self.new.bytes ≡ self.old.bytes }
-        ensures floor { self.old.touches ≤ self.new.touches }
-        ensures bound { self.new.touches ≤ self.old.touches + 64 }
+        ensures bound { AtMost 30 self.old.touches self.new.touches }
     {
         self.heap.remove_pool(base)
     }
 
     /// A live block of at least `n` bytes, as `Heap::malloc` gives it. Its bytes are those that were there.
-    /// At most 96 touches.
+    /// At most 32 touches.
     ///
     /// # Errors
     ///
@@ -143,17 +140,15 @@ impl Region {
         ensures no_fit { result ≡ Err NoFit → NoneFits n self.old.content }
         ensures table_full { result ≡ Err TableFull → HasFewRecords self.old.content }
         ensures never_memory { result ≢ Err Refusal.OutOfMemory }
-        ensures unchanged { OnErr result (self.new.content ≡ self.old.content) }
-        ensures others { OnErr result (self.new.rows ≡ self.old.rows) }
+        ensures unchanged { OnErr result (IsUnchanged self.old self.new) }
         ensures bytes { self.new.bytes ≡ self.old.bytes }
-        ensures floor { self.old.touches ≤ self.new.touches }
-        ensures bound { self.new.touches ≤ self.old.touches + 96 }
+        ensures bound { AtMost 32 self.old.touches self.new.touches }
     {
         self.heap.malloc(n)
     }
 
     /// A live block of at least `n` bytes that begins at a multiple of `align`, as `Heap::memalign` gives it. Its
-    /// bytes are those that were there. At most 160 touches.
+    /// bytes are those that were there. At most 56 touches.
     ///
     /// # Errors
     ///
@@ -169,16 +164,14 @@ impl Region {
         ensures no_fit { result ≡ Err NoFit → NoneFitsAligned align n self.old.content }
         ensures table_full { result ≡ Err TableFull → HasFewRecordsAndOne self.old.content }
         ensures never_memory { result ≢ Err Refusal.OutOfMemory }
-        ensures unchanged { OnErr result (self.new.content ≡ self.old.content) }
-        ensures others { OnErr result (self.new.rows ≡ self.old.rows) }
+        ensures unchanged { OnErr result (IsUnchanged self.old self.new) }
         ensures bytes { self.new.bytes ≡ self.old.bytes }
-        ensures floor { self.old.touches ≤ self.new.touches }
-        ensures bound { self.new.touches ≤ self.old.touches + 160 }
+        ensures bound { AtMost 56 self.old.touches self.new.touches }
     {
         self.heap.memalign(align, n)
     }
 
-    /// The block becomes free, as `Heap::free` makes it. At most 96 touches.
+    /// The block becomes free, as `Heap::free` makes it. At most 50 touches.
     ///
     /// # Errors
     ///
@@ -187,17 +180,15 @@ impl Region {
         ensures ok { OnOk result (freed (λ slot. slot == ptr.slot) ptr.place self.old.content ≡ Ok self.new.content) }
         ensures refused { IfErr result (λ refusal. freed (λ slot. slot == ptr.slot) ptr.place self.old.content ≡ Err refusal) }
         ensures never_memory { result ≢ Err Refusal.OutOfMemory }
-        ensures unchanged { OnErr result (self.new.content ≡ self.old.content) }
-        ensures others { OnErr result (self.new.rows ≡ self.old.rows) }
+        ensures unchanged { OnErr result (IsUnchanged self.old self.new) }
         ensures bytes { self.new.bytes ≡ self.old.bytes }
-        ensures floor { self.old.touches ≤ self.new.touches }
-        ensures bound { self.new.touches ≤ self.old.touches + 96 }
+        ensures bound { AtMost 50 self.old.touches self.new.touches }
     {
         self.heap.free(ptr)
     }
 
     /// The block with room for `n` bytes, as `Heap::realloc` gives it. A block that moves takes its bytes
-    /// along: they are the start of the new block then. Else no byte changes. At most 260 touches.
+    /// along: they are the start of the new block then. Else no byte changes. At most 89 touches.
     ///
     /// # Errors
     ///
@@ -210,12 +201,10 @@ impl Region {
         ensures refused { IfErr result (λ refusal. (slot : ℕ) → reallocated (λ a b. a == b) slot (place_and_slot ptr) n self.old.content ≡ Err refusal) }
         ensures table_full { result ≡ Err TableFull → HasFewRecords self.old.content }
         ensures never_memory { result ≢ Err Refusal.OutOfMemory }
-        ensures unchanged { OnErr result (self.new.content ≡ self.old.content) }
-        ensures others { OnErr result (self.new.rows ≡ self.old.rows) }
+        ensures unchanged { OnErr result (IsUnchanged self.old self.new) }
         ensures bytes { IfOk result (λ given. self.new.bytes ≡ bytes_after_realloc ptr given self.old.content self.old.bytes) }
         ensures bytes_unchanged { OnErr result (self.new.bytes ≡ self.old.bytes) }
-        ensures floor { self.old.touches ≤ self.new.touches }
-        ensures bound { self.new.touches ≤ self.old.touches + 260 }
+        ensures bound { AtMost 89 self.old.touches self.new.touches }
     {
         let Some(old) = ptr else {
             return self.heap.realloc(None, n);
@@ -230,7 +219,7 @@ impl Region {
         Ok(Some(new))
     }
 
-    /// The size of a live block, in bytes. At most four touches.
+    /// The size of a live block, in bytes. At most two touches.
     ///
     /// # Errors
     ///
@@ -238,17 +227,15 @@ impl Region {
     pub fn block_size(&mut self, ptr: Ptr) -> Result<u32, Refusal>
         ensures ok { IfOk result (λ bytes. sized (λ slot. slot == ptr.slot) ptr.place self.old.content ≡ Ok bytes) }
         ensures refused { IfErr result (λ refusal. sized (λ slot. slot == ptr.slot) ptr.place self.old.content ≡ Err refusal) }
-        ensures others { self.new.rows ≡ self.old.rows }
-        ensures unchanged { self.new.content ≡ self.old.content }
+        ensures unchanged { IsUnchanged self.old self.new }
         ensures bytes { self.new.bytes ≡ self.old.bytes }
-        ensures floor { self.old.touches ≤ self.new.touches }
-        ensures bound { self.new.touches ≤ self.old.touches + 4 }
+        ensures bound { AtMost 2 self.old.touches self.new.touches }
     {
         self.heap.block_size(ptr)
     }
 
     /// The size of the live block that the pointer names, which ends within the bytes; none where it names
-    /// no live block. At most four touches.
+    /// no live block. At most two touches.
     fn live_size(&mut self, ptr: Ptr) -> Option<u32>
         ensures some { IfSome result (λ size. sized (λ slot. slot == ptr.slot) ptr.place self.old.content ≡ Ok size) }
         ensures within { IfSome result (λ size. ptr.place + size ≤ length self.old.bytes) }
@@ -256,23 +243,20 @@ impl Region {
         ensures none { IfNone result (is_live (λ slot. slot == ptr.slot) ptr.place (blocks_of self.old.content.pools) ≡ false) }
         ensures good { IsGood self.old.content }
         ensures ends { IsWithin self.old.content self.old.bytes }
-        ensures others { self.new.rows ≡ self.old.rows }
-        ensures unchanged { self.new.content ≡ self.old.content }
+        ensures read { WasRead 2 self.old self.new }
         ensures bytes { self.new.bytes ≡ self.old.bytes }
-        ensures floor { self.old.touches ≤ self.new.touches }
-        ensures bound { self.new.touches ≤ self.old.touches + 4 }
     {
         self.heap.keeps_good();
         self.heap.block_size(ptr).ok()
     }
 
     /// How many bytes the pointer's block has, and 0 where it names no live block: no block is empty. At
-    /// most four touches.
+    /// most two touches.
     fn lent_len(&mut self, ptr: Ptr) -> u32
         ensures some { 0 < result → sized (λ slot. slot == ptr.slot) ptr.place self.old.content ≡ Ok result }
         ensures within { 0 < result → ptr.place + result ≤ length self.old.bytes }
         ensures none { result ≡ 0 → is_live (λ slot. slot == ptr.slot) ptr.place (blocks_of self.old.content.pools) ≡ false }
-        ensures read { WasRead 4 self.old self.new }
+        ensures read { WasRead 2 self.old self.new }
         ensures bytes { self.new.bytes ≡ self.old.bytes }
     {
         self.live_size(ptr).unwrap_or(0)
@@ -289,7 +273,7 @@ impl Region {
     }
 
     /// The bytes of a live block, as many as its size, to read; none where the pointer names no live block.
-    /// At most four touches.
+    /// At most two touches.
     pub fn bytes(&mut self, ptr: Ptr) -> Option<&[u8]>
         ensures lent { option_map (λ block. block.now) result ≡ live_bytes ptr self.old.content self.old.bytes }
         ensures* after { sem 𝓛 (ends_read self.entry) }
@@ -300,7 +284,7 @@ impl Region {
     }
 
     /// The bytes of a live block, as many as its size, to write; none where the pointer names no live block.
-    /// What is written through them changes these bytes alone. At most four touches.
+    /// What is written through them changes these bytes alone. At most two touches.
     pub fn bytes_mut(&mut self, ptr: Ptr) -> Option<&mut [u8]>
         ensures* writes_back { sem 𝓛 (lends_block self.entry ptr result) }
         ensures lent { option_map (λ block. block.now) result ≡ live_bytes ptr self.old.content self.old.bytes }
@@ -315,11 +299,9 @@ impl Region {
     /// Where each pool begins and how many bytes it has, in order of base. At most eight touches.
     pub fn pools(&mut self) -> ArrayVec<(u64, u64), MOST_POOLS>
         ensures value { result.items ≡ map range_of self.old.content.pools }
-        ensures others { self.new.rows ≡ self.old.rows }
-        ensures unchanged { self.new.content ≡ self.old.content }
+        ensures unchanged { IsUnchanged self.old self.new }
         ensures bytes { self.new.bytes ≡ self.old.bytes }
-        ensures floor { self.old.touches ≤ self.new.touches }
-        ensures bound { self.new.touches ≤ self.old.touches + 8 }
+        ensures bound { AtMost 8 self.old.touches self.new.touches }
     {
         self.heap.pools()
     }
@@ -333,34 +315,30 @@ impl Region {
         ensures ok { IfOk result (λ cursor. rows_from base self.old.content.pools ≡ Ok (rows_behind self.new.rows cursor)) }
         ensures stands { IfOk result (λ cursor. is_at_row self.new.rows cursor) }
         ensures refused { IfErr result (λ refusal. rows_from base self.old.content.pools ≡ Err refusal) }
-        ensures others { self.new.rows ≡ self.old.rows }
-        ensures unchanged { self.new.content ≡ self.old.content }
+        ensures unchanged { IsUnchanged self.old self.new }
         ensures bytes { self.new.bytes ≡ self.old.bytes }
-        ensures floor { self.old.touches ≤ self.new.touches }
-        ensures bound { self.new.touches ≤ self.old.touches + 4 }
+        ensures bound { AtMost 4 self.old.touches self.new.touches }
     {
         self.heap.first(base)
     }
 
-    /// The row at the cursor, and the cursor behind it; none behind the last row of the pool. At most
-    /// four touches, and none where there is no row.
+    /// The row at the cursor, and the cursor behind it; none behind the last row of the pool. One
+    /// touch, and none where there is no row.
     pub fn row(&mut self, cursor: Cursor) -> Option<(Row, Cursor)>
         requires { is_at_row self.old.rows cursor }
         ensures some { IfSome result (λ given. rows_behind self.old.rows cursor ≡ given.0 ∷ rows_behind self.new.rows given.1) }
         ensures next_stands { IfSome result (λ given. is_at_row self.new.rows given.1) }
         ensures none { IfNone result (rows_behind self.old.rows cursor ≡ []) }
-        ensures others { self.new.rows ≡ self.old.rows }
-        ensures unchanged { self.new.content ≡ self.old.content }
+        ensures unchanged { IsUnchanged self.old self.new }
         ensures bytes { self.new.bytes ≡ self.old.bytes }
-        ensures floor { self.old.touches ≤ self.new.touches }
-        ensures bound { IfSome result (λ given. self.new.touches ≤ self.old.touches + 4) }
+        ensures bound { IfSome result (λ given. AtMost 1 self.old.touches self.new.touches) }
         ensures no_touch { IfNone result (self.new.touches ≡ self.old.touches) }
     {
         self.heap.row(cursor)
     }
 
     /// Calls `visit` at each row of the pool that begins at the place `base`, once and in order. At most four
-    /// touches, and four more for each row.
+    /// touches, and one more for each row.
     ///
     /// # Errors
     ///
@@ -369,23 +347,20 @@ impl Region {
         requires { F.IsAlwaysCallable visit }
         ensures ok { OnOk result ((last : F) × IsWalk (λ p x q. F.step p x tt q) base self.old.content.pools visit last) }
         ensures refused { IfErr result (λ refusal. rows_from base self.old.content.pools ≡ Err refusal) }
-        ensures others { self.new.rows ≡ self.old.rows }
-        ensures unchanged { self.new.content ≡ self.old.content }
+        ensures unchanged { IsUnchanged self.old self.new }
         ensures bytes { self.new.bytes ≡ self.old.bytes }
-        ensures floor { self.old.touches ≤ self.new.touches }
-        ensures bound { self.new.touches ≤ self.old.touches + walk_touches (rows_from base self.old.content.pools) }
+        ensures bound { AtMost (walk_touches (rows_from base self.old.content.pools)) self.old.touches self.new.touches }
     {
         self.heap.walk(base, visit)
     }
 
     /// Whether the heap's table of records is that of a heap, as `Heap::check` finds it: it always is, and the
-    /// answer is `true`. How many touches that takes isn't promised.
+    /// answer is `true`. How many touches that takes isn't promised, but it is some.
     pub fn check(&mut self) -> bool
         ensures whole { result ≡ true }
-        ensures others { self.new.rows ≡ self.old.rows }
-        ensures unchanged { self.new.content ≡ self.old.content }
+        ensures unchanged { IsUnchanged self.old self.new }
         ensures bytes { self.new.bytes ≡ self.old.bytes }
-        ensures floor { self.old.touches ≤ self.new.touches }
+        ensures read { self.old.touches < self.new.touches }
     {
         self.heap.check()
     }

@@ -8,7 +8,7 @@ pub invariant_of-self : goal.invariant_of-self
 invariant_of-self c =
     let old = c.self.inside.heap.content in
     let after = c.free.ensures in
-    still_within c.free.result old c.free.new.self.content c.self.inside.bytes.items
+    still_within c.free.result c.self.inside.heap c.free.new.self c.self.inside.bytes.items
     (IfOk-weaker c.free.result _ _ (λ done e. subst (λ given. IfOk given (λ new. ranges new ≡ ranges old)) e (free_ranges (λ slot. slot == c.args.ptr.slot) c.args.ptr.place old)) after.ok)
     after.unchanged c.self.invariant
 

@@ -11,13 +11,13 @@ pub invariant_of-self : goal.invariant_of-self
 invariant_of-self c =
     let old = c.self.inside.heap.content in
     let new = c.realloc.new.self.content in
-    still_within c.realloc.result old new c.self.inside.bytes.items
+    still_within c.realloc.result c.self.inside.heap c.realloc.new.self c.self.inside.bytes.items
     (IfOk-weaker c.realloc.result _ _ (λ given e. reallocated_ranges (slot_of given) None c.args.n old new (place_and_slot given) e) c.realloc.ensures.ok)
     c.realloc.ensures.unchanged c.self.invariant
 
 pub returns-in_err-new-clause-refused : goal.returns-in_err-new-clause-refused
 returns-in_err-new-clause-refused c =
-    let same = ap (λ region. region.content) c.self-2.view_is ∙ c.live_size.ensures.unchanged in
+    let same = ap (λ region. region.content) c.self-2.view_is ∙ c.live_size.ensures.read.content in
     let exit = err_from_is_err_and c.from_residual.result c.from_residual.ensures.1 in
     rw (exit.1, exit.2) (λ slot. (λ i. reallocated (λ a b. a == b) slot (place_and_slot (c.in-Some.is i)) c.args.n (sym same i)) ∙ c.in_err-new.ensures.refused slot)
 
@@ -30,7 +30,7 @@ invariant_of-self-in_default-2 c =
 pub take_along-requires-clause-room : goal.take_along-requires-clause-room
 take_along-requires-clause-room c =
     let bytes = c.self-2.inside.bytes in
-    let same = ap (λ region. region.content) c.self-2.view_is ∙ c.live_size.ensures.unchanged in
+    let same = ap (λ region. region.content) c.self-2.view_is ∙ c.live_size.ensures.read.content in
     λ elsewhere. rw bytes.ok.0 (
     room_there c.in-Some.old c.in-Some-2.new c.args.n c.in-Some-live_size.size c.args.self.now.content c.self-2.inside.heap.content c.realloc-2.new.self.content bytes.items same c.live_size.ensures.good c.self-2.invariant c.in-Some-live_size.ensures.some (Some c.in-Some.old) _ refl c.in-Some-2.is c.in_ok-new.ensures.ok elsewhere)
 
