@@ -1,15 +1,18 @@
 -- What a run read and wrote, by its answer.
-use Rattle.std.specs.Prelude.{◌≡◌, ◌⊎◌, ℕ, Bool, true, false, List, [], ◌∷◌, ◌++◌, length, reverse, Option}
+use Rattle.std.specs.Prelude.{◌≡◌, ◌≢◌, ◌⊎◌, ◌↔◌, ℕ, Bool, true, false, List, [], ◌∷◌, ◌++◌, length, reverse, Option, Result, Err, IsTrue, IfOk, OnOk, IsErrOf}
 use Rattle.std.specs.Io.KnownBytes.{prepend_known}
 use Rattle.mtrace_log.specs.HasRead.{HasRead, HasReadAll, HasReadBefore}
 use Rattle.mtrace_log.specs.Progress.{HasMore, greatest_number}
-use Rattle.mtrace_log.specs.Trace.{HasGiven, HasGivenAndFailed, HasNotFailed, HasFailedToWrite, FlushWasAsked}
+use Rattle.mtrace_log.specs.Trace.{HasGiven, HasGivenAll, HasGivenAndFailed, HasNotFailed, HasTakenAndFlushed, HasFailedToWrite, FlushWasAsked}
 use Rattle.mtrace_log.specs.declared.call.Call.{Call}
 use Rattle.mtrace_replay.specs.declared.entry.Entry.{Entry}
 use Rattle.mtrace_replay.specs.declared.report.Report.{Report}
 use Rattle.mtrace_replay.specs.declared.totals.Totals.{Totals}
 use Rattle.mtrace_replay.specs.declared.settings.Settings.{Settings}
 use Rattle.mtrace_replay.specs.declared.status.Status.{Status}
+use Rattle.mtrace_replay.specs.declared.status.RunFault.{RunFault}
+use Rattle.mtrace_replay.specs.declared.status.RunFault.TheVariants.{Read, Write, OutOfMemory, BadSettings}
+use Rattle.mtrace_replay.specs.Settings.{are_bad}
 use Rattle.mtrace_replay.specs.Started.{started}
 use Rattle.mtrace_replay.specs.Totals.{AreTotals}
 use Rattle.mtrace_replay.specs.Moment.{Reading, Given, half}
@@ -96,6 +99,22 @@ abbrev pub FailsToWrite : {R W : Type 0} → Report → (left : R → Bytes) (pu
 FailsToWrite report left pulls taken puts settings reader_old reader_new writer_old writer_new =
     StopsAtWrite report settings (left reader_old) (left reader_new) (taken writer_old) (taken writer_new)
     × HasNotFailed (pulls reader_old) (pulls reader_new) × HasFailedToWrite (puts writer_old) (puts writer_new)
+
+-- What a run leaves, by what it answers. Where it answers a status, all of the log was read, what was written is its
+-- whole text, and the status is that text's. Bad settings come exactly where they are bad, and then nothing is done.
+pub record Runs {R W : Type 0} (report : Report) (settings : Settings) (left : R → Bytes) (pulls : R → List Call) (taken : W → Bytes) (puts : W → List Call)
+    (result : Result Status RunFault) (reader_old reader_new : R) (writer_old writer_new : W) : Type 0 where
+  pub finished : IfOk result (λ status. Reports report settings status (left reader_old) (left reader_new) (taken writer_old) (taken writer_new))
+  pub reader_ended : OnOk result (HasGivenAll (pulls reader_old) (pulls reader_new))
+  pub writer_flushed : OnOk result (HasTakenAndFlushed (puts writer_old) (puts writer_new))
+  pub read_fault : IsErrOf result Read → StopsAtRead settings (left reader_old) (left reader_new) (pulls reader_old) (pulls reader_new) (taken writer_old) (taken writer_new)
+  pub flush_asked : IsErrOf result Read → FlushWasAsked (puts writer_old) (puts writer_new)
+  pub write_fault : IsErrOf result Write → StopsAtWrite report settings (left reader_old) (left reader_new) (taken writer_old) (taken writer_new)
+  pub writer_failed : IsErrOf result Write → HasFailedToWrite (puts writer_old) (puts writer_new)
+  pub no_memory : IsErrOf result OutOfMemory → (reader_new ≡ reader_old) × (writer_new ≡ writer_old)
+  pub reader_not_failed : result ≢ Err Read → HasNotFailed (pulls reader_old) (pulls reader_new)
+  pub bad_settings : IsErrOf result BadSettings ↔ IsTrue (are_bad settings)
+  pub nothing_done : IsErrOf result BadSettings → (reader_new ≡ reader_old) × (writer_new ≡ writer_old)
 
 -- what a replay writes at the end: the diagnostic of the last line, and the report
 abbrev pub end_text : Report → Replayed → List ℕ

@@ -8,7 +8,7 @@ ghost use Rattle.mtrace_replay.specs.Output.{Wrote, Begins};
 ghost use Rattle.mtrace_replay.specs.Texts.{notes_text, report_text};
 ghost use Rattle.mtrace_replay.specs.Moment.{Reading, half};
 ghost use Rattle.mtrace_replay.specs.Replay.{StandsFor, entries};
-ghost use Rattle.mtrace_replay.specs.Run.{end_text, Reports, StopsAtRead, StopsAtWrite, HasReplayed, LineGives, LineBegins, is_some_note, is_some_entry};
+ghost use Rattle.mtrace_replay.specs.Run.{end_text, Runs, StopsAtRead, StopsAtWrite, HasReplayed, LineGives, LineBegins, is_some_note, is_some_entry};
 
 use crate::diagnostic::Note;
 use crate::line_text::note_text;
@@ -175,24 +175,7 @@ fn run_report<R: Source, W: Sink>(
     settings: Settings,
     report: Report,
 ) -> Result<Status, RunFault>
-    // All of the log was read, what was written is its whole text, and the status is that text's.
-    ensures finished { IfOk result (λ status. Reports report settings status (R.left reader.old) (R.left reader.new) (W.taken writer.old) (W.taken writer.new)) }
-    ensures reader_ended { OnOk result (HasGivenAll (R.trace reader.old) (R.trace reader.new)) }
-    ensures writer_flushed { OnOk result (HasTakenAndFlushed (W.trace writer.old) (W.trace writer.new)) }
-
-    // What a fault leaves.
-    ensures read_fault { IsErrOf result RunFault.Read
-        → StopsAtRead settings (R.left reader.old) (R.left reader.new) (R.trace reader.old) (R.trace reader.new) (W.taken writer.old) (W.taken writer.new) }
-    ensures flush_asked { IsErrOf result RunFault.Read → FlushWasAsked (W.trace writer.old) (W.trace writer.new) }
-    ensures write_fault { IsErrOf result RunFault.Write
-        → StopsAtWrite report settings (R.left reader.old) (R.left reader.new) (W.taken writer.old) (W.taken writer.new) }
-    ensures writer_failed { IsErrOf result RunFault.Write → HasFailedToWrite (W.trace writer.old) (W.trace writer.new) }
-    ensures no_memory { IsErrOf result RunFault.OutOfMemory → (reader.new ≡ reader.old) × (writer.new ≡ writer.old) }
-    ensures reader_not_failed { result ≢ Err RunFault.Read → HasNotFailed (R.trace reader.old) (R.trace reader.new) }
-
-    // Bad settings come exactly where they are bad, and then nothing is done.
-    ensures bad_settings { IsErrOf result RunFault.BadSettings ↔ IsTrue (are_bad settings) }
-    ensures nothing_done { IsErrOf result RunFault.BadSettings → (reader.new ≡ reader.old) × (writer.new ≡ writer.old) }
+    ensures { Runs report settings R.left R.trace W.taken W.trace result reader.old reader.new writer.old writer.new }
 {
     let mut replay = match Replay::<Heap>::create(alloc, settings) {
         Ok(replay) => replay,
@@ -228,24 +211,7 @@ pub fn run_leaks<R: Source, W: Sink>(
     writer: &mut W,
     settings: Settings,
 ) -> Result<Status, RunFault>
-    // All of the log was read, what was written is its whole text, and the status is that text's.
-    ensures finished { IfOk result (λ status. Reports Report.Leaks settings status (R.left reader.old) (R.left reader.new) (W.taken writer.old) (W.taken writer.new)) }
-    ensures reader_ended { OnOk result (HasGivenAll (R.trace reader.old) (R.trace reader.new)) }
-    ensures writer_flushed { OnOk result (HasTakenAndFlushed (W.trace writer.old) (W.trace writer.new)) }
-
-    // What a fault leaves.
-    ensures read_fault { IsErrOf result RunFault.Read
-        → StopsAtRead settings (R.left reader.old) (R.left reader.new) (R.trace reader.old) (R.trace reader.new) (W.taken writer.old) (W.taken writer.new) }
-    ensures flush_asked { IsErrOf result RunFault.Read → FlushWasAsked (W.trace writer.old) (W.trace writer.new) }
-    ensures write_fault { IsErrOf result RunFault.Write
-        → StopsAtWrite Report.Leaks settings (R.left reader.old) (R.left reader.new) (W.taken writer.old) (W.taken writer.new) }
-    ensures writer_failed { IsErrOf result RunFault.Write → HasFailedToWrite (W.trace writer.old) (W.trace writer.new) }
-    ensures no_memory { IsErrOf result RunFault.OutOfMemory → (reader.new ≡ reader.old) × (writer.new ≡ writer.old) }
-    ensures reader_not_failed { result ≢ Err RunFault.Read → HasNotFailed (R.trace reader.old) (R.trace reader.new) }
-
-    // Bad settings come exactly where they are bad, and then nothing is done.
-    ensures bad_settings { IsErrOf result RunFault.BadSettings ↔ IsTrue (are_bad settings) }
-    ensures nothing_done { IsErrOf result RunFault.BadSettings → (reader.new ≡ reader.old) × (writer.new ≡ writer.old) }
+    ensures { Runs Report.Leaks settings R.left R.trace W.taken W.trace result reader.old reader.new writer.old writer.new }
 {
     run_report(alloc, reader, writer, settings, Report::Leaks)
 }
@@ -269,24 +235,7 @@ pub fn run_peak<R: Source, W: Sink>(
     writer: &mut W,
     settings: Settings,
 ) -> Result<Status, RunFault>
-    // All of the log was read, what was written is its whole text, and the status is that text's.
-    ensures finished { IfOk result (λ status. Reports Report.Peak settings status (R.left reader.old) (R.left reader.new) (W.taken writer.old) (W.taken writer.new)) }
-    ensures reader_ended { OnOk result (HasGivenAll (R.trace reader.old) (R.trace reader.new)) }
-    ensures writer_flushed { OnOk result (HasTakenAndFlushed (W.trace writer.old) (W.trace writer.new)) }
-
-    // What a fault leaves.
-    ensures read_fault { IsErrOf result RunFault.Read
-        → StopsAtRead settings (R.left reader.old) (R.left reader.new) (R.trace reader.old) (R.trace reader.new) (W.taken writer.old) (W.taken writer.new) }
-    ensures flush_asked { IsErrOf result RunFault.Read → FlushWasAsked (W.trace writer.old) (W.trace writer.new) }
-    ensures write_fault { IsErrOf result RunFault.Write
-        → StopsAtWrite Report.Peak settings (R.left reader.old) (R.left reader.new) (W.taken writer.old) (W.taken writer.new) }
-    ensures writer_failed { IsErrOf result RunFault.Write → HasFailedToWrite (W.trace writer.old) (W.trace writer.new) }
-    ensures no_memory { IsErrOf result RunFault.OutOfMemory → (reader.new ≡ reader.old) × (writer.new ≡ writer.old) }
-    ensures reader_not_failed { result ≢ Err RunFault.Read → HasNotFailed (R.trace reader.old) (R.trace reader.new) }
-
-    // Bad settings come exactly where they are bad, and then nothing is done.
-    ensures bad_settings { IsErrOf result RunFault.BadSettings ↔ IsTrue (are_bad settings) }
-    ensures nothing_done { IsErrOf result RunFault.BadSettings → (reader.new ≡ reader.old) × (writer.new ≡ writer.old) }
+    ensures { Runs Report.Peak settings R.left R.trace W.taken W.trace result reader.old reader.new writer.old writer.new }
 {
     run_report(alloc, reader, writer, settings, Report::Peak)
 }
@@ -310,24 +259,7 @@ pub fn run_walk<R: Source, W: Sink>(
     writer: &mut W,
     settings: Settings,
 ) -> Result<Status, RunFault>
-    // All of the log was read, what was written is its whole text, and the status is that text's.
-    ensures finished { IfOk result (λ status. Reports Report.Walk settings status (R.left reader.old) (R.left reader.new) (W.taken writer.old) (W.taken writer.new)) }
-    ensures reader_ended { OnOk result (HasGivenAll (R.trace reader.old) (R.trace reader.new)) }
-    ensures writer_flushed { OnOk result (HasTakenAndFlushed (W.trace writer.old) (W.trace writer.new)) }
-
-    // What a fault leaves.
-    ensures read_fault { IsErrOf result RunFault.Read
-        → StopsAtRead settings (R.left reader.old) (R.left reader.new) (R.trace reader.old) (R.trace reader.new) (W.taken writer.old) (W.taken writer.new) }
-    ensures flush_asked { IsErrOf result RunFault.Read → FlushWasAsked (W.trace writer.old) (W.trace writer.new) }
-    ensures write_fault { IsErrOf result RunFault.Write
-        → StopsAtWrite Report.Walk settings (R.left reader.old) (R.left reader.new) (W.taken writer.old) (W.taken writer.new) }
-    ensures writer_failed { IsErrOf result RunFault.Write → HasFailedToWrite (W.trace writer.old) (W.trace writer.new) }
-    ensures no_memory { IsErrOf result RunFault.OutOfMemory → (reader.new ≡ reader.old) × (writer.new ≡ writer.old) }
-    ensures reader_not_failed { result ≢ Err RunFault.Read → HasNotFailed (R.trace reader.old) (R.trace reader.new) }
-
-    // Bad settings come exactly where they are bad, and then nothing is done.
-    ensures bad_settings { IsErrOf result RunFault.BadSettings ↔ IsTrue (are_bad settings) }
-    ensures nothing_done { IsErrOf result RunFault.BadSettings → (reader.new ≡ reader.old) × (writer.new ≡ writer.old) }
+    ensures { Runs Report.Walk settings R.left R.trace W.taken W.trace result reader.old reader.new writer.old writer.new }
 {
     run_report(alloc, reader, writer, settings, Report::Walk)
 }

@@ -1,9 +1,9 @@
 //! One run, with its status.
 
-ghost use Rattle.std.specs.Prelude.{◌≡◌, ◌≢◌, ◌⊎◌, ◌↔◌, ◌≤◌, IsTrue, IfOk, OnOk, IsErrOf, Err};
+ghost use Rattle.std.specs.Prelude.{◌≡◌, ◌⊎◌, ◌↔◌, ◌≤◌, IsTrue};
 ghost use Rattle.mtrace_replay.specs.Settings.{are_bad};
 ghost use Rattle.mtrace_log.specs.Trace.{HasGivenAll, HasNotFailed, HasTakenAndFlushed, HasFailedToWrite, FlushWasAsked};
-ghost use Rattle.mtrace_replay.specs.Run.{Reports, StopsAtRead, StopsAtWrite, FailsToRead, FailsToWrite};
+ghost use Rattle.mtrace_replay.specs.Run.{Reports, Runs, FailsToRead, FailsToWrite};
 ghost use Rattle.mtrace_replay.specs.declared.status.Status.TheVariants.{Clean, Found};
 ghost use Rattle.tlsf_tool.specs.Statuses.{report_of};
 
@@ -34,19 +34,7 @@ fn run_named<R: Source, W: Sink>(
     reader: &mut R,
     writer: &mut W,
 ) -> Result<Status, RunFault>
-    ensures finished { IfOk result (λ status. Reports (report_of name) settings status (R.left reader.old) (R.left reader.new) (W.taken writer.old) (W.taken writer.new)) }
-    ensures reader_ended { OnOk result (HasGivenAll (R.trace reader.old) (R.trace reader.new)) }
-    ensures writer_flushed { OnOk result (HasTakenAndFlushed (W.trace writer.old) (W.trace writer.new)) }
-    ensures read_fault { IsErrOf result RunFault.Read
-        → StopsAtRead settings (R.left reader.old) (R.left reader.new) (R.trace reader.old) (R.trace reader.new) (W.taken writer.old) (W.taken writer.new) }
-    ensures flush_asked { IsErrOf result RunFault.Read → FlushWasAsked (W.trace writer.old) (W.trace writer.new) }
-    ensures write_fault { IsErrOf result RunFault.Write
-        → StopsAtWrite (report_of name) settings (R.left reader.old) (R.left reader.new) (W.taken writer.old) (W.taken writer.new) }
-    ensures writer_failed { IsErrOf result RunFault.Write → HasFailedToWrite (W.trace writer.old) (W.trace writer.new) }
-    ensures no_memory { IsErrOf result RunFault.OutOfMemory → (reader.new ≡ reader.old) × (writer.new ≡ writer.old) }
-    ensures reader_not_failed { result ≢ Err RunFault.Read → HasNotFailed (R.trace reader.old) (R.trace reader.new) }
-    ensures bad_settings { IsErrOf result RunFault.BadSettings ↔ IsTrue (are_bad settings) }
-    ensures nothing_done { IsErrOf result RunFault.BadSettings → (reader.new ≡ reader.old) × (writer.new ≡ writer.old) }
+    ensures { Runs (report_of name) settings R.left R.trace W.taken W.trace result reader.old reader.new writer.old writer.new }
 {
     match name {
         Name::Leaks => run_leaks(alloc, reader, writer, settings),
