@@ -13,7 +13,7 @@ use Rattle.mtrace_replay.specs.declared.diagnostic.Diagnostic.{Diagnostic}
 use Rattle.mtrace_replay.specs.declared.diagnostic.Kind.TheVariants.{NotHeld, AlreadyHeld, Refused}
 use Rattle.mtrace_replay.specs.declared.holding.Holding.{Holding}
 use Rattle.mtrace_replay.specs.Started.{Bare}
-use Rattle.mtrace_replay.specs.Moment.{Given, Moment, unserved, note, noted_after, asked_size, without, answered, allocation, release, moved, reallocation, renewal}
+use Rattle.mtrace_replay.specs.Moment.{Given, Moment, unserved, note, noted_after, asked_size, without, answered, allocation, release, moved, reallocation, renewal, renewal_asks}
 use Rattle.mtrace_replay.specs.Index.{held_at}
 use Rattle.mtrace_replay.specs.Step.{given_of, all_given, found, Comes, IsUnder}
 
@@ -51,6 +51,10 @@ none_is (Some holding) is = absurd (cc)
 some_given : (held : Option Holding) → is_some (option_map given_of held) ≡ is_some held
 some_given None = refl
 some_given (Some holding) = refl
+
+-- an address is found where it is held
+pub found_some : (holdings : List Holding) (address : ℕ) → is_some (found (all_given holdings) address) ≡ is_some (held_at holdings address)
+found_some holdings address = ap is_some (found_given holdings address) ∙ some_given (held_at holdings address)
 
 -- what is held, where its address is found
 pub given_under : (held : Option Holding) (given : Given) → option_map given_of held ≡ Some given → (holding : Holding) × (held ≡ Some holding) × (holding.ptr.place ≡ given.place)
@@ -209,3 +213,18 @@ module _ (old_held : List Holding) (content : Bare) (number : ℕ) (at : Option 
     renewal_moves is =
         by_both ∙ ap (λ b. cond b (unserved (note number (AlreadyHeld address)) content)
         (moved number at old holding.ptr.place address size content (realloc (λ one other. true) tt (Some (holding.ptr.place, tt)) (asked_size size) content))) is
+
+-- `>` asks as `+` does where the old address isn't held
+pub renewal_asks_new : (held : List Holding) (pending : Option ℕ) (old address : ℕ) → pending ≡ Some old → held_at held old ≡ None
+    → renewal_asks pending address (found (all_given held)) ≡ not (is_some (found (all_given held) address))
+renewal_asks_new held pending old address is none =
+    ap (λ p. renewal_asks p address (found (all_given held))) is
+    ∙ ap (λ b. cond b (not (not (address == old) && is_some (found (all_given held) address))) (not (is_some (found (all_given held) address)))) (found_some held old ∙ ap is_some none)
+
+-- and asks for another block where the old address is held, unless the new one is another that is held
+pub renewal_asks_moved : (held : List Holding) (pending : Option ℕ) (old address : ℕ) (holding : Holding) → pending ≡ Some old → held_at held old ≡ Some holding
+    → (not (address == old) && is_some (held_at held address)) ≡ false → renewal_asks pending address (found (all_given held)) ≡ true
+renewal_asks_moved held pending old address holding is some free =
+    ap (λ p. renewal_asks p address (found (all_given held))) is
+    ∙ ap (λ b. cond b (not (not (address == old) && is_some (found (all_given held) address))) (not (is_some (found (all_given held) address)))) (found_some held old ∙ ap is_some some)
+    ∙ ap (λ b. not (not (address == old) && b)) (found_some held address) ∙ ap not free

@@ -98,6 +98,24 @@ outcome number (Ok (Old at address)) pending held content = unserved [] content
 outcome number (Ok (New at address size)) pending held content = renewal number at pending address size held content
 outcome number (Ok (Failed at address size)) pending held content = unserved [] content
 
+-- whether the table names a request for `> address size`, by the address of the line before, where that is `<`
+abbrev pub renewal_asks : Option ℕ → (address : ℕ) → (ℕ → Option Given) → Bool
+renewal_asks None address held = false
+renewal_asks (Some old) address held =
+    if is_some (held old) then not (not (address == old) && is_some (held address)) else not (is_some (held address))
+
+-- whether the table names a request for the line
+abbrev pub asks : Reading → Option ℕ → (ℕ → Option Given) → Bool
+asks (Err fault) pending held = false
+asks (Ok Start) pending held = false
+asks (Ok End) pending held = false
+asks (Ok (Alloc at None size)) pending held = false
+asks (Ok (Alloc at (Some address) size)) pending held = not (is_some (held address))
+asks (Ok (Free at address)) pending held = is_some (held address)
+asks (Ok (Old at address)) pending held = false
+asks (Ok (New at address size)) pending held = renewal_asks pending address held
+asks (Ok (Failed at address size)) pending held = false
+
 -- whether a line is `>`
 abbrev pub is_new : Reading → Bool
 is_new (Err fault) = false

@@ -1,17 +1,20 @@
 -- What one line does to the heap and to what is held.
-use Rattle.std.specs.Prelude.{◌≡◌, ℕ, ◌+◌, ◌≤◌, Bool, true, false, List, length, map, find, option_map, Option, Some, ◌==◌}
+use Rattle.std.specs.Prelude.{◌≡◌, ℕ, ◌+◌, ◌≤◌, Bool, true, false, List, length, map, find, option_map, Option, Some, ◌==◌, Result, IfOk, OnOk, OnErr}
 use Rattle.tlsf_class.specs.Classes.{greatest_size}
 use Rattle.tlsf_heap.specs.Content.{Content, blocks_of, size_at}
 use Rattle.tlsf_heap.specs.Pools.{most_records}
 use Rattle.tlsf_heap.specs.Free.{is_live}
+use Rattle.tlsf_heap.specs.Bare.{bare}
+use Rattle.tlsf_heap.specs.Run.{MayLack}
 use Rattle.tlsf_heap.specs.Pointer.{Pointer}
 use Rattle.mtrace_replay.specs.declared.diagnostic.Diagnostic.{Diagnostic}
 use Rattle.mtrace_replay.specs.declared.holding.Holding.{Holding}
+use Rattle.mtrace_replay.specs.declared.step.Effect.{Effect}
 use Rattle.mtrace_replay.specs.declared.totals.Totals.{Totals}
 use Rattle.mtrace_replay.specs.Started.{Bare}
 use Rattle.mtrace_replay.specs.Moment.{Given, Moment}
 use Rattle.mtrace_replay.specs.History.{held_after}
-use Rattle.mtrace_replay.specs.Index.{Indexed, held_at}
+use Rattle.mtrace_replay.specs.Index.{Indexed, held_at, LooksUp}
 
 -- what is held, without slots
 abbrev pub given_of : Holding → Given
@@ -51,6 +54,20 @@ pub record AreLive (holdings : List Holding) (content : Content ℕ) : Type 0 wh
       → first.ptr.place ≡ second.ptr.place → one ≡ other
   pub small : (address : ℕ) (holding : Holding) → held_at holdings address ≡ Some holding → holding.entry.size ≤ greatest_size
   pub records : content.records ≤ most_records
+
+-- What a line does, or a part of it. Where no memory is refused, the heap and what is held come to the moment, and
+-- what is held is live; else what is held is as it was. The heap has as many records as before; so many look-ups are
+-- made, and at most so many touches: none where nothing is asked of the heap.
+pub record Replays {H E : Type 0} (content : H → Content ℕ) (touches : H → ℕ) (lacks : H → Type 0) (looks most : ℕ) (asks : Bool) (moment : Moment)
+    (result : Result Effect E) (heap_old heap_new : H) (held_old held_new : Indexed) : Type 0 where
+  pub comes : IfOk result (λ effect. Comes (bare (content heap_old)) (bare (content heap_new)) (all_given held_old.all) (all_given held_new.all) effect.note.items effect.end moment)
+  pub live : OnOk result (AreLive held_new.all (content heap_new))
+  pub memory : OnErr result (MayLack lacks)
+  pub unchanged : OnErr result (held_new.all ≡ held_old.all)
+  pub records : (content heap_new).records ≡ (content heap_old).records
+  pub looked : LooksUp looks held_old held_new
+  pub bound : touches heap_new ≤ touches heap_old + most
+  pub idle : asks ≡ false → touches heap_new ≡ touches heap_old
 
 -- what a replay keeps: until memory is refused what is held is live; memory is refused only by a heap that lacks it;
 -- there is at most as much held as there are records, and room for as much; no more lines were served, or refused,

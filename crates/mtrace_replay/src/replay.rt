@@ -127,7 +127,8 @@ impl<H: Heaped> Replay<H> {
     ghost use Rattle.tlsf_heap.specs.Run.{MayLack};
     ghost use Rattle.mtrace_replay.specs.declared.settings.Settings.{Settings};
     ghost use Rattle.mtrace_replay.specs.Settings.{are_bad};
-    ghost use Rattle.mtrace_replay.specs.Moment.{Reading, half};
+    ghost use Rattle.mtrace_replay.specs.Moment.{Reading, asks, half};
+    ghost use Rattle.mtrace_replay.specs.Step.{found};
     ghost use Rattle.mtrace_replay.specs.Replay.{StandsFor, entries, added_notes};
     ghost use Rattle.mtrace_log.specs.Trace.{HasTaken, HasTakenAndFailed};
     ghost use Rattle.mtrace_replay.specs.Output.{Wrote, Begins};
@@ -162,7 +163,7 @@ impl<H: Heaped> Replay<H> {
     }
 
     /// Replays the next line, and answers what is wrong with it, and with the line before, where that is half of
-    /// a reallocation. At most 384 touches.
+    /// a reallocation. At most 384 touches, and none where the line asks nothing of the heap.
     ///
     /// # Errors
     ///
@@ -183,6 +184,7 @@ impl<H: Heaped> Replay<H> {
         ensures totals_unchanged { OnErr result (self.new.totals ≡ self.old.totals) }
         ensures compared { (digits : ℕ) → self.old.content.records < 2 ^ digits → self.new.comparisons ≤ self.old.comparisons + 4 * digits }
         ensures bound { self.new.touches ≤ self.old.touches + 384 }
+        ensures idle { asks line.event self.old.pending (found self.old.given) ≡ false → self.new.touches ≡ self.old.touches }
     {
         if self.out_of_memory {
             return Err(ReplayFault::OutOfMemory);

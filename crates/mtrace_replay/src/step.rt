@@ -9,8 +9,8 @@ ghost use Rattle.tlsf_heap.specs.Malloc.{malloc};
 ghost use Rattle.tlsf_heap.specs.Realloc.{realloc as reallocated};
 ghost use Rattle.tlsf_heap.specs.Run.{MayLack};
 ghost use Rattle.mtrace_replay.specs.Index.{held_at, LooksUp};
-ghost use Rattle.mtrace_replay.specs.Moment.{asked_size as size_asked, without, allocation, release as released, moved, renewal, outcome as outcome_of};
-ghost use Rattle.mtrace_replay.specs.Step.{found, all_given, Comes, IsUnder, AreLive};
+ghost use Rattle.mtrace_replay.specs.Moment.{asked_size as size_asked, without, allocation, release as released, moved, renewal, renewal_asks, asks, outcome as outcome_of};
+ghost use Rattle.mtrace_replay.specs.Step.{found, all_given, Replays, IsUnder, AreLive};
 
 use crate::diagnostic::{Diagnostic, Kind, Note};
 use crate::entry::Entry;
@@ -148,14 +148,9 @@ fn realloc_block<H: Heaped>(heap: &mut H, ptr: Ptr, n: u64) -> Result<Block, Ref
 fn allocate<H: Heaped>(heap: &mut H, held: &mut Index, entry: Entry) -> Result<Effect, AllocError>
     requires live { AreLive held.old.all (H.content heap.old) }
     requires room { held.old.room ≡ (H.content heap.old).records }
-    ensures comes { IfOk result (λ effect. Comes (bare (H.content heap.old)) (bare (H.content heap.new)) (all_given held.old.all) (all_given held.new.all) effect.note.items effect.end
-        (allocation entry.line entry.at entry.addr entry.size (found (all_given held.old.all) entry.addr) (bare (H.content heap.old)))) }
-    ensures live { OnOk result (AreLive held.new.all (H.content heap.new)) }
-    ensures memory { OnErr result (MayLack H.lacks) }
-    ensures unchanged { OnErr result (held.new.all ≡ held.old.all) }
-    ensures records { (H.content heap.new).records ≡ (H.content heap.old).records }
-    ensures looked { LooksUp 2 held.old held.new }
-    ensures bound { H.touches heap.new ≤ H.touches heap.old + 100 }
+    ensures { Replays H.content H.touches H.lacks 2 100 (not (is_some (found (all_given held.old.all) entry.addr)))
+        (allocation entry.line entry.at entry.addr entry.size (found (all_given held.old.all) entry.addr) (bare (H.content heap.old)))
+        result heap.old heap.new held.old held.new }
 {
     if held.contains(entry.addr) {
         return Ok(unserved(one_note(entry.line, Kind::AlreadyHeld(entry.addr))));
@@ -211,14 +206,9 @@ fn release<H: Heaped>(
     address: Addr,
 ) -> Result<Effect, AllocError>
     requires live { AreLive held.old.all (H.content heap.old) }
-    ensures comes { IfOk result (λ effect. Comes (bare (H.content heap.old)) (bare (H.content heap.new)) (all_given held.old.all) (all_given held.new.all) effect.note.items effect.end
-        (released number address (found (all_given held.old.all) address) (bare (H.content heap.old)))) }
-    ensures live { OnOk result (AreLive held.new.all (H.content heap.new)) }
-    ensures memory { OnErr result (MayLack H.lacks) }
-    ensures unchanged { OnErr result (held.new.all ≡ held.old.all) }
-    ensures records { (H.content heap.new).records ≡ (H.content heap.old).records }
-    ensures looked { LooksUp 2 held.old held.new }
-    ensures bound { H.touches heap.new ≤ H.touches heap.old + 96 }
+    ensures { Replays H.content H.touches H.lacks 2 96 (is_some (found (all_given held.old.all) address))
+        (released number address (found (all_given held.old.all) address) (bare (H.content heap.old)))
+        result heap.old heap.new held.old held.new }
 {
     let Some(ptr) = held.block(address) else {
         return Ok(unserved(one_note(number, Kind::NotHeld(address))));
@@ -238,15 +228,10 @@ fn reallocate<H: Heaped>(
     requires live { AreLive held.old.all (H.content heap.old) }
     requires room { held.old.room ≡ (H.content heap.old).records }
     requires held { IsUnder ptr (held_at held.old.all old) }
-    ensures comes { IfOk result (λ effect. Comes (bare (H.content heap.old)) (bare (H.content heap.new)) (all_given held.old.all) (all_given held.new.all) effect.note.items effect.end
+    ensures { Replays H.content H.touches H.lacks 2 356 true
         (moved entry.line entry.at old ptr.place entry.addr entry.size (bare (H.content heap.old))
-        (reallocated (λ one other. true) tt (Some (ptr.place, tt)) (size_asked entry.size) (bare (H.content heap.old))))) }
-    ensures live { OnOk result (AreLive held.new.all (H.content heap.new)) }
-    ensures memory { OnErr result (MayLack H.lacks) }
-    ensures unchanged { OnErr result (held.new.all ≡ held.old.all) }
-    ensures records { (H.content heap.new).records ≡ (H.content heap.old).records }
-    ensures looked { LooksUp 2 held.old held.new }
-    ensures bound { H.touches heap.new ≤ H.touches heap.old + 356 }
+        (reallocated (λ one other. true) tt (Some (ptr.place, tt)) (size_asked entry.size) (bare (H.content heap.old))))
+        result heap.old heap.new held.old held.new }
 {
     heap.keeps_good();
     held.keeps_order();
@@ -294,14 +279,9 @@ fn renew<H: Heaped>(
 ) -> Result<Effect, AllocError>
     requires live { AreLive held.old.all (H.content heap.old) }
     requires room { held.old.room ≡ (H.content heap.old).records }
-    ensures comes { IfOk result (λ effect. Comes (bare (H.content heap.old)) (bare (H.content heap.new)) (all_given held.old.all) (all_given held.new.all) effect.note.items effect.end
-        (renewal entry.line entry.at pending entry.addr entry.size (found (all_given held.old.all)) (bare (H.content heap.old)))) }
-    ensures live { OnOk result (AreLive held.new.all (H.content heap.new)) }
-    ensures memory { OnErr result (MayLack H.lacks) }
-    ensures unchanged { OnErr result (held.new.all ≡ held.old.all) }
-    ensures records { (H.content heap.new).records ≡ (H.content heap.old).records }
-    ensures looked { LooksUp 4 held.old held.new }
-    ensures bound { H.touches heap.new ≤ H.touches heap.old + 356 }
+    ensures { Replays H.content H.touches H.lacks 4 356 (renewal_asks pending entry.addr (found (all_given held.old.all)))
+        (renewal entry.line entry.at pending entry.addr entry.size (found (all_given held.old.all)) (bare (H.content heap.old)))
+        result heap.old heap.new held.old held.new }
 {
     let number = entry.line;
     let Some(old) = pending else {
@@ -332,14 +312,9 @@ pub(crate) fn outcome<H: Heaped>(
 ) -> Result<Effect, AllocError>
     requires live { AreLive held.old.all (H.content heap.old) }
     requires room { held.old.room ≡ (H.content heap.old).records }
-    ensures comes { IfOk result (λ effect. Comes (bare (H.content heap.old)) (bare (H.content heap.new)) (all_given held.old.all) (all_given held.new.all) effect.note.items effect.end
-        (outcome_of number event pending (found (all_given held.old.all)) (bare (H.content heap.old)))) }
-    ensures live { OnOk result (AreLive held.new.all (H.content heap.new)) }
-    ensures memory { OnErr result (MayLack H.lacks) }
-    ensures unchanged { OnErr result (held.new.all ≡ held.old.all) }
-    ensures records { (H.content heap.new).records ≡ (H.content heap.old).records }
-    ensures looked { LooksUp 4 held.old held.new }
-    ensures bound { H.touches heap.new ≤ H.touches heap.old + 356 }
+    ensures { Replays H.content H.touches H.lacks 4 356 (asks event pending (found (all_given held.old.all)))
+        (outcome_of number event pending (found (all_given held.old.all)) (bare (H.content heap.old)))
+        result heap.old heap.new held.old held.new }
 {
     match event {
         Err(LineFault::TooLong) => Ok(unserved(one_note(number, Kind::TooLong))),

@@ -1,4 +1,4 @@
-use Rattle.std.proofs.Common.{ℕ, arith, [], ◌∷◌, ◌+◌, None, Some, Option, cond, length, rules, List, refl, sym, subst, ap, ◌∙◌}
+use Rattle.std.proofs.Common.{◌≡◌, ℕ, arith, true, false, not, is_some, [], ◌∷◌, ◌+◌, None, Some, Option, cond, length, rules, List, refl, sym, subst, ap, ◌∙◌}
 use Rattle.std.specs.Prelude.{◌==◌}
 use Rattle.tlsf_heap.specs.Bare.{bare}
 use Rattle.tlsf_heap.specs.Content.{Content}
@@ -15,8 +15,8 @@ use Rattle.mtrace_replay.proofs.HeapSteps.{bare_served, bare_refused}
 use Rattle.mtrace_replay.proofs.Living.{live_after_malloc}
 use Rattle.mtrace_replay.proofs.Served.{served_small, served_records}
 use Rattle.mtrace_replay.proofs.HeldFew.{held_fits, held_room}
-use Rattle.mtrace_replay.proofs.LookLemmas.{looks_up_fewer}
-use Rattle.mtrace_replay.proofs.StepLemmas.{asked_least, none_is, comes_held, comes_served, comes_refused}
+use Rattle.mtrace_replay.proofs.LookLemmas.{look_on, looks_up_fewer}
+use Rattle.mtrace_replay.proofs.StepLemmas.{asked_least, found_some, none_is, comes_held, comes_served, comes_refused}
 use Rattle.mtrace_replay.proofs.step.allocate.Goals as goal
 
 pub insert-requires : goal.insert-requires
@@ -39,19 +39,33 @@ insert-requires g c =
       room = omega (arith, room, records, c.requires.room, c.contains.ensures.looked.room, ap (length {A = Holding}) same);
     }
 
-pub returns-then-contains-clause-comes : goal.returns-then-contains-clause-comes
-returns-then-contains-clause-comes g c =
-    let content = bare (g.H.Heaped.content c.args.heap.now) in
+-- the heap is asked, where the address isn't held
+is_asked : (held : List Holding) (address : ℕ) → is_some (held_at held address) ≡ false → not (is_some (found (all_given held) address)) ≡ true
+is_asked held address absent = ap not (found_some held address ∙ absent)
+
+pub returns-then-contains : goal.returns-then-contains
+returns-then-contains g c =
+    let heap = g.H.Heaped.content c.args.heap.now in
+    let content = bare heap in
     let held = c.args.held.now.all in
     let entry = c.args.entry in
     let moment = allocation entry.line entry.at entry.addr entry.size (found (all_given held) entry.addr) content in
     let P : List Diagnostic → Type 0 = λ notes. Comes content content (all_given held) (all_given held) notes None moment in
     let Q : Effect → List Holding → Type 0 = λ effect all. Comes content content (all_given held) (all_given all) effect.note.items effect.end moment in
-    subst (Q c.unserved.result) (sym c.contains.ensures.unchanged)
-    (subst (λ effect. Q effect held) (sym c.unserved.ensures) (subst P (sym c.one_note.ensures) (comes_held held held content content entry.line entry.at entry.addr entry.size (sym c.contains.ensures.value ∙ c.if-contains.true))))
+    record {
+      comes = subst (Q c.unserved.result) (sym c.contains.ensures.unchanged)
+          (subst (λ effect. Q effect held) (sym c.unserved.ensures) (subst P (sym c.one_note.ensures) (comes_held held held content content entry.line entry.at entry.addr entry.size (sym c.contains.ensures.value ∙ c.if-contains.true))));
+      live = subst (λ all. AreLive all heap) (sym c.contains.ensures.unchanged) c.requires.live;
+      memory = tt;
+      unchanged = tt;
+      records = refl;
+      looked = looks_up_fewer 1 1 c.args.held.now c.contains.new.self c.contains.ensures.looked;
+      bound = omega arith;
+      idle = λ idle. refl;
+    }
 
-pub returns-in-Ok-clause-comes : goal.returns-in-Ok-clause-comes
-returns-in-Ok-clause-comes g c =
+pub returns-in-Ok : goal.returns-in-Ok
+returns-in-Ok g c =
     let old = g.H.Heaped.content c.args.heap.now in
     let new = g.H.Heaped.content c.malloc_block.new.heap in
     let held = c.args.held.now.all in
@@ -61,22 +75,34 @@ returns-in-Ok-clause-comes g c =
     let more : Holding = record { entry = entry; ptr = ptr } in
     let moment = allocation entry.line entry.at entry.addr entry.size (found (all_given held) entry.addr) (bare old) in
     let P : List Diagnostic → Option ℕ → Type 0 = λ notes end. Comes (bare old) (bare new) (all_given held) (all_given after) notes end moment in
+    let absent = sym c.contains.ensures.value ∙ c.if-contains.false in
     let served = bare_served old new ptr.slot c.asked_size.result ptr.place c.in-Ok.ensures.ok in
     let end = c.served.ensures.end ∙ ap (λ (n : ℕ). Some n) (c.in-Ok.ensures.end ∙ ap (λ (n : ℕ). ptr.place + n) (sym (size_at-renamed (λ owner. tt) ptr.place new.pools))) in
-    subst (λ notes. P notes c.served.result.end) (sym c.served.ensures.note) (subst (P []) (sym end)
-    (comes_served held after (bare old) (bare new) more (sym c.contains.ensures.value ∙ c.if-contains.false)
-    (ap (λ n. malloc tt n (bare old)) (sym c.asked_size.ensures) ∙ served) (λ other. c.insert.ensures.held other ∙ ap (λ all. cond (entry.addr == other) (Some more) (held_at all other)) c.contains.ensures.unchanged)))
+    let changed = (λ (other : ℕ). c.insert.ensures.held other ∙ ap (λ all. cond (entry.addr == other) (Some more) (held_at all other)) c.contains.ensures.unchanged) in
+    let asked = asked_least entry.size in
+    record {
+      comes = subst (λ notes. P notes c.served.result.end) (sym c.served.ensures.note) (subst (P []) (sym end)
+          (comes_served held after (bare old) (bare new) more absent (ap (λ n. malloc tt n (bare old)) (sym c.asked_size.ensures) ∙ served) changed));
+      live = live_after_malloc held after old new c.keeps_good.ensures.good c.requires.live more c.asked_size.result c.in-Ok.ensures.ok (omega (arith, asked, c.asked_size.ensures)) changed;
+      memory = tt;
+      unchanged = tt;
+      records = served_records ptr.slot c.asked_size.result old (ptr.place, new) c.in-Ok.ensures.ok;
+      looked = look_on 1 1 c.args.held.now c.contains.new.self c.insert.new.self c.contains.ensures.looked c.insert.ensures.looked;
+      bound = omega (arith, c.malloc_block.ensures.bound);
+      idle = λ idle. absurd (let is = is_asked held entry.addr absent in cc);
+    }
 
-pub returns-in-Ok-clause-live : goal.returns-in-Ok-clause-live
-returns-in-Ok-clause-live g c =
-    let asked = asked_least c.args.entry.size in
-    let more : Holding = record { entry = c.args.entry; ptr = c.in-Ok.block.ptr } in
-    live_after_malloc c.args.held.now.all c.insert.new.self.all (g.H.Heaped.content c.args.heap.now) (g.H.Heaped.content c.malloc_block.new.heap) c.keeps_good.ensures.good c.requires.live
-    more c.asked_size.result c.in-Ok.ensures.ok (omega (arith, asked, c.asked_size.ensures))
-    (λ other. c.insert.ensures.held other ∙ ap (λ all. cond (c.args.entry.addr == other) (Some more) (held_at all other)) c.contains.ensures.unchanged)
-
-pub returns-in-Ok-clause-records : goal.returns-in-Ok-clause-records
-returns-in-Ok-clause-records g c = served_records c.in-Ok.block.ptr.slot c.asked_size.result (g.H.Heaped.content c.args.heap.now) (c.in-Ok.block.ptr.place, g.H.Heaped.content c.malloc_block.new.heap) c.in-Ok.ensures.ok
+pub returns-in-Err-OutOfMemory : goal.returns-in-Err-OutOfMemory
+returns-in-Err-OutOfMemory g c = record {
+  comes = tt;
+  live = tt;
+  memory = search rules;
+  unchanged = c.contains.ensures.unchanged;
+  records = search rules;
+  looked = looks_up_fewer 1 1 c.args.held.now c.contains.new.self c.contains.ensures.looked;
+  bound = omega (arith, c.malloc_block.ensures.bound);
+  idle = λ idle. absurd (let is = is_asked c.args.held.now.all c.args.entry.addr (sym c.contains.ensures.value ∙ c.if-contains.false) in cc);
+}
 
 pub returns-in-Err : goal.returns-in-Err
 returns-in-Err g c =
@@ -100,4 +126,5 @@ returns-in-Err g c =
       records = ap (λ (content : Content ℕ). content.records) same;
       looked = looks_up_fewer 1 1 c.args.held.now c.contains.new.self c.contains.ensures.looked;
       bound = omega (arith, c.in-Err.ensures.bound);
+      idle = λ idle. absurd (let is = is_asked held entry.addr (sym c.contains.ensures.value ∙ c.if-contains.false) in cc);
     }

@@ -32,8 +32,8 @@ replace-requires g c =
       room = omega (arith, few, c.requires.room);
     }
 
-pub returns-in-Ok-clause-comes : goal.returns-in-Ok-clause-comes
-returns-in-Ok-clause-comes g c =
+pub returns-in-Ok : goal.returns-in-Ok
+returns-in-Ok g c =
     let old = g.H.Heaped.content c.args.heap.now in
     let new = g.H.Heaped.content c.realloc_block.new.heap in
     let held = c.args.held.now.all in
@@ -48,24 +48,21 @@ returns-in-Ok-clause-comes g c =
     let moment = moved entry.line entry.at c.args.old ptr.place entry.addr entry.size (bare old) (realloc (λ one other. true) tt (Some (ptr.place, tt)) (asked_size entry.size) (bare old)) in
     let Q : List Diagnostic → Option ℕ → Type 0 = λ notes end. Comes (bare old) (bare new) (all_given held) (all_given after) notes end moment in
     let end = c.served.ensures.end ∙ ap (λ (n : ℕ). Some n) (c.in-Ok.ensures.end ∙ ap (λ (n : ℕ). given.place + n) (sym (size_at-renamed (λ owner. tt) given.place new.pools))) in
-    subst (λ notes. Q notes c.served.result.end) (sym c.served.ensures.note) (subst (Q []) (sym end)
-    (comes_moved held after (bare old) (bare new) c.args.old ptr.place (record { entry = entry; ptr = given })
-    (ap (λ n. realloc (λ one other. true) tt (Some (ptr.place, tt)) n (bare old)) (sym c.asked_size.ensures) ∙ served) c.replace.ensures.held))
-
-pub returns-in-Ok-clause-live : goal.returns-in-Ok-clause-live
-returns-in-Ok-clause-live g c =
-    let old = g.H.Heaped.content c.args.heap.now in
-    let new = g.H.Heaped.content c.realloc_block.new.heap in
-    let under = c.requires.held in
-    let given = c.in-Ok.block.ptr in
-    let asked = asked_least c.args.entry.size in
+    let asked = asked_least entry.size in
     let R : Pointer → Type 0 = λ p. realloc (λ a b. a == b) given.slot (Some (p.place, p.slot)) c.asked_size.result old ≡ Ok (Some (given.place, given.slot), new) in
-    live_after_realloc c.args.held.now.all c.replace.new.self.all old new c.keeps_good.ensures.good c.requires.live c.args.old under.0 under.1 (record { entry = c.args.entry; ptr = given }) c.asked_size.result
-    (subst R (sym under.2) c.in-Ok.ensures.ok) (omega (arith, asked, c.asked_size.ensures)) (omega (arith, asked, c.asked_size.ensures)) c.replace.ensures.held
-
-pub returns-in-Ok-clause-records : goal.returns-in-Ok-clause-records
-returns-in-Ok-clause-records g c =
-    moved_records (λ a b. a == b) c.in-Ok.block.ptr.slot c.args.ptr.slot c.args.ptr.place c.asked_size.result (g.H.Heaped.content c.args.heap.now) (Some (c.in-Ok.block.ptr.place, c.in-Ok.block.ptr.slot), g.H.Heaped.content c.realloc_block.new.heap) c.in-Ok.ensures.ok
+    record {
+      comes = subst (λ notes. Q notes c.served.result.end) (sym c.served.ensures.note) (subst (Q []) (sym end)
+          (comes_moved held after (bare old) (bare new) c.args.old ptr.place (record { entry = entry; ptr = given })
+          (ap (λ n. realloc (λ one other. true) tt (Some (ptr.place, tt)) n (bare old)) (sym c.asked_size.ensures) ∙ served) c.replace.ensures.held));
+      live = live_after_realloc held after old new c.keeps_good.ensures.good c.requires.live c.args.old under.0 under.1 (record { entry = entry; ptr = given }) c.asked_size.result
+          (subst R (sym under.2) c.in-Ok.ensures.ok) (omega (arith, asked, c.asked_size.ensures)) (omega (arith, asked, c.asked_size.ensures)) c.replace.ensures.held;
+      memory = tt;
+      unchanged = tt;
+      records = moved_records (λ a b. a == b) given.slot ptr.slot ptr.place c.asked_size.result old (Some (given.place, given.slot), new) c.in-Ok.ensures.ok;
+      looked = c.replace.ensures.looked;
+      bound = omega (arith, c.realloc_block.ensures.bound);
+      idle = λ idle. absurd (cc);
+    }
 
 pub returns-in_ok-take-in-Err : goal.returns-in_ok-take-in-Err
 returns-in_ok-take-in-Err g c =
@@ -94,4 +91,5 @@ returns-in_ok-take-in-Err g c =
       looked = looks_up_fewer 1 1 c.args.held.now c.take.new.held c.take.ensures.looked;
       records = c.take.ensures.records ∙ ap (λ (content : Content ℕ). content.records) c.in-Err.ensures.unchanged;
       bound = omega (arith, c.take.ensures.bound, c.realloc_block.ensures.bound);
+      idle = λ idle. absurd (cc);
     }

@@ -1,4 +1,4 @@
-use Rattle.std.proofs.Common.{None, List, cond, sym, subst, ap, ◌∙◌}
+use Rattle.std.proofs.Common.{◌≡◌, ℕ, true, Some, is_some, None, List, cond, refl, sym, subst, ap, ◌∙◌, arith, rules}
 use Rattle.std.specs.Prelude.{◌==◌}
 use Rattle.tlsf_heap.specs.Bare.{bare}
 use Rattle.tlsf_heap.specs.Pointer.{Pointer}
@@ -7,21 +7,51 @@ use Rattle.mtrace_replay.specs.declared.holding.Holding.{Holding}
 use Rattle.mtrace_replay.specs.declared.step.Effect.{Effect}
 use Rattle.mtrace_replay.specs.Moment.{release, without}
 use Rattle.mtrace_replay.specs.Index.{held_at}
-use Rattle.mtrace_replay.specs.Step.{all_given, found, Comes}
-use Rattle.mtrace_replay.proofs.StepLemmas.{comes_not_held, comes_released, under_none, under_some}
+use Rattle.mtrace_replay.specs.Step.{all_given, found, Comes, AreLive}
+use Rattle.mtrace_replay.proofs.LookLemmas.{look_on, looks_up_fewer}
+use Rattle.mtrace_replay.proofs.StepLemmas.{found_some, comes_not_held, comes_released, under_none, under_some}
 use Rattle.mtrace_replay.proofs.step.release.Goals as goal
 
-pub returns-in_default-clause-comes : goal.returns-in_default-clause-comes
-returns-in_default-clause-comes g c =
-    let content = bare (g.H.Heaped.content c.args.heap.now) in
+pub returns-in_default : goal.returns-in_default
+returns-in_default g c =
+    let heap = g.H.Heaped.content c.args.heap.now in
+    let content = bare heap in
     let held = c.args.held.now.all in
     let P : List Diagnostic → Type 0 = λ notes. Comes content content (all_given held) (all_given held) notes None (release c.args.number c.args.address (found (all_given held) c.args.address) content) in
     let Q : Effect → List Holding → Type 0 = λ effect all. Comes content content (all_given held) (all_given all) effect.note.items effect.end (release c.args.number c.args.address (found (all_given held) c.args.address) content) in
-    subst (Q c.unserved.result) (sym c.block.ensures.unchanged)
-    (subst (λ effect. Q effect held) (sym c.unserved.ensures) (subst P (sym c.one_note.ensures) (comes_not_held held held content content c.args.number c.args.address (under_none (held_at held c.args.address) (sym c.block.ensures.value ∙ c.in_default.is)))))
+    record {
+      comes = subst (Q c.unserved.result) (sym c.block.ensures.unchanged)
+          (subst (λ effect. Q effect held) (sym c.unserved.ensures) (subst P (sym c.one_note.ensures) (comes_not_held held held content content c.args.number c.args.address (under_none (held_at held c.args.address) (sym c.block.ensures.value ∙ c.in_default.is)))));
+      live = subst (λ all. AreLive all heap) (sym c.block.ensures.unchanged) c.requires.live;
+      memory = tt;
+      unchanged = tt;
+      records = refl;
+      looked = looks_up_fewer 1 1 c.args.held.now c.block.new.self c.block.ensures.looked;
+      bound = omega arith;
+      idle = λ idle. refl;
+    }
 
-pub returns-clause-comes : goal.returns-clause-comes
-returns-clause-comes g c =
+-- the heap is asked, where the address is held
+is_asked : (held : List Holding) (address : ℕ) (holding : Holding) → held_at held address ≡ Some holding → is_some (found (all_given held) address) ≡ true
+is_asked held address holding is = found_some held address ∙ ap is_some is
+
+pub returns-in_err-take : goal.returns-in_err-take
+returns-in_err-take g c =
+    let held = c.args.held.now.all in
+    let under = under_some (held_at held c.args.address) c.in-Some.ptr (sym c.block.ensures.value ∙ c.in-Some.is) in
+    record {
+      comes = search rules;
+      live = search rules;
+      memory = search rules;
+      unchanged = search rules;
+      records = c.take.ensures.records;
+      looked = look_on 1 1 c.args.held.now c.block.new.self c.take.new.held c.block.ensures.looked c.take.ensures.looked;
+      bound = c.take.ensures.bound;
+      idle = λ idle. absurd (let is = is_asked held c.args.address under.0 under.1 in cc);
+    }
+
+pub returns : goal.returns
+returns g c =
     let content = bare (g.H.Heaped.content c.args.heap.now) in
     let after = bare (g.H.Heaped.content c.take.new.heap) in
     let held = c.args.held.now.all in
@@ -29,5 +59,14 @@ returns-clause-comes g c =
     let under = under_some (held_at held c.args.address) c.in-Some.ptr (sym c.block.ensures.value ∙ c.in-Some.is) in
     let P : List Diagnostic → Type 0 = λ notes. Comes content after (all_given held) (all_given new) notes None (release c.args.number c.args.address (found (all_given held) c.args.address) content) in
     let Q : Effect → Type 0 = λ effect. Comes content after (all_given held) (all_given new) effect.note.items effect.end (release c.args.number c.args.address (found (all_given held) c.args.address) content) in
-    subst Q (sym c.unserved-2.ensures) (subst P (sym c.no_note.ensures) (comes_released held new content after c.args.number c.args.address under.0 under.1
-    (c.in_ok-take.ensures.content ∙ ap (λ (ptr : Pointer). without ptr.place content) (sym under.2)) (λ other. c.in_ok-take.ensures.held other ∙ ap (λ all. cond (c.args.address == other) None (held_at all other)) c.block.ensures.unchanged)))
+    record {
+      comes = subst Q (sym c.unserved-2.ensures) (subst P (sym c.no_note.ensures) (comes_released held new content after c.args.number c.args.address under.0 under.1
+          (c.in_ok-take.ensures.content ∙ ap (λ (ptr : Pointer). without ptr.place content) (sym under.2)) (λ other. c.in_ok-take.ensures.held other ∙ ap (λ all. cond (c.args.address == other) None (held_at all other)) c.block.ensures.unchanged)));
+      live = c.in_ok-take.ensures.live;
+      memory = tt;
+      unchanged = tt;
+      records = c.take.ensures.records;
+      looked = look_on 1 1 c.args.held.now c.block.new.self c.take.new.held c.block.ensures.looked c.take.ensures.looked;
+      bound = c.take.ensures.bound;
+      idle = λ idle. absurd (let is = is_asked held c.args.address under.0 under.1 in cc);
+    }

@@ -1,4 +1,4 @@
-use Rattle.std.proofs.Common.{ℕ, Option, None, true, not, is_some, List, [], ◌∷◌, Some, IfOk, sym, subst, ap, ◌∙◌}
+use Rattle.std.proofs.Common.{ℕ, Option, None, true, not, is_some, List, [], ◌∷◌, Some, IfOk, refl, sym, subst, ap, ◌∙◌, arith, rules}
 use Rattle.std.specs.Prelude.{◌==◌, ◌&&◌}
 use Rattle.tlsf_heap.specs.Bare.{bare}
 use Rattle.tlsf_heap.specs.Pointer.{Pointer}
@@ -9,30 +9,43 @@ use Rattle.mtrace_replay.specs.declared.step.Effect.{Effect}
 use Rattle.mtrace_replay.specs.declared.diagnostic.Kind.TheVariants.{NotHeld, AlreadyHeld}
 use Rattle.mtrace_replay.specs.Moment.{Moment, note, unserved, noted_after, allocation, renewal, moved, asked_size}
 use Rattle.mtrace_replay.specs.Index.{held_at}
-use Rattle.mtrace_replay.specs.Step.{all_given, found, Comes}
-use Rattle.mtrace_replay.proofs.StepLemmas.{comes_unserved, comes_after_note, under_none, under_some, renewal_allocates, renewal_is_held, renewal_moves}
+use Rattle.mtrace_replay.specs.Step.{all_given, found, Comes, AreLive}
+use Rattle.std.proofs.lemmas.Result.{on_err_weaker}
+use Rattle.mtrace_replay.proofs.LookLemmas.{look_on, looks_up_fewer}
+use Rattle.mtrace_replay.proofs.StepLemmas.{comes_unserved, comes_after_note, under_none, under_some, renewal_allocates, renewal_is_held, renewal_moves, renewal_asks_new, renewal_asks_moved}
 use Rattle.mtrace_replay.proofs.step.renew.Goals as goal
 
-pub returns-in_default-block-clause-comes : goal.returns-in_default-block-clause-comes
-returns-in_default-block-clause-comes g c =
+pub returns-in_default-block : goal.returns-in_default-block
+returns-in_default-block g c =
     let content = bare (g.H.Heaped.content c.args.heap.now) in
     let after = bare (g.H.Heaped.content c.allocate.new.heap) in
     let held = c.args.held.now.all in
     let new = c.allocate.new.held.all in
     let entry = c.args.entry in
     let old = c.in-Some.old in
-    let is = renewal_allocates held content entry.line entry.at c.args.pending old entry.addr entry.size c.in-Some.is (under_none (held_at held old) (sym c.block.ensures.value ∙ c.in_default-block.is)) in
+    let none = under_none (held_at held old) (sym c.block.ensures.value ∙ c.in_default-block.is) in
+    let is = renewal_allocates held content entry.line entry.at c.args.pending old entry.addr entry.size c.in-Some.is none in
     let moment = allocation entry.line entry.at entry.addr entry.size (found (all_given held) entry.addr) content in
     let first : Diagnostic = record { line = entry.line; kind = NotHeld old } in
     let C : List Holding → Type 0 = λ all. Comes content after (all_given all) (all_given new) c.in_ok-more.more.note.items c.in_ok-more.more.end
     (allocation entry.line entry.at entry.addr entry.size (found (all_given all) entry.addr) content) in
     let P : List Diagnostic → Option ℕ → Type 0 = λ notes end. Comes content after (all_given held) (all_given new) notes end (noted_after (first ∷ []) moment) in
-    subst (Comes content after (all_given held) (all_given new) c.after_note.result.note.items c.after_note.result.end) (sym is)
-    (subst (λ notes. P notes c.after_note.result.end) (sym c.after_note.ensures.note) (subst (P (first ∷ c.in_ok-more.more.note.items)) (sym c.after_note.ensures.end)
-    (comes_after_note content after (all_given held) (all_given new) first c.in_ok-more.more.note.items c.in_ok-more.more.end moment (subst C c.block.ensures.unchanged c.in_ok-more.ensures.comes))))
+    record {
+      comes = subst (Comes content after (all_given held) (all_given new) c.after_note.result.note.items c.after_note.result.end) (sym is)
+          (subst (λ notes. P notes c.after_note.result.end) (sym c.after_note.ensures.note) (subst (P (first ∷ c.in_ok-more.more.note.items)) (sym c.after_note.ensures.end)
+          (comes_after_note content after (all_given held) (all_given new) first c.in_ok-more.more.note.items c.in_ok-more.more.end moment (subst C c.block.ensures.unchanged c.in_ok-more.ensures.comes))));
+      live = c.in_ok-more.ensures.live;
+      memory = tt;
+      unchanged = tt;
+      records = c.allocate.ensures.records;
+      looked = looks_up_fewer 3 1 c.args.held.now c.allocate.new.held (look_on 1 2 c.args.held.now c.block.new.self c.allocate.new.held c.block.ensures.looked c.allocate.ensures.looked);
+      bound = omega (arith, c.allocate.ensures.bound);
+      idle = λ idle. c.allocate.ensures.idle (ap (λ all. not (is_some (found (all_given all) entry.addr))) c.block.ensures.unchanged
+          ∙ sym (renewal_asks_new held c.args.pending old entry.addr c.in-Some.is none) ∙ idle);
+    }
 
-pub returns-then-is_held_too-clause-comes : goal.returns-then-is_held_too-clause-comes
-returns-then-is_held_too-clause-comes g c =
+pub returns-then-is_held_too : goal.returns-then-is_held_too
+returns-then-is_held_too g c =
     let content = bare (g.H.Heaped.content c.args.heap.now) in
     let held = c.args.held.now.all in
     let entry = c.args.entry in
@@ -46,11 +59,20 @@ returns-then-is_held_too-clause-comes g c =
     let Q : Effect → Type 0 = λ effect. Comes content content (all_given held) (all_given held) effect.note.items effect.end (unserved notes content) in
     let R : List Holding → Type 0 = λ all. Comes content content (all_given held) (all_given all) c.unserved-then-is_held_too.result.note.items c.unserved-then-is_held_too.result.end
     (renewal entry.line entry.at c.args.pending entry.addr entry.size (found (all_given held)) content) in
-    subst R (sym same) (subst (Comes content content (all_given held) (all_given held) c.unserved-then-is_held_too.result.note.items c.unserved-then-is_held_too.result.end) (sym is)
-    (subst Q (sym c.unserved-then-is_held_too.ensures) (subst P (sym c.one_note-then-is_held_too.ensures) (comes_unserved content (all_given held) notes))))
+    record {
+      comes = subst R (sym same) (subst (Comes content content (all_given held) (all_given held) c.unserved-then-is_held_too.result.note.items c.unserved-then-is_held_too.result.end) (sym is)
+          (subst Q (sym c.unserved-then-is_held_too.ensures) (subst P (sym c.one_note-then-is_held_too.ensures) (comes_unserved content (all_given held) notes))));
+      live = subst (λ all. AreLive all (g.H.Heaped.content c.args.heap.now)) (sym same) c.requires.live;
+      memory = tt;
+      unchanged = tt;
+      records = refl;
+      looked = looks_up_fewer 2 2 c.args.held.now c.is_held_too.new.held (look_on 1 1 c.args.held.now c.block.new.self c.is_held_too.new.held c.block.ensures.looked c.is_held_too.ensures.looked);
+      bound = omega arith;
+      idle = λ idle. refl;
+    }
 
-pub returns-clause-comes : goal.returns-clause-comes
-returns-clause-comes g c =
+pub returns : goal.returns
+returns g c =
     let content = bare (g.H.Heaped.content c.args.heap.now) in
     let after = bare (g.H.Heaped.content c.reallocate.new.heap) in
     let held = c.args.held.now.all in
@@ -63,5 +85,15 @@ returns-clause-comes g c =
     let is = renewal_moves held content entry.line entry.at c.args.pending old entry.addr entry.size c.in-Some.is under.0 under.1 (sym value ∙ c.if-is_held_too.false) in
     let there = ap (λ (ptr : Pointer). moved entry.line entry.at old ptr.place entry.addr entry.size content (realloc (λ one other. true) tt (Some (ptr.place, tt)) (asked_size entry.size) content)) under.2 in
     let P : Moment → List Holding → Type 0 = λ moment all. IfOk c.reallocate.result (λ effect. Comes content after (all_given all) (all_given new) effect.note.items effect.end moment) in
-    subst (λ moment. P moment held) (sym (is ∙ there)) (subst (P (moved entry.line entry.at old c.in-Some-block.ptr.place entry.addr entry.size content
-    (realloc (λ one other. true) tt (Some (c.in-Some-block.ptr.place, tt)) (asked_size entry.size) content))) same c.reallocate.ensures.comes)
+    record {
+      comes = subst (λ moment. P moment held) (sym (is ∙ there)) (subst (P (moved entry.line entry.at old c.in-Some-block.ptr.place entry.addr entry.size content
+          (realloc (λ one other. true) tt (Some (c.in-Some-block.ptr.place, tt)) (asked_size entry.size) content))) same c.reallocate.ensures.comes);
+      live = c.reallocate.ensures.live;
+      memory = c.reallocate.ensures.memory;
+      unchanged = on_err_weaker c.reallocate.result (λ unchanged. unchanged ∙ same) c.reallocate.ensures.unchanged;
+      records = c.reallocate.ensures.records;
+      looked = look_on 2 2 c.args.held.now c.is_held_too.new.held c.reallocate.new.held
+          (look_on 1 1 c.args.held.now c.block.new.self c.is_held_too.new.held c.block.ensures.looked c.is_held_too.ensures.looked) c.reallocate.ensures.looked;
+      bound = c.reallocate.ensures.bound;
+      idle = λ idle. absurd (let is_asked = renewal_asks_moved held c.args.pending old entry.addr under.0 c.in-Some.is under.1 (sym value ∙ c.if-is_held_too.false) in cc);
+    }
