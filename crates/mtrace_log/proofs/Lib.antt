@@ -6,6 +6,7 @@ pub mod FormLemmas
 pub mod EventLemmas
 pub mod SpellingLemmas
 pub mod TraceLemmas
+pub mod Writing
 pub mod LineLemmas
 pub mod PieceLemmas
 pub mod ReadLemmas

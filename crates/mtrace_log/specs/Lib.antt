@@ -8,6 +8,7 @@ pub mod Reading
 pub mod Fields
 pub mod Lines
 pub mod Trace
+pub mod Output
 pub mod Progress
 pub mod State
 pub mod LineBuffer

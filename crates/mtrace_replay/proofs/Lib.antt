@@ -23,4 +23,3 @@ mod Stood
 mod TextLemmas
 mod TotalsLemmas
 mod TotalsStep
-mod Writing

@@ -26,13 +26,13 @@ use Rattle.mtrace_replay.specs.Started.{started}
 use Rattle.mtrace_replay.specs.Moment.{Moment, Given, moment, half}
 use Rattle.mtrace_replay.specs.History.{moments, content_after, held, history, notes, pending, entries_of}
 use Rattle.mtrace_replay.specs.Texts.{note_text, notes_text, report_text, status_of}
-use Rattle.mtrace_replay.specs.Output.{Wrote, Begins}
+use Rattle.mtrace_log.specs.Output.{Wrote, Begins}
 use Rattle.mtrace_replay.specs.Replay.{Replayed, StandsFor, entries, added_notes}
 use Rattle.mtrace_replay.specs.declared.report.Report.{Report}
 use Rattle.mtrace_replay.specs.declared.totals.Totals.{Totals}
 use Rattle.mtrace_replay.specs.Run.{Bytes, text_of_notes, whole_text, end_text, StopsAtRead, FailedInPiece, IsPastLastNumber, StopsAtWrite, Reports, is_some_note, is_some_entry, LineGives, LineBegins, HasReplayed}
 use Rattle.mtrace_replay.proofs.Moments.{moments-none, moments-line}
-use Rattle.mtrace_replay.proofs.Writing.{Wrote-nothing, Wrote-append, Begins-after, Begins-longer}
+use Rattle.mtrace_log.proofs.Writing.{Wrote-nothing, Wrote-append, Begins-after, Begins-longer}
 
 -- the lines so far were read and replayed, and their diagnostics written
 pub record IsUnderWay (settings : Settings) (progress : Progress) (replay : Replayed) (noted : Bool) (left_start left_now taken_start taken_now : Bytes) : Type 0 where

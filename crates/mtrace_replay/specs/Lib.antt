@@ -12,5 +12,4 @@ pub mod Replay
 pub mod Texts
 pub mod Rows
 pub mod Totals
-pub mod Output
 pub mod Run

@@ -20,7 +20,7 @@ use Rattle.mtrace_replay.specs.History.{history, notes, diagnostics, AreHeld, en
 use Rattle.mtrace_replay.specs.Replay.{Replayed, StandsFor, entries, added_notes}
 use Rattle.mtrace_replay.specs.declared.diagnostic.Diagnostic.{Diagnostic}
 use Rattle.mtrace_replay.specs.Texts.{notes_text, report_text, status_of}
-use Rattle.mtrace_replay.specs.Output.{Wrote, Begins}
+use Rattle.mtrace_log.specs.Output.{Wrote, Begins}
 
 abbrev pub Bytes : Type 0
 Bytes = Option (List ℕ)

@@ -130,8 +130,7 @@ impl<H: Heaped> Replay<H> {
     ghost use Rattle.mtrace_replay.specs.Moment.{Reading, asks, half};
     ghost use Rattle.mtrace_replay.specs.Step.{found};
     ghost use Rattle.mtrace_replay.specs.Replay.{StandsFor, entries, added_notes};
-    ghost use Rattle.mtrace_log.specs.Trace.{HasTaken, HasTakenAndFailed};
-    ghost use Rattle.mtrace_replay.specs.Output.{Wrote, Begins};
+    ghost use Rattle.mtrace_log.specs.Output.{Puts};
     ghost use Rattle.mtrace_replay.specs.Texts.{free_sizes, walk_report};
     ghost use Rattle.mtrace_replay.specs.Rows.{IsFree};
 
@@ -267,10 +266,7 @@ impl<H: Heaped> Replay<H> {
     ///
     /// `Failed` where the writer failed, or took no byte of some: then a beginning of the report is put.
     pub(crate) fn put_walk<W: Sink>(&mut self, writer: &mut W) -> Result<(), Failed>
-        ensures all { OnOk result (Wrote (W.taken writer.old) (W.taken writer.new) (walk_report self.old.content)) }
-        ensures took { OnOk result (HasTaken (W.trace writer.old) (W.trace writer.new)) }
-        ensures beginning { OnErr result (Begins (W.taken writer.old) (W.taken writer.new) (walk_report self.old.content)) }
-        ensures failed { OnErr result (HasTakenAndFailed (W.trace writer.old) (W.trace writer.new)) }
+        ensures { Puts W.taken W.trace result (walk_report self.old.content) writer.old writer.new }
     {
         put_walk(writer, &mut self.heap)
     }

@@ -1,17 +1,15 @@
 //! The reports.
 
 ghost use Rattle.std.specs.Prelude.{◌≡◌, ◌≢◌, false, ◌<◌, ◌^◌, [], length, flat_map, OnOk, OnErr};
-ghost use Rattle.mtrace_log.specs.Trace.{HasTaken, HasTakenAndFailed};
-ghost use Rattle.mtrace_replay.specs.Output.{Wrote, Begins};
+ghost use Rattle.mtrace_log.specs.Output.{Puts};
 ghost use Rattle.mtrace_replay.specs.Replay.{entries};
 ghost use Rattle.mtrace_replay.specs.Texts.{entry_text as text_of_entry, total_size as size_of_all, leaks_report, peak_report, report_text};
 
 use crate::entry::Entry;
 use crate::index::Entries;
 use crate::line_text::{entry_text, peak_text, total_text};
-use crate::output::put_all;
 use crate::replay::Replay;
-use mtrace_log::{Failed, Sink};
+use mtrace_log::{Failed, Sink, put_all};
 use tlsf_heap::Heaped;
 
 /// What is written of a log, behind what is wrong with its lines.
@@ -46,10 +44,7 @@ fn total_size(held: Entries<'_>) -> u128
 
 /// Puts a line for each entry, in their order.
 fn put_entries<W: Sink>(writer: &mut W, held: Entries<'_>) -> Result<(), Failed>
-    ensures all { OnOk result (Wrote (W.taken writer.old) (W.taken writer.new) (flat_map text_of_entry held.entry)) }
-    ensures took { OnOk result (HasTaken (W.trace writer.old) (W.trace writer.new)) }
-    ensures beginning { OnErr result (Begins (W.taken writer.old) (W.taken writer.new) (flat_map text_of_entry held.entry)) }
-    ensures failed { OnErr result (HasTakenAndFailed (W.trace writer.old) (W.trace writer.new)) }
+    ensures { Puts W.taken W.trace result (flat_map text_of_entry held.entry) writer.old writer.new }
 {
     for entry in held {
         put_all(writer, entry_text(entry).as_slice())?;
@@ -60,10 +55,7 @@ fn put_entries<W: Sink>(writer: &mut W, held: Entries<'_>) -> Result<(), Failed>
 /// Puts the report where something is held.
 fn put_held<W: Sink, H: Heaped>(writer: &mut W, replay: &Replay<H>) -> Result<(), Failed>
     requires { entries replay.now ≢ [] }
-    ensures all { OnOk result (Wrote (W.taken writer.old) (W.taken writer.new) (leaks_report (entries replay.now))) }
-    ensures took { OnOk result (HasTaken (W.trace writer.old) (W.trace writer.new)) }
-    ensures beginning { OnErr result (Begins (W.taken writer.old) (W.taken writer.new) (leaks_report (entries replay.now))) }
-    ensures failed { OnErr result (HasTakenAndFailed (W.trace writer.old) (W.trace writer.new)) }
+    ensures { Puts W.taken W.trace result (leaks_report (entries replay.now)) writer.old writer.new }
 {
     put_all(writer, b"Memory not freed:\n")?;
     put_entries(writer, replay.held())?;
@@ -79,10 +71,7 @@ fn put_held<W: Sink, H: Heaped>(writer: &mut W, replay: &Replay<H>) -> Result<()
 ///
 /// `Failed` where the writer failed, or took no byte of some: then a beginning of the report is put.
 fn put_leaks<W: Sink, H: Heaped>(writer: &mut W, replay: &Replay<H>) -> Result<(), Failed>
-    ensures all { OnOk result (Wrote (W.taken writer.old) (W.taken writer.new) (leaks_report (entries replay.now))) }
-    ensures took { OnOk result (HasTaken (W.trace writer.old) (W.trace writer.new)) }
-    ensures beginning { OnErr result (Begins (W.taken writer.old) (W.taken writer.new) (leaks_report (entries replay.now))) }
-    ensures failed { OnErr result (HasTakenAndFailed (W.trace writer.old) (W.trace writer.new)) }
+    ensures { Puts W.taken W.trace result (leaks_report (entries replay.now)) writer.old writer.new }
 {
     if replay.blocks() == 0 {
         put_all(writer, b"No memory leaks.\n")
@@ -94,10 +83,7 @@ fn put_leaks<W: Sink, H: Heaped>(writer: &mut W, replay: &Replay<H>) -> Result<(
 /// Puts the report of the peak.
 fn put_peak<W: Sink, H: Heaped>(writer: &mut W, replay: &mut Replay<H>) -> Result<(), Failed>
     requires works { replay.old.out_of_memory ≡ false }
-    ensures all { OnOk result (Wrote (W.taken writer.old) (W.taken writer.new) (peak_report replay.old.totals replay.old.content)) }
-    ensures took { OnOk result (HasTaken (W.trace writer.old) (W.trace writer.new)) }
-    ensures beginning { OnErr result (Begins (W.taken writer.old) (W.taken writer.new) (peak_report replay.old.totals replay.old.content)) }
-    ensures failed { OnErr result (HasTakenAndFailed (W.trace writer.old) (W.trace writer.new)) }
+    ensures { Puts W.taken W.trace result (peak_report replay.old.totals replay.old.content) writer.old writer.new }
 {
     let totals = replay.totals();
     let free = replay.free();
@@ -115,10 +101,7 @@ pub(crate) fn put_report<W: Sink, H: Heaped>(
     report: Report,
 ) -> Result<(), Failed>
     requires works { replay.old.out_of_memory ≡ false }
-    ensures all { OnOk result (Wrote (W.taken writer.old) (W.taken writer.new) (report_text report (entries replay.old) replay.old.totals replay.old.content)) }
-    ensures took { OnOk result (HasTaken (W.trace writer.old) (W.trace writer.new)) }
-    ensures beginning { OnErr result (Begins (W.taken writer.old) (W.taken writer.new) (report_text report (entries replay.old) replay.old.totals replay.old.content)) }
-    ensures failed { OnErr result (HasTakenAndFailed (W.trace writer.old) (W.trace writer.new)) }
+    ensures { Puts W.taken W.trace result (report_text report (entries replay.old) replay.old.totals replay.old.content) writer.old writer.new }
 {
     match report {
         Report::Leaks => put_leaks(writer, replay),

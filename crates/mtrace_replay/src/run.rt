@@ -4,7 +4,7 @@ ghost use Rattle.std.specs.Prelude.{◌≡◌, ◌≢◌, ◌↔◌, ◌+◌, �
 ghost use Rattle.mtrace_log.specs.Trace.{HasGivenAll, HasNotFailed, HasTaken, HasTakenAndFlushed, HasTakenAndFailed, HasFailedToWrite, FlushWasAsked};
 ghost use Rattle.tlsf_heap.specs.Run.{MayLack};
 ghost use Rattle.mtrace_replay.specs.Settings.{are_bad};
-ghost use Rattle.mtrace_replay.specs.Output.{Wrote, Begins};
+ghost use Rattle.mtrace_log.specs.Output.{Wrote, Begins, Puts};
 ghost use Rattle.mtrace_replay.specs.Texts.{notes_text, report_text};
 ghost use Rattle.mtrace_replay.specs.Moment.{Reading, half};
 ghost use Rattle.mtrace_replay.specs.Replay.{StandsFor, entries};
@@ -12,21 +12,17 @@ ghost use Rattle.mtrace_replay.specs.Run.{end_text, Runs, StopsAtRead, StopsAtWr
 
 use crate::diagnostic::Note;
 use crate::line_text::note_text;
-use crate::output::put_all;
 use crate::replay::{Replay, ReplayFault};
 use crate::report::{Report, put_report};
 use crate::settings::Settings;
 use crate::status::{RunFault, Status};
-use mtrace_log::{Failed, Line, Lines, Sink, Source};
+use mtrace_log::{Failed, Line, Lines, Sink, Source, put_all};
 use std::alloc::Global;
 use tlsf_heap::{Heap, Heaped};
 
 /// Puts a line for each diagnostic.
 fn put_note<W: Sink>(writer: &mut W, note: &Note) -> Result<(), Failed>
-    ensures all { OnOk result (Wrote (W.taken writer.old) (W.taken writer.new) (notes_text note.now.items)) }
-    ensures took { OnOk result (HasTaken (W.trace writer.old) (W.trace writer.new)) }
-    ensures beginning { OnErr result (Begins (W.taken writer.old) (W.taken writer.new) (notes_text note.now.items)) }
-    ensures failed { OnErr result (HasTakenAndFailed (W.trace writer.old) (W.trace writer.new)) }
+    ensures { Puts W.taken W.trace result (notes_text note.now.items) writer.old writer.new }
 {
     for diagnostic in note.as_slice() {
         put_all(writer, note_text(diagnostic).as_slice())?;
@@ -108,12 +104,7 @@ fn put_end<H: Heaped, W: Sink>(
     report: Report,
 ) -> Result<(), Failed>
     requires works { replay.old.out_of_memory ≡ false }
-    ensures all { OnOk result (Wrote (W.taken writer.old) (W.taken writer.new)
-        (notes_text note.now.items ++ report_text report (entries replay.old) replay.old.totals replay.old.content)) }
-    ensures took { OnOk result (HasTaken (W.trace writer.old) (W.trace writer.new)) }
-    ensures beginning { OnErr result (Begins (W.taken writer.old) (W.taken writer.new)
-        (notes_text note.now.items ++ report_text report (entries replay.old) replay.old.totals replay.old.content)) }
-    ensures failed { OnErr result (HasTakenAndFailed (W.trace writer.old) (W.trace writer.new)) }
+    ensures { Puts W.taken W.trace result (notes_text note.now.items ++ report_text report (entries replay.old) replay.old.totals replay.old.content) writer.old writer.new }
 {
     put_note(writer, note)?;
     put_report(writer, replay, report)

@@ -1,24 +1,19 @@
 //! The walk over a heap's pools and their blocks.
 
-ghost use Rattle.std.specs.Prelude.{◌≡◌, flat_map, OnOk, OnErr};
-ghost use Rattle.mtrace_log.specs.Trace.{HasTaken, HasTakenAndFailed};
+ghost use Rattle.std.specs.Prelude.{◌≡◌, flat_map};
 ghost use Rattle.tlsf_heap.specs.Bare.{bare};
-ghost use Rattle.mtrace_replay.specs.Output.{Wrote, Begins};
+ghost use Rattle.mtrace_log.specs.Output.{Puts};
 ghost use Rattle.mtrace_replay.specs.Rows.{rows_at};
 ghost use Rattle.mtrace_replay.specs.Texts.{row_text as text_of_row, rows_text, walk_report};
 
 use crate::line_text::{pool_text, row_text};
-use crate::output::put_all;
-use mtrace_log::{Failed, Sink};
+use mtrace_log::{Failed, Sink, put_all};
 use tlsf_heap::{Cursor, Heaped};
 
 /// Puts a line for each row from the cursor on.
 fn put_rows<H: Heaped, W: Sink>(writer: &mut W, heap: &mut H, cursor: Cursor) -> Result<(), Failed>
     requires { H.stands heap.old cursor }
-    ensures all { OnOk result (Wrote (W.taken writer.old) (W.taken writer.new) (flat_map text_of_row (H.rest heap.old cursor))) }
-    ensures took { OnOk result (HasTaken (W.trace writer.old) (W.trace writer.new)) }
-    ensures beginning { OnErr result (Begins (W.taken writer.old) (W.taken writer.new) (flat_map text_of_row (H.rest heap.old cursor))) }
-    ensures failed { OnErr result (HasTakenAndFailed (W.trace writer.old) (W.trace writer.new)) }
+    ensures puts { Puts W.taken W.trace result (flat_map text_of_row (H.rest heap.old cursor)) writer.old writer.new }
     ensures unchanged { H.content heap.new ≡ H.content heap.old }
 {
     let mut here = cursor;
@@ -31,10 +26,7 @@ fn put_rows<H: Heaped, W: Sink>(writer: &mut W, heap: &mut H, cursor: Cursor) ->
 
 /// Puts the rows of the pool that begins at the place `base`.
 fn put_rows_at<H: Heaped, W: Sink>(writer: &mut W, heap: &mut H, base: u64) -> Result<(), Failed>
-    ensures all { OnOk result (Wrote (W.taken writer.old) (W.taken writer.new) (flat_map text_of_row (rows_at (H.content heap.old).pools base))) }
-    ensures took { OnOk result (HasTaken (W.trace writer.old) (W.trace writer.new)) }
-    ensures beginning { OnErr result (Begins (W.taken writer.old) (W.taken writer.new) (flat_map text_of_row (rows_at (H.content heap.old).pools base))) }
-    ensures failed { OnErr result (HasTakenAndFailed (W.trace writer.old) (W.trace writer.new)) }
+    ensures puts { Puts W.taken W.trace result (flat_map text_of_row (rows_at (H.content heap.old).pools base)) writer.old writer.new }
     ensures unchanged { H.content heap.new ≡ H.content heap.old }
 {
     match heap.first(base) {
@@ -49,10 +41,7 @@ fn put_pool<H: Heaped, W: Sink>(
     heap: &mut H,
     range: (u64, u64),
 ) -> Result<(), Failed>
-    ensures all { OnOk result (Wrote (W.taken writer.old) (W.taken writer.new) (rows_text range (rows_at (H.content heap.old).pools range.0))) }
-    ensures took { OnOk result (HasTaken (W.trace writer.old) (W.trace writer.new)) }
-    ensures beginning { OnErr result (Begins (W.taken writer.old) (W.taken writer.new) (rows_text range (rows_at (H.content heap.old).pools range.0))) }
-    ensures failed { OnErr result (HasTakenAndFailed (W.trace writer.old) (W.trace writer.new)) }
+    ensures puts { Puts W.taken W.trace result (rows_text range (rows_at (H.content heap.old).pools range.0)) writer.old writer.new }
     ensures unchanged { H.content heap.new ≡ H.content heap.old }
 {
     put_all(writer, pool_text(range.0, range.1).as_slice())?;
@@ -65,10 +54,7 @@ fn put_pool<H: Heaped, W: Sink>(
 ///
 /// `Failed` where the writer failed, or took no byte of some: then a beginning of the report is put.
 pub(crate) fn put_walk<H: Heaped, W: Sink>(writer: &mut W, heap: &mut H) -> Result<(), Failed>
-    ensures all { OnOk result (Wrote (W.taken writer.old) (W.taken writer.new) (walk_report (bare (H.content heap.old)))) }
-    ensures took { OnOk result (HasTaken (W.trace writer.old) (W.trace writer.new)) }
-    ensures beginning { OnErr result (Begins (W.taken writer.old) (W.taken writer.new) (walk_report (bare (H.content heap.old)))) }
-    ensures failed { OnErr result (HasTakenAndFailed (W.trace writer.old) (W.trace writer.new)) }
+    ensures puts { Puts W.taken W.trace result (walk_report (bare (H.content heap.old))) writer.old writer.new }
     ensures unchanged { H.content heap.new ≡ H.content heap.old }
 {
     heap.keeps_good();

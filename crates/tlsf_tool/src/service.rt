@@ -10,8 +10,8 @@ ghost use Rattle.tlsf_tool.specs.Statuses.{report_of};
 use crate::asked::{Name, ToolFault};
 use crate::statuses::{end_status, fault_status};
 use arrayvec::ArrayString;
-use mtrace_log::{Sink, Source};
-use mtrace_replay::{RunFault, Settings, Status, put_all, run_leaks, run_peak, run_walk};
+use mtrace_log::{Sink, Source, put_all};
+use mtrace_replay::{RunFault, Settings, Status, run_leaks, run_peak, run_walk};
 use std::alloc::Global;
 use std::fmt::Write;
 

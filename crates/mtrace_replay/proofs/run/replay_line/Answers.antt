@@ -1,10 +1,10 @@
 use Rattle.std.proofs.Common.{List, sym, subst, ap, ◌∙◌, not}
 use Rattle.mtrace_replay.specs.declared.diagnostic.Diagnostic.{Diagnostic}
-use Rattle.mtrace_replay.specs.Output.{Wrote}
+use Rattle.mtrace_log.specs.Output.{Wrote}
 use Rattle.mtrace_replay.specs.Texts.{notes_text}
 use Rattle.mtrace_replay.specs.Run.{is_some_note}
 use Rattle.mtrace_replay.proofs.RunLemmas.{some_note-is, no_note-is}
-use Rattle.mtrace_replay.proofs.Writing.{Wrote-nothing}
+use Rattle.mtrace_log.proofs.Writing.{Wrote-nothing}
 use Rattle.mtrace_log.specs.declared.call.Call.TheVariants.{Took}
 use Rattle.mtrace_log.proofs.TraceLemmas.{moved_none}
 use Rattle.mtrace_replay.proofs.run.replay_line.Goals as goal
@@ -29,6 +29,6 @@ returns-in-Ok-put_note-clause-done g c = λ settings past stands.
     let P : List Diagnostic → Type 0 = λ notes. Wrote (g.W.Sink.taken c.args.writer.now) (g.W.Sink.taken c.put_note.new.writer) (notes_text notes) in
     record {
       stands = c.in-Ok.ensures.stands settings past stands;
-      wrote = subst P is c.in-Ok-put_note.ensures.all;
+      wrote = subst P is c.in-Ok-put_note.ensures.wrote;
       noted_is = sym (ap not (sym c.is_empty.ensures ∙ c.if-is_empty.false)) ∙ some_note-is c.in-Ok.note.items ∙ ap is_some_note is;
     }

@@ -1,15 +1,13 @@
 use Rattle.std.proofs.Common.{◌≡◌, flat_map, length}
-use Rattle.mtrace_log.specs.Trace.{HasTaken}
+use Rattle.mtrace_log.proofs.Writing.{IsPutting}
 use Rattle.mtrace_replay.specs.Texts.{row_text}
-use Rattle.mtrace_replay.proofs.Writing.{HasPut}
 use Rattle.mtrace_replay.proofs.walk.put_rows.Given as goal
 
--- the lines so far are put, those of the rows from here on are left, and the writer only took
+-- the lines so far are put, and those of the rows from here on are left
 abbrev pub invariant-loop-next : goal.invariant-loop-next
 invariant-loop-next g l = record {
   stands : g.H.Heaped.stands l.heap l.here;
-  put : HasPut (g.W.Sink.taken l.initial.writer) (g.W.Sink.taken l.writer) (flat_map row_text (g.H.Heaped.rest l.initial.heap l.fn.cursor)) (flat_map row_text (g.H.Heaped.rest l.heap l.here));
-  took : HasTaken (g.W.Sink.trace l.initial.writer) (g.W.Sink.trace l.writer);
+  put : IsPutting g.W.Sink.taken g.W.Sink.trace (flat_map row_text (g.H.Heaped.rest l.initial.heap l.fn.cursor)) (flat_map row_text (g.H.Heaped.rest l.heap l.here)) l.initial.writer l.writer;
   same : g.H.Heaped.content l.heap ≡ g.H.Heaped.content l.initial.heap;
 }
 

@@ -1,18 +1,16 @@
 use Rattle.std.proofs.Common.{◌≡◌, flat_map, map, drop}
-use Rattle.mtrace_log.specs.Trace.{HasTaken}
+use Rattle.mtrace_log.proofs.Writing.{IsPutting}
 use Rattle.tlsf_heap.specs.Counted.{range_of}
 use Rattle.mtrace_replay.specs.Texts.{rows_text}
-use Rattle.mtrace_replay.proofs.Writing.{HasPut}
 use Rattle.mtrace_replay.proofs.RowLemmas.{by_base}
 use Rattle.mtrace_replay.proofs.walk.put_walk.Given as goal
 
--- the pools so far are put, those of the rest are left, and the writer only took
+-- the pools so far are put, and those of the rest are left
 abbrev pub invariant-loop-range : goal.invariant-loop-range
 invariant-loop-range g l =
     let pools = (g.H.Heaped.content l.fn.heap).pools in
     record {
-      put : HasPut (g.W.Sink.taken l.initial.writer) (g.W.Sink.taken l.writer) (flat_map (by_base rows_text pools) (map range_of pools))
-          (flat_map (by_base rows_text pools) (drop l.range-index (map range_of pools)));
-      took : HasTaken (g.W.Sink.trace l.initial.writer) (g.W.Sink.trace l.writer);
+      put : IsPutting g.W.Sink.taken g.W.Sink.trace (flat_map (by_base rows_text pools) (map range_of pools))
+          (flat_map (by_base rows_text pools) (drop l.range-index (map range_of pools))) l.initial.writer l.writer;
       same : g.H.Heaped.content l.heap ≡ g.H.Heaped.content l.fn.heap;
     }
