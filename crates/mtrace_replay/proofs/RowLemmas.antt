@@ -14,7 +14,7 @@ use Rattle.tlsf_heap.specs.Bare.{bare, renamed_block, renamed_pool}
 use Rattle.tlsf_heap.specs.Counted.{range_of}
 use Rattle.tlsf_heap.specs.Good.{IsGood, AreGoodPools}
 use Rattle.tlsf_heap.specs.Rows.{row_of, rows_from}
-use Rattle.mtrace_replay.specs.declared.free.Free.{Free}
+use Rattle.mtrace_replay.specs.declared.free_blocks.Free.{Free}
 use Rattle.mtrace_replay.specs.declared.totals.Totals.{Totals}
 use Rattle.mtrace_replay.specs.Started.{Bare}
 use Rattle.mtrace_replay.specs.Texts.{peak_lines, peak_report, pair_line, row_text, greatest, free_sizes, rows_text, pool_text, walk_report}

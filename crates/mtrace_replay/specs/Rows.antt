@@ -4,7 +4,7 @@ use Rattle.tlsf_heap.specs.declared.refusal.Refusal.{Refusal}
 use Rattle.tlsf_heap.specs.declared.row.Row.{Row}
 use Rattle.tlsf_heap.specs.Content.{Pool}
 use Rattle.tlsf_heap.specs.Rows.{rows_from}
-use Rattle.mtrace_replay.specs.declared.free.Free.{Free}
+use Rattle.mtrace_replay.specs.declared.free_blocks.Free.{Free}
 use Rattle.mtrace_replay.specs.Texts.{greatest}
 
 -- the rows, or none where no pool begins at the base

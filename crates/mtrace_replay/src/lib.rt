@@ -5,7 +5,7 @@
 mod arrange;
 mod diagnostic;
 mod entry;
-mod free;
+mod free_blocks;
 mod holding;
 mod index;
 pub mod laws;

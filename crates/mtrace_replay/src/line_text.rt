@@ -8,7 +8,7 @@ ghost use Rattle.mtrace_replay.specs.Texts.{refusal_text as text_of_refusal, kin
 
 use crate::diagnostic::{Diagnostic, Kind};
 use crate::entry::Entry;
-use crate::free::Free;
+use crate::free_blocks::Free;
 use crate::totals::Totals;
 use arrayvec::ArrayVec;
 use itoa::Buffer;

@@ -5,7 +5,7 @@ ghost use Rattle.mtrace_replay.specs.Totals.{is_refusal as is_of_refusal};
 ghost use Rattle.std.specs.List.{list_any};
 
 use crate::diagnostic::{Diagnostic, Kind, Note};
-use crate::free::{Free, free_in};
+use crate::free_blocks::{Free, free_in};
 use crate::index::{Entries, Index};
 use crate::settings::Settings;
 use crate::start::started_heap;

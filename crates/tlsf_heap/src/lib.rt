@@ -5,7 +5,6 @@
 mod add_pool;
 mod answer;
 mod bitmaps;
-mod calls;
 mod chains;
 mod check;
 mod cursor;
@@ -13,6 +12,7 @@ mod entries;
 mod free;
 mod free_lists;
 mod heap;
+mod heap_as_heaped;
 mod heaped;
 mod malloc;
 mod memalign;

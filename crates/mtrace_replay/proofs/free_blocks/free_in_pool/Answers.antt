@@ -2,7 +2,7 @@ use Rattle.std.proofs.Common.{List, length, ap, arith}
 use Rattle.tlsf_heap.specs.declared.row.Row.{Row}
 use Rattle.mtrace_replay.specs.Rows.{or_none}
 use Rattle.mtrace_replay.proofs.RowLemmas.{rows_few}
-use Rattle.mtrace_replay.proofs.free.free_in_pool.Goals as goal
+use Rattle.mtrace_replay.proofs.free_blocks.free_in_pool.Goals as goal
 
 pub free_in_rows-requires-clause-few : goal.free_in_rows-requires-clause-few
 free_in_rows-requires-clause-few g c =

@@ -1,7 +1,7 @@
 use Rattle.std.proofs.Common.{List, ◌++◌, length, flat_map, sym, ap, ◌∙◌, append_assoc, arith}
 use Rattle.tlsf_heap.specs.declared.row.Row.{Row}
 use Rattle.mtrace_replay.specs.Rows.{free_size}
-use Rattle.mtrace_replay.proofs.free.free_in_rows.Goals as goal
+use Rattle.mtrace_replay.proofs.free_blocks.free_in_rows.Goals as goal
 
 pub loop-next-preserved : goal.loop-next-preserved
 loop-next-preserved g c =

@@ -1,7 +1,7 @@
 use Rattle.std.proofs.Common.{◌≡◌, ℕ, ◌+◌, ◌*◌, ◌^◌, ◌≤◌, List, ◌++◌, flat_map, length}
 use Rattle.tlsf_heap.specs.Pools.{most_records}
 use Rattle.mtrace_replay.specs.Rows.{free_size, IsFree}
-use Rattle.mtrace_replay.proofs.free.free_in_rows.Given as goal
+use Rattle.mtrace_replay.proofs.free_blocks.free_in_rows.Given as goal
 
 -- what was free so far, and what is left, is all
 abbrev pub invariant-loop-next : goal.invariant-loop-next

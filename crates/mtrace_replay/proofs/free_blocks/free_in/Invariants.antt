@@ -3,7 +3,7 @@ use Rattle.tlsf_heap.specs.Pools.{most_records}
 use Rattle.tlsf_heap.specs.Counted.{range_of}
 use Rattle.mtrace_replay.specs.Rows.{IsFree}
 use Rattle.mtrace_replay.proofs.RowLemmas.{by_base, row_sizes}
-use Rattle.mtrace_replay.proofs.free.free_in.Given as goal
+use Rattle.mtrace_replay.proofs.free_blocks.free_in.Given as goal
 
 -- what is free of the pools so far, and of the rest, is all
 abbrev pub invariant-loop-range : goal.invariant-loop-range

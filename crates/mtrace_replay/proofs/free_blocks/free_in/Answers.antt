@@ -5,7 +5,7 @@ use Rattle.tlsf_heap.specs.Content.{Content}
 use Rattle.tlsf_heap.specs.Counted.{range_of}
 use Rattle.mtrace_replay.specs.Rows.{IsFree, free_size, rows_at}
 use Rattle.mtrace_replay.proofs.RowLemmas.{by_base, row_sizes, next_of, sizes_are}
-use Rattle.mtrace_replay.proofs.free.free_in.Goals as goal
+use Rattle.mtrace_replay.proofs.free_blocks.free_in.Goals as goal
 
 pub loop-range-preserved : goal.loop-range-preserved
 loop-range-preserved g c =
