@@ -1,1 +1,1 @@
-mod LineLemmas
+mod CommandLineLemmas

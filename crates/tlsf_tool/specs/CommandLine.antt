@@ -41,9 +41,9 @@ log_rule = record (new_rule (codes "LOG")) { required = true }
 abbrev pub report_line : Text → App
 report_line name = with_rule (with_rule (with_rule (with_rule (new_app name) pool_rule) pools_rule) records_rule) log_rule
 
--- `tlsf`, which wants one of its subcommands
+-- `tlsf`, which tells its version and wants one of its subcommands
 abbrev pub bare_line : App
-bare_line = on_top (λ s. record s { subcommand_required = true }) (new_app (codes "tlsf"))
+bare_line = on_top (λ s. record s { has_version = true; subcommand_required = true }) (new_app (codes "tlsf"))
 
 abbrev pub tlsf_line : App
 tlsf_line = with_subcommand (with_subcommand (with_subcommand bare_line (report_line (codes "leaks")).top)
@@ -74,7 +74,8 @@ MatchesAskFor (Some found) (Report name settings log) = (found.0 ≡ name_text n
 abbrev pub texts_of : List (String Global) → List Text
 texts_of = map string_bytes
 
--- what is wrong with the words, or that they ask for help: the kinds of clap's error, none where it takes them
+-- what is wrong with the words, or that they ask for help or the version: the kinds of clap's error, none where
+-- it takes them
 abbrev pub wrong_with : List (String Global) → Kinds
 wrong_with words = fault_of tlsf_line (texts_of words)
 

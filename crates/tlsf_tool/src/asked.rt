@@ -35,7 +35,7 @@ pub enum Command {
 /// Why the program doesn't end with a report.
 #[derive(Debug, Drop, Error)]
 pub enum ToolFault {
-    /// The words ask for help; this is it.
+    /// The words ask for help or for the version; this is it.
     #[error("{0}")]
     Help(String),
     /// The words ask for nothing that there is; the text says why, and how to ask.
@@ -61,8 +61,8 @@ impl ToolFault {
         }
     }
 
-    /// The status that the program ends with: 0 for help, 2 for words or settings, 3 for files, 4 for
-    /// memory.
+    /// The status that the program ends with: 0 for help and the version, 2 for words or settings, 3 for
+    /// files, 4 for memory.
     pub fn status(&self) -> u8
         ensures { result ≡ status_of_fault self.now }
     {

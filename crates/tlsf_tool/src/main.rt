@@ -2,7 +2,7 @@
 #![tactic(auto)]
 
 mod asked;
-mod line;
+mod command_line;
 mod service;
 mod statuses;
 #[cfg(test)]

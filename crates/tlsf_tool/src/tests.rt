@@ -5,4 +5,3 @@ mod program;
 mod reports;
 mod rows;
 mod words;
-mod words_log;

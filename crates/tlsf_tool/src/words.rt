@@ -6,7 +6,7 @@ ghost use Rattle.tlsf_tool.specs.CommandLine.{AskFor, HasNumber, HasSettings, Ma
 ghost use Rattle.tlsf_tool.specs.Faults.{ExplainsKind, ExplainsWords, IsUsage};
 
 use crate::asked::{Command, Name, ToolFault};
-use crate::line::tlsf_command;
+use crate::command_line::tlsf_command;
 use clap::error::ErrorKind;
 use clap::{ArgMatches, Error};
 use mtrace_replay::{RunFault, Settings};
@@ -114,8 +114,8 @@ fn fault_of(alloc: Global, error: &Error) -> ToolFault
 ///
 /// # Errors
 ///
-/// `Help` where they ask for help, `Usage` for words that ask for nothing that there is, each with its
-/// text; `Run` of `OutOfMemory` where memory is refused.
+/// `Help` where they ask for help or for the version, `Usage` for words that ask for nothing that there
+/// is, each with its text; `Run` of `OutOfMemory` where memory is refused.
 pub fn command(alloc: Global, words: &[String]) -> Result<Command, ToolFault>
     ensures asked { IfOk result (AskFor words.now) }
     ensures faults { IfErr result (λ fault. (fault ≡ ToolFault.Run RunFault.OutOfMemory) ⊎ ExplainsWords words.now fault) }

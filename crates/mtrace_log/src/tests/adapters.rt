@@ -1,40 +1,9 @@
 use crate::{Event, Failed, FromRead, Lines, Sink, Source, ToWrite};
+use std::alloc::Global;
 use std::io;
 use std::io::{ErrorKind, Read, Write};
-
-// A reader and a writer whose first call is interrupted.
-#[derive(Drop)]
-struct Interrupted {
-    before: bool,
-}
-
-impl Read for Interrupted {
-    fn read(&mut self, buf: &mut [u8]) -> io::Result<usize> {
-        if self.before {
-            return Ok(0);
-        }
-        self.before = true;
-        Err(io::Error::from(ErrorKind::Interrupted))
-    }
-}
-
-impl Write for Interrupted {
-    fn write(&mut self, buf: &[u8]) -> io::Result<usize> {
-        if self.before {
-            return Ok(buf.len());
-        }
-        self.before = true;
-        Err(io::Error::from(ErrorKind::Interrupted))
-    }
-
-    fn flush(&mut self) -> io::Result<()> {
-        if self.before {
-            return Ok(());
-        }
-        self.before = true;
-        Err(io::Error::from(ErrorKind::Interrupted))
-    }
-}
+use std::process::Abort;
+use std::test::Fail;
 
 #[test]
 fn reads_from_std(rt: HostRuntime) {
@@ -50,11 +19,6 @@ fn reads_from_std(rt: HostRuntime) {
         matches!(&second, Ok(Some(line)) if line.number == 2 && line.event == Ok(Event::End))
     );
     assert!(rt; lines.next(&mut reader) == Ok(None));
-
-    let mut fails = FromRead::new(Interrupted { before: false });
-    let mut byte = [0u8];
-    assert!(rt; fails.pull(&mut byte) == Err(Failed));
-    assert!(rt; fails.pull(&mut byte) == Ok(0));
 }
 
 #[test]
@@ -67,69 +31,160 @@ fn writes_to_std(rt: HostRuntime) {
         assert!(rt; writer.flush() == Ok(()));
     }
     assert!(rt; room == *b"abc");
-
-    let mut fails = ToWrite::new(Interrupted { before: false });
-    assert!(rt; fails.put(b"a") == Err(Failed));
-    assert!(rt; fails.put(b"a") == Ok(1));
-    let mut stuck = ToWrite::new(Interrupted { before: false });
-    assert!(rt; stuck.flush() == Err(Failed));
-    assert!(rt; stuck.flush() == Ok(()));
 }
 
-// A writer that takes all bytes and counts its calls.
+// The kinds of std's errors.
+const KINDS: [ErrorKind; 42] = [
+    ErrorKind::NotFound,
+    ErrorKind::PermissionDenied,
+    ErrorKind::ConnectionRefused,
+    ErrorKind::ConnectionReset,
+    ErrorKind::HostUnreachable,
+    ErrorKind::NetworkUnreachable,
+    ErrorKind::ConnectionAborted,
+    ErrorKind::NotConnected,
+    ErrorKind::AddrInUse,
+    ErrorKind::AddrNotAvailable,
+    ErrorKind::NetworkDown,
+    ErrorKind::BrokenPipe,
+    ErrorKind::AlreadyExists,
+    ErrorKind::WouldBlock,
+    ErrorKind::NotADirectory,
+    ErrorKind::IsADirectory,
+    ErrorKind::DirectoryNotEmpty,
+    ErrorKind::ReadOnlyFilesystem,
+    ErrorKind::FilesystemLoop,
+    ErrorKind::StaleNetworkFileHandle,
+    ErrorKind::InvalidInput,
+    ErrorKind::InvalidData,
+    ErrorKind::TimedOut,
+    ErrorKind::WriteZero,
+    ErrorKind::StorageFull,
+    ErrorKind::NotSeekable,
+    ErrorKind::QuotaExceeded,
+    ErrorKind::FileTooLarge,
+    ErrorKind::ResourceBusy,
+    ErrorKind::ExecutableFileBusy,
+    ErrorKind::Deadlock,
+    ErrorKind::CrossesDevices,
+    ErrorKind::TooManyLinks,
+    ErrorKind::InvalidFilename,
+    ErrorKind::ArgumentListTooLong,
+    ErrorKind::Interrupted,
+    ErrorKind::Unsupported,
+    ErrorKind::UnexpectedEof,
+    ErrorKind::OutOfMemory,
+    ErrorKind::InProgress,
+    ErrorKind::Other,
+    ErrorKind::Uncategorized,
+];
+
+// A reader and a writer that counts its calls. The one of this number fails with this kind; each other does
+// all that it is asked.
 #[derive(Drop)]
-struct Counting {
-    writes: u32,
-    flushes: u32,
-    bytes: u64,
+struct FailsOnce {
+    kind: ErrorKind,
+    failing: u32,
+    calls: u32,
 }
 
-impl Write for Counting {
-    fn write(&mut self, buf: &[u8]) -> io::Result<usize> {
-        self.writes = self.writes.wrapping_add(1);
-        self.bytes = self.bytes.wrapping_add(buf.len() as u64);
-        Ok(buf.len())
-    }
-
-    fn flush(&mut self) -> io::Result<()> {
-        self.flushes = self.flushes.wrapping_add(1);
+impl FailsOnce {
+    fn call(&mut self) -> io::Result<()> {
+        let number = self.calls;
+        self.calls = number.wrapping_add(1);
+        if number == self.failing {
+            return Err(io::Error::from(self.kind));
+        }
         Ok(())
     }
 }
 
-#[test]
-fn calls_std_once_a_call(rt: HostRuntime) {
-    let mut writer = Counting {
-        writes: 0,
-        flushes: 0,
-        bytes: 0,
+impl Read for FailsOnce {
+    fn read(&mut self, buf: &mut [u8]) -> io::Result<usize> {
+        self.call()?;
+        Ok(buf.len())
+    }
+}
+
+impl Write for FailsOnce {
+    fn write(&mut self, buf: &[u8]) -> io::Result<usize> {
+        self.call()?;
+        Ok(buf.len())
+    }
+
+    fn flush(&mut self) -> io::Result<()> {
+        self.call()
+    }
+}
+
+// Pulls so many times; each call comes to what the reader's call comes to.
+fn expect_pulls(rt: &impl Abort, kind: ErrorKind, failing: u32, calls: u32) {
+    let mut reader = FailsOnce {
+        kind,
+        failing,
+        calls: 0,
+    };
+    {
+        let mut source = FromRead::new(&mut reader);
+        for number in 0..calls {
+            let mut bytes = [0u8; 3];
+            let answer = source.pull(&mut bytes);
+            if number == failing {
+                assert!(rt; answer == Err(Failed), "{kind:?}");
+            } else {
+                assert!(rt; answer == Ok(3), "{kind:?}");
+            }
+        }
+    }
+    assert_eq!(rt; reader.calls, calls, "{kind:?}");
+}
+
+// Puts bytes and flushes in turn, so many times; each call comes to what the writer's call comes to.
+fn expect_puts_and_flushes(rt: &impl Abort, kind: ErrorKind, failing: u32, calls: u32) {
+    let mut writer = FailsOnce {
+        kind,
+        failing,
+        calls: 0,
     };
     {
         let mut sink = ToWrite::new(&mut writer);
-        let piece = [b'a'; 400];
-        assert!(rt; sink.put(&piece) == Ok(400));
-        assert!(rt; sink.put(b"b") == Ok(1));
-        assert!(rt; sink.flush() == Ok(()));
+        for number in 0..calls {
+            let answer = if number % 2 == 0 {
+                sink.put(b"abc")
+            } else {
+                sink.flush().map(|()| 3)
+            };
+            if number == failing {
+                assert!(rt; answer == Err(Failed), "{kind:?}");
+            } else {
+                assert!(rt; answer == Ok(3), "{kind:?}");
+            }
+        }
     }
-    assert_eq!(rt; writer.writes, 2);
-    assert_eq!(rt; writer.bytes, 401);
-    assert_eq!(rt; writer.flushes, 1);
+    assert_eq!(rt; writer.calls, calls, "{kind:?}");
 }
 
-// A reader of so many bytes, each the last digit of its number, that would block in between.
+#[test]
+fn fails_where_std_fails_and_calls_it_once(rt: HostRuntime) {
+    for kind in KINDS {
+        for failing in 0..3u32 {
+            for calls in 1..5u32 {
+                expect_pulls(&rt, kind, failing, calls);
+                expect_puts_and_flushes(&rt, kind, failing, calls);
+            }
+        }
+    }
+}
+
+// A reader of so many bytes, one a call, each the last digit of its number.
 #[derive(Drop)]
-struct Blocking {
+struct Digits {
     given: u32,
     bytes: u32,
-    blocks_at: u32,
 }
 
-impl Read for Blocking {
+impl Read for Digits {
     fn read(&mut self, buf: &mut [u8]) -> io::Result<usize> {
-        if self.given == self.blocks_at {
-            self.blocks_at = u32::MAX;
-            return Err(io::Error::from(ErrorKind::WouldBlock));
-        }
         if self.given == self.bytes || buf.is_empty() {
             return Ok(0);
         }
@@ -141,10 +196,9 @@ impl Read for Blocking {
 
 #[test]
 fn reads_many_bytes_from_std(rt: HostRuntime) {
-    let mut reader = FromRead::new(Blocking {
+    let mut reader = FromRead::new(Digits {
         given: 0,
         bytes: 100_000,
-        blocks_at: u32::MAX,
     });
     let mut byte = [0u8; 7];
     for number in 0..100_000u32 {
@@ -154,18 +208,19 @@ fn reads_many_bytes_from_std(rt: HostRuntime) {
     assert!(rt; reader.pull(&mut byte) == Ok(0));
 }
 
+// Pulls and puts so many bytes, each at once.
+fn expect_one_call(rt: &impl Abort, alloc: Global, count: u32) -> Result<(), Fail> {
+    let bytes = vec![in alloc; b'a'; count as usize]?;
+    let mut read = vec![in alloc; b'b'; count as usize + 1]?;
+    let mut reader = FromRead::new(bytes.as_slice());
+    assert!(rt; reader.pull(read.as_mut_slice()) == Ok(bytes.len()));
+    assert!(rt; read.as_slice().starts_with(bytes.as_slice()));
+    let mut writer = ToWrite::new(Vec::new(alloc));
+    assert!(rt; writer.put(bytes.as_slice()) == Ok(bytes.len()));
+    Ok(())
+}
+
 #[test]
-fn fails_where_std_would_block(rt: HostRuntime) {
-    let mut reader = FromRead::new(Blocking {
-        given: 0,
-        bytes: 3,
-        blocks_at: 2,
-    });
-    let mut byte = [0u8];
-    assert!(rt; reader.pull(&mut byte) == Ok(1));
-    assert!(rt; reader.pull(&mut byte) == Ok(1));
-    assert!(rt; reader.pull(&mut byte) == Err(Failed));
-    assert!(rt; reader.pull(&mut byte) == Ok(1));
-    assert!(rt; byte == *b"2");
-    assert!(rt; reader.pull(&mut byte) == Ok(0));
+fn many_bytes_in_one_call(rt: HostRuntime) -> Result<(), Fail> {
+    expect_one_call(&rt, rt.alloc(), 100_000)
 }

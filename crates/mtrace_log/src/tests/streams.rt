@@ -81,6 +81,7 @@ fn cuts_a_text_into_lines(rt: HostRuntime) {
         expect_lines(&rt, b"\n", piece, 0, &[Said::NotALine]);
         expect_lines(&rt, b"+ 0x10 0x8", piece, 0, &[Said::Size(8)]);
         expect_lines(&rt, b"+ 0x10 0x8\n", piece, 0, &[Said::Size(8)]);
+        expect_lines(&rt, b"@ \xFF + 0x10 0x8", piece, 0, &[Said::Size(8)]);
         expect_lines(
             &rt,
             b"+ 0x10 0x8\n\n+ (nil) 0\n+",

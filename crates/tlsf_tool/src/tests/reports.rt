@@ -25,7 +25,7 @@ const TWO_POOLS: Settings = Settings {
     records: 8192,
 };
 
-const ROWS: [Row; 9] = [
+const ROWS: [Row; 8] = [
     Row {
         name: "empty-log",
         report: Name::Peak,
@@ -93,18 +93,6 @@ const ROWS: [Row; 9] = [
         log: b"+ 0x10 0x40\n+ 0x20 0x8\n",
         text: b"lines: 2\nserved: 2\nrefused: 0\nlive: 72 bytes in 2 blocks\npeak: 72 bytes at line 2\nhigh place: 72\nfree: 56 bytes in 1 blocks\nlargest free: 56\nspread: 1000\n",
         status: 1,
-    },
-    Row {
-        name: "four-greatest-pools",
-        report: Name::Walk,
-        settings: Settings {
-            pool: 1_073_741_816,
-            pools: 4,
-            records: 4,
-        },
-        log: b"",
-        text: b"pool 0: 1073741816 bytes\n0 1073741816 free\npool 1073741816: 1073741816 bytes\n1073741816 1073741816 free\npool 2147483632: 1073741816 bytes\n2147483632 1073741816 free\npool 3221225448: 1073741816 bytes\n3221225448 1073741816 free\n",
-        status: 0,
     },
 ];
 

@@ -428,53 +428,6 @@ fn faults_of_run_leaks(rt: HostRuntime) {
     assert_eq!(rt; writer.bytes(), b"No me".as_slice());
 }
 
-#[test]
-fn bad_settings(rt: HostRuntime) {
-    let bad = [
-        Settings { pool: 12, ..SMALL },
-        Settings { pool: 0, ..SMALL },
-        Settings {
-            pool: 1_073_741_824,
-            ..SMALL
-        },
-        Settings { pools: 0, ..SMALL },
-        Settings { pools: 9, ..SMALL },
-        Settings {
-            records: 0,
-            ..SMALL
-        },
-        Settings {
-            records: 65_536,
-            ..SMALL
-        },
-        Settings {
-            pools: 2,
-            records: 1,
-            ..SMALL
-        },
-        Settings {
-            pool: 1_073_741_816,
-            pools: 8,
-            records: 8,
-        },
-    ];
-    for settings in bad {
-        let mut reader = MemorySource::in_pieces(b"\n", WHOLE);
-        let mut writer = MemorySink::in_pieces(rt.alloc(), WHOLE);
-        expect_status(
-            &rt,
-            rt.alloc(),
-            "bad settings",
-            settings,
-            &mut reader,
-            &mut writer,
-            2,
-            b"tlsf: bad settings\n",
-        );
-        assert_eq!(rt; writer.bytes(), b"".as_slice(), "{settings:?}");
-    }
-}
-
 /// Appends `+ ADDR SIZE`, a line for each number from `first` to `last`, its address 16 times the number.
 fn push_lines(
     log: &mut Vec<u8>,
@@ -517,16 +470,18 @@ fn each_record_in_use(rt: HostRuntime) -> Result<(), Fail> {
     )?;
     push_entries(&mut text, alloc, 1, 8_191, 8)?;
     text.extend_from_slice(b"Total: 8191 blocks, 65528 bytes.\n")?;
-    expect_report(
-        &rt,
-        alloc,
-        "a rest that finds no record",
-        Settings::DEFAULT,
-        log.as_slice(),
-        WHOLE,
-        text.as_slice(),
-        1,
-    );
+    for piece in PIECES {
+        expect_report(
+            &rt,
+            alloc,
+            "a rest that finds no record",
+            Settings::DEFAULT,
+            log.as_slice(),
+            piece,
+            text.as_slice(),
+            1,
+        );
+    }
     Ok(())
 }
 

@@ -208,7 +208,7 @@ const WRONG: [&[&str]; 22] = [
     &["tlsf", "peak", "--records", "0", "-"],
     &["tlsf", "peak", "--records", "65536", "-"],
     &["tlsf", "peak", "--records", "99999999999999999999999", "-"],
-    &["tlsf", "--version"],
+    &["tlsf", "leaks", "--version"],
 ];
 
 /// The status of the words' fault, 5 where they have none.

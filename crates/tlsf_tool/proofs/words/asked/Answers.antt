@@ -4,7 +4,7 @@ use Rattle.clap.specs.Words.{Row, Text, found_of, rows_of}
 use Rattle.clap.proofs.WalkLemmas.{first_value-rows}
 use Rattle.tlsf_tool.specs.CommandLine.{MatchesAskFor}
 use Rattle.tlsf_tool.specs.declared.asked.Command.TheVariants.{Report}
-use Rattle.tlsf_tool.proofs.LineLemmas.{no_log_asks_nothing, refuses, subcommand_is, unset_asks_nothing}
+use Rattle.tlsf_tool.proofs.CommandLineLemmas.{no_log_asks_nothing, refuses, subcommand_is, unset_asks_nothing}
 use Rattle.tlsf_tool.proofs.words.asked.Goals as goal
 
 pub returns-in_default-settings_of-clause-faults : goal.returns-in_default-settings_of-clause-faults

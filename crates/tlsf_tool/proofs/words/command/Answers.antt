@@ -1,7 +1,7 @@
 use Rattle.std.proofs.lemmas.Result.{IfErr-weaker}
 use Rattle.clap.specs.Words.{app_of}
 use Rattle.tlsf_tool.specs.CommandLine.{texts_of, wrong_with}
-use Rattle.tlsf_tool.proofs.LineLemmas.{asks_nothing, explained, explains_words, no_report_explains, nothing_wrong, some_wrong}
+use Rattle.tlsf_tool.proofs.CommandLineLemmas.{asks_nothing, explained, explains_words, no_report_explains, nothing_wrong, some_wrong}
 use Rattle.tlsf_tool.proofs.words.command.Goals as goal
 
 pub returns-in-Ok-try_get_matches_from-clause-faults : goal.returns-in-Ok-try_get_matches_from-clause-faults

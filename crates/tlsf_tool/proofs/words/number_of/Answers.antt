@@ -1,6 +1,6 @@
 use Rattle.std.specs.Str.Parse.{ParsesUnsigned, ExplainsUnsignedError, HasUnsignedDigitsIfOk}
 use Rattle.clap.specs.Words.{found_of}
-use Rattle.tlsf_tool.proofs.LineLemmas.{number_read}
+use Rattle.tlsf_tool.proofs.CommandLineLemmas.{number_read}
 use Rattle.tlsf_tool.proofs.words.number_of.Goals as goal
 
 pub returns : goal.returns

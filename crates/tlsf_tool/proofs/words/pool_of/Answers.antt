@@ -1,7 +1,7 @@
 use Rattle.std.proofs.Common.{codes}
 use Rattle.std.specs.Str.Parse.{ParsesUnsigned, ExplainsUnsignedError, HasUnsignedDigitsIfOk}
 use Rattle.clap.specs.Words.{found_of}
-use Rattle.tlsf_tool.proofs.LineLemmas.{number_read}
+use Rattle.tlsf_tool.proofs.CommandLineLemmas.{number_read}
 use Rattle.tlsf_tool.proofs.words.pool_of.Goals as goal
 
 pub returns : goal.returns

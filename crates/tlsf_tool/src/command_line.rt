@@ -8,6 +8,12 @@ ghost use Rattle.tlsf_tool.specs.CommandLine.{log_rule, pool_rule, pools_rule, r
 use clap::{Arg, Command, value_parser};
 use std::alloc::{AllocError, Global};
 
+/// The program's name, in usage and help too, whatever the file is called that it runs from.
+const NAME: &str = "tlsf";
+
+/// The program's version.
+const VERSION: &str = "0.1.0";
+
 /// What `tlsf` is for.
 const ABOUT: &str =
     "Replays a log of glibc's tracer mtrace(3) on a heap, and reports what it finds.";
@@ -110,7 +116,9 @@ pub fn tlsf_command<'a>(alloc: Global) -> Result<Command<'a>, AllocError>
     let leaks = report_command(alloc, "leaks", LEAKS)?;
     let peak = report_command(alloc, "peak", PEAK)?;
     let walk = report_command(alloc, "walk", WALK)?;
-    Command::new(alloc, "tlsf")
+    Command::new(alloc, NAME)
+        .bin_name(NAME)?
+        .version(VERSION)
         .about(ABOUT)
         .after_help(EXAMPLES)
         .subcommand_required(true)
