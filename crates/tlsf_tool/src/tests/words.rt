@@ -211,14 +211,6 @@ const WRONG: [&[&str]; 22] = [
     &["tlsf", "leaks", "--version"],
 ];
 
-/// The status of the words' fault, 5 where they have none.
-fn status_of(answer: &Result<Command, ToolFault>) -> u8 {
-    match answer {
-        Err(fault) => fault.status(),
-        Ok(_) => 5,
-    }
-}
-
 #[test]
 fn words_that_are_wrong(rt: HostRuntime) -> Result<(), Fail> {
     let alloc = rt.alloc();
@@ -234,48 +226,6 @@ fn words_that_are_wrong(rt: HostRuntime) -> Result<(), Fail> {
             }
             _ => assert!(rt; false, "{words:?}"),
         }
-        assert_eq!(rt; status_of(&answer), 2, "{words:?}");
-    }
-    Ok(())
-}
-
-/// Words that ask for help.
-const HELP: [&[&str]; 8] = [
-    &["tlsf", "--help"],
-    &["tlsf", "-h"],
-    &["tlsf", "help"],
-    &["tlsf", "leaks", "--help"],
-    &["tlsf", "peak", "--help"],
-    &["tlsf", "peak", "-h"],
-    &["tlsf", "help", "peak"],
-    &["tlsf", "help", "walk"],
-];
-
-/// What each help names.
-const NAMED: [&str; 7] = [
-    "leaks",
-    "peak",
-    "walk",
-    "--pool",
-    "--pools",
-    "--records",
-    "Example",
-];
-
-#[test]
-fn words_that_ask_for_help(rt: HostRuntime) -> Result<(), Fail> {
-    let alloc = rt.alloc();
-    for words in HELP {
-        let answer = command(alloc, strings(alloc, words)?.as_slice());
-        match &answer {
-            Err(ToolFault::Help(text)) => {
-                for part in NAMED {
-                    assert!(rt; text.as_str().contains(part), "{words:?} {part}: {text}");
-                }
-            }
-            _ => assert!(rt; false, "{words:?}"),
-        }
-        assert_eq!(rt; status_of(&answer), 0, "{words:?}");
     }
     Ok(())
 }
