@@ -2,17 +2,21 @@
 -- (TLSF, ECRTS 2004; 32 steps, and one first level for the smallest sizes, as in `tlsf.c`).
 use Rattle.std.specs.Prelude.{ℕ, zero, suc, ◌+◌, ◌-◌, ◌*◌, ◌/◌, ◌%◌, ◌^◌, ◌==◌, nat_le, Bool, if◌then◌else◌, Option, Some, None}
 
+-- the unit is this power of two
+abbrev pub unit_power : ℕ
+unit_power = 3
+
 -- every place and every size is a multiple of it, in bytes
 abbrev pub unit : ℕ
-unit = 8
+unit = 2 ^ unit_power
 
 -- how many equal steps a first level has
 abbrev pub steps : ℕ
 steps = 32
 
--- how many first levels there are
+-- how many first levels there are: the last begins at 2 ^ 29
 abbrev pub levels : ℕ
-levels = 23
+levels = 26 - unit_power
 
 -- how many classes there are
 abbrev pub classes : ℕ
@@ -22,13 +26,13 @@ classes = levels * steps
 abbrev pub greatest_size : ℕ
 greatest_size = 2 ^ 30 - unit
 
--- the first level `f`, from 1 on, begins at `2 ^ (f + level_power)`
+-- the first level `f`, from 1 on, begins at `2 ^ (f + level_power)`: the first of them at 32 units
 abbrev pub level_power : ℕ
-level_power = 7
+level_power = unit_power + 4
 
 -- and its steps are of `2 ^ (f + step_power)` bytes
 abbrev pub step_power : ℕ
-step_power = 2
+step_power = unit_power - 1
 
 -- the lowest size of step `g` of the first level `f`
 abbrev pub low_at : ℕ → ℕ → ℕ

@@ -17,11 +17,14 @@ pub use sizes::{class_for, class_of, low};
 /// How many size classes there are.
 pub const CLASSES: u32 = LEVELS * STEPS;
 
-/// Every place and every size is a multiple of it, in bytes.
-pub const UNIT: u32 = 8;
+/// The unit is this power of two.
+const UNIT_POWER: u32 = 3;
 
-/// How many first levels there are.
-pub const LEVELS: u32 = 23;
+/// Every place and every size is a multiple of it, in bytes.
+pub const UNIT: u32 = 1 << UNIT_POWER;
+
+/// How many first levels there are: the last begins at `1 << 29`.
+pub const LEVELS: u32 = 26 - UNIT_POWER;
 
 /// How many steps a first level has, and the power of two that it is.
 pub const STEPS: u32 = 1 << STEPS_POWER;
@@ -32,7 +35,7 @@ const STEPS_POWER: u32 = 5;
 const SMALL_END: u32 = UNIT * STEPS;
 
 /// The first level `f`, from 1 on, has steps of `1 << (f + STEP_POWER)` bytes.
-const STEP_POWER: u32 = 2;
+const STEP_POWER: u32 = UNIT_POWER - 1;
 
 /// The greatest size of a block, in bytes.
 pub const GREATEST_SIZE: u32 = (1 << 30) - UNIT;

@@ -4,14 +4,14 @@ use Rattle.std.specs.Prelude.{◌⊎◌, count_ones, slice_index_or, ◌==◌, n
 use Rattle.std.specs.List.{range_with_len}
 use Rattle.std.specs.Int.{is_power_of_two}
 use Rattle.std.specs.Int.Count.{ones_step}
-use Rattle.std.proofs.Math.Nat.{two-pow-succ, mul-mod_right, mod_self, sub-zero, mod-eq_of_lt, mod-mod_of_dvd, add-mul-mod_self_right}
+use Rattle.std.proofs.Math.Nat.{two-pow-succ, mul-mod_right, mod_self, sub-zero, mod-eq_of_lt, mod-mod_of_dvd, zero-mod, add-mul-mod_self_right}
 use Rattle.std.proofs.lemmas.Nat.Gcd.{dvd_of_mod-eq-zero}
 use Rattle.std.proofs.lemmas.Bool.{cases_Bool, cases_lt, eq-eqb, eqb-true, eqb-false, leb-true, le-leb, leb-false, lt-leb, and_parts}
 use Rattle.std.proofs.lemmas.Nat.{zero_from_ones, ones-le, mod_below, div-add-mod'}
 use Rattle.std.proofs.lemmas.List.Folds.{Any-from_list_any, list_any_at}
 use Rattle.std.proofs.lemmas.List.FromFn.{length-range_with_len, get_or-range_with_len}
 use Rattle.std.specs.Int.{next_multiple_of}
-use Rattle.tlsf_class.specs.Classes.{unit}
+use Rattle.tlsf_class.specs.Classes.{unit, unit_power}
 use Rattle.tlsf_heap.specs.Memalign.{alignments, is_alignment, size_asked}
 
 no_ones : count_ones 0 ≡ 0
@@ -76,20 +76,20 @@ pub record IsStart (align m place start : ℕ) : Type 0 where
   pub gap_whole : (start - place) % unit ≡ 0
   pub fits : (start - place) + m ≤ size_asked align m
 
--- from 8 on, powers of two are multiples of 8
-whole_power : (k : ℕ) → 2 ^ (3 + k) % 8 ≡ 0
-whole_power k = ap (λ n. n % 8) (pow-add 2 3 k) ∙ mul-mod_right 8 (2 ^ k)
+-- of two powers of two, the greater is a multiple of the other
+power_divides : (j k : ℕ) → j ≤ k → 2 ^ k % 2 ^ j ≡ 0
+power_divides j k few =
+    let as_sum : j + (k - j) ≡ k = omega arith in
+    ap (λ n. 2 ^ n % 2 ^ j) (sym as_sum) ∙ ap (λ n. n % 2 ^ j) (pow-add 2 j (k - j)) ∙ mul-mod_right (2 ^ j) (2 ^ (k - j))
 
 -- an alignment is of whole units, or takes a place of whole units as it is
 alignment_cases : (k place : ℕ) → place % unit ≡ 0 → (place % 2 ^ k ≡ 0) ⊎ ((2 ^ k % unit ≡ 0) × (unit < 2 ^ k))
-alignment_cases zero place whole = inl (omega arith)
-alignment_cases (suc zero) place whole = inl (omega (arith, whole))
-alignment_cases (suc (suc zero)) place whole = inl (omega (arith, whole))
-alignment_cases (suc (suc (suc zero))) place whole = inl whole
-alignment_cases (suc (suc (suc (suc k)))) place whole =
-    let P : ℕ → Type 0 = λ n. 2 ^ n % 8 ≡ 0 in
-    let as_sum : 3 + suc k ≡ suc (suc (suc (suc k))) = omega arith in
-    inr (subst P as_sum (whole_power (suc k)), omega (arith, pow_mono {i = 4} {j = suc (suc (suc (suc k)))} (omega arith)))
+alignment_cases k place whole = elim (cases_lt unit_power k) [
+  | inl above ↦ inr (power_divides unit_power k (omega arith), omega (arith, pow_mono {i = suc unit_power} {j = k} above))
+  | inr few ↦ inl (
+      sym (mod-mod_of_dvd (2 ^ k) place (dvd_of_mod-eq-zero (2 ^ k) (power_divides k unit_power (omega arith))))
+      ∙ ap (λ n. n % 2 ^ k) whole ∙ zero-mod (2 ^ k))
+]
 
 module _ (align m place : ℕ) (some : 0 < align) (place_whole : place % unit ≡ 0) where
   -- at the place itself
@@ -142,14 +142,10 @@ start_is align m place is whole =
 
 -- above the unit they are of whole units
 whole_above : (k : ℕ) → unit < 2 ^ k → 2 ^ k % unit ≡ 0
-whole_above zero above = absurd (omega (arith, above))
-whole_above (suc zero) above = absurd (omega (arith, above))
-whole_above (suc (suc zero)) above = absurd (omega (arith, above))
-whole_above (suc (suc (suc zero))) above = refl
-whole_above (suc (suc (suc (suc k)))) above =
-    let P : ℕ → Type 0 = λ n. 2 ^ n % 8 ≡ 0 in
-    let as_sum : 3 + suc k ≡ suc (suc (suc (suc k))) = omega arith in
-    subst P as_sum (whole_power (suc k))
+whole_above k above = elim (cases_lt k unit_power) [
+  | inl few ↦ absurd (omega (arith, pow_mono {i = k} {j = unit_power} (omega arith), above))
+  | inr more ↦ power_divides unit_power k (omega arith)
+]
 
 -- and so is what is asked of the lists
 pub asked_whole : (align m : ℕ) → is_alignment align ≡ true → m % unit ≡ 0 → 0 < m → (size_asked align m % unit ≡ 0) × (0 < size_asked align m)
