@@ -3,6 +3,7 @@
 ghost use Rattle.std.specs.Prelude.{◌≡◌, ◌≢◌, true};
 ghost use Rattle.tlsf_store.specs.declared.records.State.TheVariants.{Vacant};
 ghost use Rattle.tlsf_store.specs.Records.{IsBelow, IsKept};
+ghost use Rattle.tlsf_heap.specs.Inner.Following.{Stands};
 
 use super::check;
 use crate::add_pool::add_pool;
@@ -22,12 +23,20 @@ const THIRD: Slot = Slot(5);
 
 const LAST: Slot = Slot(4);
 
+/// A store of so many records, where memory isn't refused.
+fn empty(rt: &impl Abort, alloc: Global, records: u32) -> Store
+    ensures { Stands result.cells }
+{
+    match Store::create(alloc, records) {
+        Ok(store) => store,
+        Err(_) => panic!(rt; "no store"),
+    }
+}
+
 /// A store of eight records with a pool of four blocks: a free one of 104 bytes, live ones of 8 and 104 bytes, and
 /// a free one of 808 bytes.
 fn filled(rt: &impl Abort, alloc: Global) -> Store {
-    let Ok(mut store) = Store::create(alloc, 8) else {
-        panic!(rt; "no store");
-    };
+    let mut store = empty(rt, alloc, 8);
     assert_eq!(rt; add_pool(&mut store, 0, 1024), Ok(()));
     let first = malloc(&mut store, 100).expect(rt, "a block");
     let second = malloc(&mut store, 8).expect(rt, "a block");
@@ -186,9 +195,7 @@ fn make_vacant(rt: &impl Abort, store: &mut Store, slot: Slot) {
 
 /// A store of eight pools, each of them one live block of 64 bytes.
 fn eight_pools(rt: &impl Abort, alloc: Global) -> Store {
-    let Ok(mut store) = Store::create(alloc, 8) else {
-        panic!(rt; "no store");
-    };
+    let mut store = empty(rt, alloc, 8);
     for number in 0..8 {
         assert_eq!(rt; add_pool(&mut store, number * 64, 64), Ok(()));
     }
@@ -225,9 +232,7 @@ fn ends_of_a_chain(rt: HostRuntime) {
 
 /// A store of one free block of the greatest size, which stands in the list of the last class.
 fn greatest(rt: &impl Abort, alloc: Global) -> Store {
-    let Ok(mut store) = Store::create(alloc, 1) else {
-        panic!(rt; "no store");
-    };
+    let mut store = empty(rt, alloc, 1);
     assert_eq!(rt; add_pool(&mut store, 0, 1_073_741_816), Ok(()));
     store
 }
