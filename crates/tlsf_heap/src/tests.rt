@@ -1,5 +1,6 @@
 //! Rows of the heap.
 
+mod long_runs;
 mod random;
 mod rows;
 mod walking;
@@ -51,7 +52,7 @@ fn serves<H: Heaped>(rt: &impl Abort, alloc: Global, records: u32) {
 
 #[test]
 fn counts_of_records(rt: HostRuntime) {
-    for records in [1, 1_000, 65_535] {
+    for records in [1, 2, 3, 10, 999, 1_000, 1_001, 4_096, 8_192, 65_534, 65_535] {
         serves::<Heap>(&rt, rt.alloc(), records);
         serves::<PlainHeap>(&rt, rt.alloc(), records);
     }
@@ -160,22 +161,28 @@ fn pointers(rt: HostRuntime) {
     assert_eq!(rt; ptr.slot(), 9);
 }
 
-/// Each call of a heap once. It takes memory for its table alone, so this test fails where the first
-/// allocation is refused and passes where any other is.
+/// Each call of a heap once, and then another heap. A heap takes memory for its table alone, so the other's is the
+/// second that is taken: this test fails where the first or the second allocation is refused, and passes where any
+/// other is.
 #[test]
 fn memory_taken_once(rt: HostRuntime) {
     let mut heap = Heap::create(rt.alloc(), 4).expect(&rt, "a heap");
     assert_eq!(rt; heap.add_pool(0, 1024), Ok(()));
     let first = heap.malloc(100).expect(&rt, "a block");
-    let second = heap.malloc(1).expect(&rt, "a block");
-    assert_eq!(rt; first.place(), 0);
-    assert_eq!(rt; second.place(), 104);
+    let second = heap.memalign(64, 1).expect(&rt, "a block");
+    assert_eq!(rt; (first.place(), second.place()), (0, 128));
+    assert_eq!(rt; heap.realloc(Some(first), 8), Ok(Some(first)));
+    assert_eq!(rt; heap.block_size(first), Ok(8));
+    let cursor = heap.first(0).expect(&rt, "a pool");
+    assert!(rt; heap.row(cursor).is_some());
+    assert_eq!(rt; heap.walk(0, |_row| {}), Ok(()));
+    assert!(rt; heap.check() && has_pools(&mut heap, &[(0, 1024)]));
     assert_eq!(rt; heap.free(first), Ok(()));
     assert_eq!(rt; heap.free(first), Err(Refusal::BadPointer));
     assert_eq!(rt; heap.free(second), Ok(()));
-    assert!(rt; has_pools(&mut heap, &[(0, 1024)]));
-    assert!(rt; heap.first(0).is_ok());
     assert_eq!(rt; heap.malloc(1024).map(|ptr| ptr.place()), Ok(0));
+    assert_eq!(rt; heap.remove_pool(0), Err(Refusal::PoolInUse));
+    assert!(rt; Heap::create(rt.alloc(), 1).is_ok());
 }
 
 /// `create` sees that its memory is refused.

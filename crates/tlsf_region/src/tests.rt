@@ -1,5 +1,8 @@
 //! Rows of the region.
 
+mod example;
+mod sizes;
+
 use super::*;
 use std::alloc::Global;
 use std::process::Abort;
@@ -185,4 +188,26 @@ fn aligned_block_and_pool_that_goes(rt: HostRuntime) {
     assert_eq!(rt; region.remove_pool(8), Ok(()));
     assert!(rt; has_pools(&mut region, &[]));
     assert!(rt; region.check());
+}
+
+/// Each call of a region once, and then another region. A region takes memory twice, and no call but `create` takes
+/// any: so this test fails where one of the first four allocations is refused, and passes where the fifth is.
+#[test]
+fn memory_taken_twice(rt: HostRuntime) {
+    let mut region = made(&rt, rt.alloc(), 1024, 5);
+    assert_eq!(rt; region.add_pool(0, 1024), Ok(()));
+    let first = region.malloc(100).expect(&rt, "a block");
+    let second = region.memalign(64, 1).expect(&rt, "a block");
+    assert!(rt; region.bytes(first).is_some());
+    let moved = region.realloc(Some(first), 200).expect(&rt, "a block");
+    let third = moved.expect(&rt, "a pointer");
+    assert!(rt; region.bytes_mut(third).is_some());
+    assert_eq!(rt; region.block_size(third), Ok(200));
+    assert_eq!(rt; walked(&mut region, 0), Ok((4, 336)));
+    assert!(rt; has_pools(&mut region, &[(0, 1024)]));
+    assert!(rt; region.first(0).is_ok() && region.check());
+    assert_eq!(rt; region.free(second), Ok(()));
+    assert_eq!(rt; region.free(third), Ok(()));
+    assert_eq!(rt; region.remove_pool(0), Ok(()));
+    drop(made(&rt, rt.alloc(), 8, 1));
 }

@@ -18,15 +18,15 @@ pub(crate) struct Table {
 }
 
 impl Model for Table {
-    ghost use Rattle.std.specs.Prelude.{List, map};
+    ghost use Rattle.std.specs.Prelude.{List, map, vec_capacity};
     ghost use Rattle.tlsf_store.specs.declared.records.Record.{Record};
-    ghost use Rattle.tlsf_store.specs.Table.{seen, IsTable};
+    ghost use Rattle.tlsf_store.specs.Table.{seen, IsStored};
 
     ghost Value = { List Record };
 
     ghost view = { λ t. map seen t.items.items };
 
-    ghost invariant = { λ t. IsTable t.items.items t.first t.vacant };
+    ghost invariant = { λ t. IsStored (vec_capacity t.items) t.items.items t.first t.vacant };
 }
 
 impl Table {

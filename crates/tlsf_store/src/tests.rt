@@ -72,9 +72,31 @@ fn bad_counts(rt: HostRuntime) {
     );
 }
 
-/// `create` takes memory once, and no other call takes any. Each of the other tests makes one store, so it
-/// fails where the first allocation is refused and passes where the second is: `rt try --test --fail-alloc`
-/// with 1 and with 2. This test sees the error of the first, and passes with both.
+/// Each call of a store once, and then another store. Its memory is the second that is taken, for no call but `create`
+/// takes any: so this test fails where the first or the second allocation is refused, and passes where the third is.
+#[test]
+fn memory_taken_once(rt: HostRuntime) {
+    let mut store = Store::create(rt.alloc(), 3).expect(&rt, "a store");
+    let slot = store.take_vacant().expect(&rt, "a slot");
+    let value = row((16, 104), State::Live, (None, None), (None, None));
+    write(&rt, &mut store, slot, value);
+    assert_eq!(rt; read(&rt, &mut store, slot), value);
+    let class = Class::new(735);
+    store.set_head(class, None);
+    assert_eq!(rt; store.head(class), None);
+    store.set_level_word(1);
+    assert_eq!(rt; store.level_word(), 1);
+    store.set_step_word(22, 1);
+    assert_eq!(rt; store.step_word(22), 1);
+    store.set_pool(7, None);
+    assert_eq!(rt; store.pool(7), None);
+    give(&rt, &mut store, slot);
+    assert_eq!(rt; (store.vacant(), store.records()), (3, 3));
+    assert!(rt; Store::create(rt.alloc(), 1).is_ok(), "no second store");
+}
+
+/// Each of the other tests that make a store makes one, so it fails where the first allocation is refused and passes
+/// where the second is. This test sees the error of the first, and passes with both.
 #[test]
 fn refused_memory(rt: HostRuntime) {
     if let Some(error) = Store::create(rt.alloc(), 2).err() {

@@ -3,6 +3,7 @@
 ghost use Rattle.std.specs.Prelude.{◌≡◌, ◌≢◌, true};
 ghost use Rattle.tlsf_store.specs.declared.records.State.TheVariants.{Vacant};
 ghost use Rattle.tlsf_store.specs.Records.{IsBelow, IsKept};
+ghost use Rattle.tlsf_heap.specs.Inner.Following.{Stands};
 
 use super::check;
 use crate::add_pool::add_pool;
@@ -22,12 +23,20 @@ const THIRD: Slot = Slot(5);
 
 const LAST: Slot = Slot(4);
 
+/// A store of so many records, where memory isn't refused.
+fn empty(rt: &impl Abort, alloc: Global, records: u32) -> Store
+    ensures { Stands result.cells }
+{
+    match Store::create(alloc, records) {
+        Ok(store) => store,
+        Err(_) => panic!(rt; "no store"),
+    }
+}
+
 /// A store of eight records with a pool of four blocks: a free one of 104 bytes, live ones of 8 and 104 bytes, and
 /// a free one of 808 bytes.
 fn filled(rt: &impl Abort, alloc: Global) -> Store {
-    let Ok(mut store) = Store::create(alloc, 8) else {
-        panic!(rt; "no store");
-    };
+    let mut store = empty(rt, alloc, 8);
     assert_eq!(rt; add_pool(&mut store, 0, 1024), Ok(()));
     let first = malloc(&mut store, 100).expect(rt, "a block");
     let second = malloc(&mut store, 8).expect(rt, "a block");
@@ -64,23 +73,49 @@ fn can_be_kept(block: &Record, count: u32) -> bool
         && is_below(block.next_free, count)
 }
 
-/// Whether a filled store is whole with the record of a block edited.
-fn is_whole_with<F: FnOnce(&mut Record)>(
-    rt: &impl Abort,
-    alloc: Global,
-    slot: Slot,
-    edit: F,
-) -> bool
-    requires { F.IsAlwaysCallable edit }
-{
-    let mut store = filled(rt, alloc);
+/// A field of a block's record, with what is written into it.
+#[derive(Clone, Copy)]
+enum Field {
+    Place(u32),
+    Size(u32),
+    State(State),
+    Prev(Option<Slot>),
+    Next(Option<Slot>),
+    PrevFree(Option<Slot>),
+    NextFree(Option<Slot>),
+}
+
+/// The record with the field written.
+fn with_field(block: Record, field: Field) -> Record {
+    let mut edited = block;
+    match field {
+        Field::Place(place) => edited.place = place,
+        Field::Size(size) => edited.size = size,
+        Field::State(state) => edited.state = state,
+        Field::Prev(slot) => edited.prev = slot,
+        Field::Next(slot) => edited.next = slot,
+        Field::PrevFree(slot) => edited.prev_free = slot,
+        Field::NextFree(slot) => edited.next_free = slot,
+    }
+    edited
+}
+
+/// Writes a field of a block's record, which has another value.
+fn edit(rt: &impl Abort, store: &mut Store, slot: Slot, field: Field) {
     let count = store.records();
     assert!(rt; u32::from(slot.0) < count);
     let old = store.read(slot);
-    let mut new = old;
-    edit(&mut new);
+    let new = with_field(old, field);
     assert!(rt; new != old && old.state != State::Vacant && can_be_kept(&new, count));
     store.write(slot, new);
+}
+
+/// Whether a filled store is whole with these fields written.
+fn is_whole_with(rt: &impl Abort, alloc: Global, fields: &[(Slot, Field)]) -> bool {
+    let mut store = filled(rt, alloc);
+    for (slot, field) in fields {
+        edit(rt, &mut store, *slot, *field);
+    }
     check(&mut store)
 }
 
@@ -90,26 +125,140 @@ fn whole(rt: HostRuntime) {
     assert!(rt; check(&mut store));
 }
 
+/// Fields of blocks that spoil a filled store: in chains and then in lists.
+const SPOILED_FIELDS: [(Slot, Field); 17] = [
+    (FIRST, Field::Prev(Some(LAST))),
+    (SECOND, Field::Prev(None)),
+    (SECOND, Field::Prev(Some(THIRD))),
+    (SECOND, Field::Next(Some(LAST))),
+    (THIRD, Field::Next(None)),
+    (LAST, Field::Next(Some(FIRST))),
+    (SECOND, Field::Size(0)),
+    (SECOND, Field::Size(16)),
+    (LAST, Field::Size(800)),
+    (THIRD, Field::Place(120)),
+    (THIRD, Field::State(State::Free)),
+    (FIRST, Field::PrevFree(Some(LAST))),
+    (FIRST, Field::NextFree(Some(LAST))),
+    (FIRST, Field::NextFree(Some(FIRST))),
+    (LAST, Field::PrevFree(Some(LAST))),
+    (FIRST, Field::State(State::Live)),
+    (FIRST, Field::Size(0)),
+];
+
 #[test]
-fn chains_spoiled(rt: HostRuntime) {
-    let alloc = rt.alloc();
-    assert!(rt; !is_whole_with(&rt, alloc, SECOND, |block| block.prev = None));
-    assert!(rt; !is_whole_with(&rt, alloc, SECOND, |block| block.next = Some(LAST)));
-    assert!(rt; !is_whole_with(&rt, alloc, LAST, |block| block.next = Some(FIRST)));
-    assert!(rt; !is_whole_with(&rt, alloc, SECOND, |block| block.size = 0));
-    assert!(rt; !is_whole_with(&rt, alloc, SECOND, |block| block.size = 16));
-    assert!(rt; !is_whole_with(&rt, alloc, LAST, |block| block.size = 800));
-    assert!(rt; !is_whole_with(&rt, alloc, THIRD, |block| block.place = 120));
-    assert!(rt; !is_whole_with(&rt, alloc, THIRD, |block| block.state = State::Free));
+fn fields_spoiled(rt: HostRuntime) {
+    for spoiled in SPOILED_FIELDS {
+        assert!(rt; !is_whole_with(&rt, rt.alloc(), &[spoiled]));
+    }
+}
+
+/// Chains and lists that are wrong in one point alone.
+#[test]
+fn points_spoiled(rt: HostRuntime) {
+    let block_of_no_bytes = [
+        (SECOND, Field::Size(0)),
+        (THIRD, Field::Place(104)),
+        (THIRD, Field::Size(112)),
+    ];
+    let free_neighbours = [
+        (THIRD, Field::State(State::Free)),
+        (FIRST, Field::NextFree(Some(THIRD))),
+        (THIRD, Field::PrevFree(Some(FIRST))),
+    ];
+    let live_block_in_a_list = [
+        (FIRST, Field::State(State::Live)),
+        (SECOND, Field::State(State::Free)),
+    ];
+    assert!(rt; !is_whole_with(&rt, rt.alloc(), &block_of_no_bytes));
+    assert!(rt; !is_whole_with(&rt, rt.alloc(), &free_neighbours));
+    assert!(rt; !is_whole_with(&rt, rt.alloc(), &live_block_in_a_list));
+}
+
+/// A record of a chain is vacant: one amid the chain, and the only one.
+#[test]
+fn vacant_record_in_a_chain(rt: HostRuntime) {
+    let mut store = filled(&rt, rt.alloc());
+    make_vacant(&rt, &mut store, SECOND);
+    assert!(rt; !check(&mut store));
+    let mut store = eight_pools(&rt, rt.alloc());
+    make_vacant(&rt, &mut store, LAST);
+    assert!(rt; !check(&mut store));
+}
+
+/// Makes the record of a block vacant.
+fn make_vacant(rt: &impl Abort, store: &mut Store, slot: Slot) {
+    assert!(rt; u32::from(slot.0) < store.records());
+    assert!(rt; store.read(slot).state != State::Vacant);
+    store.give_vacant(slot);
+}
+
+/// A store of eight pools, each of them one live block of 64 bytes.
+fn eight_pools(rt: &impl Abort, alloc: Global) -> Store {
+    let mut store = empty(rt, alloc, 8);
+    for number in 0..8 {
+        assert_eq!(rt; add_pool(&mut store, number * 64, 64), Ok(()));
+    }
+    for _block in 0..8 {
+        assert!(rt; malloc(&mut store, 64).is_ok());
+    }
+    store
+}
+
+/// The chain of each pool is looked at.
+#[test]
+fn chain_of_each_pool(rt: HostRuntime) {
+    let mut store = eight_pools(&rt, rt.alloc());
+    assert!(rt; check(&mut store));
+    for number in 0..8 {
+        let mut store = eight_pools(&rt, rt.alloc());
+        let pool = store.pool(number).expect(&rt, "a pool");
+        edit(&rt, &mut store, pool.first, Field::Size(56));
+        assert!(rt; !check(&mut store));
+    }
+}
+
+/// A chain ends at its pool's end, neither behind it nor before it, and begins where the pool does.
+#[test]
+fn ends_of_a_chain(rt: HostRuntime) {
+    for (base, bytes) in [(0, 8), (0, 1016), (0, 1032), (8, 1016), (8, 1024)] {
+        let mut store = filled(&rt, rt.alloc());
+        assert!(rt; u32::from(FIRST.0) < store.records());
+        let first = FIRST;
+        store.set_pool(0, Some(Pool { base, bytes, first }));
+        assert!(rt; !check(&mut store));
+    }
+}
+
+/// A store of one free block of the greatest size, which stands in the list of the last class.
+fn greatest(rt: &impl Abort, alloc: Global) -> Store {
+    let mut store = empty(rt, alloc, 1);
+    assert_eq!(rt; add_pool(&mut store, 0, 1_073_741_816), Ok(()));
+    store
 }
 
 #[test]
-fn lists_spoiled(rt: HostRuntime) {
-    let alloc = rt.alloc();
-    assert!(rt; !is_whole_with(&rt, alloc, FIRST, |block| block.prev_free = Some(LAST)));
-    assert!(rt; !is_whole_with(&rt, alloc, FIRST, |block| block.next_free = Some(LAST)));
-    assert!(rt; !is_whole_with(&rt, alloc, FIRST, |block| block.next_free = Some(FIRST)));
-    assert!(rt; !is_whole_with(&rt, alloc, FIRST, |block| block.state = State::Live));
+fn list_of_the_last_class(rt: HostRuntime) {
+    let only = Slot(0);
+    let last = Class::new(735);
+    let mut store = greatest(&rt, rt.alloc());
+    assert_eq!(rt; store.head(last), Some(only));
+    assert!(rt; check(&mut store));
+    for field in [
+        Field::PrevFree(Some(only)),
+        Field::NextFree(Some(only)),
+        Field::State(State::Live),
+    ] {
+        let mut store = greatest(&rt, rt.alloc());
+        edit(&rt, &mut store, only, field);
+        assert!(rt; !check(&mut store));
+    }
+    let mut store = greatest(&rt, rt.alloc());
+    let first = store.head(last);
+    store.set_head(last, None);
+    store.set_head(Class::new(734), first);
+    store.set_step_word(22, 1 << 30);
+    assert!(rt; !check(&mut store));
 }
 
 /// A free block stands in the list of another class.
@@ -134,16 +283,41 @@ fn block_in_no_list(rt: HostRuntime) {
     assert!(rt; !check(&mut store));
 }
 
+/// A level word and the step words of the levels 0 and 2, with what is wrong with them in a filled store: its free
+/// blocks are of the classes 13 and 82.
+const SPOILED_BITMAPS: [(u32, u32, u32); 7] = [
+    // The bit of a class without a block.
+    (0b101, 1 << 13 | 1, 1 << 18),
+    (0b101, 1 << 13, 1 << 18 | 1 << 31),
+    // No bit of a class with a block.
+    (0b100, 0, 1 << 18),
+    (0b001, 1 << 13, 0),
+    // The bit of a level without a class, and no bit of one with a class.
+    (0b101 | 1 << 22, 1 << 13, 1 << 18),
+    (0b100, 1 << 13, 1 << 18),
+    (0b001, 1 << 13, 1 << 18),
+];
+
+/// A filled store with these bitmaps.
+fn with_bitmaps(rt: &impl Abort, alloc: Global, levels: u32, first: u32, third: u32) -> Store {
+    let mut store = filled(rt, alloc);
+    assert!(rt; levels < 1 << 23);
+    store.set_level_word(levels);
+    store.set_step_word(0, first);
+    store.set_step_word(2, third);
+    store
+}
+
 #[test]
 fn bitmaps_spoiled(rt: HostRuntime) {
+    let mut store = with_bitmaps(&rt, rt.alloc(), 0b101, 1 << 13, 1 << 18);
+    assert!(rt; check(&mut store));
+    for (levels, first, third) in SPOILED_BITMAPS {
+        let mut store = with_bitmaps(&rt, rt.alloc(), levels, first, third);
+        assert!(rt; !check(&mut store));
+    }
     let mut store = filled(&rt, rt.alloc());
     store.set_head(class_of(104), None);
-    assert!(rt; !check(&mut store));
-    let mut store = filled(&rt, rt.alloc());
-    store.set_step_word(0, 1 << 13 | 1);
-    assert!(rt; !check(&mut store));
-    let mut store = filled(&rt, rt.alloc());
-    store.set_level_word(0);
     assert!(rt; !check(&mut store));
 }
 
@@ -154,16 +328,5 @@ fn counts_spoiled(rt: HostRuntime) {
     assert!(rt; !check(&mut store));
     let mut store = filled(&rt, rt.alloc());
     store.set_pool(0, None);
-    assert!(rt; !check(&mut store));
-    let mut store = filled(&rt, rt.alloc());
-    assert!(rt; u32::from(FIRST.0) < store.records());
-    store.set_pool(
-        0,
-        Some(Pool {
-            base: 0,
-            bytes: 1032,
-            first: FIRST,
-        }),
-    );
     assert!(rt; !check(&mut store));
 }

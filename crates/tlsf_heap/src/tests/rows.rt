@@ -252,6 +252,30 @@ fn blocks_chosen(rt: HostRuntime) {
     assert!(rt; both_hold(rt.alloc(), &greatest_class));
 }
 
+/// Above the greatest size nothing fits, however much memory there is.
+#[test]
+fn sizes_above_the_greatest(rt: HostRuntime) {
+    let above = Case {
+        records: 4,
+        steps: &[
+            (Ask::Pool(0, 1_073_741_816), Seen::Done),
+            (Ask::Malloc(1_073_741_817), Seen::Refused(Refusal::NoFit)),
+            (Ask::Malloc(u64::MAX), Seen::Refused(Refusal::NoFit)),
+            (
+                Ask::Memalign(536_870_912, 1_073_741_808),
+                Seen::Refused(Refusal::NoFit),
+            ),
+            (
+                Ask::Memalign(536_870_912, u64::MAX),
+                Seen::Refused(Refusal::NoFit),
+            ),
+            (Ask::Memalign(536_870_912, 8), Seen::At(0)),
+        ],
+        pools: &[(0, &[(0, 8, true), (8, 1_073_741_808, false)])],
+    };
+    assert!(rt; both_hold(rt.alloc(), &above));
+}
+
 #[test]
 fn newest_freed_first(rt: HostRuntime) {
     let newest_freed_first = Case {

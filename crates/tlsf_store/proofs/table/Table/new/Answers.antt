@@ -1,4 +1,4 @@
-use Rattle.std.proofs.Common.{◌≡◌, ◌∙◌, ◌<◌, subst, arith}
+use Rattle.std.proofs.Common.{◌≡◌, ◌∙◌, ◌<◌, sym, subst, arith}
 use Rattle.tlsf_store.specs.Records.{most_records}
 use Rattle.tlsf_store.proofs.RecordLaws.{kept_more}
 use Rattle.tlsf_store.proofs.TableMaking.{IsBegun, begun_kept, begun_vacant, begun_all}
@@ -25,5 +25,9 @@ loop-number-preserved c =
 pub invariant_of-result : goal.invariant_of-result
 invariant_of-result c =
     let all : c.loop-number.number ≡ c.args.count = omega arith in
-    begun_all c.args.count c.loop-number.items.items c.loop-number.first
-    (subst (λ n. IsBegun c.args.count c.loop-number.items.items c.loop-number.first n) all c.loop-number.invariant.begun) c.requires
+    let begun : IsBegun c.args.count c.loop-number.items.items c.loop-number.first c.args.count =
+    subst (λ n. IsBegun c.args.count c.loop-number.items.items c.loop-number.first n) all c.loop-number.invariant.begun in
+    record {
+      exact = c.loop-number.invariant.room ∙ sym begun.long;
+      table = begun_all c.args.count c.loop-number.items.items c.loop-number.first begun c.requires;
+    }

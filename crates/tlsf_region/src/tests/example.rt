@@ -1,0 +1,106 @@
+//! An example: a region used as a C program uses its heap.
+
+use super::made;
+use crate::Region;
+use arrayvec::ArrayString;
+use std::fmt::{Error, Write};
+use std::process::Abort;
+use std::str;
+use tlsf_heap::Ptr;
+
+const TEXT: &str = "Hello, region";
+
+/// What the example writes, worked out by hand from the definitions.
+const WRITTEN: &str = "\
+text at 0, buffer at 64
+  0: 16 bytes, used
+  16: 48 bytes, free
+  64: 104 bytes, used
+  168: 856 bytes, free
+text moved to 168
+Hello, region
+  0: 64 bytes, free
+  64: 104 bytes, used
+  168: 104 bytes, used
+  272: 752 bytes, free
+free of the old pointer: Err(BadPointer)
+buffer freed
+  0: 168 bytes, free
+  168: 104 bytes, used
+  272: 752 bytes, free
+text freed
+  0: 1024 bytes, free
+check: true
+";
+
+/// Writes the text into the block.
+fn put_text(rt: &impl Abort, region: &mut Region, ptr: Ptr) {
+    let block = region.bytes_mut(ptr).expect(rt, "a block");
+    for (byte, letter) in block.iter_mut().zip(TEXT.as_bytes()) {
+        *byte = *letter;
+    }
+}
+
+/// Writes the text that the block begins with.
+fn write_text<W: Write>(
+    rt: &impl Abort,
+    out: &mut W,
+    region: &mut Region,
+    ptr: Ptr,
+) -> Result<(), Error> {
+    let block = region.bytes(ptr).expect(rt, "a block");
+    let text = block.get(..TEXT.len()).expect(rt, "a text");
+    let text = str::from_utf8(text).expect(rt, "a text");
+    writeln!(out, "{text}")
+}
+
+/// Writes each block of the pool: its place, its size, and whether it is used.
+fn write_rows<W: Write>(rt: &impl Abort, out: &mut W, region: &mut Region) -> Result<(), Error> {
+    let mut written = Ok(());
+    let walked = region.walk(0, |row| {
+        let word = if row.used { "used" } else { "free" };
+        if written.is_ok() {
+            written = writeln!(out, "  {}: {} bytes, {word}", row.place, row.size);
+        }
+    });
+    assert_eq!(rt; walked, Ok(()));
+    written
+}
+
+/// Uses a region of 1,024 bytes, and writes what it is after each step.
+fn use_region<W: Write>(rt: &impl Abort, out: &mut W, region: &mut Region) -> Result<(), Error> {
+    assert_eq!(rt; region.add_pool(0, 1024), Ok(()));
+    let text = region.malloc(TEXT.len() as u64).expect(rt, "a block");
+    put_text(rt, region, text);
+    let buffer = region.memalign(64, 100).expect(rt, "a block");
+    writeln!(
+        out,
+        "text at {}, buffer at {}",
+        text.place(),
+        buffer.place()
+    )?;
+    write_rows(rt, out, region)?;
+
+    let moved = region.realloc(Some(text), 100).expect(rt, "a block");
+    let moved = moved.expect(rt, "a pointer");
+    writeln!(out, "text moved to {}", moved.place())?;
+    write_text(rt, out, region, moved)?;
+    write_rows(rt, out, region)?;
+
+    writeln!(out, "free of the old pointer: {:?}", region.free(text))?;
+    assert_eq!(rt; region.free(buffer), Ok(()));
+    writeln!(out, "buffer freed")?;
+    write_rows(rt, out, region)?;
+    assert_eq!(rt; region.free(moved), Ok(()));
+    writeln!(out, "text freed")?;
+    write_rows(rt, out, region)?;
+    writeln!(out, "check: {}", region.check())
+}
+
+#[test]
+fn example(rt: HostRuntime) {
+    let mut region = made(&rt, rt.alloc(), 1024, 8);
+    let mut text: ArrayString<512> = ArrayString::new();
+    assert_eq!(rt; use_region(&rt, &mut text, &mut region), Ok(()));
+    assert_eq!(rt; text.as_str(), WRITTEN);
+}

@@ -1,0 +1,43 @@
+//! Regions of many sizes, made once each.
+
+use super::made;
+use crate::Region;
+use std::process::Abort;
+
+/// A pool of so many bytes from the start on has a block of this size, and all bytes of it are 0.
+fn lends_zeros(rt: &impl Abort, region: &mut Region, bytes: u64, size: u64) {
+    assert_eq!(rt; region.add_pool(0, bytes), Ok(()));
+    let ptr = region.malloc(size).expect(rt, "a block");
+    assert_eq!(rt; ptr.place(), 0);
+    let block = region.bytes(ptr).expect(rt, "bytes");
+    assert_eq!(rt; block.len() as u64, size);
+    assert!(rt; block.iter().all(|byte| *byte == 0));
+}
+
+/// The lengths, each with a size that is served: the least of the last class that the pool's block is of.
+#[test]
+fn lengths(rt: HostRuntime) {
+    for len in [0, 1, 7] {
+        let mut region = made(&rt, rt.alloc(), len, 1);
+        assert!(rt; region.add_pool(0, 8).is_err());
+    }
+    for (len, size) in [
+        (8, 8),
+        (9, 8),
+        (255, 248),
+        (1_000_000, 999_424),
+        (1_048_576, 1_048_576),
+        (1_048_577, 1_048_576),
+    ] {
+        let mut region = made(&rt, rt.alloc(), len, 2);
+        lends_zeros(&rt, &mut region, len / 8 * 8, size);
+    }
+}
+
+#[test]
+fn counts_of_records(rt: HostRuntime) {
+    for records in [1, 2, 3, 10, 999, 1_000, 1_001, 4_096, 8_192, 65_534, 65_535] {
+        let mut region = made(&rt, rt.alloc(), 64, records);
+        lends_zeros(&rt, &mut region, 64, 64);
+    }
+}
