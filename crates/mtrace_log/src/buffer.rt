@@ -9,10 +9,10 @@ use crate::source::Source;
 use memchr::memchr;
 use std::marker::Model;
 
-// How many bytes a buffer holds.
+/// How many bytes a buffer holds.
 const BUFFER_SIZE: usize = 4096;
 
-// The bytes from `start` up to `end` are unread.
+/// The bytes from `start` up to `end` are unread.
 #[derive(Drop)]
 pub(crate) struct Buffer {
     bytes: [u8; BUFFER_SIZE],
@@ -31,7 +31,7 @@ impl Model for Buffer {
 }
 
 impl Buffer {
-    // No byte.
+    /// No byte.
     pub(crate) fn new() -> Self
         ensures { result ≡ [] }
     {
@@ -42,21 +42,21 @@ impl Buffer {
         }
     }
 
-    // Whether each byte is read.
+    /// Whether each byte is read.
     pub(crate) fn is_empty(&self) -> bool
         ensures { result ≡ (length self.now == 0) }
     {
         self.start == self.end
     }
 
-    // The unread bytes.
+    /// The unread bytes.
     pub(crate) fn unread(&self) -> &[u8]
         ensures { result.now ≡ self.now }
     {
         &self.bytes[self.start..self.end]
     }
 
-    // The unread bytes before the first newline, if there is one.
+    /// The unread bytes before the first newline, if there is one.
     pub(crate) fn first_line(&self) -> Option<&[u8]>
         ensures { MatchOption result (Lacks newline self.now)
             (λ line. Lacks newline line.now × (self.now ≡ line.now ++ newline ∷ drop (length line.now + 1) self.now)) }
@@ -68,7 +68,7 @@ impl Buffer {
         Some(&unread[..at])
     }
 
-    // So many bytes are read.
+    /// So many bytes are read.
     pub(crate) fn skip(&mut self, count: usize)
         requires { count ≤ length self.old }
         ensures { self.new ≡ drop count self.old }
@@ -76,14 +76,14 @@ impl Buffer {
         self.start += count;
     }
 
-    // Each byte is read.
+    /// Each byte is read.
     pub(crate) fn skip_all(&mut self)
         ensures { self.new ≡ [] }
     {
         self.start = self.end;
     }
 
-    // Asks the reader once for a buffer of bytes, where none is unread, and answers how many it gave.
+    /// Asks the reader once for a buffer of bytes, where none is unread, and answers how many it gave.
     pub(crate) fn refill<R: Source>(&mut self, reader: &mut R) -> Result<usize, Failed>
         requires { self.old ≡ [] }
         ensures count { IfOk result (λ count. length self.new ≡ count) }

@@ -34,7 +34,7 @@ impl<R: Read> FromRead<R> {
         }
     }
 
-    // Reads once, where a read is left. What it came to is not told yet.
+    /// Reads once, where a read is left. What it came to is not told yet.
     fn read_once(&mut self, buf: &mut [u8]) -> Result<usize, Failed>
         ensures bound { IfOk result (λ n. n ≤ length buf.new) }
         ensures reads { ReadConsumes (R.remaining (reader_of self.old)) (R.remaining (reader_of self.new)) result buf.new }

@@ -10,7 +10,7 @@ use arrayvec::ArrayVec;
 /// The greatest number of bytes in the spelling of an address.
 pub const LONGEST_ADDRESS: usize = 18;
 
-// The byte that writes a digit below 16.
+/// The byte that writes a digit below 16.
 fn digit_byte(digit: u8) -> u8
     requires { digit < 16 }
     ensures { result ≡ digit_char digit }
@@ -22,7 +22,7 @@ fn digit_byte(digit: u8) -> u8
     }
 }
 
-// Appends the digits of a number, the highest first, none for 0.
+/// Appends the digits of a number, the highest first, none for 0.
 fn push_digits(text: &mut ArrayVec<u8, LONGEST_ADDRESS>, number: u64)
     requires { array_vec_len text.old + length (hex_digits number) ≤ LONGEST_ADDRESS }
     ensures { text.new.items ≡ text.old.items ++ hex_digits number }
@@ -34,7 +34,7 @@ fn push_digits(text: &mut ArrayVec<u8, LONGEST_ADDRESS>, number: u64)
     text.push(digit_byte((number % 16) as u8));
 }
 
-// The spelling of an address.
+/// The spelling of an address.
 pub(crate) fn address_text(number: u64) -> ArrayVec<u8, LONGEST_ADDRESS>
     ensures { result.items ≡ address_text number }
 {
@@ -45,7 +45,7 @@ pub(crate) fn address_text(number: u64) -> ArrayVec<u8, LONGEST_ADDRESS>
     text
 }
 
-// The digit that a byte writes, `0` to `9` or `a` to `f`.
+/// The digit that a byte writes, `0` to `9` or `a` to `f`.
 fn digit_of(byte: u8) -> Option<u8>
     ensures { MatchOption result ((d : ℕ) → d < 16 → byte ≢ digit_char d) (λ d. (d < 16) × (byte ≡ digit_char d)) }
 {
@@ -56,7 +56,7 @@ fn digit_of(byte: u8) -> Option<u8>
     }
 }
 
-// The number above 0 that at most 16 digits write, without leading zeros.
+/// The number above 0 that at most 16 digits write, without leading zeros.
 fn read_digits(digits: &[u8]) -> Option<u64>
     requires { length digits.now ≤ 16 }
     ensures { MatchOption result ((n : ℕ) → 0 < n → digits.now ≢ hex_digits n)
@@ -75,7 +75,7 @@ fn read_digits(digits: &[u8]) -> Option<u64>
     if number == 0 { None } else { Some(number) }
 }
 
-// The number of an address that the bytes spell.
+/// The number of an address that the bytes spell.
 pub(crate) fn read_address(bytes: &[u8]) -> Option<u64>
     ensures { MatchOption result ((n : ℕ) → IsAddress n → bytes.now ≢ address_text n)
         (λ n. IsAddress n × (bytes.now ≡ address_text n)) }

@@ -6,7 +6,7 @@ use crate::event::{Event, LineFault};
 use crate::line_reader::{LONGEST_LINE, read_line};
 use arrayvec::ArrayVec;
 
-// The bytes of one line, as long as they are few enough to be kept.
+/// The bytes of one line, as long as they are few enough to be kept.
 #[derive(Drop)]
 pub(crate) struct LineBuffer {
     bytes: ArrayVec<u8, LONGEST_LINE>,
@@ -14,7 +14,7 @@ pub(crate) struct LineBuffer {
 }
 
 impl LineBuffer {
-    // No byte.
+    /// No byte.
     pub(crate) fn new() -> Self
         ensures { Holds result [] }
     {
@@ -24,14 +24,14 @@ impl LineBuffer {
         }
     }
 
-    // Whether the line has no byte.
+    /// Whether the line has no byte.
     pub(crate) fn is_empty(&self) -> bool
         ensures { (piece : List ℕ) → Holds self.now piece → IsTrue result ↔ (length piece ≡ 0) }
     {
         !self.too_long && self.bytes.is_empty()
     }
 
-    // More bytes.
+    /// More bytes.
     pub(crate) fn extend(&mut self, more: &[u8])
         ensures { (piece : List ℕ) → Holds self.old piece → Holds self.new (piece ++ more.now) }
     {
@@ -40,7 +40,7 @@ impl LineBuffer {
         }
     }
 
-    // What the line says.
+    /// What the line says.
     pub(crate) fn read(&self) -> Result<Event, LineFault>
         ensures { (piece : List ℕ) → Holds self.now piece → Reads piece result }
     {

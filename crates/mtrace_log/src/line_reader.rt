@@ -16,7 +16,7 @@ use memchr::memchr;
 /// The longest line of any event, in bytes without its newline.
 pub const LONGEST_LINE: usize = 297;
 
-// What stands before the first space, and what behind it.
+/// What stands before the first space, and what behind it.
 fn split_at_space(bytes: &[u8]) -> Option<(&[u8], &[u8])>
     ensures { MatchOption result (Lacks space bytes.now)
         (λ parts. Lacks space parts.0.now × (bytes.now ≡ parts.0.now ++ space ∷ parts.1.now)) }
@@ -27,7 +27,7 @@ fn split_at_space(bytes: &[u8]) -> Option<(&[u8], &[u8])>
     Some((&bytes[..at], &bytes[at + 1..]))
 }
 
-// PTR
+/// PTR
 fn read_pointer(bytes: &[u8]) -> Option<Option<Addr>>
     ensures { Finds IsPointer pointer_text bytes.now result }
 {
@@ -40,7 +40,7 @@ fn read_pointer(bytes: &[u8]) -> Option<Option<Addr>>
     Some(Addr::new(number))
 }
 
-// SIZE
+/// SIZE
 fn read_size(bytes: &[u8]) -> Option<u64>
     ensures { Finds IsSize size_text bytes.now result }
 {
@@ -50,7 +50,7 @@ fn read_size(bytes: &[u8]) -> Option<u64>
     hex::read_address(bytes)
 }
 
-// PTR, or PTR SIZE
+/// PTR, or PTR SIZE
 fn read_fields(bytes: &[u8]) -> Option<(Option<Addr>, Option<u64>)>
     ensures { Finds (λ fields. AreFields fields.0 fields.1) (λ fields. fields_text fields.0 fields.1) bytes.now result }
 {
@@ -69,7 +69,7 @@ fn read_fields(bytes: &[u8]) -> Option<(Option<Addr>, Option<u64>)>
     Some((addr, Some(size)))
 }
 
-// The first byte, where a space follows it, and what stands behind that space.
+/// The first byte, where a space follows it, and what stands behind that space.
 fn split_mark(bytes: &[u8]) -> Option<(u8, &[u8])>
     ensures { MatchOption result ((mark : ℕ) (rest : List ℕ) → bytes.now ≢ mark ∷ space ∷ rest)
         (λ parts. bytes.now ≡ parts.0 ∷ space ∷ parts.1.now) }
@@ -80,7 +80,7 @@ fn split_mark(bytes: &[u8]) -> Option<(u8, &[u8])>
     Some((*mark, rest))
 }
 
-// A mark, a space and fields.
+/// A mark, a space and fields.
 fn read_marked(bytes: &[u8]) -> Option<(u8, Option<Addr>, Option<u64>)>
     ensures { Finds (λ parts. AreFields parts.1 parts.2) (λ parts. parts.0 ∷ space ∷ fields_text parts.1 parts.2) bytes.now result }
 {
@@ -93,7 +93,7 @@ fn read_marked(bytes: &[u8]) -> Option<(u8, Option<Addr>, Option<u64>)>
     Some((mark, addr, size))
 }
 
-// The event with this place, mark and fields. Each arm returns by itself, which saves a copy of the event.
+/// The event with this place, mark and fields. Each arm returns by itself, which saves a copy of the event.
 #[inline(always)]
 fn event_of(
     at: Option<Location>,
@@ -113,7 +113,7 @@ fn event_of(
     }
 }
 
-// What stands behind `@ `.
+/// What stands behind `@ `.
 fn behind_at(bytes: &[u8]) -> Option<&[u8]>
     ensures { MatchOption result ((rest : List ℕ) → bytes.now ≢ codes "@ " ++ rest)
         (λ rest. bytes.now ≡ codes "@ " ++ rest.now) }
@@ -124,7 +124,7 @@ fn behind_at(bytes: &[u8]) -> Option<&[u8]>
     Some(rest)
 }
 
-// A line that isn't too long, and not behind `@ `.
+/// A line that isn't too long, and not behind `@ `.
 fn read_unlocated(bytes: &[u8]) -> Result<Event, LineFault>
     requires short { length bytes.now ≤ LONGEST_LINE }
     requires unlocated { (rest : List ℕ) → bytes.now ≢ codes "@ " ++ rest }

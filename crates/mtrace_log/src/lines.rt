@@ -15,7 +15,7 @@ use std::marker::Model;
 #[cfg(test)]
 mod tests;
 
-// What has become of the stream.
+/// What has become of the stream.
 #[derive(Clone, Copy)]
 enum State {
     // Lines are read.
@@ -95,7 +95,7 @@ impl Lines {
         }
     }
 
-    // The next line, while lines are read.
+    /// The next line, while lines are read.
     fn read_next<R: Source>(&mut self, reader: &mut R) -> Result<Option<Line>, ReadFault>
         requires { self.old.status ≡ Reading }
         ensures reads { ReadsOn R.left R.trace self.old self.new reader.old reader.new result }
@@ -113,7 +113,7 @@ impl Lines {
         Ok(Some(self.give(event)))
     }
 
-    // The next line, where its newline isn't in the buffer.
+    /// The next line, where its newline isn't in the buffer.
     fn read_across<R: Source>(&mut self, reader: &mut R) -> Result<Option<Line>, ReadFault>
         requires reading { self.old.status ≡ Reading }
         requires room { self.old.count < greatest_number }
@@ -137,7 +137,7 @@ impl Lines {
         }
     }
 
-    // Where no number is left for a line: the end, or a fault.
+    /// Where no number is left for a line: the end, or a fault.
     fn find_end<R: Source>(&mut self, reader: &mut R) -> Result<Option<Line>, ReadFault>
         requires reading { self.old.status ≡ Reading }
         requires full { self.old.count ≡ greatest_number }
@@ -164,7 +164,7 @@ impl Lines {
         }
     }
 
-    // A line that says this, with the next number.
+    /// A line that says this, with the next number.
     fn give(&mut self, event: Result<Event, LineFault>) -> Line
         requires { self.old.count < greatest_number }
         ensures line { result ≡ record { number = self.old.count + 1; event = event } }

@@ -26,7 +26,7 @@ impl Model for Location {
     ghost inverse = { λ bytes. record { text = record { items = bytes } } };
 }
 
-// Whether each byte can stand in a location.
+/// Whether each byte can stand in a location.
 fn are_location_bytes(bytes: &[u8]) -> bool
     ensures { IsTrue result ↔ EachIndex bytes.now (λ k. IsLocationByte (slice_index bytes.now k)) }
 {

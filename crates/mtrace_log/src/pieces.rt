@@ -9,7 +9,7 @@ use crate::failed::Failed;
 use crate::line_buffer::LineBuffer;
 use crate::source::Source;
 
-// How a piece ended.
+/// How a piece ended.
 #[derive(Clone, Copy)]
 pub(crate) enum Stop {
     Newline,
@@ -17,8 +17,8 @@ pub(crate) enum Stop {
     Failed,
 }
 
-// Takes the unread bytes before the first newline onto the line, and passes over the newline. Where
-// there is none, takes them all and answers false.
+/// Takes the unread bytes before the first newline onto the line, and passes over the newline. Where
+/// there is none, takes them all and answers false.
 fn take_front(buffer: &mut Buffer, line: &mut LineBuffer) -> bool
     ensures { TakesFront line.old line.new result buffer.old buffer.new }
 {
@@ -33,7 +33,7 @@ fn take_front(buffer: &mut Buffer, line: &mut LineBuffer) -> bool
     true
 }
 
-// The next piece, and how it ended.
+/// The next piece, and how it ended.
 pub(crate) fn read_piece<R: Source>(buffer: &mut Buffer, reader: &mut R) -> (LineBuffer, Stop)
     ensures piece { TakesPiece result.0 result.1 (prepend_known buffer.old (R.left reader.old)) (prepend_known buffer.new (R.left reader.new)) }
     ensures calls { CallsUpTo result.1 (R.trace reader.old) (R.trace reader.new) }

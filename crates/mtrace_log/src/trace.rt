@@ -17,14 +17,14 @@ impl Model for Trace {
 }
 
 impl Trace {
-    // No call yet.
+    /// No call yet.
     pub(crate) fn new() -> Trace
         ensures { result.calls ≡ [] }
     {
         Trace {}
     }
 
-    // One call more.
+    /// One call more.
     pub(crate) fn after(_before: &Trace, _call: &Call) -> Trace
         ensures { result.calls ≡ _call.now ∷ _before.now.calls }
     {

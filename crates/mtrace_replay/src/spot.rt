@@ -22,7 +22,7 @@ pub(crate) enum Spot {
 }
 
 impl Spot {
-    // The address, for `compare` and a spot before this one.
+    /// The address, for `compare` and a spot before this one.
     fn address(&self) -> Addr
         ensures { result ≡ spot_address self.now }
     {

@@ -3,7 +3,7 @@ use crate::buffer::Buffer;
 use crate::memory::MemorySource;
 use crate::{Event, ReadFault};
 
-// So many lines were read.
+/// So many lines were read.
 fn after(count: u64) -> Lines {
     Lines {
         buffer: Buffer::new(),

@@ -33,7 +33,7 @@ fn writes_to_std(rt: HostRuntime) {
     assert!(rt; room == *b"abc");
 }
 
-// The kinds of std's errors.
+/// The kinds of std's errors.
 const KINDS: [ErrorKind; 42] = [
     ErrorKind::NotFound,
     ErrorKind::PermissionDenied,
@@ -79,8 +79,8 @@ const KINDS: [ErrorKind; 42] = [
     ErrorKind::Uncategorized,
 ];
 
-// A reader and a writer that counts its calls. The one of this number fails with this kind; each other does
-// all that it is asked.
+/// A reader and a writer that counts its calls. The one of this number fails with this kind; each other does
+/// all that it is asked.
 #[derive(Drop)]
 struct FailsOnce {
     kind: ErrorKind,
@@ -117,7 +117,7 @@ impl Write for FailsOnce {
     }
 }
 
-// Pulls so many times; each call comes to what the reader's call comes to.
+/// Pulls so many times; each call comes to what the reader's call comes to.
 fn expect_pulls(rt: &impl Abort, kind: ErrorKind, failing: u32, calls: u32) {
     let mut reader = FailsOnce {
         kind,
@@ -139,7 +139,7 @@ fn expect_pulls(rt: &impl Abort, kind: ErrorKind, failing: u32, calls: u32) {
     assert_eq!(rt; reader.calls, calls, "{kind:?}");
 }
 
-// Puts bytes and flushes in turn, so many times; each call comes to what the writer's call comes to.
+/// Puts bytes and flushes in turn, so many times; each call comes to what the writer's call comes to.
 fn expect_puts_and_flushes(rt: &impl Abort, kind: ErrorKind, failing: u32, calls: u32) {
     let mut writer = FailsOnce {
         kind,
@@ -176,7 +176,7 @@ fn fails_where_std_fails_and_calls_it_once(rt: HostRuntime) {
     }
 }
 
-// A reader of so many bytes, one a call, each the last digit of its number.
+/// A reader of so many bytes, one a call, each the last digit of its number.
 #[derive(Drop)]
 struct Digits {
     given: u32,
@@ -208,7 +208,7 @@ fn reads_many_bytes_from_std(rt: HostRuntime) {
     assert!(rt; reader.pull(&mut byte) == Ok(0));
 }
 
-// Pulls and puts so many bytes, each at once.
+/// Pulls and puts so many bytes, each at once.
 fn expect_one_call(rt: &impl Abort, alloc: Global, count: u32) -> Result<(), Fail> {
     let bytes = vec![in alloc; b'a'; count as usize]?;
     let mut read = vec![in alloc; b'b'; count as usize + 1]?;

@@ -1,7 +1,7 @@
 use crate::{Event, LONGEST_LINE, LONGEST_LOCATION, LineFault, Location, read_line};
 use std::process::Abort;
 
-// That an event's place is the one wanted, or none where none is.
+/// That an event's place is the one wanted, or none where none is.
 fn expect_place(rt: &impl Abort, line: &[u8], at: &Option<Location>, place: Option<&[u8]>) {
     match (at, place) {
         (Some(at), Some(place)) => assert!(rt; at.bytes() == place, "{line:?}"),
@@ -10,7 +10,7 @@ fn expect_place(rt: &impl Abort, line: &[u8], at: &Option<Location>, place: Opti
     }
 }
 
-// What a line says of an allocation: its place, its address and its size.
+/// What a line says of an allocation: its place, its address and its size.
 fn expect_alloc(
     rt: &impl Abort,
     line: &[u8],
@@ -28,7 +28,7 @@ fn expect_alloc(
     assert_eq!(rt; *size, bytes, "{line:?}");
 }
 
-// What a line says of a free: its place and its address.
+/// What a line says of a free: its place and its address.
 fn expect_free(rt: &impl Abort, line: &[u8], place: Option<&[u8]>, address: u64) {
     let answer = read_line(line);
     let Ok(Event::Free { at, addr }) = &answer else {
@@ -38,7 +38,7 @@ fn expect_free(rt: &impl Abort, line: &[u8], place: Option<&[u8]>, address: u64)
     assert_eq!(rt; addr.value(), address, "{line:?}");
 }
 
-// What a line says of a block being reallocated: its place and its address.
+/// What a line says of a block being reallocated: its place and its address.
 fn expect_old(rt: &impl Abort, line: &[u8], place: Option<&[u8]>, address: u64) {
     let answer = read_line(line);
     let Ok(Event::Old { at, addr }) = &answer else {
@@ -48,7 +48,7 @@ fn expect_old(rt: &impl Abort, line: &[u8], place: Option<&[u8]>, address: u64) 
     assert_eq!(rt; addr.value(), address, "{line:?}");
 }
 
-// What a line says of a reallocation's new block: its place, its address and its size.
+/// What a line says of a reallocation's new block: its place, its address and its size.
 fn expect_new(rt: &impl Abort, line: &[u8], place: Option<&[u8]>, address: u64, bytes: u64) {
     let answer = read_line(line);
     let Ok(Event::New { at, addr, size }) = &answer else {
@@ -59,7 +59,7 @@ fn expect_new(rt: &impl Abort, line: &[u8], place: Option<&[u8]>, address: u64, 
     assert_eq!(rt; *size, bytes, "{line:?}");
 }
 
-// What a line says of a reallocation that failed: its place, its address and its size.
+/// What a line says of a reallocation that failed: its place, its address and its size.
 fn expect_failed(
     rt: &impl Abort,
     line: &[u8],
@@ -270,7 +270,7 @@ fn refuses_other_lines_behind_a_place(rt: HostRuntime) {
     expect_no_event(&rt, &lines);
 }
 
-// `@ `, so many times `a`, and the 40 bytes of the longest pointer and size.
+/// `@ `, so many times `a`, and the 40 bytes of the longest pointer and size.
 fn long_line(line: &mut Vec<u8>, count: usize, rt: &impl Abort) {
     line.extend_from_slice(b"@ ").expect(rt, "memory");
     for _ in 0..count {

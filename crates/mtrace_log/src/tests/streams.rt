@@ -2,10 +2,10 @@ use crate::memory::MemorySource;
 use crate::{Event, LineFault, Lines, ReadFault, Source};
 use std::process::Abort;
 
-// What a reader gives at most in one call: less than a buffer, a buffer, more, or all at once.
+/// What a reader gives at most in one call: less than a buffer, a buffer, more, or all at once.
 const PIECES: [usize; 9] = [1, 2, 3, 7, 64, 4095, 4096, 4097, usize::MAX];
 
-// What a line says, as far as the rows tell it.
+/// What a line says, as far as the rows tell it.
 #[derive(Clone, Copy, Drop)]
 enum Said {
     Start,
@@ -15,14 +15,14 @@ enum Said {
     NotALine,
 }
 
-// Appends a part so many times.
+/// Appends a part so many times.
 fn append(rt: &impl Abort, text: &mut Vec<u8>, part: &[u8], times: usize) {
     for _ in 0..times {
         text.extend_from_slice(part).expect(rt, "memory");
     }
 }
 
-// The next line says this.
+/// The next line says this.
 fn expect_line<R: Source>(
     rt: &impl Abort,
     lines: &mut Lines,
@@ -53,14 +53,14 @@ fn expect_line<R: Source>(
     }
 }
 
-// The next lines are so many starts, from the first on.
+/// The next lines are so many starts, from the first on.
 fn expect_starts<R: Source>(rt: &impl Abort, lines: &mut Lines, reader: &mut R, starts: u64) {
     for before in 0..starts {
         expect_line(rt, lines, reader, before.wrapping_add(1), &Said::Start);
     }
 }
 
-// The lines of a text are so many starts, and then these.
+/// The lines of a text are so many starts, and then these.
 fn expect_lines(rt: &impl Abort, text: &[u8], piece: usize, starts: u64, rows: &[Said]) {
     let mut reader = MemorySource::in_pieces(text, piece.max(1));
     let mut lines = Lines::new();
