@@ -1,5 +1,5 @@
--- What the content of a layout says of a node at a spot, and how edits of the layout edit the content.
-pub mod BlockSpots
+-- What the content of a layout says of a node at a position, and how edits of the layout edit the content.
+pub mod BlockPositions
 pub mod Places
 pub mod NodeBlocks
 pub mod Freed

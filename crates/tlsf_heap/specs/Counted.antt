@@ -4,7 +4,7 @@ use Rattle.tlsf_heap.specs.declared.row.Row.{Row}
 use Rattle.tlsf_store.specs.CountedCells.{CountedCells}
 use Rattle.tlsf_heap.specs.Content.{Pool, Content}
 use Rattle.tlsf_heap.specs.Inner.Following.{content_of}
-use Rattle.tlsf_heap.specs.Readings.{rows_by}
+use Rattle.tlsf_heap.specs.Cursors.{rows_by}
 
 pub record Counted : Type 0 where
   pub content : Content ℕ

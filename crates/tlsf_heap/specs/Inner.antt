@@ -1,6 +1,6 @@
 -- What the linked records of a heap stand for.
 pub mod Nodes
-pub mod Spots
+pub mod Positions
 pub mod Represents
 pub mod Joined
 pub mod CellEdits

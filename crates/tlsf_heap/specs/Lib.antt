@@ -9,7 +9,7 @@ pub mod Free
 pub mod Memalign
 pub mod Realloc
 pub mod BlockSize
-pub mod Readings
+pub mod Cursors
 pub mod Touches
 pub mod Counted
 pub mod GoodSlots

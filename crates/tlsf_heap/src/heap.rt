@@ -52,7 +52,7 @@ impl Heap {
     ghost use Rattle.tlsf_heap.specs.BlockSize.{block_size as sized};
     ghost use Rattle.tlsf_heap.specs.Pointer.{place_and_slot, slot_of};
     ghost use Rattle.tlsf_heap.specs.Rows.{rows_from};
-    ghost use Rattle.tlsf_heap.specs.Readings.{rows_behind, is_at_row};
+    ghost use Rattle.tlsf_heap.specs.Cursors.{rows_behind, is_at_row};
     ghost use Rattle.tlsf_heap.specs.Walk.{IsWalk, walk_touches};
     ghost use Rattle.tlsf_heap.specs.Pools.{created, add_pool as added, remove_pool as removed};
     ghost use Rattle.tlsf_heap.specs.Counted.{range_of, IsUnchanged};

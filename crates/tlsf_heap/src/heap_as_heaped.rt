@@ -6,7 +6,7 @@ use std::alloc::Global;
 use tlsf_store::{MOST_POOLS, StoreError};
 
 impl Heaped for Heap {
-    ghost use Rattle.tlsf_heap.specs.Readings.{rows_behind, is_at_row};
+    ghost use Rattle.tlsf_heap.specs.Cursors.{rows_behind, is_at_row};
 
     ghost content = { λ heap. heap.content };
 

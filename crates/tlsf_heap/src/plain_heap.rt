@@ -1,4 +1,4 @@
-//! A heap kept as plain lists, which are scanned: the reference that the definitions are read off.
+//! A heap kept as plain lists, which are scanned.
 //!
 //! Nothing here is bounded in steps. Each call that may lack memory makes a new content, which takes the
 //! heap's place at the end, so that refused memory changes nothing.

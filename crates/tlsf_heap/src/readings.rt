@@ -7,7 +7,7 @@ ghost use Rattle.tlsf_heap.specs.Inner.Following.{Stands, content_of};
 ghost use Rattle.tlsf_heap.specs.Inner.Entries.{entries_of};
 ghost use Rattle.tlsf_heap.specs.Rows.{rows_from};
 ghost use Rattle.tlsf_heap.specs.BlockSize.{block_size as sized};
-ghost use Rattle.tlsf_heap.specs.Readings.{rows_by, rest_of, stands_at, slot_for, begins_below, slot_if, AreInOrder, IsNarrowed};
+ghost use Rattle.tlsf_heap.specs.Cursors.{rows_by, rest_of, stands_at, slot_for, begins_below, slot_if, AreInOrder, IsNarrowed};
 ghost use Rattle.tlsf_heap.specs.Inner.States.{is_state_live};
 
 use crate::free::is_live;

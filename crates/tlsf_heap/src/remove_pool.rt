@@ -6,7 +6,7 @@ ghost use Rattle.tlsf_heap.specs.Touches.{AtMost};
 ghost use Rattle.tlsf_heap.specs.Pools.{remove_pool as removed};
 ghost use Rattle.tlsf_heap.specs.Inner.States.{is_state_free};
 ghost use Rattle.tlsf_heap.specs.Inner.Nodes.{Listed};
-ghost use Rattle.tlsf_heap.specs.Inner.Spots.{plug};
+ghost use Rattle.tlsf_heap.specs.Inner.Positions.{plug};
 ghost use Rattle.tlsf_heap.specs.Inner.Entering.{entries_in};
 ghost use Rattle.tlsf_heap.specs.Inner.Represents.{Represents};
 ghost use Rattle.tlsf_heap.specs.Inner.At.{At, StandsAt, without_area};
@@ -61,7 +61,7 @@ fn drop_pool(store: &mut Store, slot: Slot, size: u32, entries: &[PoolEntry])
     requires count { length store.old.cells.pools ≡ most_pools }
     requires few { length entries.now ≤ most_pools }
     requires below { All (λ entry. entry.first < length store.old.cells.records) entries.now }
-    ensures leads { (at : At) → StandsAt slot Listed store.old.cells at → size ≡ at.node.size → at.spot.before ≡ [] → at.nodes ≡ [] → entries.now ≡ entries_in (plug at.spot.areas_before at.spot.areas_behind) → Represents store.new.cells (without_area at) }
+    ensures leads { (at : At) → StandsAt slot Listed store.old.cells at → size ≡ at.node.size → at.position.before ≡ [] → at.nodes ≡ [] → entries.now ≡ entries_in (plug at.position.areas_before at.position.areas_behind) → Represents store.new.cells (without_area at) }
     ensures touches { AtMost 21 store.old.touches store.new.touches }
 {
     take_whole(store, slot, size);

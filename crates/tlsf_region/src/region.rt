@@ -40,7 +40,7 @@ impl Region {
     ghost use Rattle.tlsf_heap.specs.BlockSize.{block_size as sized};
     ghost use Rattle.tlsf_heap.specs.Pointer.{Pointer, place_and_slot, slot_of};
     ghost use Rattle.tlsf_heap.specs.Rows.{rows_from};
-    ghost use Rattle.tlsf_heap.specs.Readings.{rows_behind, is_at_row};
+    ghost use Rattle.tlsf_heap.specs.Cursors.{rows_behind, is_at_row};
     ghost use Rattle.tlsf_heap.specs.Counted.{range_of};
     ghost use Rattle.tlsf_heap.specs.Implied.{NoneFits, NoneFitsAligned, HasFewRecords, HasFewRecordsAndOne, HasAlignedBlocks, HasDisjointBlocks, ListsFreeBlocks, ListsNothingElse};
     ghost use Rattle.tlsf_heap.specs.Memalign.{memalign as aligned};

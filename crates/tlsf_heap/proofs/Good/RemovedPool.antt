@@ -11,7 +11,7 @@ use Rattle.tlsf_heap.specs.Pools.{is_based, is_unused, without_pool, remove_foun
 use Rattle.tlsf_heap.specs.Good.{Covers, IsGoodPool, AreGoodPools, is_listed, IsGood}
 use Rattle.tlsf_heap.proofs.Counts.{one_if, count-cons, count_all}
 use Rattle.tlsf_heap.proofs.Content.FreeLists.{found_stands, listed_at, times-unlink, length-unlink}
-use Rattle.tlsf_heap.proofs.Meaning.BlockSpots.{count-blocks}
+use Rattle.tlsf_heap.proofs.Meaning.BlockPositions.{count-blocks}
 use Rattle.tlsf_heap.proofs.Meaning.FreeFirst.{listed_once}
 use Rattle.tlsf_heap.specs.GoodSlots.{is_slot, slot_times, HasGoodSlots}
 use Rattle.tlsf_heap.proofs.Good.Slots.{slots_fewer}

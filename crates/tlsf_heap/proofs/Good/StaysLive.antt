@@ -17,7 +17,7 @@ use Rattle.tlsf_heap.proofs.Content.Blocks.{Found, Ascends-pools}
 use Rattle.tlsf_heap.proofs.Content.Replacing.{replaced-here, blocks_of-replaced}
 use Rattle.tlsf_heap.proofs.Content.BareSteps.{blocks_of-renamed}
 use Rattle.tlsf_heap.proofs.Content.Given.{malloc_gave, realloc_gave}
-use Rattle.tlsf_heap.proofs.Meaning.BlockSpots.{at_most_one}
+use Rattle.tlsf_heap.proofs.Meaning.BlockPositions.{at_most_one}
 use Rattle.tlsf_heap.proofs.Good.Calls.{picked, malloc_is_good}
 use Rattle.tlsf_heap.proofs.Good.Realloc.{live_still}
 

@@ -22,7 +22,7 @@ use Rattle.tlsf_heap.proofs.Inner.Taken.{slot_taken}
 use Rattle.tlsf_heap.proofs.Inner.Steps.{covered_turned}
 use Rattle.tlsf_heap.proofs.Meaning.Covered.{covered_refilled}
 use Rattle.std.specs.Prelude.{◌==◌}
-use Rattle.tlsf_heap.specs.Inner.Spots.{filled}
+use Rattle.tlsf_heap.specs.Inner.Positions.{filled}
 
 module _ (cells : Cells) (slot : ℕ) (at : At) (stands : StandsAt slot Listed cells at) where
   listed_was : Represents cells (layout_at (record at { node = turned Listed at.node }))
@@ -34,17 +34,17 @@ module _ (cells : Cells) (slot : ℕ) (at : At) (stands : StandsAt slot Listed c
   pub prev_used : IsUsed cells.records (record_at cells.records slot).prev_free
   prev_used =
       let P : ℕ → Type 0 = λ q. IsUsed cells.records (record_at cells.records q).prev_free in
-      subst P stands.1.slot_is (prev_free_used cells at.count at.spot (turned Listed at.node) at.nodes at.lists at.taken listed_was)
+      subst P stands.1.slot_is (prev_free_used cells at.count at.position (turned Listed at.node) at.nodes at.lists at.taken listed_was)
 
   pub behind_used : IsUsed cells.records (record_at cells.records slot).next_free
   behind_used =
       let P : ℕ → Type 0 = λ q. IsUsed cells.records (record_at cells.records q).next_free in
-      subst P stands.1.slot_is (next_free_used cells at.count at.spot (turned Listed at.node) at.nodes at.lists at.taken listed_was)
+      subst P stands.1.slot_is (next_free_used cells at.count at.position (turned Listed at.node) at.nodes at.lists at.taken listed_was)
 
   pub unlinked_stands : StandsAt slot Loose (unlinked (class at.node.size) slot cells) (at_unlisted at)
   unlinked_stands =
       let P : ℕ → Type 0 = λ q. Represents (unlinked (class at.node.size) q cells) (layout_at (at_unlisted at)) in (
-        subst P stands.1.slot_is (unlinked_laid cells at.count at.spot (turned Listed at.node) at.nodes at.lists at.taken listed_was),
+        subst P stands.1.slot_is (unlinked_laid cells at.count at.position (turned Listed at.node) at.nodes at.lists at.taken listed_was),
         record { slot_is = stands.1.slot_is; status_is = refl; others_settled = stands.1.others_settled; covered = covered_turned cells slot Listed at stands Loose },
       )
 
@@ -66,7 +66,7 @@ module _ (cells : Cells) (slot rest : ℕ) (at : At) (stands : StandsAt slot InU
   pub last_used : IsUsed cells.records (record_at cells.records slot).next
   last_used =
       let P : ℕ → Type 0 = λ q. IsUsed cells.records (record_at cells.records q).next in
-      subst P stands.1.slot_is (next_used cells.records at.spot at.node at.nodes (rest ∷ at.taken) (at_node cells.records at.spot at.node at.nodes (rest ∷ at.taken) stands.0.chains))
+      subst P stands.1.slot_is (next_used cells.records at.position at.node at.nodes (rest ∷ at.taken) (at_node cells.records at.position at.node at.nodes (rest ∷ at.taken) stands.0.chains))
 
   module _ (bytes : ℕ) (some : 0 < bytes) (less : bytes < at.node.size) (whole : bytes % unit ≡ 0) where
     pub split_stands : StandsAt rest Loose (split slot rest bytes cells) (at_split rest bytes at)
@@ -74,19 +74,19 @@ module _ (cells : Cells) (slot rest : ℕ) (at : At) (stands : StandsAt slot InU
         let P : ℕ → Type 0 = λ q. Represents (split q rest bytes cells) (layout_at (at_split rest bytes at)) in
         let loose : Node → Bool = λ n. is_loose n.status in
         let first : Node = record at.node { size = bytes } in (
-          subst P stands.1.slot_is (split_laid cells at.count at.spot at.node at.nodes at.lists rest at.taken bytes stands.0 (ap is_listed stands.1.status_is)),
+          subst P stands.1.slot_is (split_laid cells at.count at.position at.node at.nodes at.lists rest at.taken bytes stands.0 (ap is_listed stands.1.status_is)),
           record {
             slot_is = refl;
             status_is = refl;
             others_settled = omega (
               arith,
               stands.1.others_settled,
-              count-filled loose at.spot at.nodes,
-              count-filled loose (record at.spot { before = first ∷ at.spot.before }) at.nodes,
-              count-cons loose first at.spot.before,
+              count-filled loose at.position at.nodes,
+              count-filled loose (record at.position { before = first ∷ at.position.before }) at.nodes,
+              count-cons loose first at.position.before,
               ap (λ s. one_if (is_loose s)) stands.1.status_is,
             );
-            covered = covered_refilled at.spot (at.node ∷ at.nodes) (first ∷ rest_node rest bytes at.node ∷ at.nodes) (covers_cut rest bytes at.node at.nodes some less whole) stands.1.covered;
+            covered = covered_refilled at.position (at.node ∷ at.nodes) (first ∷ rest_node rest bytes at.node ∷ at.nodes) (covers_cut rest bytes at.node at.nodes some less whole) stands.1.covered;
           },
         )
 
@@ -118,12 +118,12 @@ trimmed_stands old new slot rest bytes at was less stands =
     let some : ((at.node.size - bytes) == 0) ≡ false = ne_eqb (at.node.size - bytes) 0 (λ e. omega (arith, e, less)) in
     let P : Layout → Type 0 = λ l. Represents new l in
     let Q : Layout → Type 0 = λ l. AreCovered 0 (map pool_of l.areas) in
-    let R : Bool → Type 0 = λ b. count_by loose (nodes_of (filled at.spot (cond b [] (second ∷ []) ++ at.nodes))) ≡ 0 in (
+    let R : Bool → Type 0 = λ b. count_by loose (nodes_of (filled at.position (cond b [] (second ∷ []) ++ at.nodes))) ≡ 0 in (
       subst P same stands.0,
       record {
         slot_is = was.1.slot_is;
         status_is = was.1.status_is;
-        others_settled = subst R (sym some) (omega (arith, was.1.others_settled, count-filled loose at.spot at.nodes, count-filled loose at.spot (second ∷ at.nodes), count-cons loose second at.nodes));
+        others_settled = subst R (sym some) (omega (arith, was.1.others_settled, count-filled loose at.position at.nodes, count-filled loose at.position (second ∷ at.nodes), count-cons loose second at.nodes));
         covered = subst Q same stands.1.covered;
       },
     )

@@ -10,7 +10,7 @@ use Rattle.tlsf_heap.specs.Content.{Block, is_free}
 use Rattle.tlsf_heap.specs.Pools.{is_unused}
 use Rattle.tlsf_heap.specs.Inner.States.{is_state_free}
 use Rattle.tlsf_heap.specs.Inner.Nodes.{Status, InUse, Listed, Loose, Node, Area, block_of, pool_of}
-use Rattle.tlsf_heap.specs.Inner.Spots.{plug}
+use Rattle.tlsf_heap.specs.Inner.Positions.{plug}
 use Rattle.tlsf_heap.specs.Inner.Entering.{entries_in}
 use Rattle.tlsf_heap.specs.Inner.Represents.{InPool, state_of, pool_views, first_slot, IsChain}
 

@@ -76,7 +76,7 @@ module _ (cells : Cells) (stands : Stands cells) (place slot align asked : ℕ) 
       subst P size_there (λ few. aligned_is_good live start asked place (content_of cells) (content_is_good cells stands) carves.picked.once carves.start.begins carves.fits some whole carves.start.gap_whole few) room in
       let begins : by.at.node.place + front ≡ start = omega (arith, by.place_is, carves.start.begins) in
       let is_so : content_by (layout_at (at_trimmed rest asked (at_gapped live front (at_taken by.at)))) ≡ of by.at.node.size =
-      aligned_is by.at.count by.at.spot by.at.node by.at.nodes by.at.lists (node_told cells stands place slot Listed by) live rest front asked by.at.taken by.at.taken
+      aligned_is by.at.count by.at.position by.at.node by.at.nodes by.at.lists (node_told cells stands place slot Listed by) live rest front asked by.at.taken by.at.taken
       ∙ ap (λ x. aligned live (by.at.node.place + front) asked by.at.node.place by.at.node.size x) (sym (node_stood cells stands place slot Listed by))
       ∙ ap (λ s. aligned live s asked by.at.node.place by.at.node.size (content_of cells)) begins
       ∙ ap (λ p. aligned live start asked p by.at.node.size (content_of cells)) by.place_is in
@@ -94,8 +94,8 @@ module _ (cells : Cells) (stands : Stands cells) (place slot align asked : ℕ) 
         owners_few q (nodes_of (areas_at by.at)),
         after.0.chains.once q,
         ap (λ (r : Record). uses_in r.state) vacant,
-        count-filled (has_slot q) by.at.spot (by.at.node ∷ by.at.nodes),
-        count-filled (has_slot q) by.at.spot (turned InUse by.at.node ∷ by.at.nodes),
+        count-filled (has_slot q) by.at.position (by.at.node ∷ by.at.nodes),
+        count-filled (has_slot q) by.at.position (turned InUse by.at.node ∷ by.at.nodes),
         count-cons (has_slot q) by.at.node by.at.nodes,
         count-cons (has_slot q) (turned InUse by.at.node) by.at.nodes,
       )
@@ -117,11 +117,11 @@ module _ (cells : Cells) (stands : Stands cells) (place slot align asked : ℕ) 
         ap (λ (xs : List ℕ). length xs) (node_taken cells stands place slot Listed by),
         count_all (nodes_of (areas_at (at_gapped live front (at_taken by.at)))),
         count_all (nodes_of (areas_at by.at)),
-        count-filled all (record by.at.spot { before = gapped ++ by.at.spot.before }) (kept ∷ by.at.nodes),
-        count-filled all by.at.spot (by.at.node ∷ by.at.nodes),
+        count-filled all (record by.at.position { before = gapped ++ by.at.position.before }) (kept ∷ by.at.nodes),
+        count-filled all by.at.position (by.at.node ∷ by.at.nodes),
         count-cons all kept by.at.nodes,
         count-cons all by.at.node by.at.nodes,
-        count-append all gapped by.at.spot.before,
+        count-append all gapped by.at.position.before,
         count_all gapped,
         counted,
       )
@@ -138,8 +138,8 @@ module _ (cells : Cells) (stands : Stands cells) (place slot align asked : ℕ) 
         by.stands.0.count,
         count_all (nodes_of (areas_at (at_taken by.at))),
         count_all (nodes_of (areas_at by.at)),
-        count-filled all by.at.spot (turned InUse by.at.node ∷ by.at.nodes),
-        count-filled all by.at.spot (by.at.node ∷ by.at.nodes),
+        count-filled all by.at.position (turned InUse by.at.node ∷ by.at.nodes),
+        count-filled all by.at.position (by.at.node ∷ by.at.nodes),
         count-cons all (turned InUse by.at.node) by.at.nodes,
         count-cons all by.at.node by.at.nodes,
       )

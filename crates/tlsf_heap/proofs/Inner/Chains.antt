@@ -12,7 +12,7 @@ use Rattle.tlsf_store.specs.Cells.{Cells}
 use Rattle.tlsf_heap.specs.Inner.Entries.{padded}
 use Rattle.tlsf_heap.specs.Good.{times}
 use Rattle.tlsf_heap.specs.Inner.Nodes.{Status, InUse, Listed, Loose, Node, Area, nodes_of, list_of, has_slot, is_listed, is_listed_in}
-use Rattle.tlsf_heap.specs.Inner.Spots.{plug, Spot, filled, laid}
+use Rattle.tlsf_heap.specs.Inner.Positions.{plug, Position, filled, laid}
 use Rattle.tlsf_heap.specs.Inner.Represents.{InPool, InList, in_pool, in_list, pool_view, pool_views, list_views, state_of, first_slot, AreLinked, IsChain, uses_in, AreChains, IsIndex, Agree, Represented, Represents}
 use Rattle.tlsf_heap.proofs.Counts.{one_if, count-cons, count_and}
 use Rattle.tlsf_heap.proofs.Content.FreeLists.{times-cons}
@@ -45,54 +45,54 @@ module _ (at new : ℕ → InPool) where
     chains_same areas (λ q h. same q (omega (arith, h, count-nodes (has_slot q) area areas))) chains.1,
   )
 
-  -- other nodes at the spot, linked to those in front of it; all others read as before
-  pub chains_refilled : (spot : Spot) (olds news : List Node) (taken kept : List ℕ) → AreChains at (filled spot olds) taken
-      → ((q : ℕ) → 1 ≤ around (has_slot q) spot → new q ≡ at q) → first_slot news ≡ first_slot olds → AreLinked in_pool new (first_slot spot.before) news
+  -- other nodes at the position, linked to those in front of it; all others read as before
+  pub chains_refilled : (position : Position) (olds news : List Node) (taken kept : List ℕ) → AreChains at (filled position olds) taken
+      → ((q : ℕ) → 1 ≤ around (has_slot q) position → new q ≡ at q) → first_slot news ≡ first_slot olds → AreLinked in_pool new (first_slot position.before) news
       → ((q : ℕ) → count_by (has_slot q) news + times q kept + uses_in (at q).state ≡ count_by (has_slot q) olds + times q taken + uses_in (new q).state)
-      → AreChains new (filled spot news) kept
-  chains_refilled spot olds news taken kept were same first linked counts =
-      let parts = all_parts (IsChain at) spot.areas_before (record { entry = spot.entry; nodes = plug spot.before olds } ∷ spot.areas_behind) were.chains in
-      let P : Option ℕ → Type 0 = λ o. AreLinked (from_behind in_pool) at o spot.before in
-      let before : AreLinked (from_behind in_pool) at (first_slot news) spot.before = subst P (sym first) (linked_parts in_pool at spot.before olds parts.1.0.linked).0 in
+      → AreChains new (filled position news) kept
+  chains_refilled position olds news taken kept were same first linked counts =
+      let parts = all_parts (IsChain at) position.areas_before (record { entry = position.entry; nodes = plug position.before olds } ∷ position.areas_behind) were.chains in
+      let P : Option ℕ → Type 0 = λ o. AreLinked (from_behind in_pool) at o position.before in
+      let before : AreLinked (from_behind in_pool) at (first_slot news) position.before = subst P (sym first) (linked_parts in_pool at position.before olds parts.1.0.linked).0 in
       record {
-        chains = all_plugged (IsChain new) spot.areas_before (record { entry = spot.entry; nodes = plug spot.before news } ∷ spot.areas_behind)
-            (chains_same spot.areas_before (λ q h. same q (omega (arith, h))) parts.0) (
+        chains = all_plugged (IsChain new) position.areas_before (record { entry = position.entry; nodes = plug position.before news } ∷ position.areas_behind)
+            (chains_same position.areas_before (λ q h. same q (omega (arith, h))) parts.0) (
               record {
-                begins = first-plug spot.before news olds first ∙ parts.1.0.begins;
-                linked = linked_plugged in_pool new spot.before news (linked_same (from_behind in_pool) at new (first_slot news) spot.before (λ q h. same q (omega (arith, h))) before) linked;
+                begins = first-plug position.before news olds first ∙ parts.1.0.begins;
+                linked = linked_plugged in_pool new position.before news (linked_same (from_behind in_pool) at new (first_slot news) position.before (λ q h. same q (omega (arith, h))) before) linked;
               },
-              chains_same spot.areas_behind (λ q h. same q (omega (arith, h))) parts.1.1,
+              chains_same position.areas_behind (λ q h. same q (omega (arith, h))) parts.1.1,
             );
-        once = λ q. omega (arith, counts q, were.once q, count-filled (has_slot q) spot olds, count-filled (has_slot q) spot news);
+        once = λ q. omega (arith, counts q, were.once q, count-filled (has_slot q) position olds, count-filled (has_slot q) position news);
       }
 
--- the nodes at the spot are linked to those in front of it
-pub linked_at : (at : ℕ → InPool) (spot : Spot) (nodes : List Node) (taken : List ℕ) → AreChains at (filled spot nodes) taken → AreLinked in_pool at (first_slot spot.before) nodes
-linked_at at spot nodes taken were =
-    let parts = all_parts (IsChain at) spot.areas_before (record { entry = spot.entry; nodes = plug spot.before nodes } ∷ spot.areas_behind) were.chains in
-    (linked_parts in_pool at spot.before nodes parts.1.0.linked).1
+-- the nodes at the position are linked to those in front of it
+pub linked_at : (at : ℕ → InPool) (position : Position) (nodes : List Node) (taken : List ℕ) → AreChains at (filled position nodes) taken → AreLinked in_pool at (first_slot position.before) nodes
+linked_at at position nodes taken were =
+    let parts = all_parts (IsChain at) position.areas_before (record { entry = position.entry; nodes = plug position.before nodes } ∷ position.areas_behind) were.chains in
+    (linked_parts in_pool at position.before nodes parts.1.0.linked).1
 
 -- the entries don't see the nodes
-pub entries-filled : (spot : Spot) (olds news : List Node) → map (λ (area : Area). area.entry) (filled spot news) ≡ map (λ (area : Area). area.entry) (filled spot olds)
-entries-filled spot olds news =
-    map-plug (λ (area : Area). area.entry) spot.areas_before (record { entry = spot.entry; nodes = plug spot.before news } ∷ spot.areas_behind)
-    ∙ sym (map-plug (λ (area : Area). area.entry) spot.areas_before (record { entry = spot.entry; nodes = plug spot.before olds } ∷ spot.areas_behind))
+pub entries-filled : (position : Position) (olds news : List Node) → map (λ (area : Area). area.entry) (filled position news) ≡ map (λ (area : Area). area.entry) (filled position olds)
+entries-filled position olds news =
+    map-plug (λ (area : Area). area.entry) position.areas_before (record { entry = position.entry; nodes = plug position.before news } ∷ position.areas_behind)
+    ∙ sym (map-plug (λ (area : Area). area.entry) position.areas_before (record { entry = position.entry; nodes = plug position.before olds } ∷ position.areas_behind))
 
-module _ (at : ℕ → InPool) (spot : Spot) (nodes : List Node) (taken : List ℕ) (were : AreChains at (filled spot nodes) taken) where
+module _ (at : ℕ → InPool) (position : Position) (nodes : List Node) (taken : List ℕ) (were : AreChains at (filled position nodes) taken) where
   -- each slot stands once
-  pub slots_once : (q : ℕ) → around (has_slot q) spot + count_by (has_slot q) nodes + times q taken ≡ uses_in (at q).state
-  slots_once q = omega (arith, were.once q, count-filled (has_slot q) spot nodes)
+  pub slots_once : (q : ℕ) → around (has_slot q) position + count_by (has_slot q) nodes + times q taken ≡ uses_in (at q).state
+  slots_once q = omega (arith, were.once q, count-filled (has_slot q) position nodes)
 
-  pub slots_most : (q : ℕ) → around (has_slot q) spot + count_by (has_slot q) nodes + times q taken ≤ 1
+  pub slots_most : (q : ℕ) → around (has_slot q) position + count_by (has_slot q) nodes + times q taken ≤ 1
   slots_most q = omega (arith, slots_once q, uses_most (at q).state)
 
--- the classes' lists where the nodes of the spot change
-pub agree_refilled : (spot : Spot) (olds news : List Node) (lists : List (List Node)) → Agree (filled spot olds) lists
+-- the classes' lists where the nodes of the position change
+pub agree_refilled : (position : Position) (olds news : List Node) (lists : List (List Node)) → Agree (filled position olds) lists
     → ((number : ℕ) (test : Node → Bool) → count_by (λ node. is_listed_in number node && test node) news ≡ count_by (λ node. is_listed_in number node && test node) olds)
-    → Agree (filled spot news) lists
-agree_refilled spot olds news lists agree same number test =
+    → Agree (filled position news) lists
+agree_refilled position olds news lists agree same number test =
     let listed : Node → Bool = λ node. is_listed_in number node && test node in
-    omega (arith, agree number test, same number test, count-filled listed spot olds, count-filled listed spot news)
+    omega (arith, agree number test, same number test, count-filled listed position olds, count-filled listed position news)
 
 -- a node that is in no list counts in none
 pub unlisted : (number : ℕ) (test : Node → Bool) (node : Node) → is_listed node.status ≡ false → one_if (is_listed_in number node && test node) ≡ 0
@@ -115,22 +115,22 @@ module _ (areas : List Area) (lists : List (List Node)) (agree : Agree areas lis
   listed_within number q = omega (arith, agree number (has_slot q), count_and (is_listed_in number) (has_slot q) (nodes_of areas))
 
 -- the slot of a node that is in no list stands in none
-pub unlisted_nowhere : (at : ℕ → InPool) (spot : Spot) (node : Node) (nodes : List Node) (lists : List (List Node)) (taken : List ℕ)
-    → AreChains at (filled spot (node ∷ nodes)) taken → Agree (filled spot (node ∷ nodes)) lists → is_listed node.status ≡ false → (number : ℕ) → count_by (has_slot node.slot) (list_of number lists) ≡ 0
-unlisted_nowhere at spot node nodes lists taken chains agree not_listed number =
+pub unlisted_nowhere : (at : ℕ → InPool) (position : Position) (node : Node) (nodes : List Node) (lists : List (List Node)) (taken : List ℕ)
+    → AreChains at (filled position (node ∷ nodes)) taken → Agree (filled position (node ∷ nodes)) lists → is_listed node.status ≡ false → (number : ℕ) → count_by (has_slot node.slot) (list_of number lists) ≡ 0
+unlisted_nowhere at position node nodes lists taken chains agree not_listed number =
     let listed : Node → Bool = λ other. is_listed_in number other && has_slot node.slot other in
     omega (
       arith,
       agree number (has_slot node.slot),
-      count-filled listed spot (node ∷ nodes),
+      count-filled listed position (node ∷ nodes),
       count-cons listed node nodes,
       unlisted number (has_slot node.slot) node not_listed,
-      slots_most at spot (node ∷ nodes) taken chains node.slot,
+      slots_most at position (node ∷ nodes) taken chains node.slot,
       count-cons (has_slot node.slot) node nodes,
       ap one_if (eq-eqb node.slot node.slot refl),
-      count_and (is_listed_in number) (has_slot node.slot) (nodes_of spot.areas_before),
-      count_and (is_listed_in number) (has_slot node.slot) spot.before,
-      count_and (is_listed_in number) (has_slot node.slot) (nodes_of spot.areas_behind),
+      count_and (is_listed_in number) (has_slot node.slot) (nodes_of position.areas_before),
+      count_and (is_listed_in number) (has_slot node.slot) position.before,
+      count_and (is_listed_in number) (has_slot node.slot) (nodes_of position.areas_behind),
       count_and (is_listed_in number) (has_slot node.slot) nodes,
     )
 
@@ -140,30 +140,30 @@ uses_node InUse = refl
 uses_node Listed = refl
 uses_node Loose = refl
 
--- what the chains tell of a node at a spot
-pub record AtNode (records : List Record) (spot : Spot) (node : Node) (nodes : List Node) (taken : List ℕ) : Type 0 where
+-- what the chains tell of a node at a position
+pub record AtNode (records : List Record) (position : Position) (node : Node) (nodes : List Node) (taken : List ℕ) : Type 0 where
   -- its record, and those behind it
-  pub says : pool_views records node.slot ≡ in_pool (first_slot spot.before) node (first_slot nodes)
+  pub says : pool_views records node.slot ≡ in_pool (first_slot position.before) node (first_slot nodes)
   pub linked : AreLinked in_pool (pool_views records) (Some node.slot) nodes
   pub used : uses_in (record_at records node.slot).state ≡ 1
   pub below : node.slot < length records
   -- each slot stands once
-  pub once : (q : ℕ) → around (has_slot q) spot + count_by (has_slot q) (node ∷ nodes) + times q taken ≡ uses_in (record_at records q).state
-  pub most : (q : ℕ) → around (has_slot q) spot + count_by (has_slot q) (node ∷ nodes) + times q taken ≤ 1
+  pub once : (q : ℕ) → around (has_slot q) position + count_by (has_slot q) (node ∷ nodes) + times q taken ≡ uses_in (record_at records q).state
+  pub most : (q : ℕ) → around (has_slot q) position + count_by (has_slot q) (node ∷ nodes) + times q taken ≤ 1
   pub behind_once : (q : ℕ) → count_by (has_slot q) nodes ≤ 1
   -- its own is none of the others
-  pub outside_apart : (q : ℕ) → 1 ≤ around (has_slot q) spot → q ≢ node.slot
+  pub outside_apart : (q : ℕ) → 1 ≤ around (has_slot q) position → q ≢ node.slot
   pub behind_apart : (q : ℕ) → 1 ≤ count_by (has_slot q) nodes → q ≢ node.slot
   pub taken_apart : (q : ℕ) → 1 ≤ times q taken → q ≢ node.slot
   -- which are in range
   pub behind_below : (q : ℕ) → 1 ≤ count_by (has_slot q) nodes → q < length records
   pub taken_below : (q : ℕ) → 1 ≤ times q taken → q < length records
 
-pub at_node : (records : List Record) (spot : Spot) (node : Node) (nodes : List Node) (taken : List ℕ) → AreChains (pool_views records) (filled spot (node ∷ nodes)) taken → AtNode records spot node nodes taken
-at_node records spot node nodes taken were =
-    let links = linked_at (pool_views records) spot (node ∷ nodes) taken were in
-    let once = slots_once (pool_views records) spot (node ∷ nodes) taken were in
-    let most = slots_most (pool_views records) spot (node ∷ nodes) taken were in
+pub at_node : (records : List Record) (position : Position) (node : Node) (nodes : List Node) (taken : List ℕ) → AreChains (pool_views records) (filled position (node ∷ nodes)) taken → AtNode records position node nodes taken
+at_node records position node nodes taken were =
+    let links = linked_at (pool_views records) position (node ∷ nodes) taken were in
+    let once = slots_once (pool_views records) position (node ∷ nodes) taken were in
+    let most = slots_most (pool_views records) position (node ∷ nodes) taken were in
     let counts : (q : ℕ) → count_by (has_slot q) (node ∷ nodes) ≡ one_if (eqb node.slot q) + count_by (has_slot q) nodes = λ q. count-cons (has_slot q) node nodes in
     let used : uses_in (record_at records node.slot).state ≡ 1 = ap (λ (v : InPool). uses_in v.state) links.0 ∙ uses_node node.status in
     let own : (q : ℕ) → q ≡ node.slot → one_if (eqb node.slot q) ≡ 1 = λ q e. ap one_if (eq-eqb node.slot q (sym e)) in
@@ -182,20 +182,20 @@ at_node records spot node nodes taken were =
       taken_below = λ q h. used_below records q (omega (arith, h, once q));
     }
 
--- other nodes at the spot, by other records
-pub refilled : (cells : Cells) (count : ℕ) (spot : Spot) (olds news : List Node) (lists : List (List Node)) (taken left : List ℕ) (new : List Record) → Represents cells (laid count spot olds lists taken)
+-- other nodes at the position, by other records
+pub refilled : (cells : Cells) (count : ℕ) (position : Position) (olds news : List Node) (lists : List (List Node)) (taken left : List ℕ) (new : List Record) → Represents cells (laid count position olds lists taken)
     → length new ≡ length cells.records
-    → ((q : ℕ) → 1 ≤ around (has_slot q) spot → record_at new q ≡ record_at cells.records q)
+    → ((q : ℕ) → 1 ≤ around (has_slot q) position → record_at new q ≡ record_at cells.records q)
     → first_slot news ≡ first_slot olds
-    → AreLinked in_pool (pool_views new) (first_slot spot.before) news
+    → AreLinked in_pool (pool_views new) (first_slot position.before) news
     → ((q : ℕ) → count_by (has_slot q) news + times q left + uses_in (record_at cells.records q).state ≡ count_by (has_slot q) olds + times q taken + uses_in (record_at new q).state)
     → ((number q : ℕ) → 1 ≤ count_by (has_slot q) (list_of number lists) → list_views new q ≡ list_views cells.records q)
     → ((number : ℕ) (test : Node → Bool) → count_by (λ node. is_listed_in number node && test node) news ≡ count_by (λ node. is_listed_in number node && test node) olds)
-    → Represented new cells.heads cells.level_word cells.step_words cells.pools (laid count spot news lists left)
-refilled cells count spot olds news lists taken left new was same_count same first linked counts listed_same listed = record {
+    → Represented new cells.heads cells.level_word cells.step_words cells.pools (laid count position news lists left)
+refilled cells count position olds news lists taken left new was same_count same first linked counts listed_same listed = record {
   count = same_count ∙ was.count;
-  entries = was.entries ∙ ap padded (sym (entries-filled spot olds news));
-  chains = chains_refilled (pool_views cells.records) (pool_views new) spot olds news taken left was.chains (λ q h. ap pool_view (same q h)) first linked counts;
+  entries = was.entries ∙ ap padded (sym (entries-filled position olds news));
+  chains = chains_refilled (pool_views cells.records) (pool_views new) position olds news taken left was.chains (λ q h. ap pool_view (same q h)) first linked counts;
   index = index_same (list_views cells.records) (list_views new) cells.heads cells.step_words cells.level_word lists listed_same was.index;
-  agree = agree_refilled spot olds news lists was.agree listed;
+  agree = agree_refilled position olds news lists was.agree listed;
 }

@@ -13,7 +13,7 @@ use Rattle.tlsf_heap.specs.Inner.Entries.{entries_of}
 use Rattle.tlsf_heap.specs.Inner.Edits.{IsUsed}
 use Rattle.tlsf_heap.specs.Inner.Entries.{inserted, with_entry, free_record, pool_entered}
 use Rattle.tlsf_heap.specs.Inner.Nodes.{Node, Area, Layout, Listed, turned, entered}
-use Rattle.tlsf_heap.specs.Inner.Spots.{plug, Spot}
+use Rattle.tlsf_heap.specs.Inner.Positions.{plug, Position}
 use Rattle.tlsf_heap.specs.Inner.Represents.{Represents}
 use Rattle.tlsf_heap.specs.Inner.CellEdits.{pool_put}
 use Rattle.tlsf_heap.specs.Inner.Entering.{pool_node, area_of_one, entries_in, with_area, pool_laid}
@@ -85,9 +85,9 @@ module _ (cells : Cells) (entry : PoolEntry) (layout : Layout) (was : Represents
 
   is_laid : Represents (pool_entered entry cells) (pool_laid entry layout)
   is_laid =
-      let spot : Spot = record { areas_before = at.front; entry = entry; before = []; areas_behind = at.behind } in
+      let position : Position = record { areas_before = at.front; entry = entry; before = []; areas_behind = at.behind } in
       let P : List Area → Type 0 = λ areas. Represents (pool_entered entry cells) (record layout { areas = areas; lists = entered (turned Listed (pool_node entry)) layout.lists }) in
-      subst P (sym (at.put (turned Listed (pool_node entry)))) (linked_laid put layout.count spot (pool_node entry) [] layout.lists layout.taken is_put)
+      subst P (sym (at.put (turned Listed (pool_node entry)))) (linked_laid put layout.count position (pool_node entry) [] layout.lists layout.taken is_put)
 
 -- a pool that enters: once it is there its slot is in use, and so is the first of its list, and then it is laid
 pub record Enters (entry : PoolEntry) (layout : Layout) (cells : Cells) : Type 0 where

@@ -20,10 +20,10 @@ module _ (cells : Cells) (at : At) (first second : Node) (before nodes : List No
 
   -- at the first of two neighbours, and at the second
   abbrev at_first : At
-  at_first = record at { spot = record at.spot { before = before }; node = first; nodes = second ∷ nodes }
+  at_first = record at { position = record at.position { before = before }; node = first; nodes = second ∷ nodes }
 
   abbrev at_second : At
-  at_second = record at { spot = record at.spot { before = first ∷ before }; node = second; nodes = nodes }
+  at_second = record at { position = record at.position { before = first ∷ before }; node = second; nodes = nodes }
 
   pub stepped_back : (slot other : ℕ) (status was : Status) → StandsAt other was cells at_second → is_loose was ≡ false → first.slot ≡ slot → first.status ≡ status → StandsAt slot status cells at_first
   stepped_back slot other status was stands settled slot_is status_is = (
@@ -34,8 +34,8 @@ module _ (cells : Cells) (at : At) (first second : Node) (before nodes : List No
       others_settled = omega (
         arith,
         stands.1.others_settled,
-        count-filled loose (record at.spot { before = first ∷ before }) nodes,
-        count-filled loose (record at.spot { before = before }) (second ∷ nodes),
+        count-filled loose (record at.position { before = first ∷ before }) nodes,
+        count-filled loose (record at.position { before = before }) (second ∷ nodes),
         count-cons loose first before,
         count-cons loose second nodes,
         ap (λ s. one_if (is_loose s)) stands.1.status_is,
@@ -54,8 +54,8 @@ module _ (cells : Cells) (at : At) (first second : Node) (before nodes : List No
       others_settled = omega (
         arith,
         stands.1.others_settled,
-        count-filled loose (record at.spot { before = first ∷ before }) nodes,
-        count-filled loose (record at.spot { before = before }) (second ∷ nodes),
+        count-filled loose (record at.position { before = first ∷ before }) nodes,
+        count-filled loose (record at.position { before = before }) (second ∷ nodes),
         count-cons loose first before,
         count-cons loose second nodes,
         ap (λ s. one_if (is_loose s)) stands.1.status_is,
@@ -81,22 +81,22 @@ module _ (slot live bytes : ℕ) (at : At) where
   pub front_stands : (cells : Cells) → StandsAt slot InUse cells (with_slot live at) → 0 < bytes → bytes < at.node.size → bytes % unit ≡ 0 → StandsAt slot InUse (with_state live Live (split slot live bytes cells)) at_front
   front_stands cells stands some less whole =
       let cut = split_stands cells slot live at stands bytes some less whole in
-      stepped_back (with_state live Live (split slot live bytes cells)) at (record at.node { size = bytes }) (turned InUse (rest_node live bytes at.node)) at.spot.before at.nodes slot live InUse InUse
+      stepped_back (with_state live Live (split slot live bytes cells)) at (record at.node { size = bytes }) (turned InUse (rest_node live bytes at.node)) at.position.before at.nodes slot live InUse InUse
       (turned_stands (split slot live bytes cells) live Loose (at_split live bytes at) cut InUse refl refl) refl stands.1.slot_is stands.1.status_is
 
   -- the first node entered its list: the gap is left
   pub gapped_stands : (cells : Cells) → at.node.slot ≡ slot → at.node.status ≡ InUse → 0 < bytes → StandsAt slot Listed cells (at_listed (at_turned Loose at_front)) → StandsAt live InUse cells (at_gapped live bytes at)
   gapped_stands cells slot_is status_is some stands =
       let gap : Node = record { slot = at.node.slot; place = at.node.place; size = bytes; status = Listed } in
-      let moved = stepped_on cells (record at { lists = entered gap at.lists }) gap (turned InUse (rest_node live bytes at.node)) at.spot.before at.nodes live slot InUse Listed stands refl refl refl in
+      let moved = stepped_on cells (record at { lists = entered gap at.lists }) gap (turned InUse (rest_node live bytes at.node)) at.position.before at.nodes live slot InUse Listed stands refl refl refl in
       let none : (bytes == 0) ≡ false = ne_eqb bytes 0 (λ e. omega (arith, e, some)) in
       let P : Bool → Type 0 = λ b. StandsAt live InUse cells (record at {
-        spot = record at.spot { before = cond b [] (gap ∷ []) ++ at.spot.before };
+        position = record at.position { before = cond b [] (gap ∷ []) ++ at.position.before };
         node = turned InUse (rest_node live bytes at.node);
         lists = cond b at.lists (entered gap at.lists);
       }) in
       let Q : Status → Type 0 = λ s. StandsAt live InUse cells (record at {
-        spot = record at.spot { before = cond (bytes == 0) [] (gap ∷ []) ++ at.spot.before };
+        position = record at.position { before = cond (bytes == 0) [] (gap ∷ []) ++ at.position.before };
         node = record { slot = live; place = at.node.place + bytes; size = at.node.size - bytes; status = s };
         lists = cond (bytes == 0) at.lists (entered gap at.lists);
       }) in

@@ -9,15 +9,15 @@ use Rattle.tlsf_store.proofs.RecordLaws.{record_at-set_same, record_at-set_other
 use Rattle.tlsf_heap.specs.Inner.Edits.{edited_in}
 use Rattle.tlsf_heap.specs.Inner.Chains.{absorbed}
 use Rattle.tlsf_heap.specs.Inner.Nodes.{Node, has_slot, list_of, is_listed, is_listed_in}
-use Rattle.tlsf_heap.specs.Inner.Spots.{Spot, laid}
+use Rattle.tlsf_heap.specs.Inner.Positions.{Position, laid}
 use Rattle.tlsf_heap.specs.Inner.Represents.{InPool, pool_view, list_view, pool_views, list_views, in_pool, first_slot, uses_in, Represented, Represents}
 use Rattle.tlsf_heap.proofs.Counts.{one_if, count-cons}
 use Rattle.tlsf_heap.proofs.Inner.Links.{linked_moved, first_stands, count-front, count-behind}
 use Rattle.tlsf_heap.proofs.Inner.Reads.{length-edited, edited_here, edited_apart, edited_kept, set_kept}
 use Rattle.tlsf_heap.proofs.Inner.Chains.{unlisted, unlisted_nowhere, AtNode, at_node, refilled}
 
-module _ (cells : Cells) (count : ℕ) (spot : Spot) (node behind : Node) (nodes : List Node) (lists : List (List Node)) (taken : List ℕ)
-    (was : Represents cells (laid count spot (node ∷ behind ∷ nodes) lists taken)) (was_not : is_listed node.status ≡ false) (behind_not : is_listed behind.status ≡ false) where
+module _ (cells : Cells) (count : ℕ) (position : Position) (node behind : Node) (nodes : List Node) (lists : List (List Node)) (taken : List ℕ)
+    (was : Represents cells (laid count position (node ∷ behind ∷ nodes) lists taken)) (was_not : is_listed node.status ≡ false) (behind_not : is_listed behind.status ≡ false) where
   abbrev old : Record
   old = record_at cells.records node.slot
 
@@ -39,11 +39,11 @@ module _ (cells : Cells) (count : ℕ) (spot : Spot) (node behind : Node) (nodes
   abbrev new : List Record
   new = set two behind.slot blank
 
-  abbrev beyond : Spot
-  beyond = record spot { before = node ∷ spot.before }
+  abbrev beyond : Position
+  beyond = record position { before = node ∷ position.before }
 
-  here : AtNode cells.records spot node (behind ∷ nodes) taken
-  here = at_node cells.records spot node (behind ∷ nodes) taken was.chains
+  here : AtNode cells.records position node (behind ∷ nodes) taken
+  here = at_node cells.records position node (behind ∷ nodes) taken was.chains
 
   there : AtNode cells.records beyond behind nodes taken
   there = at_node cells.records beyond behind nodes taken was.chains
@@ -98,15 +98,15 @@ module _ (cells : Cells) (count : ℕ) (spot : Spot) (node behind : Node) (nodes
       let P : ℕ → Type 0 = λ n. 1 ≤ count_by (has_slot n) (list_of number lists) in
       omega (arith, subst P e h, unlisted_nowhere (pool_views cells.records) beyond behind nodes lists taken was.chains was.agree behind_not number))
 
-  join_before : Represented new cells.heads cells.level_word cells.step_words cells.pools (laid count spot (record node { size = node.size + behind.size } ∷ nodes) lists taken)
+  join_before : Represented new cells.heads cells.level_word cells.step_words cells.pools (laid count position (record node { size = node.size + behind.size } ∷ nodes) lists taken)
   join_before =
       let both : Node = record node { size = node.size + behind.size } in
-      refilled cells count spot (node ∷ behind ∷ nodes) (both ∷ nodes) lists taken taken new was (length-set two behind.slot blank ∙ same_count)
-      (λ q h. others q (here.outside_apart q h) (there.outside_apart q (omega (arith, h, count-cons (has_slot q) node spot.before))) (not_first q (omega (arith, h, here.most q, count-cons (has_slot q) node (behind ∷ nodes), count-cons (has_slot q) behind nodes))))
+      refilled cells count position (node ∷ behind ∷ nodes) (both ∷ nodes) lists taken taken new was (length-set two behind.slot blank ∙ same_count)
+      (λ q h. others q (here.outside_apart q h) (there.outside_apart q (omega (arith, h, count-cons (has_slot q) node position.before))) (not_first q (omega (arith, h, here.most q, count-cons (has_slot q) node (behind ∷ nodes), count-cons (has_slot q) behind nodes))))
       refl (
         ap pool_view at_slot
             ∙ ap (λ (v : InPool). record v { size = v.size + gone.size; next = first_slot nodes }) here.says
-            ∙ ap (λ (v : InPool). in_pool (first_slot spot.before) (record node { size = node.size + v.size }) (first_slot nodes)) there.says,
+            ∙ ap (λ (v : InPool). in_pool (first_slot position.before) (record node { size = node.size + v.size }) (first_slot nodes)) there.says,
         linked_moved in_pool (pool_views cells.records) (pool_views new) (λ v. record v { prev = Some node.slot }) (Some behind.slot) (Some node.slot) (λ other next. refl) nodes there.behind_once
             (λ q is. ap pool_view (at_first q is))
             (λ q isnt h. ap pool_view (others q (here.behind_apart q (count-behind q behind nodes h)) (there.behind_apart q h) isnt))
@@ -118,8 +118,8 @@ module _ (cells : Cells) (count : ℕ) (spot : Spot) (node behind : Node) (nodes
       let listed : Node → Bool = λ other. is_listed_in number other && test other in
       omega (arith, count-cons listed node (behind ∷ nodes), count-cons listed behind nodes, count-cons listed both nodes, unlisted number test node was_not, unlisted number test behind behind_not, unlisted number test both was_not))
 
-  pub join_laid : Represents (absorbed node.slot behind.slot cells) (laid count spot (record node { size = node.size + behind.size } ∷ nodes) lists taken)
+  pub join_laid : Represents (absorbed node.slot behind.slot cells) (laid count position (record node { size = node.size + behind.size } ∷ nodes) lists taken)
   join_laid =
       let P : Option ℕ → Type 0 = λ next.
-      Represented (set (edited_in moved next (set cells.records node.slot (grown next))) behind.slot blank) cells.heads cells.level_word cells.step_words cells.pools (laid count spot (record node { size = node.size + behind.size } ∷ nodes) lists taken) in
+      Represented (set (edited_in moved next (set cells.records node.slot (grown next))) behind.slot blank) cells.heads cells.level_word cells.step_words cells.pools (laid count position (record node { size = node.size + behind.size } ∷ nodes) lists taken) in
       subst P (sym (ap (λ (v : InPool). v.next) there.says)) join_before

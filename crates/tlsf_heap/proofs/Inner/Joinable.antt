@@ -10,7 +10,7 @@ use Rattle.tlsf_heap.specs.Inner.At.{AreCovered}
 use Rattle.tlsf_heap.specs.Inner.States.{is_state_free}
 use Rattle.tlsf_heap.specs.Inner.Chains.{joined}
 use Rattle.tlsf_heap.specs.Inner.Nodes.{Status, InUse, Listed, Loose, Node, Area, nodes_of, turned, block_of, pool_of, is_listed, left}
-use Rattle.tlsf_heap.specs.Inner.Spots.{Spot, laid, filled}
+use Rattle.tlsf_heap.specs.Inner.Positions.{Position, laid, filled}
 use Rattle.tlsf_heap.specs.Inner.Joined.{is_loose, past, listed_first, left_by, grown_in_front, grown_behind}
 use Rattle.tlsf_heap.specs.Inner.Represents.{InPool, in_pool, pool_views, state_of, first_slot, AreChains, Represents}
 use Rattle.tlsf_heap.specs.Inner.At.{At, StandsAt, previous_joined, next_joined, IsJoinable}
@@ -30,42 +30,42 @@ pub record Joins (slot behind listed size result : ℕ) (status : Status) (cells
   pub leads : StandsAt result status (joined slot behind listed size cells) after
 
 -- two nodes side by side, of which one was listed and leaves its list
-module _ (cells : Cells) (count : ℕ) (listed_spot : Spot) (listed : Node) (listed_nodes : List Node) (spot : Spot) (front behind : Node) (nodes : List Node) (lists : List (List Node)) (taken : List ℕ)
-    (was : Represents cells (laid count listed_spot (turned Listed listed ∷ listed_nodes) lists taken)) (covered : AreCovered 0 (map pool_of (filled listed_spot (turned Listed listed ∷ listed_nodes))))
-    (side_by_side : filled listed_spot (turned Loose listed ∷ listed_nodes) ≡ filled spot (front ∷ behind ∷ nodes)) (front_unlisted : is_listed front.status ≡ false) (behind_unlisted : is_listed behind.status ≡ false)
-    (covered_after : AreCovered 0 (map pool_of (filled spot (record front { size = front.size + behind.size } ∷ nodes)))) where
-  unlinked_was : Represents (unlinked (class listed.size) listed.slot cells) (laid count spot (front ∷ behind ∷ nodes) (left (turned Listed listed) lists) taken)
+module _ (cells : Cells) (count : ℕ) (listed_position : Position) (listed : Node) (listed_nodes : List Node) (position : Position) (front behind : Node) (nodes : List Node) (lists : List (List Node)) (taken : List ℕ)
+    (was : Represents cells (laid count listed_position (turned Listed listed ∷ listed_nodes) lists taken)) (covered : AreCovered 0 (map pool_of (filled listed_position (turned Listed listed ∷ listed_nodes))))
+    (side_by_side : filled listed_position (turned Loose listed ∷ listed_nodes) ≡ filled position (front ∷ behind ∷ nodes)) (front_unlisted : is_listed front.status ≡ false) (behind_unlisted : is_listed behind.status ≡ false)
+    (covered_after : AreCovered 0 (map pool_of (filled position (record front { size = front.size + behind.size } ∷ nodes)))) where
+  unlinked_was : Represents (unlinked (class listed.size) listed.slot cells) (laid count position (front ∷ behind ∷ nodes) (left (turned Listed listed) lists) taken)
   unlinked_was =
       let P : List Area → Type 0 = λ areas. Represents (unlinked (class listed.size) listed.slot cells) (record { count = count; areas = areas; lists = left (turned Listed listed) lists; taken = taken }) in
-      subst P side_by_side (unlinked_laid cells count listed_spot (turned Listed listed) listed_nodes lists taken was)
+      subst P side_by_side (unlinked_laid cells count listed_position (turned Listed listed) listed_nodes lists taken was)
 
   joinable : IsJoinable front.slot behind.slot listed.slot listed.size cells.records (unlinked (class listed.size) listed.slot cells).records
   joinable =
-      let whole : IsWhole (block_of (turned Listed listed)) = node_whole listed_spot (turned Listed listed) listed_nodes covered in
-      let both : IsWhole (block_of (record front { size = front.size + behind.size })) = node_whole spot (record front { size = front.size + behind.size }) nodes covered_after in
+      let whole : IsWhole (block_of (turned Listed listed)) = node_whole listed_position (turned Listed listed) listed_nodes covered in
+      let both : IsWhole (block_of (record front { size = front.size + behind.size })) = node_whole position (record front { size = front.size + behind.size }) nodes covered_after in
       let records : List Record = (unlinked (class listed.size) listed.slot cells).records in
-      let next_spot : Spot = record spot { before = front ∷ spot.before } in
-      let here : AtNode records spot front (behind ∷ nodes) taken = at_node records spot front (behind ∷ nodes) taken unlinked_was.chains in
-      let there : AtNode records next_spot behind nodes taken = at_node records next_spot behind nodes taken unlinked_was.chains in
+      let next_position : Position = record position { before = front ∷ position.before } in
+      let here : AtNode records position front (behind ∷ nodes) taken = at_node records position front (behind ∷ nodes) taken unlinked_was.chains in
+      let there : AtNode records next_position behind nodes taken = at_node records next_position behind nodes taken unlinked_was.chains in
       record {
         some = whole.positive;
         whole = whole.in_units;
         most = whole.at_most;
-        within = (at_node cells.records listed_spot (turned Listed listed) listed_nodes taken was.chains).below;
-        prev_used = prev_free_used cells count listed_spot (turned Listed listed) listed_nodes lists taken was;
-        next_used = next_free_used cells count listed_spot (turned Listed listed) listed_nodes lists taken was;
-        front_used = node_is_used records spot front (behind ∷ nodes) taken here;
-        behind_used = node_is_used records next_spot behind nodes taken there;
-        last_used = next_used records next_spot behind nodes taken there;
+        within = (at_node cells.records listed_position (turned Listed listed) listed_nodes taken was.chains).below;
+        prev_used = prev_free_used cells count listed_position (turned Listed listed) listed_nodes lists taken was;
+        next_used = next_free_used cells count listed_position (turned Listed listed) listed_nodes lists taken was;
+        front_used = node_is_used records position front (behind ∷ nodes) taken here;
+        behind_used = node_is_used records next_position behind nodes taken there;
+        last_used = next_used records next_position behind nodes taken there;
         fits = omega (arith, both.at_most, ap (λ (v : InPool). v.size) here.says, ap (λ (v : InPool). v.size) there.says);
       }
 
-  joins_sides : (status : Status) → front.status ≡ status → count_by (λ node. is_loose node.status) (nodes_of (filled spot nodes)) ≡ 0
-      → Joins front.slot behind.slot listed.slot listed.size front.slot status cells (record { count = count; spot = spot; node = record front { size = front.size + behind.size }; nodes = nodes; lists = left (turned Listed listed) lists; taken = taken })
+  joins_sides : (status : Status) → front.status ≡ status → count_by (λ node. is_loose node.status) (nodes_of (filled position nodes)) ≡ 0
+      → Joins front.slot behind.slot listed.slot listed.size front.slot status cells (record { count = count; position = position; node = record front { size = front.size + behind.size }; nodes = nodes; lists = left (turned Listed listed) lists; taken = taken })
   joins_sides status status_is settled = record {
     ready = joinable;
     leads = (
-      join_laid (unlinked (class listed.size) listed.slot cells) count spot front behind nodes (left (turned Listed listed) lists) taken unlinked_was front_unlisted behind_unlisted,
+      join_laid (unlinked (class listed.size) listed.slot cells) count position front behind nodes (left (turned Listed listed) lists) taken unlinked_was front_unlisted behind_unlisted,
       record { slot_is = refl; status_is = status_is; others_settled = settled; covered = covered_after },
     );
   }
@@ -73,24 +73,24 @@ module _ (cells : Cells) (count : ℕ) (listed_spot : Spot) (listed : Node) (lis
 -- the node in front is free
 module _ (cells : Cells) (at : At) (front : Node) (before : List Node) where
   abbrev seen : List Node → At
-  seen nodes = record at { spot = record at.spot { before = nodes } }
+  seen nodes = record at { position = record at.position { before = nodes } }
 
   joins_seen : (slot : ℕ) → StandsAt slot Loose cells (seen (turned Listed front ∷ before)) → Joins front.slot at.node.slot front.slot front.size front.slot Loose cells (previous_joined (seen (turned Listed front ∷ before)))
   joins_seen slot stands =
-      let spot : Spot = record at.spot { before = before } in
+      let position : Position = record at.position { before = before } in
       let loose : Node → Bool = λ node. is_loose node.status in
-      let covered_after = covered_refilled spot (turned Listed front ∷ at.node ∷ at.nodes) (record front { size = front.size + at.node.size; status = Loose } ∷ at.nodes) (λ from to c. covers_both Loose (turned Listed front) at.node at.nodes from to c) stands.1.covered in
-      let settled : count_by loose (nodes_of (filled spot at.nodes)) ≡ 0 = omega (arith, stands.1.others_settled, count-filled loose (record spot { before = turned Listed front ∷ before }) at.nodes, count-filled loose spot at.nodes, count-cons loose (turned Listed front) before) in
-      joins_sides cells at.count spot front (at.node ∷ at.nodes) spot (turned Loose front) at.node at.nodes at.lists at.taken stands.0 stands.1.covered refl refl (ap is_listed stands.1.status_is) covered_after Loose refl settled
+      let covered_after = covered_refilled position (turned Listed front ∷ at.node ∷ at.nodes) (record front { size = front.size + at.node.size; status = Loose } ∷ at.nodes) (λ from to c. covers_both Loose (turned Listed front) at.node at.nodes from to c) stands.1.covered in
+      let settled : count_by loose (nodes_of (filled position at.nodes)) ≡ 0 = omega (arith, stands.1.others_settled, count-filled loose (record position { before = turned Listed front ∷ before }) at.nodes, count-filled loose position at.nodes, count-cons loose (turned Listed front) before) in
+      joins_sides cells at.count position front (at.node ∷ at.nodes) position (turned Loose front) at.node at.nodes at.lists at.taken stands.0 stands.1.covered refl refl (ap is_listed stands.1.status_is) covered_after Loose refl settled
 
 -- the node behind is free
 module _ (cells : Cells) (at : At) (behind : Node) (nodes : List Node) where
   joins_behind : (slot : ℕ) (status : Status) → is_listed status ≡ false → StandsAt slot status cells (record at { nodes = turned Listed behind ∷ nodes }) → Joins at.node.slot behind.slot behind.slot behind.size at.node.slot status cells (next_joined (record at { nodes = turned Listed behind ∷ nodes }))
   joins_behind slot status unlisted stands =
       let loose : Node → Bool = λ node. is_loose node.status in
-      let covered_after = covered_refilled at.spot (at.node ∷ turned Listed behind ∷ nodes) (record at.node { size = at.node.size + behind.size } ∷ nodes) (λ from to c. covers_both at.node.status at.node (turned Listed behind) nodes from to c) stands.1.covered in
-      let settled : count_by loose (nodes_of (filled at.spot nodes)) ≡ 0 = omega (arith, stands.1.others_settled, count-filled loose at.spot (turned Listed behind ∷ nodes), count-filled loose at.spot nodes, count-cons loose (turned Listed behind) nodes) in
-      joins_sides cells at.count (record at.spot { before = at.node ∷ at.spot.before }) behind nodes at.spot at.node (turned Loose behind) nodes at.lists at.taken stands.0 stands.1.covered refl (ap is_listed stands.1.status_is ∙ unlisted) refl covered_after status stands.1.status_is settled
+      let covered_after = covered_refilled at.position (at.node ∷ turned Listed behind ∷ nodes) (record at.node { size = at.node.size + behind.size } ∷ nodes) (λ from to c. covers_both at.node.status at.node (turned Listed behind) nodes from to c) stands.1.covered in
+      let settled : count_by loose (nodes_of (filled at.position nodes)) ≡ 0 = omega (arith, stands.1.others_settled, count-filled loose at.position (turned Listed behind ∷ nodes), count-filled loose at.position nodes, count-cons loose (turned Listed behind) nodes) in
+      joins_sides cells at.count (record at.position { before = at.node ∷ at.position.before }) behind nodes at.position at.node (turned Loose behind) nodes at.lists at.taken stands.0 stands.1.covered refl (ap is_listed stands.1.status_is ∙ unlisted) refl covered_after status stands.1.status_is settled
 
 -- the first of some nodes, which has this slot, and what its record says
 pub record Neighbour (records : List Record) (slot : ℕ) (nodes : List Node) : Type 0 where
@@ -133,30 +133,30 @@ module _ (cells : Cells) (at : At) (slot : ℕ) (status : Status) (stands : Stan
   abbrev loose : Node → Bool
   loose node = is_loose node.status
 
-  here : AtNode cells.records at.spot at.node at.nodes at.taken
-  here = at_node cells.records at.spot at.node at.nodes at.taken stands.0.chains
+  here : AtNode cells.records at.position at.node at.nodes at.taken
+  here = at_node cells.records at.position at.node at.nodes at.taken stands.0.chains
 
-  pub prev_is : (record_at cells.records slot).prev ≡ first_slot at.spot.before
+  pub prev_is : (record_at cells.records slot).prev ≡ first_slot at.position.before
   prev_is = ap (λ q. (record_at cells.records q).prev) (sym stands.1.slot_is) ∙ ap (λ (v : InPool). v.prev) here.says
 
   pub next_is : (record_at cells.records slot).next ≡ first_slot at.nodes
   next_is = ap (λ q. (record_at cells.records q).next) (sym stands.1.slot_is) ∙ ap (λ (v : InPool). v.next) here.says
 
-  pub in_front : (p : ℕ) → (record_at cells.records slot).prev ≡ Some p → Neighbour cells.records p at.spot.before
-  in_front p is = go at.spot.before (sym prev_is ∙ is) stands.0.chains (omega (arith, stands.1.others_settled, count-filled loose at.spot at.nodes))
+  pub in_front : (p : ℕ) → (record_at cells.records slot).prev ≡ Some p → Neighbour cells.records p at.position.before
+  in_front p is = go at.position.before (sym prev_is ∙ is) stands.0.chains (omega (arith, stands.1.others_settled, count-filled loose at.position at.nodes))
     where
-      go : (before : List Node) → first_slot before ≡ Some p → AreChains (pool_views cells.records) (filled (record at.spot { before = before }) (at.node ∷ at.nodes)) at.taken → count_by loose before ≡ 0 → Neighbour cells.records p before
+      go : (before : List Node) → first_slot before ≡ Some p → AreChains (pool_views cells.records) (filled (record at.position { before = before }) (at.node ∷ at.nodes)) at.taken → count_by loose before ≡ 0 → Neighbour cells.records p before
       go [] first chains none = absurd (Some≢None p (sym first))
       go (f ∷ before) first chains none =
-          said cells.records p f before (first_slot before) (Some at.node.slot) (at_node cells.records (record at.spot { before = before }) f (at.node ∷ at.nodes) at.taken chains).says (Some-same f.slot p first) (settled_first f before none)
+          said cells.records p f before (first_slot before) (Some at.node.slot) (at_node cells.records (record at.position { before = before }) f (at.node ∷ at.nodes) at.taken chains).says (Some-same f.slot p first) (settled_first f before none)
 
   pub in_back : (n : ℕ) → (record_at cells.records slot).next ≡ Some n → Neighbour cells.records n at.nodes
-  in_back n is = go at.nodes (sym next_is ∙ is) stands.0.chains (omega (arith, stands.1.others_settled, count-filled loose at.spot at.nodes))
+  in_back n is = go at.nodes (sym next_is ∙ is) stands.0.chains (omega (arith, stands.1.others_settled, count-filled loose at.position at.nodes))
     where
-      go : (nodes : List Node) → first_slot nodes ≡ Some n → AreChains (pool_views cells.records) (filled at.spot (at.node ∷ nodes)) at.taken → count_by loose nodes ≡ 0 → Neighbour cells.records n nodes
+      go : (nodes : List Node) → first_slot nodes ≡ Some n → AreChains (pool_views cells.records) (filled at.position (at.node ∷ nodes)) at.taken → count_by loose nodes ≡ 0 → Neighbour cells.records n nodes
       go [] first chains none = absurd (Some≢None n (sym first))
       go (b ∷ nodes) first chains none =
-          said cells.records n b nodes (Some at.node.slot) (first_slot nodes) (at_node cells.records (record at.spot { before = at.node ∷ at.spot.before }) b nodes at.taken chains).says (Some-same b.slot n first) (settled_first b nodes none)
+          said cells.records n b nodes (Some at.node.slot) (first_slot nodes) (at_node cells.records (record at.position { before = at.node ∷ at.position.before }) b nodes at.taken chains).says (Some-same b.slot n first) (settled_first b nodes none)
 
 -- a listed neighbour, as a node turned so
 turned_listed : (records : List Record) (slot : ℕ) (nodes : List Node) (by : Neighbour records slot nodes) → is_state_free (record_at records slot).state ≡ true → nodes ≡ turned Listed by.node ∷ by.others
@@ -174,8 +174,8 @@ past_none : (nodes : List Node) → first_slot nodes ≡ None → (past nodes �
 past_none [] none = (refl, refl)
 past_none (node ∷ nodes) none = absurd (Some≢None node.slot none)
 
-unjoined_front : (at : At) → (past at.spot.before ≡ at.spot.before) × (listed_first at.spot.before ≡ None) → previous_joined at ≡ at
-unjoined_front at same = λ i. record at { spot = record at.spot { before = same.0 i }; node = grown_in_front (same.1 i) at.node; lists = left_by (same.1 i) at.lists }
+unjoined_front : (at : At) → (past at.position.before ≡ at.position.before) × (listed_first at.position.before ≡ None) → previous_joined at ≡ at
+unjoined_front at same = λ i. record at { position = record at.position { before = same.0 i }; node = grown_in_front (same.1 i) at.node; lists = left_by (same.1 i) at.lists }
 
 unjoined_back : (at : At) → (past at.nodes ≡ at.nodes) × (listed_first at.nodes ≡ None) → next_joined at ≡ at
 unjoined_back at same = λ i. record at { nodes = same.0 i; node = grown_behind (same.1 i) at.node; lists = left_by (same.1 i) at.lists }
@@ -184,19 +184,19 @@ module _ (cells : Cells) (at : At) (slot : ℕ) (stands : StandsAt slot Loose ce
   -- the free block in front takes it in
   pub previous_joins : (p size : ℕ) → (record_at cells.records slot).prev ≡ Some p → is_state_free (record_at cells.records p).state ≡ true → size ≡ (record_at cells.records p).size → Joins p slot p size p Loose cells (previous_joined at)
   previous_joins p size link free size_is =
-      let by : Neighbour cells.records p at.spot.before = in_front cells at slot Loose stands p link in
+      let by : Neighbour cells.records p at.position.before = in_front cells at slot Loose stands p link in
       let P : List Node → Type 0 = λ ns. StandsAt slot Loose cells (seen cells at by.node by.others ns) → Joins by.node.slot at.node.slot by.node.slot by.node.size by.node.slot Loose cells (previous_joined (seen cells at by.node by.others ns)) in
-      let base : Joins by.node.slot at.node.slot by.node.slot by.node.size by.node.slot Loose cells (previous_joined at) = subst P (sym (turned_listed cells.records p at.spot.before by free)) (joins_seen cells at by.node by.others slot) stands in
+      let base : Joins by.node.slot at.node.slot by.node.slot by.node.size by.node.slot Loose cells (previous_joined at) = subst P (sym (turned_listed cells.records p at.position.before by free)) (joins_seen cells at by.node by.others slot) stands in
       let Q : ℕ → Type 0 = λ n. Joins n slot n size n Loose cells (previous_joined at) in
       let R : ℕ → Type 0 = λ n. Joins by.node.slot n by.node.slot size by.node.slot Loose cells (previous_joined at) in
       let S : ℕ → Type 0 = λ n. Joins by.node.slot at.node.slot by.node.slot n by.node.slot Loose cells (previous_joined at) in
       subst Q by.slot_is (subst R stands.1.slot_is (subst S (sym (size_is ∙ by.size_is)) base))
 
   pub front_stays : (record_at cells.records slot).prev ≡ None → previous_joined at ≡ at
-  front_stays none = unjoined_front at (past_none at.spot.before (sym (prev_is cells at slot Loose stands) ∙ none))
+  front_stays none = unjoined_front at (past_none at.position.before (sym (prev_is cells at slot Loose stands) ∙ none))
 
   pub front_is_live : (p : ℕ) → (record_at cells.records slot).prev ≡ Some p → is_state_free (record_at cells.records p).state ≡ false → previous_joined at ≡ at
-  front_is_live p link live = unjoined_front at (past_live cells.records p at.spot.before (in_front cells at slot Loose stands p link) live)
+  front_is_live p link live = unjoined_front at (past_live cells.records p at.position.before (in_front cells at slot Loose stands p link) live)
 
 module _ (cells : Cells) (at : At) (slot : ℕ) (status : Status) (unlisted : is_listed status ≡ false) (stands : StandsAt slot status cells at) where
   -- it takes in the free block behind

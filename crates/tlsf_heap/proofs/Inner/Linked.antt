@@ -9,7 +9,7 @@ use Rattle.tlsf_store.specs.Cells.{Cells, with_head, head_at}
 use Rattle.tlsf_heap.specs.Inner.Entries.{padded}
 use Rattle.tlsf_heap.specs.Inner.Edits.{edited_in, with_prev_free, with_free_links, with_class_bit, linked}
 use Rattle.tlsf_heap.specs.Inner.Nodes.{Status, Node, Area, Listed, Loose, turned, nodes_of, has_slot, list_of, is_listed_in, entered}
-use Rattle.tlsf_heap.specs.Inner.Spots.{Spot, laid, filled}
+use Rattle.tlsf_heap.specs.Inner.Positions.{Position, laid, filled}
 use Rattle.tlsf_heap.specs.Inner.Represents.{InPool, pool_view, list_view, pool_views, list_views, state_of, in_pool, in_list, first_slot, AreLinked, AreChains, Agree, Represents}
 use Rattle.tlsf_heap.proofs.Bits.Edits.{bits_set}
 use Rattle.tlsf_heap.proofs.Counts.{count-cons}
@@ -20,17 +20,17 @@ use Rattle.tlsf_heap.proofs.Inner.Lists.{lists_apart, each_written, heads-writte
 use Rattle.tlsf_heap.proofs.Inner.Chains.{chains_refilled, linked_at, uses_most, used_below, unlisted_nowhere, listed_within, entries-filled, AtNode, at_node}
 use Rattle.tlsf_heap.proofs.Inner.Taken.{counted_apart}
 
--- a node at a spot enters or leaves its list: its pool doesn't see it
-pub chains_turned : (at new : ℕ → InPool) (spot : Spot) (node : Node) (nodes : List Node) (old status : Status) (taken : List ℕ) → state_of status ≡ state_of old → new ≡ at
-    → AreChains at (filled spot (turned old node ∷ nodes)) taken → AreChains new (filled spot (turned status node ∷ nodes)) taken
-chains_turned at new spot node nodes old status taken alike same were =
-    let P : (ℕ → InPool) → Type 0 = λ views. AreChains views (filled spot (turned status node ∷ nodes)) taken in
-    let links = linked_at at spot (turned old node ∷ nodes) taken were in
-    let said : at node.slot ≡ in_pool (first_slot spot.before) (turned status node) (first_slot nodes) = links.0 ∙ ap (λ s. record { place = node.place; size = node.size; state = s; prev = first_slot spot.before; next = first_slot nodes }) (sym alike) in
-    subst P (sym same) (chains_refilled at at spot (turned old node ∷ nodes) (turned status node ∷ nodes) taken taken were (λ q h. refl) refl (said, links.1)
+-- a node at a position enters or leaves its list: its pool doesn't see it
+pub chains_turned : (at new : ℕ → InPool) (position : Position) (node : Node) (nodes : List Node) (old status : Status) (taken : List ℕ) → state_of status ≡ state_of old → new ≡ at
+    → AreChains at (filled position (turned old node ∷ nodes)) taken → AreChains new (filled position (turned status node ∷ nodes)) taken
+chains_turned at new position node nodes old status taken alike same were =
+    let P : (ℕ → InPool) → Type 0 = λ views. AreChains views (filled position (turned status node ∷ nodes)) taken in
+    let links = linked_at at position (turned old node ∷ nodes) taken were in
+    let said : at node.slot ≡ in_pool (first_slot position.before) (turned status node) (first_slot nodes) = links.0 ∙ ap (λ s. record { place = node.place; size = node.size; state = s; prev = first_slot position.before; next = first_slot nodes }) (sym alike) in
+    subst P (sym same) (chains_refilled at at position (turned old node ∷ nodes) (turned status node ∷ nodes) taken taken were (λ q h. refl) refl (said, links.1)
     (λ q. omega (arith, count-cons (has_slot q) (turned old node) nodes, count-cons (has_slot q) (turned status node) nodes)))
 
-module _ (cells : Cells) (count : ℕ) (spot : Spot) (node : Node) (nodes : List Node) (lists : List (List Node)) (taken : List ℕ) (was : Represents cells (laid count spot (turned Loose node ∷ nodes) lists taken)) where
+module _ (cells : Cells) (count : ℕ) (position : Position) (node : Node) (nodes : List Node) (lists : List (List Node)) (taken : List ℕ) (was : Represents cells (laid count position (turned Loose node ∷ nodes) lists taken)) where
   abbrev number : ℕ
   number = class node.size
 
@@ -38,7 +38,7 @@ module _ (cells : Cells) (count : ℕ) (spot : Spot) (node : Node) (nodes : List
   list = list_of (class node.size) lists
 
   abbrev areas : List Area
-  areas = filled spot (turned Loose node ∷ nodes)
+  areas = filled position (turned Loose node ∷ nodes)
 
   abbrev opened : Record → Record
   opened r = record r { prev_free = None; next_free = first_slot list }
@@ -52,12 +52,12 @@ module _ (cells : Cells) (count : ℕ) (spot : Spot) (node : Node) (nodes : List
   abbrev new : List Record
   new = edited_in moved (first_slot list) one
 
-  here : AtNode cells.records spot (turned Loose node) nodes taken
-  here = at_node cells.records spot (turned Loose node) nodes taken was.chains
+  here : AtNode cells.records position (turned Loose node) nodes taken
+  here = at_node cells.records position (turned Loose node) nodes taken was.chains
 
   -- the slot stands in no list, and each slot in one list at most
   nowhere : (other : ℕ) → count_by (has_slot node.slot) (list_of other lists) ≡ 0
-  nowhere other = unlisted_nowhere (pool_views cells.records) spot (turned Loose node) nodes lists taken was.chains was.agree refl other
+  nowhere other = unlisted_nowhere (pool_views cells.records) position (turned Loose node) nodes lists taken was.chains was.agree refl other
 
   listed_apart : (other q : ℕ) → 1 ≤ count_by (has_slot q) (list_of other lists) → Some node.slot ≢ Some q
   listed_apart other q h e = counted_apart (λ n. count_by (has_slot n) (list_of other lists)) q node.slot h (nowhere other) (let same : node.slot ≡ q = cc in sym same)
@@ -97,15 +97,15 @@ module _ (cells : Cells) (count : ℕ) (spot : Spot) (node : Node) (nodes : List
       )
       (λ other apart. linked_same in_list (list_views cells.records) (list_views new) None (list_of other lists) (λ q h. ap list_view (at_other other q h (first_apart other q apart h))) (was.index.linked other))
 
-  agrees : Agree (filled spot (turned Listed node ∷ nodes)) (entered (turned Listed node) lists)
+  agrees : Agree (filled position (turned Listed node ∷ nodes)) (entered (turned Listed node) lists)
   agrees other test =
       let listed : Node → Bool = λ n. is_listed_in other n && test n in
       omega (
         arith,
         count-entered (turned Listed node) lists was.index.lists_count other test,
         was.agree other test,
-        count-filled listed spot (turned Loose node ∷ nodes),
-        count-filled listed spot (turned Listed node ∷ nodes),
+        count-filled listed position (turned Loose node ∷ nodes),
+        count-filled listed position (turned Listed node ∷ nodes),
         count-cons listed (turned Loose node) nodes,
         count-cons listed (turned Listed node) nodes,
       )
@@ -114,12 +114,12 @@ module _ (cells : Cells) (count : ℕ) (spot : Spot) (node : Node) (nodes : List
   abbrev after : Option ℕ → Cells
   after first = with_class_bit (class node.size) (with_head (with_prev_free first (Some node.slot) (with_free_links node.slot None first cells)) (class node.size) (Some node.slot))
 
-  linked_before : Represents (after (first_slot list)) (laid count spot (turned Listed node ∷ nodes) (entered (turned Listed node) lists) taken)
+  linked_before : Represents (after (first_slot list)) (laid count position (turned Listed node ∷ nodes) (entered (turned Listed node) lists) taken)
   unfolding entered
   linked_before = record {
     count = length-edited moved (first_slot list) one ∙ length-edited opened (Some node.slot) cells.records ∙ was.count;
-    entries = was.entries ∙ ap padded (sym (entries-filled spot (turned Loose node ∷ nodes) (turned Listed node ∷ nodes)));
-    chains = chains_turned (pool_views cells.records) (pool_views new) spot node nodes Loose Listed taken refl pools_same was.chains;
+    entries = was.entries ∙ ap padded (sym (entries-filled position (turned Loose node ∷ nodes) (turned Listed node ∷ nodes)));
+    chains = chains_turned (pool_views cells.records) (pool_views new) position node nodes Loose Listed taken refl pools_same was.chains;
     index = record {
       heads_are = ap (λ heads. set heads (class node.size) (Some node.slot)) was.index.heads_are ∙ sym (heads-written node lists was.index.lists_count (turned Listed node ∷ list));
       lists_count = length-set lists (class node.size) (turned Listed node ∷ list) ∙ was.index.lists_count;
@@ -130,7 +130,7 @@ module _ (cells : Cells) (count : ℕ) (spot : Spot) (node : Node) (nodes : List
     agree = agrees;
   }
 
-  pub linked_laid : Represents (linked (class node.size) node.slot cells) (laid count spot (turned Listed node ∷ nodes) (entered (turned Listed node) lists) taken)
+  pub linked_laid : Represents (linked (class node.size) node.slot cells) (laid count position (turned Listed node ∷ nodes) (entered (turned Listed node) lists) taken)
   linked_laid =
-      let P : Option ℕ → Type 0 = λ first. Represents (after first) (laid count spot (turned Listed node ∷ nodes) (entered (turned Listed node) lists) taken) in
+      let P : Option ℕ → Type 0 = λ first. Represents (after first) (laid count position (turned Listed node ∷ nodes) (entered (turned Listed node) lists) taken) in
       subst P (sym (ap (λ heads. head_at heads (class node.size)) was.index.heads_are ∙ head_of node lists was.index.lists_count)) linked_before

@@ -2,7 +2,7 @@
 use Rattle.std.proofs.Common.{◌≡◌, ◌≢◌, ℕ, ◌≤◌, List, [], ◌∷◌, refl, sym, ap, ◌∙◌, arith, count_by, Option, Some, None}
 use Rattle.std.proofs.lemmas.Bool.{eq-eqb}
 use Rattle.tlsf_heap.specs.Inner.Nodes.{Node, has_slot}
-use Rattle.tlsf_heap.specs.Inner.Spots.{plug}
+use Rattle.tlsf_heap.specs.Inner.Positions.{plug}
 use Rattle.tlsf_heap.specs.Inner.Represents.{first_slot, AreLinked}
 use Rattle.tlsf_heap.proofs.Counts.{one_if, count-cons}
 

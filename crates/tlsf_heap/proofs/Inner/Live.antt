@@ -1,4 +1,4 @@
--- The live block that a pointer is of, as a node at its spot, and what is left once it was freed.
+-- The live block that a pointer is of, as a node at its position, and what is left once it was freed.
 use Rattle.std.proofs.Common.{◌≡◌, ◌≢◌, ℕ, Bool, true, false, ◌&&◌, [], ◌∷◌, map, refl, sym, ap, ◌∙◌, subst, arith, count_by, inl, inr}
 use Rattle.std.specs.Prelude.{◌==◌}
 use Rattle.std.specs.List.{list_any}
@@ -11,7 +11,7 @@ use Rattle.tlsf_heap.specs.Good.{times, IsGood}
 use Rattle.tlsf_heap.specs.Free.{is_owned_by, is_live}
 use Rattle.tlsf_heap.specs.Free.{after_free}
 use Rattle.tlsf_heap.specs.Inner.Nodes.{Status, InUse, Listed, Loose, Node, Layout, turned, owner_of, block_of, pool_of, content_by, nodes_of, has_slot, has_place}
-use Rattle.tlsf_heap.specs.Inner.Spots.{filled}
+use Rattle.tlsf_heap.specs.Inner.Positions.{filled}
 use Rattle.tlsf_heap.specs.Inner.Represents.{InPool, state_of, uses_in, Represents}
 use Rattle.tlsf_heap.specs.Inner.Joined.{is_loose}
 use Rattle.tlsf_heap.specs.Inner.Following.{content_of, Stands}
@@ -43,7 +43,7 @@ live_in_use InUse live = refl
 live_in_use Listed live = absurd (cc)
 live_in_use Loose live = absurd (cc)
 
--- the node of a layout at its spot
+-- the node of a layout at its position
 pub record NodeAt (place slot : ℕ) (status : Status) (cells : Cells) (layout : Layout) : Type 0 where
   pub at : At
   pub stands : StandsAt slot status cells at
@@ -59,7 +59,7 @@ told_of cells layout was good = record {
   places = places_once layout good;
 }
 
--- what is known of a node at its spot, in the status that it has
+-- what is known of a node at its position, in the status that it has
 module _ (cells : Cells) (stands : Stands cells) (place slot : ℕ) (status : Status) (by : NodeAt place slot status cells stands.layout) where
   -- the layout with the node in this status
   node_laid : stands.layout ≡ layout_at (record by.at { node = turned status by.at.node })
@@ -71,15 +71,15 @@ module _ (cells : Cells) (stands : Stands cells) (place slot : ℕ) (status : St
   pub node_good : IsGood (content_by (layout_at (record by.at { node = turned status by.at.node })))
   node_good = let P : Layout → Type 0 = λ l. IsGood (content_by l) in subst P node_laid stands.good
 
-  pub node_told : Told (filled by.at.spot (turned status by.at.node ∷ by.at.nodes)) by.at.lists
+  pub node_told : Told (filled by.at.position (turned status by.at.node ∷ by.at.nodes)) by.at.lists
   node_told = let P : Layout → Type 0 = λ l. Represents cells l in told_of cells (layout_at (record by.at { node = turned status by.at.node })) (subst P node_laid stands.represented) node_good
 
   -- its size is that of the block at the place
   pub node_size : size_at place (blocks_of (content_of cells).pools) ≡ by.at.node.size
   node_size =
       ap (λ (x : Content ℕ). size_at place (blocks_of x.pools)) node_stood
-      ∙ ap (λ p. size_at p (blocks_of (map pool_of (filled by.at.spot (turned status by.at.node ∷ by.at.nodes))))) (sym by.place_is)
-      ∙ size_is by.at.spot (turned status by.at.node) by.at.nodes (alone by.at.spot (turned status by.at.node) by.at.nodes node_told.places)
+      ∙ ap (λ p. size_at p (blocks_of (map pool_of (filled by.at.position (turned status by.at.node ∷ by.at.nodes))))) (sym by.place_is)
+      ∙ size_is by.at.position (turned status by.at.node) by.at.nodes (alone by.at.position (turned status by.at.node) by.at.nodes node_told.places)
 
   pub node_taken : by.at.taken ≡ []
   node_taken = ap (λ (l : Layout). l.taken) (sym by.layout_is) ∙ stands.none_taken
@@ -100,8 +100,8 @@ stands_with new slot status at content after settled none is good =
         settled = omega (
           arith,
           after.1.others_settled,
-          count-filled loose at.spot (at.node ∷ at.nodes),
-          count-filled loose at.spot at.nodes,
+          count-filled loose at.position (at.node ∷ at.nodes),
+          count-filled loose at.position at.nodes,
           count-cons loose at.node at.nodes,
           ap (λ s. one_if (is_loose s)) after.1.status_is,
           ap one_if settled,
@@ -115,7 +115,7 @@ stands_with new slot status at content after settled none is good =
 module _ (cells : Cells) (stands : Stands cells) where
   -- a node that is found, where no node is loose
   abbrev pub at_found : (test : Node → Bool) → Located test stands.layout.areas → At
-  at_found test found = record { count = stands.layout.count; spot = found.spot; node = found.node; nodes = found.nodes; lists = stands.layout.lists; taken = stands.layout.taken }
+  at_found test found = record { count = stands.layout.count; position = found.position; node = found.node; nodes = found.nodes; lists = stands.layout.lists; taken = stands.layout.taken }
 
   pub found_laid : (test : Node → Bool) (found : Located test stands.layout.areas) → stands.layout ≡ layout_at (at_found test found)
   found_laid test found = ap (λ areas. record stands.layout { areas = areas }) found.whole
@@ -131,7 +131,7 @@ module _ (cells : Cells) (stands : Stands cells) where
         record {
           slot_is = slot_is;
           status_is = status_is;
-          others_settled = omega (arith, settled, count-filled loose found.spot (found.node ∷ found.nodes), count-filled loose found.spot found.nodes, count-cons loose found.node found.nodes);
+          others_settled = omega (arith, settled, count-filled loose found.position (found.node ∷ found.nodes), count-filled loose found.position found.nodes, count-cons loose found.node found.nodes);
           covered = covered_good 0 (map pool_of (areas_at at)) (subst Q (found_laid test found) stands.good).pools_good;
         },
       )
@@ -141,7 +141,7 @@ module _ (cells : Cells) (stands : Stands cells) where
       let loose : Node → Bool = λ node. is_loose node.status in
       let all = ap (λ areas. count_by loose (nodes_of areas)) (sym found.whole) ∙ stands.settled in
       elim (cases_Bool (is_loose found.node.status)) [
-        | inl is ↦ absurd (omega (arith, all, count-filled loose found.spot (found.node ∷ found.nodes), count-cons loose found.node found.nodes, ap one_if is))
+        | inl is ↦ absurd (omega (arith, all, count-filled loose found.position (found.node ∷ found.nodes), count-cons loose found.node found.nodes, ap one_if is))
         | inr isnt ↦ isnt
       ]
 
@@ -169,8 +169,8 @@ module _ (cells : Cells) (stands : Stands cells) where
       let found : Located (has_slot slot) stands.layout.areas = located (has_slot slot) stands.layout.areas (omega (arith, stands.represented.chains.once slot, none, ap uses_in live)) in
       let own : found.node.slot ≡ slot = eqb-true found.node.slot slot found.passes in
       let P : Layout → Type 0 = λ l. Represents cells l in
-      let was : Represents cells (record stands.layout { areas = filled found.spot (found.node ∷ found.nodes) }) = subst P (ap (λ areas. record stands.layout { areas = areas }) found.whole) stands.represented in
-      let here : AtNode cells.records found.spot found.node found.nodes stands.layout.taken = at_node cells.records found.spot found.node found.nodes stands.layout.taken was.chains in
+      let was : Represents cells (record stands.layout { areas = filled found.position (found.node ∷ found.nodes) }) = subst P (ap (λ areas. record stands.layout { areas = areas }) found.whole) stands.represented in
+      let here : AtNode cells.records found.position found.node found.nodes stands.layout.taken = at_node cells.records found.position found.node found.nodes stands.layout.taken was.chains in
       let in_use : found.node.status ≡ InUse = live_in_use found.node.status (sym (ap (λ (v : InPool). v.state) here.says) ∙ ap (λ q. (record_at cells.records q).state) own ∙ live) in
       let place_too : found.node.place ≡ place = sym (ap (λ (v : InPool). v.place) here.says) ∙ ap (λ q. (record_at cells.records q).place) own ∙ place_is in
       let test : Node → Bool = is_live_node place slot in
@@ -179,15 +179,15 @@ module _ (cells : Cells) (stands : Stands cells) where
       let passes : test found.node ≡ true = rw (eq-eqb found.node.place place place_too, owned) refl in
       told place slot
       ∙ counts_any test (nodes_of stands.layout.areas)
-      (omega (arith, ap (λ areas. count_by test (nodes_of areas)) found.whole, count-filled test found.spot (found.node ∷ found.nodes), count-cons test found.node found.nodes, ap one_if passes))
+      (omega (arith, ap (λ areas. count_by test (nodes_of areas)) found.whole, count-filled test found.position (found.node ∷ found.nodes), count-cons test found.node found.nodes, ap one_if passes))
 
   -- a free block is a listed node
   pub found_listed : (slot : ℕ) (found : Located (has_slot slot) stands.layout.areas) → (record_at cells.records slot).state ≡ Free → (found.node.status ≡ Listed) × (found.node.place ≡ (record_at cells.records slot).place)
   found_listed slot found free =
       let own : found.node.slot ≡ slot = eqb-true found.node.slot slot found.passes in
       let P : Layout → Type 0 = λ l. Represents cells l in
-      let was : Represents cells (record stands.layout { areas = filled found.spot (found.node ∷ found.nodes) }) = subst P (ap (λ areas. record stands.layout { areas = areas }) found.whole) stands.represented in
-      let here : AtNode cells.records found.spot found.node found.nodes stands.layout.taken = at_node cells.records found.spot found.node found.nodes stands.layout.taken was.chains in
+      let was : Represents cells (record stands.layout { areas = filled found.position (found.node ∷ found.nodes) }) = subst P (ap (λ areas. record stands.layout { areas = areas }) found.whole) stands.represented in
+      let here : AtNode cells.records found.position found.node found.nodes stands.layout.taken = at_node cells.records found.position found.node found.nodes stands.layout.taken was.chains in
       let state : state_of found.node.status ≡ Free = sym (ap (λ (v : InPool). v.state) here.says) ∙ ap (λ q. (record_at cells.records q).state) own ∙ free in
       let place : found.node.place ≡ (record_at cells.records slot).place = sym (ap (λ (v : InPool). v.place) here.says) ∙ ap (λ q. (record_at cells.records q).place) own in
       (settled_free found.node.status (not_loose (has_slot slot) found) state, place)
@@ -204,7 +204,7 @@ module _ (cells : Cells) (stands : Stands cells) where
     | inl live ↦
         let node : NodeAt place slot InUse cells stands.layout = live_at place slot live in
         let at : At = node.at in
-        let here : AtNode cells.records at.spot at.node at.nodes at.taken = at_node cells.records at.spot at.node at.nodes at.taken node.stands.0.chains in
+        let here : AtNode cells.records at.position at.node at.nodes at.taken = at_node cells.records at.position at.node at.nodes at.taken node.stands.0.chains in
         let state = ap (λ q. (record_at cells.records q).state) (sym node.stands.1.slot_is) ∙ ap (λ (v : InPool). v.state) here.says ∙ ap state_of node.stands.1.status_is in
         absurd (isnt state (place_read cells slot InUse at node.stands ∙ node.place_is))
     | inr none ↦ none
@@ -218,7 +218,7 @@ module _ (cells : Cells) (stands : Stands cells) where
       let loose : Node → Bool = λ n. is_loose n.status in
       let others = node.stands.1.others_settled in
       let is : content_by (layout_at (at_freed node.at)) ≡ after_free place (content_of cells) =
-      freed_is at.spot at.node at.nodes at.lists (node_told cells stands place slot InUse node) at.count at.taken at.taken refl (omega (arith, others, count-filled loose at.spot at.nodes)) (omega (arith, others, count-filled loose at.spot at.nodes)) (node_good cells stands place slot InUse node)
+      freed_is at.position at.node at.nodes at.lists (node_told cells stands place slot InUse node) at.count at.taken at.taken refl (omega (arith, others, count-filled loose at.position at.nodes)) (omega (arith, others, count-filled loose at.position at.nodes)) (node_good cells stands place slot InUse node)
       ∙ ap (λ p. after_free p (content_by (layout_at at))) node.place_is
       ∙ ap (after_free place) (sym (node_stood cells stands place slot InUse node)) in
       stands_with new (at_freed node.at).node.slot Listed (at_freed node.at) (after_free place (content_of cells)) after refl (node_taken cells stands place slot InUse node) is

@@ -1,8 +1,8 @@
--- What holds of a list with items in front, nearest first, holds of its parts; how many nodes a filled spot has.
+-- What holds of a list with items in front, nearest first, holds of its parts; how many nodes a filled position has.
 use Rattle.std.proofs.Common.{◌≡◌, ℕ, ◌+◌, Bool, List, [], ◌∷◌, map, refl, arith, count_by}
 use Rattle.std.specs.List.{AllByRecursion}
 use Rattle.tlsf_heap.specs.Inner.Nodes.{Node, Area, nodes_of}
-use Rattle.tlsf_heap.specs.Inner.Spots.{plug, Spot, filled}
+use Rattle.tlsf_heap.specs.Inner.Positions.{plug, Position, filled}
 use Rattle.tlsf_heap.proofs.Counts.{count-append, count-plug}
 
 pub map-plug : {A B : Type 0} (f : A → B) (front behind : List A) → map f (plug front behind) ≡ plug (map f front) (map f behind)
@@ -25,11 +25,11 @@ pub count-nodes-plug : (p : Node → Bool) (front behind : List Area) → count_
 count-nodes-plug p [] behind = omega arith
 count-nodes-plug p (area ∷ front) behind = omega (arith, count-nodes-plug p front (area ∷ behind), count-nodes p area behind, count-nodes p area front)
 
--- how many nodes beside those that fill the spot pass the test
-abbrev pub around : (Node → Bool) → Spot → ℕ
-around p spot = count_by p (nodes_of spot.areas_before) + count_by p spot.before + count_by p (nodes_of spot.areas_behind)
+-- how many nodes beside those that fill the position pass the test
+abbrev pub around : (Node → Bool) → Position → ℕ
+around p position = count_by p (nodes_of position.areas_before) + count_by p position.before + count_by p (nodes_of position.areas_behind)
 
-pub count-filled : (p : Node → Bool) (spot : Spot) (nodes : List Node) → count_by p (nodes_of (filled spot nodes)) ≡ around p spot + count_by p nodes
-count-filled p spot nodes =
-    let area : Area = record { entry = spot.entry; nodes = plug spot.before nodes } in
-    omega (arith, count-nodes-plug p spot.areas_before (area ∷ spot.areas_behind), count-nodes p area spot.areas_behind, count-plug p spot.before nodes)
+pub count-filled : (p : Node → Bool) (position : Position) (nodes : List Node) → count_by p (nodes_of (filled position nodes)) ≡ around p position + count_by p nodes
+count-filled p position nodes =
+    let area : Area = record { entry = position.entry; nodes = plug position.before nodes } in
+    omega (arith, count-nodes-plug p position.areas_before (area ∷ position.areas_behind), count-nodes p area position.areas_behind, count-plug p position.before nodes)

@@ -10,7 +10,7 @@ use Rattle.tlsf_heap.specs.declared.pool_entry.PoolEntry.{PoolEntry}
 use Rattle.tlsf_heap.specs.Inner.Entries.{free_record}
 use Rattle.tlsf_heap.specs.Good.{times}
 use Rattle.tlsf_heap.specs.Inner.Nodes.{Node, Area, has_slot, nodes_of, list_of, is_listed, is_listed_in}
-use Rattle.tlsf_heap.specs.Inner.Spots.{plug, Spot}
+use Rattle.tlsf_heap.specs.Inner.Positions.{plug, Position}
 use Rattle.tlsf_heap.specs.Inner.Represents.{pool_view, list_view, pool_views, list_views, IsChain, uses_in, Represents}
 use Rattle.tlsf_heap.specs.Inner.CellEdits.{pool_put, pool_dropped}
 use Rattle.tlsf_heap.specs.Inner.Entering.{pool_node, area_of_one, entries_in}
@@ -83,11 +83,11 @@ module _ (cells : Cells) (count : ℕ) (front behind : List Area) (lists : List 
   abbrev emptied : List Record
   emptied = set cells.records node.slot blank
 
-  abbrev spot : Spot
-  spot = record { areas_before = front; entry = entry; before = []; areas_behind = behind }
+  abbrev position : Position
+  position = record { areas_before = front; entry = entry; before = []; areas_behind = behind }
 
-  at : AtNode cells.records spot node [] taken
-  at = at_node cells.records spot node [] taken was.chains
+  at : AtNode cells.records position node [] taken
+  at = at_node cells.records position node [] taken was.chains
 
   rest_same : (q : ℕ) → 1 ≤ count_by (has_slot q) (nodes_of front) + count_by (has_slot q) (nodes_of behind) → record_at emptied q ≡ record_at cells.records q
   rest_same q h = record_at-set_other cells.records node.slot q blank (at.outside_apart q (omega (arith, h)))
@@ -121,6 +121,6 @@ module _ (cells : Cells) (count : ℕ) (front behind : List Area) (lists : List 
         };
         index = index_same (list_views cells.records) (list_views emptied) cells.heads cells.step_words cells.level_word lists
             (λ number q h. ap list_view (record_at-set_other cells.records node.slot q blank
-            (counted_apart (λ n. count_by (has_slot n) (list_of number lists)) q node.slot h (unlisted_nowhere (pool_views cells.records) spot node [] lists taken was.chains was.agree was_not number)))) was.index;
+            (counted_apart (λ n. count_by (has_slot n) (list_of number lists)) q node.slot h (unlisted_nowhere (pool_views cells.records) position node [] lists taken was.chains was.agree was_not number)))) was.index;
         agree = λ number test. omega (arith, was.agree number test, counts (λ other. is_listed_in number other && test other), unlisted number test node was_not);
       }

@@ -18,7 +18,7 @@ use Rattle.tlsf_heap.specs.Pools.{is_based, is_unused, without_pool, remove_foun
 use Rattle.tlsf_heap.specs.Inner.Entries.{entries_of, padded}
 use Rattle.tlsf_heap.specs.Inner.States.{is_state_free}
 use Rattle.tlsf_heap.specs.Inner.Nodes.{InUse, Listed, Node, Area, turned, left, has_slot, nodes_of, block_of, pool_of, content_by}
-use Rattle.tlsf_heap.specs.Inner.Spots.{plug, Spot, filled}
+use Rattle.tlsf_heap.specs.Inner.Positions.{plug, Position, filled}
 use Rattle.tlsf_heap.specs.Inner.Entering.{entries_in}
 use Rattle.tlsf_heap.specs.Inner.Joined.{is_loose}
 use Rattle.tlsf_heap.specs.Inner.Represents.{IsChain, pool_views, first_slot, Represents}
@@ -58,20 +58,20 @@ entries_plug front behind = map-plug (λ (area : Area). area.entry) front behind
 -- the store's pools hang on the entries alone
 pub pools_stay : (old new : Cells) (slot : ℕ) (at : At) → StandsAt slot Listed old at → StandsAt slot InUse new (at_taken at) → (new.pools ≡ old.pools) × (length new.records ≡ length old.records)
 pools_stay old new slot at was is =
-    let spot : Spot = at.spot in
-    let area : List Node → Area = λ nodes. record { entry = spot.entry; nodes = plug spot.before nodes } in
-    let same : entries_in (filled spot (turned InUse at.node ∷ at.nodes)) ≡ entries_in (filled spot (at.node ∷ at.nodes)) =
-    entries_plug spot.areas_before (area (turned InUse at.node ∷ at.nodes) ∷ spot.areas_behind) ∙ sym (entries_plug spot.areas_before (area (at.node ∷ at.nodes) ∷ spot.areas_behind)) in
+    let position : Position = at.position in
+    let area : List Node → Area = λ nodes. record { entry = position.entry; nodes = plug position.before nodes } in
+    let same : entries_in (filled position (turned InUse at.node ∷ at.nodes)) ≡ entries_in (filled position (at.node ∷ at.nodes)) =
+    entries_plug position.areas_before (area (turned InUse at.node ∷ at.nodes) ∷ position.areas_behind) ∙ sym (entries_plug position.areas_before (area (at.node ∷ at.nodes) ∷ position.areas_behind)) in
     (is.0.entries ∙ ap padded same ∙ sym was.0.entries, is.0.count ∙ sym was.0.count)
 
 -- the one node of an area leaves, once it is in no list
-pub area_leaves : (cells : Cells) (slot : ℕ) (at : At) → StandsAt slot InUse cells (at_taken at) → at.spot.before ≡ [] → at.nodes ≡ [] → Represents (pool_dropped slot (entries_in (plug at.spot.areas_before at.spot.areas_behind)) cells) (without_area at)
+pub area_leaves : (cells : Cells) (slot : ℕ) (at : At) → StandsAt slot InUse cells (at_taken at) → at.position.before ≡ [] → at.nodes ≡ [] → Represents (pool_dropped slot (entries_in (plug at.position.areas_before at.position.areas_behind)) cells) (without_area at)
 area_leaves cells slot at stands none_before none_behind =
     let node : Node = turned InUse at.node in
-    let P : List Node → List Node → Type 0 = λ before nodes. Represents cells (layout_at (record (at_taken at) { spot = record at.spot { before = before }; nodes = nodes })) in
-    let Q : ℕ → Type 0 = λ q. Represents (pool_dropped q (entries_in (plug at.spot.areas_before at.spot.areas_behind)) cells) (without_area at) in
+    let P : List Node → List Node → Type 0 = λ before nodes. Represents cells (layout_at (record (at_taken at) { position = record at.position { before = before }; nodes = nodes })) in
+    let Q : ℕ → Type 0 = λ q. Represents (pool_dropped q (entries_in (plug at.position.areas_before at.position.areas_behind)) cells) (without_area at) in
     let alone : P [] [] = subst (λ nodes. P [] nodes) none_behind (subst (λ before. P before at.nodes) none_before stands.0) in
-    subst Q stands.1.slot_is (pool_leaves cells at.count at.spot.areas_before at.spot.areas_behind (left (turned Listed at.node) at.lists) at.spot.entry node at.taken alone refl)
+    subst Q stands.1.slot_is (pool_leaves cells at.count at.position.areas_before at.position.areas_behind (left (turned Listed at.node) at.lists) at.position.entry node at.taken alone refl)
 
 module _ (cells : Cells) (stands : Stands cells) (base : ℕ) where
   bases_apart : (areas : List Area) → AllByRecursion (λ entry. entry.base ≢ base) (entries_in areas) → AllByRecursion (λ pool. pool.base ≢ base) (map pool_of areas)
@@ -126,7 +126,7 @@ module _ (cells : Cells) (stands : Stands cells) (base : ℕ) where
       module _ (unused : (is_state_free (record_at cells.records slot).state && is_none (record_at cells.records slot).next) ≡ true) where
         abbrev here : Located (has_slot slot) stands.layout.areas
         here = record {
-          spot = record { areas_before = at.front; entry = at.area.entry; before = []; areas_behind = at.behind };
+          position = record { areas_before = at.front; entry = at.area.entry; before = []; areas_behind = at.behind };
           node = first.node;
           nodes = first.nodes;
           whole = areas_are ∙ ap (λ nodes. plug at.front (record { entry = at.area.entry; nodes = nodes } ∷ at.behind)) first.whole;
@@ -146,7 +146,7 @@ module _ (cells : Cells) (stands : Stands cells) (base : ℕ) where
         no_others : first.nodes ≡ []
         no_others = none_first first.nodes (ap is_none (sym first.next_is ∙ ap (λ q. (record_at cells.records q).next) (first.slot_is ∙ sym slot_is)) ∙ (and_parts _ _ unused).1)
 
-        pub alone_there : (node_there.spot.before ≡ []) × (node_there.nodes ≡ []) × (remove (entries_of cells.pools) number ≡ entries_in (plug node_there.spot.areas_before node_there.spot.areas_behind))
+        pub alone_there : (node_there.position.before ≡ []) × (node_there.nodes ≡ []) × (remove (entries_of cells.pools) number ≡ entries_in (plug node_there.position.areas_before node_there.position.areas_behind))
         alone_there = (refl, no_others, ap (λ entries. remove entries number) (entries_are cells stands) ∙ at.others)
 
         abbrev by : NodeAt first.node.place slot Listed cells stands.layout
@@ -171,7 +171,7 @@ module _ (cells : Cells) (stands : Stands cells) (base : ℕ) where
             let pools : map pool_of (plug at.front at.behind) ≡ others at.area.entry.base (content_of cells).pools =
             ap (map pool_of) (at.same at.behind) ∙ map-append pool_of at.before at.behind ∙ sym found.1 ∙ ap (λ b. others {A = ℕ} b (content_of cells).pools) (sym base_is) in
             let out : by_places (left (turned Listed node) lists) ≡ unlink at.area.entry.base at.area.entry.bytes (content_of cells).lists =
-            places-left (turned Listed node) lists told.full (alike (turned Listed node) lists node_there.spot (turned Listed node) first.nodes refl refl told)
+            places-left (turned Listed node) lists told.full (alike (turned Listed node) lists node_there.position (turned Listed node) first.nodes refl refl told)
             ∙ ap (λ p. unlink p node.size (by_places lists)) block_there.0
             ∙ ap (λ n. unlink at.area.entry.base n (by_places lists)) block_there.1
             ∙ ap (λ (content : Content ℕ). unlink at.area.entry.base at.area.entry.bytes content.lists) (sym (stood_for cells stands)) in

@@ -1,4 +1,4 @@
--- A live block that a pointer is of, as a node at its spot: its size, the free one behind it, and what stands once it got another size in its place.
+-- A live block that a pointer is of, as a node at its position: its size, the free one behind it, and what stands once it got another size in its place.
 use Rattle.std.proofs.Common.{◌≡◌, ◌≢◌, ℕ, ◌+◌, ◌%◌, ◌<◌, ◌≤◌, Bool, true, false, cond, List, ◌∷◌, length, refl, sym, ap, ◌∙◌, arith, Option, Some, None, option_map, inl, inr, [], unwrap_or, ◌-◌}
 use Rattle.std.specs.Prelude.{◌||◌, is_some, nat_lt, nat_le, ◌==◌, ◌⊎◌}
 use Rattle.std.proofs.lemmas.Bool.{cases_Bool, ltb-true, ltb-false, leb-true, lt-ltb, le-ltb, le-leb, lt-leb, leb-false}
@@ -9,7 +9,7 @@ use Rattle.tlsf_heap.specs.Content.{Block, Content, blocks_of, size_at, used_rec
 use Rattle.tlsf_heap.specs.Free.{is_live, if_free, free_next, size_of}
 use Rattle.tlsf_heap.specs.Realloc.{fits_in_place, resized}
 use Rattle.tlsf_heap.specs.Inner.Nodes.{InUse, Node, Layout, turned, block_of, content_by, nodes_of, is_listed}
-use Rattle.tlsf_heap.specs.Inner.Spots.{filled}
+use Rattle.tlsf_heap.specs.Inner.Positions.{filled}
 use Rattle.tlsf_heap.specs.Inner.Joined.{is_loose, listed_first, past, grown_behind}
 use Rattle.tlsf_heap.specs.Inner.Following.{content_of, Stands}
 use Rattle.tlsf_heap.specs.Inner.At.{areas_at, layout_at, StandsAt, next_joined, at_trimmed}
@@ -29,13 +29,13 @@ use Rattle.tlsf_heap.proofs.Meaning.ResizedIsGood.{resized_is_good}
 use Rattle.tlsf_store.specs.declared.records.Record.{Record}
 
 module _ (cells : Cells) (stands : Stands cells) (place slot : ℕ) (by : NodeAt place slot InUse cells stands.layout) where
-  told : Told (filled by.at.spot (turned InUse by.at.node ∷ by.at.nodes)) by.at.lists
+  told : Told (filled by.at.position (turned InUse by.at.node ∷ by.at.nodes)) by.at.lists
   told = node_told cells stands place slot InUse by
 
   none_loose : NoneLoose by.at.nodes
   none_loose =
       let loose : Node → Bool = λ n. is_loose n.status in
-      omega (arith, by.stands.1.others_settled, count-filled loose by.at.spot by.at.nodes)
+      omega (arith, by.stands.1.others_settled, count-filled loose by.at.position by.at.nodes)
 
   -- its size
   pub size_there : size_at place (blocks_of (content_of cells).pools) ≡ by.at.node.size
@@ -46,7 +46,7 @@ module _ (cells : Cells) (stands : Stands cells) (place slot : ℕ) (by : NodeAt
   next_there =
       ap (free_next place) (node_stood cells stands place slot InUse by)
       ∙ ap (λ p. free_next p (content_by (layout_at (record by.at { node = turned InUse by.at.node })))) (sym by.place_is)
-      ∙ ap if_free (back_is by.at.spot (turned InUse by.at.node) by.at.nodes (alone by.at.spot (turned InUse by.at.node) by.at.nodes told.places))
+      ∙ ap if_free (back_is by.at.position (turned InUse by.at.node) by.at.nodes (alone by.at.position (turned InUse by.at.node) by.at.nodes told.places))
       ∙ listed_is_free by.at.nodes none_loose
 
   -- where it fits, by the node and the one behind it
@@ -71,7 +71,7 @@ module _ (cells : Cells) (stands : Stands cells) (place slot : ℕ) (by : NodeAt
   resized_stands new m rest live fits other some whole after =
       let is : content_by (layout_at (at_trimmed rest m (next_joined by.at))) ≡ resized slot place m (content_of cells) =
       ap (λ s. content_by (layout_at (at_trimmed rest m (next_joined (record by.at { node = turned s by.at.node }))))) by.stands.1.status_is
-      ∙ trimmed_is by.at.count by.at.spot by.at.node by.at.nodes by.at.lists by.at.taken told none_loose (node_good cells stands place slot InUse by) rest m by.at.taken some whole
+      ∙ trimmed_is by.at.count by.at.position by.at.node by.at.nodes by.at.lists by.at.taken told none_loose (node_good cells stands place slot InUse by) rest m by.at.taken some whole
       ∙ ap (λ s. resized s by.at.node.place m (content_by (layout_at (record by.at { node = turned InUse by.at.node })))) by.stands.1.slot_is
       ∙ ap (λ p. resized slot p m (content_by (layout_at (record by.at { node = turned InUse by.at.node })))) by.place_is
       ∙ ap (resized slot place m) (sym (node_stood cells stands place slot InUse by)) in
@@ -118,8 +118,8 @@ module _ (cells : Cells) (stands : Stands cells) (place slot : ℕ) (by : NodeAt
             arith,
             count_all (nodes_of (areas_at (next_joined by.at))),
             count_all (nodes_of (areas_at by.at)),
-            count-filled all by.at.spot ((next_joined by.at).node ∷ past by.at.nodes),
-            count-filled all by.at.spot (by.at.node ∷ by.at.nodes),
+            count-filled all by.at.position ((next_joined by.at).node ∷ past by.at.nodes),
+            count-filled all by.at.position (by.at.node ∷ by.at.nodes),
             count_all ((next_joined by.at).node ∷ past by.at.nodes),
             count_all (by.at.node ∷ by.at.nodes),
             past_length by.at.nodes,

@@ -13,7 +13,7 @@ use Rattle.tlsf_heap.specs.Malloc.{malloc}
 use Rattle.tlsf_heap.specs.Pools.{created, with_pool}
 use Rattle.std.specs.Prelude.{Ok}
 use Rattle.tlsf_heap.specs.Inner.Nodes.{Node, Layout, InUse, Listed, content_by, list_of, left, entered}
-use Rattle.tlsf_heap.specs.Inner.Spots.{Spot, filled, laid}
+use Rattle.tlsf_heap.specs.Inner.Positions.{Position, filled, laid}
 use Rattle.tlsf_heap.specs.Inner.Represents.{pool_views, list_views, in_pool, in_list, AreLinked, first_slot}
 use Rattle.tlsf_heap.specs.Inner.Joined.{freed_layout}
 
@@ -21,8 +21,8 @@ use Rattle.tlsf_heap.specs.Inner.Joined.{freed_layout}
 abbrev entry : PoolEntry
 entry = record { base = 0; bytes = 1024; first = 0 }
 
-abbrev spot : List Node → Spot
-spot before = record { areas_before = []; entry = entry; before = before; areas_behind = [] }
+abbrev position : List Node → Position
+position before = record { areas_before = []; entry = entry; before = before; areas_behind = [] }
 
 -- its first 104 bytes are taken
 abbrev first_split : Cells
@@ -35,7 +35,7 @@ abbrev rest : Node
 rest = record { slot = 1; place = 104; size = 920; status = Listed }
 
 abbrev split_layout : Layout
-split_layout = laid 4 (spot []) (taken ∷ rest ∷ []) (entered rest (replicate classes [])) []
+split_layout = laid 4 (position []) (taken ∷ rest ∷ []) (entered rest (replicate classes [])) []
 
 in_the_pool : AreLinked in_pool (pool_views first_split.records) None (taken ∷ rest ∷ [])
 unfolding class low
@@ -50,7 +50,7 @@ unfolding class low entered
 the_heads = refl
 
 -- a step to the neighbour is no step
-seen_from_the_rest : filled (spot (taken ∷ [])) (rest ∷ []) ≡ filled (spot []) (taken ∷ rest ∷ [])
+seen_from_the_rest : filled (position (taken ∷ [])) (rest ∷ []) ≡ filled (position []) (taken ∷ rest ∷ [])
 seen_from_the_rest = refl
 
 -- the row: malloc of 100 bytes
@@ -69,12 +69,12 @@ abbrev back : Node
 back = record { slot = 2; place = 112; size = 912; status = Listed }
 
 abbrev before_free : Layout
-before_free = laid 4 (spot (front ∷ [])) (middle ∷ back ∷ []) (entered front (entered back (replicate classes []))) []
+before_free = laid 4 (position (front ∷ [])) (middle ∷ back ∷ []) (entered front (entered back (replicate classes []))) []
 
 abbrev one_block : Content ℕ
 one_block = with_pool 0 1024 (created 4)
 
-both_sides : content_by (freed_layout 4 (spot (front ∷ [])) middle (back ∷ []) before_free.lists []) ≡ one_block
+both_sides : content_by (freed_layout 4 (position (front ∷ [])) middle (back ∷ []) before_free.lists []) ≡ one_block
 unfolding class low left entered
 both_sides = refl
 

@@ -17,12 +17,12 @@ use Rattle.tlsf_heap.specs.Content.{Pool, Content, is_free}
 use Rattle.tlsf_heap.specs.Good.{times, AreGoodPools}
 use Rattle.tlsf_heap.specs.Inner.Edits.{IsUsed}
 use Rattle.tlsf_heap.specs.Rows.{row_of, rows_from}
-use Rattle.tlsf_heap.specs.Readings.{rows_at, rows_by, rest_of, stands_at, slot_for, begins_below, slot_if, AreInOrder, IsNarrowed}
+use Rattle.tlsf_heap.specs.Cursors.{rows_at, rows_by, rest_of, stands_at, slot_for, begins_below, slot_if, AreInOrder, IsNarrowed}
 use Rattle.tlsf_heap.specs.Inner.States.{is_state_live}
 use Rattle.tlsf_heap.specs.Inner.Entries.{padded, padded_at, entries_of}
 use Rattle.tlsf_heap.proofs.Inner.EntryLists.{padded_at_is, length-padded, entries_of-padded}
 use Rattle.tlsf_heap.specs.Inner.Nodes.{Node, Area, Layout, block_of, pool_of, nodes_of, has_slot}
-use Rattle.tlsf_heap.specs.Inner.Spots.{Spot, filled}
+use Rattle.tlsf_heap.specs.Inner.Positions.{Position, filled}
 use Rattle.tlsf_heap.specs.Inner.Represents.{InPool, in_pool, pool_views, first_slot, AreLinked, IsChain, AreChains, uses_in, Represents}
 use Rattle.tlsf_heap.specs.Inner.Following.{owner_in, follow, block_at, content_of, Stands}
 use Rattle.tlsf_heap.proofs.Counts.{count_all}
@@ -160,13 +160,13 @@ module _ (cells : Cells) (stands : Stands cells) where
       (elim narrowed.above [ inl h ↦ inl (ap (begins_below base) (sym (entry_at place within)) ∙ h) | inr h ↦ inr h ])
       ∙ sym (ap (slot_for base) entries_are)
 
-  -- a slot in use is of a node, at its spot
+  -- a slot in use is of a node, at its position
   record OfNode (slot : ℕ) : Type 0 where
-    spot : Spot
+    position : Position
     node : Node
     nodes : List Node
     slot_is : node.slot ≡ slot
-    was : Represents cells (record stands.layout { areas = filled spot (node ∷ nodes) })
+    was : Represents cells (record stands.layout { areas = filled position (node ∷ nodes) })
     fits : length (node ∷ nodes) ≤ length cells.records
 
   of_node : (slot : ℕ) → 1 ≤ uses_in (record_at cells.records slot).state → OfNode slot
@@ -177,7 +177,7 @@ module _ (cells : Cells) (stands : Stands cells) where
       let was = subst P (ap (λ areas. record stands.layout { areas = areas }) found.whole) stands.represented in
       let all : Node → Bool = λ n. true in
       record {
-        spot = found.spot;
+        position = found.position;
         node = found.node;
         nodes = found.nodes;
         slot_is = eqb-true found.node.slot slot found.passes;
@@ -187,7 +187,7 @@ module _ (cells : Cells) (stands : Stands cells) where
           few cells stands.layout stands.represented,
           count_all (nodes_of stands.layout.areas),
           ap (λ areas. count_by all (nodes_of areas)) found.whole,
-          count-filled all found.spot (found.node ∷ found.nodes),
+          count-filled all found.position (found.node ∷ found.nodes),
           count_all (found.node ∷ found.nodes),
         );
       }
@@ -198,11 +198,11 @@ module _ (cells : Cells) (stands : Stands cells) where
   used_one Live used = omega arith
 
   -- the rows behind a node are those of the nodes behind it
-  rows_behind : (spot : Spot) (node : Node) (nodes : List Node) → AreChains (pool_views cells.records) (filled spot (node ∷ nodes)) stands.layout.taken → length nodes ≤ length cells.records
+  rows_behind : (position : Position) (node : Node) (nodes : List Node) → AreChains (pool_views cells.records) (filled position (node ∷ nodes)) stands.layout.taken → length nodes ≤ length cells.records
       → rest_of (rows_by cells.records) (first_slot nodes) ≡ map (row_at cells.records) (map (λ n. n.slot) nodes)
-  rows_behind spot node [] was fits = refl
-  rows_behind spot node (next ∷ nodes) was fits =
-      let beyond : Spot = record spot { before = node ∷ spot.before } in
+  rows_behind position node [] was fits = refl
+  rows_behind position node (next ∷ nodes) was fits =
+      let beyond : Position = record position { before = node ∷ position.before } in
       let here : AtNode cells.records beyond next nodes stands.layout.taken = at_node cells.records beyond next nodes stands.layout.taken was in
       rows_linked cells.records (Some node.slot) next nodes fits (linked_at (pool_views cells.records) beyond (next ∷ nodes) stands.layout.taken was) (node_is_used cells.records beyond next nodes stands.layout.taken here).1
 
@@ -210,10 +210,10 @@ module _ (cells : Cells) (stands : Stands cells) where
   pub row_then_rest : (slot : ℕ) → IsUsed cells.records (Some slot) → rest_of (rows_by cells.records) (Some slot) ≡ row_at cells.records slot ∷ rest_of (rows_by cells.records) (record_at cells.records slot).next
   row_then_rest slot used =
       let of : OfNode slot = of_node slot (used_one (record_at cells.records slot).state used.1) in
-      let here : AtNode cells.records of.spot of.node of.nodes stands.layout.taken = at_node cells.records of.spot of.node of.nodes stands.layout.taken of.was.chains in
-      let rows = rows_linked cells.records (first_slot of.spot.before) of.node of.nodes of.fits (linked_at (pool_views cells.records) of.spot (of.node ∷ of.nodes) stands.layout.taken of.was.chains)
-      (node_is_used cells.records of.spot of.node of.nodes stands.layout.taken here).1 in
-      let behind = rows_behind of.spot of.node of.nodes of.was.chains (omega (arith, of.fits)) in
+      let here : AtNode cells.records of.position of.node of.nodes stands.layout.taken = at_node cells.records of.position of.node of.nodes stands.layout.taken of.was.chains in
+      let rows = rows_linked cells.records (first_slot of.position.before) of.node of.nodes of.fits (linked_at (pool_views cells.records) of.position (of.node ∷ of.nodes) stands.layout.taken of.was.chains)
+      (node_is_used cells.records of.position of.node of.nodes stands.layout.taken here).1 in
+      let behind = rows_behind of.position of.node of.nodes of.was.chains (omega (arith, of.fits)) in
       let next : first_slot of.nodes ≡ (record_at cells.records of.node.slot).next = sym (ap (λ (v : InPool). v.next) here.says) in
       let P : ℕ → Type 0 = λ q. rest_of (rows_by cells.records) (Some q) ≡ row_at cells.records q ∷ rest_of (rows_by cells.records) (record_at cells.records q).next in
       subst P of.slot_is (rows ∙ ap (λ rs. row_at cells.records of.node.slot ∷ rs) (sym behind) ∙ ap (λ o. row_at cells.records of.node.slot ∷ rest_of (rows_by cells.records) o) next)
@@ -227,7 +227,7 @@ module _ (cells : Cells) (stands : Stands cells) where
       let of : OfNode slot = of_node slot (used_one (record_at cells.records slot).state used.1) in
       let P : ℕ → Type 0 = λ q. stands_at (rows_by cells.records) (record_at cells.records q).next in
       subst P of.slot_is (used_stands (record_at cells.records of.node.slot).next
-      (next_used cells.records of.spot of.node of.nodes stands.layout.taken (at_node cells.records of.spot of.node of.nodes stands.layout.taken of.was.chains)))
+      (next_used cells.records of.position of.node of.nodes stands.layout.taken (at_node cells.records of.position of.node of.nodes stands.layout.taken of.was.chains)))
 
   -- where rows stand from a slot on, it is in use
   pub stands_used : (slot : ℕ) → stands_at (rows_by cells.records) (Some slot) → IsUsed cells.records (Some slot)

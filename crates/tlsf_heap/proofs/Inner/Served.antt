@@ -74,7 +74,7 @@ module _ (cells : Cells) (stands : Stands cells) (place slot asked : ℕ) (by : 
   served new rest s status left_at after settled kept same_left room =
       let given = gives room in
       let is : content_by (layout_at left_at) ≡ allocated slot place asked by.at.node.size (content_of cells) =
-      ap content_by same_left ∙ allocated_is by.at.count by.at.spot (turned Listed by.at.node) by.at.nodes by.at.lists (node_told cells stands place slot Listed by) rest asked by.at.taken by.at.taken ∙ renamed asked in
+      ap content_by same_left ∙ allocated_is by.at.count by.at.position (turned Listed by.at.node) by.at.nodes by.at.lists (node_told cells stands place slot Listed by) rest asked by.at.taken by.at.taken ∙ renamed asked in
       let after_all = stands_with new s status left_at (allocated slot place asked by.at.node.size (content_of cells)) after settled (kept ∙ node_taken cells stands place slot Listed by) is given.1 in
       (after_all.0, given.0 ∙ ap (λ x. Ok (place, x)) (sym after_all.1))
 
@@ -112,16 +112,16 @@ slot_new cells stands place slot by =
     omega (
       arith,
       blocks,
-      count-filled owns at.spot (at.node ∷ at.nodes),
+      count-filled owns at.position (at.node ∷ at.nodes),
       count-cons owns at.node at.nodes,
       free,
-      owners_few slot (nodes_of at.spot.areas_before),
-      owners_few slot at.spot.before,
-      owners_few slot (nodes_of at.spot.areas_behind),
+      owners_few slot (nodes_of at.position.areas_before),
+      owners_few slot at.position.before,
+      owners_few slot (nodes_of at.position.areas_behind),
       owners_few slot at.nodes,
       by.stands.0.chains.once slot,
       uses_most (record_at cells.records slot).state,
-      count-filled (has_slot slot) at.spot (at.node ∷ at.nodes),
+      count-filled (has_slot slot) at.position (at.node ∷ at.nodes),
       count-cons (has_slot slot) at.node at.nodes,
       ap one_if (eq-eqb at.node.slot slot by.stands.1.slot_is),
     )

@@ -11,7 +11,7 @@ use Rattle.tlsf_heap.specs.Inner.Edits.{edited_in}
 use Rattle.tlsf_heap.specs.Inner.Chains.{rest_record, split}
 use Rattle.tlsf_heap.specs.Good.{times}
 use Rattle.tlsf_heap.specs.Inner.Nodes.{Node, rest_node, has_slot, list_of, is_listed, is_listed_in}
-use Rattle.tlsf_heap.specs.Inner.Spots.{Spot, laid, filled}
+use Rattle.tlsf_heap.specs.Inner.Positions.{Position, laid, filled}
 use Rattle.tlsf_heap.specs.Inner.Represents.{InPool, pool_view, list_view, pool_views, list_views, in_pool, first_slot, uses_in, Represented, Represents}
 use Rattle.tlsf_heap.proofs.Counts.{one_if, count-cons}
 use Rattle.tlsf_heap.proofs.Inner.Plugs.{around}
@@ -20,8 +20,8 @@ use Rattle.tlsf_heap.proofs.Inner.Reads.{length-edited, edited_here, edited_apar
 use Rattle.tlsf_heap.proofs.Content.FreeLists.{times-cons}
 use Rattle.tlsf_heap.proofs.Inner.Chains.{not_taken, unlisted, listed_within, AtNode, at_node, refilled}
 
-module _ (cells : Cells) (count : ℕ) (spot : Spot) (node : Node) (nodes : List Node) (lists : List (List Node)) (rest : ℕ) (taken : List ℕ) (bytes : ℕ)
-    (was : Represents cells (laid count spot (node ∷ nodes) lists (rest ∷ taken))) (was_not : is_listed node.status ≡ false) where
+module _ (cells : Cells) (count : ℕ) (position : Position) (node : Node) (nodes : List Node) (lists : List (List Node)) (rest : ℕ) (taken : List ℕ) (bytes : ℕ)
+    (was : Represents cells (laid count position (node ∷ nodes) lists (rest ∷ taken))) (was_not : is_listed node.status ≡ false) where
   abbrev old : Record
   old = record_at cells.records node.slot
 
@@ -37,8 +37,8 @@ module _ (cells : Cells) (count : ℕ) (spot : Spot) (node : Node) (nodes : List
   abbrev new : List Record
   new = edited_in moved (first_slot nodes) two
 
-  here : AtNode cells.records spot node nodes (rest ∷ taken)
-  here = at_node cells.records spot node nodes (rest ∷ taken) was.chains
+  here : AtNode cells.records position node nodes (rest ∷ taken)
+  here = at_node cells.records position node nodes (rest ∷ taken) was.chains
 
   rest_counts : 1 ≤ times rest (rest ∷ taken)
   rest_counts = omega (arith, times-cons rest rest taken, ap one_if (eq-eqb rest rest refl))
@@ -49,7 +49,7 @@ module _ (cells : Cells) (count : ℕ) (spot : Spot) (node : Node) (nodes : List
   same_count : length two ≡ length cells.records
   same_count = length-set (set cells.records rest (rest_record node.slot bytes old)) node.slot kept ∙ length-set cells.records rest (rest_record node.slot bytes old)
 
-  rest_apart : (q : ℕ) → 1 ≤ around (has_slot q) spot + count_by (has_slot q) (node ∷ nodes) → q ≢ rest
+  rest_apart : (q : ℕ) → 1 ≤ around (has_slot q) position + count_by (has_slot q) (node ∷ nodes) → q ≢ rest
   rest_apart q h = (not_taken q rest taken (omega (arith, h, here.most q))).0
 
   behind_rest_apart : (q : ℕ) → 1 ≤ count_by (has_slot q) nodes → q ≢ rest
@@ -86,13 +86,13 @@ module _ (cells : Cells) (count : ℕ) (spot : Spot) (node : Node) (nodes : List
   listed_same : (number q : ℕ) → 1 ≤ count_by (has_slot q) (list_of number lists) → list_views new q ≡ list_views cells.records q
   listed_same number q h =
       seen list_view (λ r. refl) refl q (ap list_view (record_at-set_other cells.records rest q _
-      (not_taken q rest taken (omega (arith, h, listed_within (filled spot (node ∷ nodes)) lists was.agree number q, was.chains.once q, here.most q, here.once q))).0))
+      (not_taken q rest taken (omega (arith, h, listed_within (filled position (node ∷ nodes)) lists was.agree number q, was.chains.once q, here.most q, here.once q))).0))
 
-  split_before : Represented new cells.heads cells.level_word cells.step_words cells.pools (laid count spot (record node { size = bytes } ∷ rest_node rest bytes node ∷ nodes) lists taken)
+  split_before : Represented new cells.heads cells.level_word cells.step_words cells.pools (laid count position (record node { size = bytes } ∷ rest_node rest bytes node ∷ nodes) lists taken)
   split_before =
       let first : Node = record node { size = bytes } in
       let second : Node = rest_node rest bytes node in
-      refilled cells count spot (node ∷ nodes) (first ∷ second ∷ nodes) lists (rest ∷ taken) taken new was (length-edited moved (first_slot nodes) two ∙ same_count)
+      refilled cells count position (node ∷ nodes) (first ∷ second ∷ nodes) lists (rest ∷ taken) taken new was (length-edited moved (first_slot nodes) two ∙ same_count)
       (λ q h. not_first q (omega (arith, h, here.most q, count-cons (has_slot q) node nodes)) ∙ others q (here.outside_apart q h) (rest_apart q (omega (arith, h))))
       refl (
         ap pool_view at_slot ∙ ap (λ (v : InPool). record v { size = bytes; next = Some rest }) here.says,
@@ -112,8 +112,8 @@ module _ (cells : Cells) (count : ℕ) (spot : Spot) (node : Node) (nodes : List
       let listed : Node → Bool = λ other. is_listed_in number other && test other in
       omega (arith, count-cons listed node nodes, count-cons listed first (second ∷ nodes), count-cons listed second nodes, unlisted number test node was_not, unlisted number test first was_not, unlisted number test second refl))
 
-  pub split_laid : Represents (split node.slot rest bytes cells) (laid count spot (record node { size = bytes } ∷ rest_node rest bytes node ∷ nodes) lists taken)
+  pub split_laid : Represents (split node.slot rest bytes cells) (laid count position (record node { size = bytes } ∷ rest_node rest bytes node ∷ nodes) lists taken)
   split_laid =
       let P : Option ℕ → Type 0 = λ next.
-      Represented (edited_in moved next two) cells.heads cells.level_word cells.step_words cells.pools (laid count spot (record node { size = bytes } ∷ rest_node rest bytes node ∷ nodes) lists taken) in
+      Represented (edited_in moved next two) cells.heads cells.level_word cells.step_words cells.pools (laid count position (record node { size = bytes } ∷ rest_node rest bytes node ∷ nodes) lists taken) in
       subst P (sym (ap (λ (v : InPool). v.next) here.says)) split_before

@@ -1,4 +1,4 @@
--- A node at a spot that changes its state or enters its list: what the steps need and leave.
+-- A node at a position that changes its state or enters its list: what the steps need and leave.
 use Rattle.std.proofs.Common.{◌≡◌, ℕ, false, ◌∷◌, map, refl, sym, ap, ◌∙◌, subst, Some}
 use Rattle.tlsf_class.specs.Classes.{class}
 use Rattle.tlsf_store.specs.Records.{record_at}
@@ -17,13 +17,13 @@ use Rattle.tlsf_heap.proofs.Inner.Linked.{linked_laid}
 use Rattle.tlsf_heap.proofs.Meaning.Covered.{node_whole, covered_refilled}
 
 module _ (cells : Cells) (slot : ℕ) (status : Status) (at : At) (stands : StandsAt slot status cells at) where
-  here : AtNode cells.records at.spot at.node at.nodes at.taken
-  here = at_node cells.records at.spot at.node at.nodes at.taken stands.0.chains
+  here : AtNode cells.records at.position at.node at.nodes at.taken
+  here = at_node cells.records at.position at.node at.nodes at.taken stands.0.chains
 
   pub slot_used : IsUsed cells.records (Some slot)
   slot_used =
       let P : ℕ → Type 0 = λ q. IsUsed cells.records (Some q) in
-      subst P stands.1.slot_is (node_is_used cells.records at.spot at.node at.nodes at.taken here)
+      subst P stands.1.slot_is (node_is_used cells.records at.position at.node at.nodes at.taken here)
 
   pub size_read : (record_at cells.records slot).size ≡ at.node.size
   size_read = ap (λ q. (record_at cells.records q).size) (sym stands.1.slot_is) ∙ ap (λ (v : InPool). v.size) here.says
@@ -32,19 +32,19 @@ module _ (cells : Cells) (slot : ℕ) (status : Status) (at : At) (stands : Stan
   place_read = ap (λ q. (record_at cells.records q).place) (sym stands.1.slot_is) ∙ ap (λ (v : InPool). v.place) here.says
 
   pub whole_at : IsWhole (block_of at.node)
-  whole_at = node_whole at.spot at.node at.nodes stands.1.covered
+  whole_at = node_whole at.position at.node at.nodes stands.1.covered
 
   pub first_used : IsUsed cells.records (head_at cells.heads (class at.node.size))
   first_used = head_used cells (layout_at at) at.node stands.0
 
   -- the node in another status covers the same
   pub covered_turned : (new : Status) → AreCovered 0 (map pool_of (areas_at (at_turned new at)))
-  covered_turned new = covered_refilled at.spot (at.node ∷ at.nodes) (turned new at.node ∷ at.nodes) (λ from to c. c) stands.1.covered
+  covered_turned new = covered_refilled at.position (at.node ∷ at.nodes) (turned new at.node ∷ at.nodes) (λ from to c. c) stands.1.covered
 
   pub turned_stands : (new : Status) → is_listed status ≡ false → is_listed new ≡ false → StandsAt slot new (with_state slot (state_of new) cells) (at_turned new at)
   turned_stands new was_not is_not =
       let P : ℕ → Type 0 = λ q. Represents (with_state q (state_of new) cells) (layout_at (at_turned new at)) in (
-        subst P stands.1.slot_is (state_set cells at.count at.spot at.node at.nodes at.lists at.taken stands.0 new (ap is_listed stands.1.status_is ∙ was_not) is_not),
+        subst P stands.1.slot_is (state_set cells at.count at.position at.node at.nodes at.lists at.taken stands.0 new (ap is_listed stands.1.status_is ∙ was_not) is_not),
         record { slot_is = stands.1.slot_is; status_is = refl; others_settled = stands.1.others_settled; covered = covered_turned new },
       )
 
@@ -54,6 +54,6 @@ listed_stands cells slot at stands =
     let P : Node → Type 0 = λ n. Represents cells (layout_at (record at { node = n })) in
     let Q : ℕ → Type 0 = λ q. Represents (linked (class at.node.size) q cells) (layout_at (at_listed at)) in
     let loose : at.node ≡ turned Loose at.node = ap (λ s. turned s at.node) stands.1.status_is in (
-      subst Q stands.1.slot_is (linked_laid cells at.count at.spot at.node at.nodes at.lists at.taken (subst P loose stands.0)),
+      subst Q stands.1.slot_is (linked_laid cells at.count at.position at.node at.nodes at.lists at.taken (subst P loose stands.0)),
       record { slot_is = stands.1.slot_is; status_is = refl; others_settled = stands.1.others_settled; covered = covered_turned cells slot Loose at stands Listed },
     )

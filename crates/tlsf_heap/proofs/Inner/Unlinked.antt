@@ -11,7 +11,7 @@ use Rattle.tlsf_heap.specs.Inner.Bitmaps.{AreBitmapsOf, head_bit}
 use Rattle.tlsf_heap.specs.Inner.Entries.{padded}
 use Rattle.tlsf_heap.specs.Inner.Edits.{edited_in, without_bit, IsUsed, with_prev_free, with_behind, with_level_cleared, unlinked}
 use Rattle.tlsf_heap.specs.Inner.Nodes.{Node, Area, Listed, Loose, turned, nodes_of, has_slot, list_of, is_listed_in, without_slot, left}
-use Rattle.tlsf_heap.specs.Inner.Spots.{plug, Spot, laid, filled}
+use Rattle.tlsf_heap.specs.Inner.Positions.{plug, Position, laid, filled}
 use Rattle.tlsf_heap.specs.Inner.Represents.{InList, pool_view, list_view, pool_views, list_views, in_list, first_slot, AreLinked, AreChains, Agree, Represented, Represents}
 use Rattle.tlsf_heap.proofs.Bits.Edits.{bits_kept, bits_cleared}
 use Rattle.tlsf_heap.proofs.Counts.{one_if, count-cons, count-plug, count_but, filter_one, Split, split_at}
@@ -29,7 +29,7 @@ cleared_is level word cells = elim (eqb word 0) as (λ b. cond b (with_level_wor
   | false ↦ refl
 ]
 
-module _ (cells : Cells) (count : ℕ) (spot : Spot) (node : Node) (nodes : List Node) (lists : List (List Node)) (taken : List ℕ) (was : Represents cells (laid count spot (turned Listed node ∷ nodes) lists taken)) where
+module _ (cells : Cells) (count : ℕ) (position : Position) (node : Node) (nodes : List Node) (lists : List (List Node)) (taken : List ℕ) (was : Represents cells (laid count position (turned Listed node ∷ nodes) lists taken)) where
   abbrev number : ℕ
   number = class node.size
 
@@ -37,7 +37,7 @@ module _ (cells : Cells) (count : ℕ) (spot : Spot) (node : Node) (nodes : List
   list = list_of (class node.size) lists
 
   abbrev areas : List Area
-  areas = filled spot (turned Listed node ∷ nodes)
+  areas = filled position (turned Listed node ∷ nodes)
 
   abbrev new : List Node → List Node → List Record
   new front behind = edited_in (λ r. record r { next_free = first_slot behind }) (first_slot front) (edited_in (λ r. record r { prev_free = first_slot front }) (first_slot behind) cells.records)
@@ -52,7 +52,7 @@ module _ (cells : Cells) (count : ℕ) (spot : Spot) (node : Node) (nodes : List
   stands =
       let listed : Node → Bool = λ n. is_listed_in (class node.size) n && has_slot node.slot n in
       let own : one_if (listed (turned Listed node)) ≡ 1 = rw (eq-eqb (class node.size) (class node.size) refl, eq-eqb node.slot node.slot refl) refl in
-      omega (arith, was.agree (class node.size) (has_slot node.slot), count-filled listed spot (turned Listed node ∷ nodes), count-cons listed (turned Listed node) nodes, own)
+      omega (arith, was.agree (class node.size) (has_slot node.slot), count-filled listed position (turned Listed node ∷ nodes), count-cons listed (turned Listed node) nodes, own)
 
   -- the list at the node, whose copy stands there
   module _ (front : List Node) (item : Node) (behind : List Node) (whole : list ≡ plug front (item ∷ behind)) (own : item.slot ≡ node.slot) where
@@ -114,18 +114,18 @@ module _ (cells : Cells) (count : ℕ) (spot : Spot) (node : Node) (nodes : List
         (λ e. omega (arith, h, first_stands behind q e, counts q, slots_few q, lists_apart areas lists other (class node.size) q was.agree apart)))
         (was.index.linked other))
 
-    agrees : Agree (filled spot (turned Loose node ∷ nodes)) (left node lists)
+    agrees : Agree (filled position (turned Loose node ∷ nodes)) (left node lists)
     agrees other test =
         let listed : Node → Bool = λ n. is_listed_in other n && test n in
         let but : Node → Bool = λ n. is_listed_in other n && (not (has_slot node.slot n) && test n) in
-        let most = slots_most (pool_views cells.records) spot (turned Listed node ∷ nodes) taken was.chains node.slot in
+        let most = slots_most (pool_views cells.records) position (turned Listed node ∷ nodes) taken was.chains node.slot in
         let here = count-cons (has_slot node.slot) (turned Listed node) nodes in
         let own_too = ap one_if (eq-eqb node.slot node.slot refl) in
-        let loose = count-filled listed spot (turned Loose node ∷ nodes) in
+        let loose = count-filled listed position (turned Loose node ∷ nodes) in
         let loose_here = count-cons listed (turned Loose node) nodes in
         elim (cases_eq other (class node.size)) [
           | inl same ↦
-              let P : ℕ → Type 0 = λ n. count_by test (list_of n (left node lists)) ≡ count_by (λ m. is_listed_in n m && test m) (nodes_of (filled spot (turned Loose node ∷ nodes))) in
+              let P : ℕ → Type 0 = λ n. count_by test (list_of n (left node lists)) ≡ count_by (λ m. is_listed_in n m && test m) (nodes_of (filled position (turned Loose node ∷ nodes))) in
               let in_it : Node → Bool = λ n. is_listed_in (class node.size) n && test n in
               let in_but : Node → Bool = λ n. is_listed_in (class node.size) n && (not (has_slot node.slot n) && test n) in
               let not_own : one_if (in_but (turned Listed node)) ≡ 0 = rw (eq-eqb (class node.size) (class node.size) refl, eq-eqb node.slot node.slot refl) refl in
@@ -133,37 +133,37 @@ module _ (cells : Cells) (count : ℕ) (spot : Spot) (node : Node) (nodes : List
                 arith,
                 count-left_same node lists was.index.lists_count test,
                 was.agree (class node.size) (λ n. not (has_slot node.slot n) && test n),
-                count-filled in_but spot (turned Listed node ∷ nodes),
+                count-filled in_but position (turned Listed node ∷ nodes),
                 count-cons in_but (turned Listed node) nodes,
                 not_own,
-                count-filled in_it spot (turned Loose node ∷ nodes),
+                count-filled in_it position (turned Loose node ∷ nodes),
                 count-cons in_it (turned Loose node) nodes,
-                count_but (is_listed_in (class node.size)) test (has_slot node.slot) (nodes_of spot.areas_before) (omega (arith, most, here, own_too)),
-                count_but (is_listed_in (class node.size)) test (has_slot node.slot) spot.before (omega (arith, most, here, own_too)),
-                count_but (is_listed_in (class node.size)) test (has_slot node.slot) (nodes_of spot.areas_behind) (omega (arith, most, here, own_too)),
+                count_but (is_listed_in (class node.size)) test (has_slot node.slot) (nodes_of position.areas_before) (omega (arith, most, here, own_too)),
+                count_but (is_listed_in (class node.size)) test (has_slot node.slot) position.before (omega (arith, most, here, own_too)),
+                count_but (is_listed_in (class node.size)) test (has_slot node.slot) (nodes_of position.areas_behind) (omega (arith, most, here, own_too)),
                 count_but (is_listed_in (class node.size)) test (has_slot node.slot) nodes (omega (arith, most, here, own_too)),
               ))
           | inr apart ↦
               let elsewhere : one_if (listed (turned Listed node)) ≡ 0 = ap (λ b. one_if (b && test (turned Listed node))) (ne_eqb (class node.size) other (λ e. apart (sym e))) in
-              omega (arith, count-left_other node lists was.index.lists_count other test apart, was.agree other test, count-filled listed spot (turned Listed node ∷ nodes), count-cons listed (turned Listed node) nodes, elsewhere, loose, loose_here)
+              omega (arith, count-left_other node lists was.index.lists_count other test apart, was.agree other test, count-filled listed position (turned Listed node ∷ nodes), count-cons listed (turned Listed node) nodes, elsewhere, loose, loose_here)
         ]
 
-    chains_after : AreChains (pool_views (new front behind)) (filled spot (turned Loose node ∷ nodes)) taken
+    chains_after : AreChains (pool_views (new front behind)) (filled position (turned Loose node ∷ nodes)) taken
     chains_after =
         let same : pool_views (new front behind) ≡ pool_views cells.records = λ i q. (edited_kept pool_view (λ r. record r { next_free = next }) (λ r. refl) prev (edited_in (λ r. record r { prev_free = prev }) next cells.records) q
         ∙ edited_kept pool_view (λ r. record r { prev_free = prev }) (λ r. refl) next cells.records q) i in
-        chains_turned (pool_views cells.records) (pool_views (new front behind)) spot node nodes Listed Loose taken refl same was.chains
+        chains_turned (pool_views cells.records) (pool_views (new front behind)) position node nodes Listed Loose taken refl same was.chains
 
     -- with these heads and bitmaps
     after : (heads : List (Option ℕ)) (level_word : ℕ) (step_words : List ℕ) → heads ≡ set (map first_slot lists) (class node.size) (first_slot (plug front behind)) → length step_words ≡ length cells.step_words → AreBitmapsOf heads step_words level_word
-        → Represented (new front behind) heads level_word step_words cells.pools (laid count spot (turned Loose node ∷ nodes) (left node lists) taken)
+        → Represented (new front behind) heads level_word step_words cells.pools (laid count position (turned Loose node ∷ nodes) (left node lists) taken)
     unfolding left
     after heads level_word step_words heads_are words_are bitmaps =
         let lists_are : set lists (class node.size) (plug front behind) ≡ left node lists = ap (set lists (class node.size)) (sym without_is) in
         let P : List (List Node) → Type 0 = λ ls. (other : ℕ) → AreLinked in_list (list_views (new front behind)) None (list_of other ls) in
         record {
           count = length-edited (λ r. record r { next_free = next }) prev (edited_in (λ r. record r { prev_free = prev }) next cells.records) ∙ length-edited (λ r. record r { prev_free = prev }) next cells.records ∙ was.count;
-          entries = was.entries ∙ ap padded (sym (entries-filled spot (turned Listed node ∷ nodes) (turned Loose node ∷ nodes)));
+          entries = was.entries ∙ ap padded (sym (entries-filled position (turned Listed node ∷ nodes) (turned Loose node ∷ nodes)));
           chains = chains_after;
           index = record {
             heads_are = heads_are ∙ sym (heads-written node lists was.index.lists_count (plug front behind)) ∙ ap (map first_slot) lists_are;
@@ -183,7 +183,7 @@ module _ (cells : Cells) (count : ℕ) (spot : Spot) (node : Node) (nodes : List
 
   -- wherever it stands
   unlinked_between : (front : List Node) (item : Node) (behind : List Node) → list ≡ plug front (item ∷ behind) → item.slot ≡ node.slot
-      → Represents (with_behind (class node.size) (first_slot front) (first_slot behind) (with_prev_free (first_slot behind) (first_slot front) cells)) (laid count spot (turned Loose node ∷ nodes) (left node lists) taken)
+      → Represents (with_behind (class node.size) (first_slot front) (first_slot behind) (with_prev_free (first_slot behind) (first_slot front) cells)) (laid count position (turned Loose node ∷ nodes) (left node lists) taken)
   unlinked_between (f ∷ front) item behind whole own =
       let same : first_slot (plug (f ∷ front) behind) ≡ get_or (map first_slot lists) (class node.size) None = first-plug front (f ∷ behind) (f ∷ item ∷ behind) refl ∙ sym (head_of node lists was.index.lists_count ∙ ap first_slot whole) in
       after (f ∷ front) item behind whole own cells.heads cells.level_word cells.step_words
@@ -193,19 +193,19 @@ module _ (cells : Cells) (count : ℕ) (spot : Spot) (node : Node) (nodes : List
       (bits_kept cells.heads cells.step_words cells.level_word (class node.size) (heads_count [] item (b ∷ behind) whole own) was.index.words_count (class-lt node.size) was.index.bitmaps b.slot (ap head_bit (head_is [] item (b ∷ behind) whole own)))
   unlinked_between [] item [] whole own =
       let word : ℕ = without_bit (get_or cells.step_words (class node.size / steps) 0) (class node.size % steps) in
-      let P : Cells → Type 0 = λ c. Represents c (laid count spot (turned Loose node ∷ nodes) (left node lists) taken) in
+      let P : Cells → Type 0 = λ c. Represents c (laid count position (turned Loose node ∷ nodes) (left node lists) taken) in
       subst P (sym (cleared_is (class node.size / steps) word (with_step_word (with_head cells (class node.size) None) (class node.size / steps) word)))
       (after [] item [] whole own (set cells.heads (class node.size) None) (cond (eqb word 0) (without_bit cells.level_word (class node.size / steps)) cells.level_word) (set cells.step_words (class node.size / steps) word)
       (ap (λ heads. set heads (class node.size) None) was.index.heads_are) (length-set cells.step_words (class node.size / steps) word)
       (bits_cleared cells.heads cells.step_words cells.level_word (class node.size) (heads_count [] item [] whole own) was.index.words_count (class-lt node.size) was.index.bitmaps (ap head_bit (head_is [] item [] whole own))))
 
-  pub unlinked_laid : Represents (unlinked (class node.size) node.slot cells) (laid count spot (turned Loose node ∷ nodes) (left node lists) taken)
+  pub unlinked_laid : Represents (unlinked (class node.size) node.slot cells) (laid count position (turned Loose node ∷ nodes) (left node lists) taken)
   unlinked_laid =
       let at : Split (has_slot node.slot) list = split_at (has_slot node.slot) list stands in
       let own : at.item.slot ≡ node.slot = eqb-true at.item.slot node.slot at.passes in
       let said : list_views cells.records node.slot ≡ in_list (first_slot at.front) at.item (first_slot at.behind) = says at.front at.item at.behind at.whole own in
-      let P : Option ℕ → Type 0 = λ prev. Represents (with_behind (class node.size) prev (record_at cells.records node.slot).next_free (with_prev_free (record_at cells.records node.slot).next_free prev cells)) (laid count spot (turned Loose node ∷ nodes) (left node lists) taken) in
-      let Q : Option ℕ → Type 0 = λ next. Represents (with_behind (class node.size) (first_slot at.front) next (with_prev_free next (first_slot at.front) cells)) (laid count spot (turned Loose node ∷ nodes) (left node lists) taken) in
+      let P : Option ℕ → Type 0 = λ prev. Represents (with_behind (class node.size) prev (record_at cells.records node.slot).next_free (with_prev_free (record_at cells.records node.slot).next_free prev cells)) (laid count position (turned Loose node ∷ nodes) (left node lists) taken) in
+      let Q : Option ℕ → Type 0 = λ next. Represents (with_behind (class node.size) (first_slot at.front) next (with_prev_free next (first_slot at.front) cells)) (laid count position (turned Loose node ∷ nodes) (left node lists) taken) in
       subst P (sym (ap (λ (v : InList). v.prev) said)) (subst Q (sym (ap (λ (v : InList). v.next) said)) (unlinked_between at.front at.item at.behind at.whole own))
 
   -- those beside it in its list are in use
@@ -215,7 +215,7 @@ module _ (cells : Cells) (count : ℕ) (spot : Spot) (node : Node) (nodes : List
       let own : at.item.slot ≡ node.slot = eqb-true at.item.slot node.slot at.passes in
       let P : Option ℕ → Type 0 = λ o. IsUsed cells.records o in
       subst P (sym (ap (λ (v : InList). v.prev) (says at.front at.item at.behind at.whole own)))
-      (listed_used cells (laid count spot (turned Listed node ∷ nodes) lists taken) (class node.size) (first_slot at.front) was (λ q e. omega (arith, first_stands at.front q e, counts at.front at.item at.behind at.whole own q)))
+      (listed_used cells (laid count position (turned Listed node ∷ nodes) lists taken) (class node.size) (first_slot at.front) was (λ q e. omega (arith, first_stands at.front q e, counts at.front at.item at.behind at.whole own q)))
 
   pub next_free_used : IsUsed cells.records (record_at cells.records node.slot).next_free
   next_free_used =
@@ -223,4 +223,4 @@ module _ (cells : Cells) (count : ℕ) (spot : Spot) (node : Node) (nodes : List
       let own : at.item.slot ≡ node.slot = eqb-true at.item.slot node.slot at.passes in
       let P : Option ℕ → Type 0 = λ o. IsUsed cells.records o in
       subst P (sym (ap (λ (v : InList). v.next) (says at.front at.item at.behind at.whole own)))
-      (listed_used cells (laid count spot (turned Listed node ∷ nodes) lists taken) (class node.size) (first_slot at.behind) was (λ q e. omega (arith, first_stands at.behind q e, counts at.front at.item at.behind at.whole own q)))
+      (listed_used cells (laid count position (turned Listed node ∷ nodes) lists taken) (class node.size) (first_slot at.behind) was (λ q e. omega (arith, first_stands at.behind q e, counts at.front at.item at.behind at.whole own q)))

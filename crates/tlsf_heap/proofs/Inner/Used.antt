@@ -9,7 +9,7 @@ use Rattle.tlsf_store.specs.Cells.{Cells, head_at}
 use Rattle.tlsf_heap.specs.Good.{times}
 use Rattle.tlsf_heap.specs.Inner.Edits.{IsUsed}
 use Rattle.tlsf_heap.specs.Inner.Nodes.{Node, Layout, nodes_of, has_slot, list_of}
-use Rattle.tlsf_heap.specs.Inner.Spots.{Spot}
+use Rattle.tlsf_heap.specs.Inner.Positions.{Position}
 use Rattle.tlsf_heap.specs.Inner.Represents.{InPool, first_slot, uses_in, Represents}
 use Rattle.tlsf_heap.proofs.Counts.{count-cons}
 use Rattle.tlsf_heap.proofs.Inner.Links.{first_stands}
@@ -43,7 +43,7 @@ head_used cells layout node was =
     subst P (sym (ap (λ heads. head_at heads (class node.size)) was.index.heads_are ∙ head_of node layout.lists was.index.lists_count))
     (listed_used cells layout (class node.size) (first_slot (list_of (class node.size) layout.lists)) was (λ q e. first_stands (list_of (class node.size) layout.lists) q e))
 
-module _ (records : List Record) (spot : Spot) (node : Node) (nodes : List Node) (taken : List ℕ) (here : AtNode records spot node nodes taken) where
+module _ (records : List Record) (position : Position) (node : Node) (nodes : List Node) (taken : List ℕ) (here : AtNode records position node nodes taken) where
   pub node_is_used : IsUsed records (Some node.slot)
   node_is_used = is_used records node.slot (omega (arith, here.used))
 
@@ -56,4 +56,4 @@ module _ (records : List Record) (spot : Spot) (node : Node) (nodes : List Node)
   pub prev_used : IsUsed records (record_at records node.slot).prev
   prev_used =
       let P : Option ℕ → Type 0 = λ o. IsUsed records o in
-      subst P (sym (ap (λ (v : InPool). v.prev) here.says)) (option_used records (first_slot spot.before) (λ q e. omega (arith, here.once q, first_stands spot.before q e)))
+      subst P (sym (ap (λ (v : InPool). v.prev) here.says)) (option_used records (first_slot position.before) (λ q e. omega (arith, here.once q, first_stands position.before q e)))

@@ -1,4 +1,4 @@
--- What a layout stands for after the node at a spot was carved: for an alignment, or as malloc cuts it.
+-- What a layout stands for after the node at a position was carved: for an alignment, or as malloc cuts it.
 use Rattle.std.proofs.Common.{◌≡◌, ℕ, ◌+◌, ◌-◌, List, [], ◌∷◌, ◌++◌, length, map, refl, sym, ap, ◌∙◌, arith, true, false, cond}
 use Rattle.std.proofs.lemmas.List.{map-append, append_assoc}
 use Rattle.tlsf_class.specs.Classes.{classes}
@@ -7,7 +7,7 @@ use Rattle.tlsf_heap.specs.Lists.{unlink}
 use Rattle.tlsf_heap.specs.Malloc.{gap, link_gap, replaced_in, cut, allocated}
 use Rattle.tlsf_heap.specs.Memalign.{aligned}
 use Rattle.tlsf_heap.specs.Inner.Nodes.{Node, InUse, Listed, turned, block_of, pool_of, content_by, left, gap_nodes, entered_gap, entered}
-use Rattle.tlsf_heap.specs.Inner.Spots.{Spot, filled}
+use Rattle.tlsf_heap.specs.Inner.Positions.{Position, filled}
 use Rattle.tlsf_heap.specs.Inner.At.{At, layout_at, at_taken, at_trimmed, at_gapped}
 use Rattle.tlsf_heap.proofs.Inner.Lists.{length-left, length-entered}
 use Rattle.tlsf_heap.proofs.Meaning.Places.{Told, alone, alike, by_places, places-left}
@@ -17,12 +17,12 @@ use Rattle.std.specs.Prelude.{◌==◌}
 use Rattle.std.proofs.Math.Nat.{sub-zero}
 use Rattle.tlsf_heap.proofs.Meaning.Carved.{aligned_here}
 
-module _ (count : ℕ) (spot : Spot) (node : Node) (nodes : List Node) (lists : List (List Node)) (told : Told (filled spot (turned Listed node ∷ nodes)) lists) where
+module _ (count : ℕ) (position : Position) (node : Node) (nodes : List Node) (lists : List (List Node)) (told : Told (filled position (turned Listed node ∷ nodes)) lists) where
   abbrev pools : List (Pool ℕ)
-  pools = map pool_of (filled spot (turned Listed node ∷ nodes))
+  pools = map pool_of (filled position (turned Listed node ∷ nodes))
 
   abbrev old_at : List ℕ → At
-  old_at taken = record { count = count; spot = spot; node = turned Listed node; nodes = nodes; lists = lists; taken = taken }
+  old_at taken = record { count = count; position = position; node = turned Listed node; nodes = nodes; lists = lists; taken = taken }
 
   -- where the gap has these bytes
   abbrev carved_by : (live start m g : ℕ) → List ℕ → Content ℕ
@@ -44,23 +44,23 @@ module _ (count : ℕ) (spot : Spot) (node : Node) (nodes : List Node) (lists : 
       map-append block_of gaps (block ∷ rests)
       ∙ ap (λ b. b ++ (block_of block ∷ map block_of rests)) (gap_is node.slot node.place front)
       ∙ ap (λ b. gap node.place front ++ (block_of block ∷ b)) (gap_is rest (start + m) left_over) in
-      let by_pools : map pool_of (filled (record spot { before = gaps ++ spot.before }) (block ∷ (rests ++ nodes))) ≡ map (replaced_in node.place (gap node.place front ++ cut live start m (node.size - front))) pools =
+      let by_pools : map pool_of (filled (record position { before = gaps ++ position.before }) (block ∷ (rests ++ nodes))) ≡ map (replaced_in node.place (gap node.place front ++ cut live start m (node.size - front))) pools =
       ap (map pool_of) (behind_gap (block ∷ (rests ++ nodes)) node.slot node.place front)
-      ∙ ap (λ ns. map pool_of (filled spot ns)) (sym (append_assoc gaps (block ∷ rests) nodes))
-      ∙ sym (pools_replaced spot (turned Listed node) nodes (alone spot (turned Listed node) nodes told.places) (gaps ++ (block ∷ rests)))
+      ∙ ap (λ ns. map pool_of (filled position ns)) (sym (append_assoc gaps (block ∷ rests) nodes))
+      ∙ sym (pools_replaced position (turned Listed node) nodes (alone position (turned Listed node) nodes told.places) (gaps ++ (block ∷ rests)))
       ∙ ap (λ blocks. map (replaced_in node.place blocks) pools) news in
       let out = length-left (turned Listed node) lists told.full in
       let by_lists : by_places (entered_gap rest (start + m) left_over (entered_gap node.slot node.place front (left (turned Listed node) lists))) ≡ link_gap (start + m) left_over (link_gap node.place front (unlink node.place node.size (by_places lists))) =
       gap_entered rest (start + m) left_over (entered_gap node.slot node.place front (left (turned Listed node) lists)) (full_gap node.slot node.place front (left (turned Listed node) lists) out)
-      ∙ ap (link_gap (start + m) left_over) (gap_entered node.slot node.place front (left (turned Listed node) lists) out ∙ ap (link_gap node.place front) (places-left (turned Listed node) lists told.full (alike (turned Listed node) lists spot (turned Listed node) nodes refl refl told))) in
+      ∙ ap (link_gap (start + m) left_over) (gap_entered node.slot node.place front (left (turned Listed node) lists) out ∙ ap (link_gap node.place front) (places-left (turned Listed node) lists told.full (alike (turned Listed node) lists position (turned Listed node) nodes refl refl told))) in
       let front_is : (node.place + front) - node.place ≡ front = omega arith in
       (λ i. record { records = count; pools = by_pools i; lists = by_lists i }) ∙ sym (ap (λ g. carved_by live start m g taken) front_is)
     where
-      -- what stands behind a gap in front of a spot
-      behind_gap : (ns : List Node) (slot place size : ℕ) → filled (record spot { before = gap_nodes slot place size ++ spot.before }) ns ≡ filled spot (gap_nodes slot place size ++ ns)
+      -- what stands behind a gap in front of a position
+      behind_gap : (ns : List Node) (slot place size : ℕ) → filled (record position { before = gap_nodes slot place size ++ position.before }) ns ≡ filled position (gap_nodes slot place size ++ ns)
       behind_gap ns slot place size =
           let gap_node : Node = record { slot = slot; place = place; size = size; status = Listed } in
-          elim (size == 0) as (λ b. filled (record spot { before = cond b [] (gap_node ∷ []) ++ spot.before }) ns ≡ filled spot (cond b [] (gap_node ∷ []) ++ ns)) [ true ↦ refl | false ↦ refl ]
+          elim (size == 0) as (λ b. filled (record position { before = cond b [] (gap_node ∷ []) ++ position.before }) ns ≡ filled position (cond b [] (gap_node ∷ []) ++ ns)) [ true ↦ refl | false ↦ refl ]
 
       full_gap : (slot place size : ℕ) (ls : List (List Node)) → length ls ≡ classes → length (entered_gap slot place size ls) ≡ classes
       full_gap slot place size ls full =

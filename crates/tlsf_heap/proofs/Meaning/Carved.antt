@@ -13,7 +13,7 @@ use Rattle.tlsf_heap.proofs.Content.Blocks.{Ascends-pools}
 use Rattle.tlsf_heap.proofs.Content.FreeLists.{times-unlink, times-link_gap, length-unlink, length-link_gap, count_listed-gap, count_listed-cut, found_stands}
 use Rattle.tlsf_heap.proofs.Counts.{count-cons, count-append}
 use Rattle.std.proofs.Math.Nat.{sub-zero}
-use Rattle.tlsf_heap.proofs.Meaning.BlockSpots.{BlockSpot, filled_pools, LocatedBlock, located_block, at_most_one, IsAlone, block_alone, replaced_at, size_here}
+use Rattle.tlsf_heap.proofs.Meaning.BlockPositions.{BlockPosition, filled_pools, LocatedBlock, located_block, at_most_one, IsAlone, block_alone, replaced_at, size_here}
 use Rattle.tlsf_heap.proofs.Meaning.Gaps.{covers_gap, covers_cut, apart_cut}
 use Rattle.tlsf_heap.proofs.Meaning.Refilled.{IsRefill, refilled_is_good}
 
@@ -96,17 +96,17 @@ module _ {A : Type 0} where
       listed = (λ q p within. listed once full q p);
     }
 
-    -- at a spot
-    pub carved_at : (records : ℕ) (spot : BlockSpot A) → IsGood (record { records = records; pools = filled_pools spot (block ∷ blocks); lists = lists }) → times block.place (list_of (class block.size) lists) ≡ 1
-        → used_records (aligned owner start m block.place block.size (record { records = records; pools = filled_pools spot (block ∷ blocks); lists = lists })) ≤ records
-        → IsGood (aligned owner start m block.place block.size (record { records = records; pools = filled_pools spot (block ∷ blocks); lists = lists }))
-    carved_at records spot good once few =
-        let places = at_most_one 0 (blocks_of (filled_pools spot (block ∷ blocks))) (Ascends-pools 0 (filled_pools spot (block ∷ blocks)) good.pools_good) in
-        let alone : IsAlone spot block blocks = block_alone spot block blocks places in
-        let is = replaced_at spot block blocks alone (carved owner start m block.place block.size) in
+    -- at a position
+    pub carved_at : (records : ℕ) (position : BlockPosition A) → IsGood (record { records = records; pools = filled_pools position (block ∷ blocks); lists = lists }) → times block.place (list_of (class block.size) lists) ≡ 1
+        → used_records (aligned owner start m block.place block.size (record { records = records; pools = filled_pools position (block ∷ blocks); lists = lists })) ≤ records
+        → IsGood (aligned owner start m block.place block.size (record { records = records; pools = filled_pools position (block ∷ blocks); lists = lists }))
+    carved_at records position good once few =
+        let places = at_most_one 0 (blocks_of (filled_pools position (block ∷ blocks))) (Ascends-pools 0 (filled_pools position (block ∷ blocks)) good.pools_good) in
+        let alone : IsAlone position block blocks = block_alone position block blocks places in
+        let is = replaced_at position block blocks alone (carved owner start m block.place block.size) in
         let P : List (Pool A) → Type 0 = λ pools. IsGood (record { records = records; pools = pools; lists = new_lists }) in
-        let fits : length (blocks_of (filled_pools spot news)) ≤ records = omega (arith, few, ap (λ pools. length (blocks_of pools)) is) in
-        subst P (sym is) (refilled_is_good records spot (block ∷ blocks) news lists new_lists (refill once good.lists_count) fits good)
+        let fits : length (blocks_of (filled_pools position news)) ≤ records = omega (arith, few, ap (λ pools. length (blocks_of pools)) is) in
+        subst P (sym is) (refilled_is_good records position (block ∷ blocks) news lists new_lists (refill once good.lists_count) fits good)
 
   -- carving a listed block keeps the content good
   pub aligned_is_good : (owner : A) (start m place : ℕ) (content : Content A) → IsGood content → times place (list_of (class (size_at place (blocks_of content.pools))) content.lists) ≡ 1
@@ -121,10 +121,10 @@ module _ {A : Type 0} where
       let parts = and_parts _ _ at.passes in
       let here : at.block.place ≡ place = eqb-true at.block.place place (and_parts _ _ parts.1).0 in
       let P : List (Pool A) → Type 0 = λ pools. IsGood (record content { pools = pools }) in
-      let moved : P (filled_pools at.spot (at.block ∷ at.blocks)) = subst P at.whole good in
-      let places = at_most_one 0 (blocks_of (filled_pools at.spot (at.block ∷ at.blocks))) (Ascends-pools 0 (filled_pools at.spot (at.block ∷ at.blocks)) moved.pools_good) in
-      let alone : IsAlone at.spot at.block at.blocks = block_alone at.spot at.block at.blocks places in
-      let sized : at.block.size ≡ size = sym (ap (λ pools. size_at place (blocks_of pools)) at.whole ∙ ap (λ p. size_at p (blocks_of (filled_pools at.spot (at.block ∷ at.blocks)))) (sym here) ∙ size_here at.spot at.block at.blocks alone) in
+      let moved : P (filled_pools at.position (at.block ∷ at.blocks)) = subst P at.whole good in
+      let places = at_most_one 0 (blocks_of (filled_pools at.position (at.block ∷ at.blocks))) (Ascends-pools 0 (filled_pools at.position (at.block ∷ at.blocks)) moved.pools_good) in
+      let alone : IsAlone at.position at.block at.blocks = block_alone at.position at.block at.blocks places in
+      let sized : at.block.size ≡ size = sym (ap (λ pools. size_at place (blocks_of pools)) at.whole ∙ ap (λ p. size_at p (blocks_of (filled_pools at.position (at.block ∷ at.blocks)))) (sym here) ∙ size_here at.position at.block at.blocks alone) in
       let can : IsCarvable start m at.block = record {
         free = parts.0;
         begins = omega (arith, here, begins);
@@ -135,10 +135,10 @@ module _ {A : Type 0} where
       } in
       let once_there : times at.block.place (list_of (class at.block.size) content.lists) ≡ 1 = ap (λ p. times p (list_of (class at.block.size) content.lists)) here ∙ ap (λ n. times place (list_of (class n) content.lists)) sized ∙ once in
       let of : ℕ → ℕ → List (Pool A) → Content A = λ p n pools. aligned owner start m p n (record content { pools = pools }) in
-      let same : of at.block.place at.block.size (filled_pools at.spot (at.block ∷ at.blocks)) ≡ of place size content.pools =
-      ap (λ p. of p at.block.size (filled_pools at.spot (at.block ∷ at.blocks))) here ∙ ap (λ n. of place n (filled_pools at.spot (at.block ∷ at.blocks))) sized ∙ ap (of place size) (sym at.whole) in
+      let same : of at.block.place at.block.size (filled_pools at.position (at.block ∷ at.blocks)) ≡ of place size content.pools =
+      ap (λ p. of p at.block.size (filled_pools at.position (at.block ∷ at.blocks))) here ∙ ap (λ n. of place n (filled_pools at.position (at.block ∷ at.blocks))) sized ∙ ap (of place size) (sym at.whole) in
       let Q : Content A → Type 0 = λ x. IsGood x in
-      subst Q same (carved_at owner start m at.block at.blocks content.lists can content.records at.spot moved once_there (omega (arith, few, ap used_records same)))
+      subst Q same (carved_at owner start m at.block at.blocks content.lists can content.records at.position moved once_there (omega (arith, few, ap used_records same)))
 
   -- carved at its own place it is cut as malloc cuts it
   pub aligned_here : (owner : A) (m place size : ℕ) (content : Content A) → aligned owner place m place size content ≡ allocated owner place m size content

@@ -1,11 +1,11 @@
--- Pools that their blocks cover: the block of a node at a spot, and other nodes of the same bytes there.
+-- Pools that their blocks cover: the block of a node at a position, and other nodes of the same bytes there.
 use Rattle.std.proofs.Common.{◌≡◌, ℕ, ◌+◌, List, [], ◌∷◌, map, subst, arith}
 use Rattle.std.specs.List.{AllByRecursion}
 use Rattle.tlsf_heap.specs.Content.{Block, Pool}
 use Rattle.tlsf_heap.specs.Good.{Covers, AreGoodPools}
 use Rattle.tlsf_heap.specs.Inner.At.{IsCovered, AreCovered}
 use Rattle.tlsf_heap.specs.Inner.Nodes.{Status, Node, Area, block_of, pool_of}
-use Rattle.tlsf_heap.specs.Inner.Spots.{plug, Spot, filled}
+use Rattle.tlsf_heap.specs.Inner.Positions.{plug, Position, filled}
 use Rattle.tlsf_heap.proofs.Good.Calls.{IsWhole, whole_in_pool}
 use Rattle.tlsf_heap.proofs.Inner.Plugs.{map-plug, all_parts}
 
@@ -20,14 +20,14 @@ covered_behind from [] areas c = (from, c)
 covered_behind from (area ∷ front) areas c = let rest = covered_behind from front (area ∷ areas) c in (area.entry.base + area.entry.bytes, rest.1.2)
 
 -- the block of a node is whole
-pub node_whole : (spot : Spot) (node : Node) (nodes : List Node) → AreCovered 0 (map pool_of (filled spot (node ∷ nodes))) → IsWhole (block_of node)
-node_whole spot node nodes c =
-    let pool : Pool ℕ = pool_of (record { entry = spot.entry; nodes = plug spot.before (node ∷ nodes) }) in
-    let covered : IsCovered pool = (covered_behind 0 spot.areas_before (record { entry = spot.entry; nodes = plug spot.before (node ∷ nodes) } ∷ spot.areas_behind) c).1.1 in
+pub node_whole : (position : Position) (node : Node) (nodes : List Node) → AreCovered 0 (map pool_of (filled position (node ∷ nodes))) → IsWhole (block_of node)
+node_whole position node nodes c =
+    let pool : Pool ℕ = pool_of (record { entry = position.entry; nodes = plug position.before (node ∷ nodes) }) in
+    let covered : IsCovered pool = (covered_behind 0 position.areas_before (record { entry = position.entry; nodes = plug position.before (node ∷ nodes) } ∷ position.areas_behind) c).1.1 in
     let P : List (Block ℕ) → Type 0 = λ blocks. AllByRecursion IsWhole blocks in
-    let all : AllByRecursion IsWhole (plug (map block_of spot.before) (block_of node ∷ map block_of nodes)) =
-    subst P (map-plug block_of spot.before (node ∷ nodes)) (whole_in_pool pool.base pool.bytes pool.base pool.blocks covered.most_bytes covered.ends (omega arith) covered.covered) in
-    (all_parts IsWhole (map block_of spot.before) (block_of node ∷ map block_of nodes) all).1.0
+    let all : AllByRecursion IsWhole (plug (map block_of position.before) (block_of node ∷ map block_of nodes)) =
+    subst P (map-plug block_of position.before (node ∷ nodes)) (whole_in_pool pool.base pool.bytes pool.base pool.blocks covered.most_bytes covered.ends (omega arith) covered.covered) in
+    (all_parts IsWhole (map block_of position.before) (block_of node ∷ map block_of nodes) all).1.0
 
 covers_plug : (to : ℕ) (front olds news : List Node) → ((from : ℕ) → Covers from to (map block_of olds) → Covers from to (map block_of news)) → (from : ℕ) → Covers from to (map block_of (plug front olds)) → Covers from to (map block_of (plug front news))
 covers_plug to [] olds news covers = covers
@@ -37,13 +37,13 @@ areas_plug : (front olds news : List Area) → ((from : ℕ) → AreCovered from
 areas_plug [] olds news covered = covered
 areas_plug (area ∷ front) olds news covered = areas_plug front (area ∷ olds) (area ∷ news) (λ from c. (c.0, c.1, covered (area.entry.base + area.entry.bytes) c.2))
 
--- other nodes at the spot that cover the same
-pub covered_refilled : (spot : Spot) (olds news : List Node) → ((from to : ℕ) → Covers from to (map block_of olds) → Covers from to (map block_of news)) → AreCovered 0 (map pool_of (filled spot olds)) → AreCovered 0 (map pool_of (filled spot news))
-covered_refilled spot olds news covers c =
-    areas_plug spot.areas_before (record { entry = spot.entry; nodes = plug spot.before olds } ∷ spot.areas_behind) (record { entry = spot.entry; nodes = plug spot.before news } ∷ spot.areas_behind)
+-- other nodes at the position that cover the same
+pub covered_refilled : (position : Position) (olds news : List Node) → ((from to : ℕ) → Covers from to (map block_of olds) → Covers from to (map block_of news)) → AreCovered 0 (map pool_of (filled position olds)) → AreCovered 0 (map pool_of (filled position news))
+covered_refilled position olds news covers c =
+    areas_plug position.areas_before (record { entry = position.entry; nodes = plug position.before olds } ∷ position.areas_behind) (record { entry = position.entry; nodes = plug position.before news } ∷ position.areas_behind)
     (λ from were. (
       were.0,
-      record { most_bytes = were.1.most_bytes; ends = were.1.ends; covered = covers_plug (spot.entry.base + spot.entry.bytes) spot.before olds news (λ place. covers place (spot.entry.base + spot.entry.bytes)) spot.entry.base were.1.covered },
+      record { most_bytes = were.1.most_bytes; ends = were.1.ends; covered = covers_plug (position.entry.base + position.entry.bytes) position.before olds news (λ place. covers place (position.entry.base + position.entry.bytes)) position.entry.base were.1.covered },
       were.2,
     )) 0 c
 

@@ -8,10 +8,10 @@ use Rattle.tlsf_heap.specs.Lists.{list_of}
 use Rattle.tlsf_heap.specs.Good.{Covers, NoFreeNeighbours, AreGoodPools, times, is_listed, IsGood}
 use Rattle.tlsf_heap.specs.Free.{if_free, unlink_block, size_of, start_of, without_block}
 use Rattle.tlsf_heap.specs.Free.{free_block, free}
-use Rattle.tlsf_heap.specs.Inner.Spots.{plug}
+use Rattle.tlsf_heap.specs.Inner.Positions.{plug}
 use Rattle.tlsf_heap.proofs.Content.FreeLists.{listed_at, times-unlink, length-unlink}
 use Rattle.tlsf_heap.proofs.Counts.{one_if, count-cons}
-use Rattle.tlsf_heap.proofs.Meaning.BlockSpots.{first_of, BlockSpot, filled_pools, count-filled_pools, at_most_one, block_alone, replaced_at}
+use Rattle.tlsf_heap.proofs.Meaning.BlockPositions.{first_of, BlockPosition, filled_pools, count-filled_pools, at_most_one, block_alone, replaced_at}
 use Rattle.tlsf_class.proofs.ClassLaws.{class-lt}
 use Rattle.tlsf_heap.proofs.Content.Blocks.{Ascends-pools}
 
@@ -166,20 +166,20 @@ module _ {A : Type 0} where
         )
       ]
 
-  -- a free block behind the one at a spot gives way to nothing
-  pub without_next : (spot : BlockSpot A) (block : Block A) (others : List (Block A)) → ((place : ℕ) → count_by (is_at place) (blocks_of (filled_pools spot (block ∷ others))) ≤ 1)
-      → without_block (free_first others) (filled_pools spot (block ∷ others)) ≡ filled_pools spot (block ∷ past_free others)
-  without_next spot block [] few = refl
-  without_next spot block (b ∷ others) few = elim (is_free b) as (λ t.
-      without_block (cond t (Some b) None) (filled_pools spot (block ∷ b ∷ others)) ≡ filled_pools spot (block ∷ cond t others (b ∷ others))) [
-        | true ↦ replaced_at (record spot { before = block ∷ spot.before }) b others (block_alone (record spot { before = block ∷ spot.before }) b others few) []
+  -- a free block behind the one at a position gives way to nothing
+  pub without_next : (position : BlockPosition A) (block : Block A) (others : List (Block A)) → ((place : ℕ) → count_by (is_at place) (blocks_of (filled_pools position (block ∷ others))) ≤ 1)
+      → without_block (free_first others) (filled_pools position (block ∷ others)) ≡ filled_pools position (block ∷ past_free others)
+  without_next position block [] few = refl
+  without_next position block (b ∷ others) few = elim (is_free b) as (λ t.
+      without_block (cond t (Some b) None) (filled_pools position (block ∷ b ∷ others)) ≡ filled_pools position (block ∷ cond t others (b ∷ others))) [
+        | true ↦ replaced_at (record position { before = block ∷ position.before }) b others (block_alone (record position { before = block ∷ position.before }) b others few) []
         | false ↦ refl
       ]
 
   -- and stands once in its list
-  pub next_once : (records : ℕ) (spot : BlockSpot A) (block : Block A) (blocks : List (Block A)) (lists : List (List ℕ)) → IsGood (record { records = records; pools = filled_pools spot (block ∷ blocks); lists = lists })
+  pub next_once : (records : ℕ) (position : BlockPosition A) (block : Block A) (blocks : List (Block A)) (lists : List (List ℕ)) → IsGood (record { records = records; pools = filled_pools position (block ∷ blocks); lists = lists })
       → (other : Block A) → free_first blocks ≡ Some other → times other.place (list_of (class other.size) lists) ≡ 1
-  next_once records spot block blocks lists good other is =
+  next_once records position block blocks lists good other is =
       let kind : Block A → Bool = is_listed (class other.size) other.place in
-      listed_once (record { records = records; pools = filled_pools spot (block ∷ blocks); lists = lists }) good (class other.size) other.place (class-lt other.size)
-      (omega (arith, count-filled_pools kind spot (block ∷ blocks), count-cons kind block blocks, (free_stands blocks other is).0))
+      listed_once (record { records = records; pools = filled_pools position (block ∷ blocks); lists = lists }) good (class other.size) other.place (class-lt other.size)
+      (omega (arith, count-filled_pools kind position (block ∷ blocks), count-cons kind block blocks, (free_stands blocks other is).0))

@@ -1,4 +1,4 @@
--- What a layout stands for after the node at a spot was freed.
+-- What a layout stands for after the node at a position was freed.
 use Rattle.std.proofs.Common.{◌≡◌, ℕ, ◌+◌, true, false, cond, List, [], ◌∷◌, length, map, refl, sym, ap, ◌∙◌, subst, arith, count_by, Option, Some, None, option_map, inl, inr}
 use Rattle.std.specs.Prelude.{is_none}
 use Rattle.std.proofs.lemmas.Bool.{cases_Bool}
@@ -8,12 +8,12 @@ use Rattle.tlsf_heap.specs.Lists.{link}
 use Rattle.tlsf_heap.specs.Free.{if_free, unlink_block, size_of, start_of, free_block, after_free}
 use Rattle.tlsf_heap.specs.Good.{IsGood}
 use Rattle.tlsf_heap.specs.Inner.Nodes.{Status, InUse, Listed, Loose, Node, turned, owner_of, block_of, pool_of, content_by, is_listed}
-use Rattle.tlsf_heap.specs.Inner.Spots.{Spot, filled, laid}
-use Rattle.tlsf_heap.specs.Inner.Joined.{is_loose, listed_first, past, left_by, grown_in_front, grown_behind, spot_past, merged_node, freed_layout}
+use Rattle.tlsf_heap.specs.Inner.Positions.{Position, filled, laid}
+use Rattle.tlsf_heap.specs.Inner.Joined.{is_loose, listed_first, past, left_by, grown_in_front, grown_behind, position_past, merged_node, freed_layout}
 use Rattle.tlsf_heap.proofs.Counts.{one_if, count-cons}
 use Rattle.tlsf_heap.proofs.Inner.Lists.{length-left}
-use Rattle.tlsf_heap.proofs.Meaning.BlockSpots.{filled_pools}
-use Rattle.tlsf_heap.proofs.Meaning.Places.{block_spot, pools_are, Told, Alike, alike, alike-left, by_places, places-entered, places-left}
+use Rattle.tlsf_heap.proofs.Meaning.BlockPositions.{filled_pools}
+use Rattle.tlsf_heap.proofs.Meaning.Places.{block_position, pools_are, Told, Alike, alike, alike-left, by_places, places-entered, places-left}
 use Rattle.tlsf_heap.proofs.Meaning.NodeBlocks.{first_block}
 use Rattle.tlsf_heap.proofs.Meaning.FreeFirst.{past_free, free_first, merged_of}
 use Rattle.tlsf_heap.proofs.Meaning.FreedIsGood.{after_is}
@@ -47,9 +47,9 @@ past_is (node ∷ nodes) none =
     ap (λ b. cond b (map block_of nodes) (block_of node ∷ map block_of nodes)) (free_is node nodes none)
     ∙ elim (is_listed node.status) as (λ b. cond b (map block_of nodes) (block_of node ∷ map block_of nodes) ≡ map block_of (cond b nodes (node ∷ nodes))) [ true ↦ refl | false ↦ refl ]
 
-module _ (spot : Spot) (node : Node) (nodes : List Node) (lists : List (List Node)) (told : Told (filled spot (node ∷ nodes)) lists) where
+module _ (position : Position) (node : Node) (nodes : List Node) (lists : List (List Node)) (told : Told (filled position (node ∷ nodes)) lists) where
   abbrev front : Option Node
-  front = listed_first spot.before
+  front = listed_first position.before
 
   abbrev back : Option Node
   back = listed_first nodes
@@ -67,7 +67,7 @@ module _ (spot : Spot) (node : Node) (nodes : List Node) (lists : List (List Nod
   still_alike b (Some f) same = alike-left b f lists told.full same
 
   -- a listed neighbour leaves its list, also where the other left
-  neighbour_left : (at : Spot) (n : Node) (others : List Node) (o : Option Node) → Told (filled at (n ∷ others)) lists
+  neighbour_left : (at : Position) (n : Node) (others : List Node) (o : Option Node) → Told (filled at (n ∷ others)) lists
       → by_places (left_by (cond (is_listed n.status) (Some n) None) (left_by o lists)) ≡ unlink_block (option_map block_of (cond (is_listed n.status) (Some n) None)) (by_places (left_by o lists))
   neighbour_left at n others o there = elim (is_listed n.status) as (λ b. by_places (left_by (cond b (Some n) None) (left_by o lists)) ≡ unlink_block (option_map block_of (cond b (Some n) None)) (by_places (left_by o lists))) [
     | true ↦ places-left n (left_by o lists) (full_front o) (still_alike n o (alike n lists at n others refl refl there))
@@ -75,18 +75,18 @@ module _ (spot : Spot) (node : Node) (nodes : List Node) (lists : List (List Nod
   ]
 
   lists_front : by_places (left_by front lists) ≡ unlink_block (option_map block_of front) (by_places lists)
-  lists_front = go spot.before told
+  lists_front = go position.before told
     where
-      go : (before : List Node) → Told (filled (record spot { before = before }) (node ∷ nodes)) lists → by_places (left_by (listed_first before) lists) ≡ unlink_block (option_map block_of (listed_first before)) (by_places lists)
+      go : (before : List Node) → Told (filled (record position { before = before }) (node ∷ nodes)) lists → by_places (left_by (listed_first before) lists) ≡ unlink_block (option_map block_of (listed_first before)) (by_places lists)
       go [] there = refl
-      go (f ∷ before) there = neighbour_left (record spot { before = before }) f (node ∷ nodes) None there
+      go (f ∷ before) there = neighbour_left (record position { before = before }) f (node ∷ nodes) None there
 
   pub lists_back : (o : Option Node) → by_places (left_by back (left_by o lists)) ≡ unlink_block (option_map block_of back) (by_places (left_by o lists))
   lists_back o = go nodes told
     where
-      go : (others : List Node) → Told (filled spot (node ∷ others)) lists → by_places (left_by (listed_first others) (left_by o lists)) ≡ unlink_block (option_map block_of (listed_first others)) (by_places (left_by o lists))
+      go : (others : List Node) → Told (filled position (node ∷ others)) lists → by_places (left_by (listed_first others) (left_by o lists)) ≡ unlink_block (option_map block_of (listed_first others)) (by_places (left_by o lists))
       go [] there = refl
-      go (b ∷ others) there = neighbour_left (record spot { before = node ∷ spot.before }) b others o there
+      go (b ∷ others) there = neighbour_left (record position { before = node ∷ position.before }) b others o there
 
   -- the block that is left
   block_merged : (f b : Option Node) → block_of (turned Listed (grown_behind b (grown_in_front f (turned Loose node)))) ≡ merged_of (option_map block_of f) (block_of node) (option_map block_of b)
@@ -99,26 +99,26 @@ module _ (spot : Spot) (node : Node) (nodes : List Node) (lists : List (List Nod
   abbrev after : ℕ → (f b : Option (Block ℕ)) → (before behind : List (Block ℕ)) → Content ℕ
   after count f b before behind = record {
     records = count;
-    pools = filled_pools (record (block_spot spot) { before = before }) (merged_of f (block_of node) b ∷ behind);
+    pools = filled_pools (record (block_position position) { before = before }) (merged_of f (block_of node) b ∷ behind);
     lists = link (start_of f node.place) (size_of f + node.size + size_of b) (unlink_block b (unlink_block f (by_places lists)));
   }
 
-  pub freed_is : (count : ℕ) (taken kept : List ℕ) → node.status ≡ InUse → NoneLoose spot.before → NoneLoose nodes → IsGood (content_by (laid count spot (node ∷ nodes) lists taken))
-      → content_by (freed_layout count spot node nodes lists kept) ≡ after_free node.place (content_by (laid count spot (node ∷ nodes) lists taken))
+  pub freed_is : (count : ℕ) (taken kept : List ℕ) → node.status ≡ InUse → NoneLoose position.before → NoneLoose nodes → IsGood (content_by (laid count position (node ∷ nodes) lists taken))
+      → content_by (freed_layout count position node nodes lists kept) ≡ after_free node.place (content_by (laid count position (node ∷ nodes) lists taken))
   freed_is count taken kept in_use before_settled behind_settled good =
-      let merged : Node = turned Listed (merged_node spot node nodes) in
+      let merged : Node = turned Listed (merged_node position node nodes) in
       let block_is = block_merged front back in
-      let by_pools = pools_are (spot_past spot) (merged ∷ past nodes) ∙ ap (λ block. filled_pools (block_spot (spot_past spot)) (block ∷ map block_of (past nodes))) block_is in
+      let by_pools = pools_are (position_past position) (merged ∷ past nodes) ∙ ap (λ block. filled_pools (block_position (position_past position)) (block ∷ map block_of (past nodes))) block_is in
       let by_lists =
       places-entered merged (left_by back (left_by front lists)) (full_back front back)
       ∙ ap (λ (block : Block ℕ). link block.place block.size (by_places (left_by back (left_by front lists)))) block_is
       ∙ ap (link (start_of (option_map block_of front) node.place) (size_of (option_map block_of front) + node.size + size_of (option_map block_of back))) (lists_back front ∙ ap (unlink_block (option_map block_of back)) lists_front) in
-      let new_is : content_by (freed_layout count spot node nodes lists kept) ≡ after count (option_map block_of front) (option_map block_of back) (map block_of (past spot.before)) (map block_of (past nodes)) = λ i. record { records = count; pools = by_pools i; lists = by_lists i } in
-      let by_blocks : after count (free_first (map block_of spot.before)) (free_first (map block_of nodes)) (past_free (map block_of spot.before)) (past_free (map block_of nodes))
-      ≡ after count (option_map block_of front) (option_map block_of back) (map block_of (past spot.before)) (map block_of (past nodes)) =
-      λ i. after count (listed_is_free spot.before before_settled i) (listed_is_free nodes behind_settled i) (past_is spot.before before_settled i) (past_is nodes behind_settled i) in
+      let new_is : content_by (freed_layout count position node nodes lists kept) ≡ after count (option_map block_of front) (option_map block_of back) (map block_of (past position.before)) (map block_of (past nodes)) = λ i. record { records = count; pools = by_pools i; lists = by_lists i } in
+      let by_blocks : after count (free_first (map block_of position.before)) (free_first (map block_of nodes)) (past_free (map block_of position.before)) (past_free (map block_of nodes))
+      ≡ after count (option_map block_of front) (option_map block_of back) (map block_of (past position.before)) (map block_of (past nodes)) =
+      λ i. after count (listed_is_free position.before before_settled i) (listed_is_free nodes behind_settled i) (past_is position.before before_settled i) (past_is nodes behind_settled i) in
       let of : List (Pool ℕ) → Content ℕ = λ pools. record { records = count; pools = pools; lists = by_places lists } in
       let P : Content ℕ → Type 0 = λ x. IsGood x in
-      let is : of (map pool_of (filled spot (node ∷ nodes))) ≡ of (filled_pools (block_spot spot) (map block_of (node ∷ nodes))) = ap of (pools_are spot (node ∷ nodes)) in
+      let is : of (map pool_of (filled position (node ∷ nodes))) ≡ of (filled_pools (block_position position) (map block_of (node ∷ nodes))) = ap of (pools_are position (node ∷ nodes)) in
       let live : is_none (owner_of node.status node.slot) ≡ false = ap (λ s. is_none (owner_of s node.slot)) in_use in
-      new_is ∙ sym by_blocks ∙ sym (ap (after_free node.place) is ∙ after_is count (block_spot spot) (block_of node) (map block_of nodes) (by_places lists) (subst P is good) live)
+      new_is ∙ sym by_blocks ∙ sym (ap (after_free node.place) is ∙ after_is count (block_position position) (block_of node) (map block_of nodes) (by_places lists) (subst P is good) live)

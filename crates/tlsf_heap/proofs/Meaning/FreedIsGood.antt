@@ -10,12 +10,12 @@ use Rattle.tlsf_heap.specs.Malloc.{replaced_in}
 use Rattle.tlsf_heap.specs.Good.{Covers, NoFreeNeighbours, IsGoodPool, AreGoodPools, times, is_listed, AreLists, IsGood}
 use Rattle.tlsf_heap.specs.Free.{is_owned_by, is_live, if_free, free_previous, free_next, unlink_block, size_of, start_of}
 use Rattle.tlsf_heap.specs.Free.{free_block, without_block, after_free}
-use Rattle.tlsf_heap.specs.Inner.Spots.{plug}
+use Rattle.tlsf_heap.specs.Inner.Positions.{plug}
 use Rattle.tlsf_heap.proofs.Content.Blocks.{Ascends-pools}
 use Rattle.tlsf_heap.proofs.Content.FreeLists.{times-link, length-link}
 use Rattle.tlsf_heap.proofs.Good.Calls.{Covers-le}
 use Rattle.tlsf_heap.proofs.Counts.{one_if, count-cons, count_all, any_counts}
-use Rattle.tlsf_heap.proofs.Meaning.BlockSpots.{BlockSpot, pool_at, filled_pools, around_blocks, count-filled_pools, LocatedBlock, located_block, at_most_one, IsAlone, block_alone, replaced_at, front_at, back_at, size_here}
+use Rattle.tlsf_heap.proofs.Meaning.BlockPositions.{BlockPosition, pool_at, filled_pools, around_blocks, count-filled_pools, LocatedBlock, located_block, at_most_one, IsAlone, block_alone, replaced_at, front_at, back_at, size_here}
 use Rattle.tlsf_heap.proofs.Meaning.FreeFirst.{length-plug, past_free, free_first, listed_of, apart_parts, apart_plugged, past_apart, past_live, count_past, listed_once, next_once, few_past, free_stands, times-unlink_block, length-unlink_block, covers_plug, pools_plug, merged_of, covers_behind, without_next}
 
 module _ {A : Type 0} where
@@ -50,12 +50,12 @@ module _ {A : Type 0} where
             subst Q same one
       ]
 
-  module _ (records : ℕ) (spot : BlockSpot A) (block : Block A) (blocks : List (Block A)) (lists : List (List ℕ)) (good : IsGood (record { records = records; pools = filled_pools spot (block ∷ blocks); lists = lists })) (live : is_free block ≡ false) where
+  module _ (records : ℕ) (position : BlockPosition A) (block : Block A) (blocks : List (Block A)) (lists : List (List ℕ)) (good : IsGood (record { records = records; pools = filled_pools position (block ∷ blocks); lists = lists })) (live : is_free block ≡ false) where
     abbrev old : Content A
-    old = record { records = records; pools = filled_pools spot (block ∷ blocks); lists = lists }
+    old = record { records = records; pools = filled_pools position (block ∷ blocks); lists = lists }
 
     abbrev front : Option (Block A)
-    front = free_first spot.before
+    front = free_first position.before
 
     abbrev back : Option (Block A)
     back = free_first blocks
@@ -63,30 +63,30 @@ module _ {A : Type 0} where
     abbrev merged : Block A
     merged = merged_of front block back
 
-    abbrev past_spot : BlockSpot A
-    past_spot = record spot { before = past_free spot.before }
+    abbrev past_position : BlockPosition A
+    past_position = record position { before = past_free position.before }
 
     abbrev new_lists : List (List ℕ)
     new_lists = link merged.place merged.size (unlink_block back (unlink_block front lists))
 
     abbrev new : Content A
-    new = record { records = records; pools = filled_pools past_spot (merged ∷ past_free blocks); lists = new_lists }
+    new = record { records = records; pools = filled_pools past_position (merged ∷ past_free blocks); lists = new_lists }
 
-    once : (place : ℕ) → count_by (is_at place) (blocks_of (filled_pools spot (block ∷ blocks))) ≤ 1
-    once = at_most_one 0 (blocks_of (filled_pools spot (block ∷ blocks))) (Ascends-pools 0 (filled_pools spot (block ∷ blocks)) good.pools_good)
+    once : (place : ℕ) → count_by (is_at place) (blocks_of (filled_pools position (block ∷ blocks))) ≤ 1
+    once = at_most_one 0 (blocks_of (filled_pools position (block ∷ blocks))) (Ascends-pools 0 (filled_pools position (block ∷ blocks)) good.pools_good)
 
-    counts : (kind : Block A → Bool) → count_by kind (blocks_of (filled_pools spot (block ∷ blocks))) ≡ around_blocks kind spot + (one_if (kind block) + count_by kind blocks)
-    counts kind = count-filled_pools kind spot (block ∷ blocks) ∙ ap (λ n. around_blocks kind spot + n) (count-cons kind block blocks)
+    counts : (kind : Block A → Bool) → count_by kind (blocks_of (filled_pools position (block ∷ blocks))) ≡ around_blocks kind position + (one_if (kind block) + count_by kind blocks)
+    counts kind = count-filled_pools kind position (block ∷ blocks) ∙ ap (λ n. around_blocks kind position + n) (count-cons kind block blocks)
 
-    counts_after : (kind : Block A → Bool) → count_by kind (blocks_of (filled_pools past_spot (merged ∷ past_free blocks))) ≡ around_blocks kind past_spot + (one_if (kind merged) + count_by kind (past_free blocks))
-    counts_after kind = count-filled_pools kind past_spot (merged ∷ past_free blocks) ∙ ap (λ n. around_blocks kind past_spot + n) (count-cons kind merged (past_free blocks))
+    counts_after : (kind : Block A → Bool) → count_by kind (blocks_of (filled_pools past_position (merged ∷ past_free blocks))) ≡ around_blocks kind past_position + (one_if (kind merged) + count_by kind (past_free blocks))
+    counts_after kind = count-filled_pools kind past_position (merged ∷ past_free blocks) ∙ ap (λ n. around_blocks kind past_position + n) (count-cons kind merged (past_free blocks))
 
     not_listed : (q p : ℕ) → one_if (is_listed q p block) ≡ 0
     not_listed q p = ap (λ b. one_if (b && (is_at p block && (class block.size == q)))) live
 
     -- each neighbour stands once in its list, also where the other left
     front_once : (other : Block A) → front ≡ Some other → times other.place (list_of (class other.size) lists) ≡ 1
-    front_once other is = listed_once old good (class other.size) other.place (class-lt other.size) (omega (arith, counts (is_listed (class other.size) other.place), (free_stands spot.before other is).0))
+    front_once other is = listed_once old good (class other.size) other.place (class-lt other.size) (omega (arith, counts (is_listed (class other.size) other.place), (free_stands position.before other is).0))
 
     back_once : (other : Block A) → back ≡ Some other → times other.place (list_of (class other.size) (unlink_block front lists)) ≡ 1
     back_once other is =
@@ -95,7 +95,7 @@ module _ {A : Type 0} where
           arith,
           times-unlink_block lists good.lists_count front front_once (class other.size) other.place,
           front_elsewhere (class other.size) other.place there.1,
-          next_once records spot block blocks lists good other is,
+          next_once records position block blocks lists good other is,
         )
       where
         front_elsewhere : (q p : ℕ) → 1 ≤ count_by (is_at p) blocks → listed_of q p front ≡ 0
@@ -104,7 +104,7 @@ module _ {A : Type 0} where
             go : (o : Option (Block A)) → front ≡ o → listed_of q p o ≡ 0
             go None is_none = refl
             go (Some f) is_some = elim (cases_eq f.place p) [
-              | inl same ↦ absurd (let P : ℕ → Type 0 = λ n. 1 ≤ count_by (is_at n) spot.before in omega (arith, subst P same (free_stands spot.before f is_some).1, behind, once p, counts (is_at p)))
+              | inl same ↦ absurd (let P : ℕ → Type 0 = λ n. 1 ≤ count_by (is_at n) position.before in omega (arith, subst P same (free_stands position.before f is_some).1, behind, once p, counts (is_at p)))
               | inr apart ↦ ap (λ b. one_if (b && (class f.size == q))) (ne_eqb f.place p apart)
             ]
 
@@ -114,7 +114,7 @@ module _ {A : Type 0} where
     full_back : length (unlink_block back (unlink_block front lists)) ≡ classes
     full_back = length-unlink_block (unlink_block front lists) full_front back
 
-    listed_after : AreLists (blocks_of (filled_pools past_spot (merged ∷ past_free blocks))) new_lists
+    listed_after : AreLists (blocks_of (filled_pools past_position (merged ∷ past_free blocks))) new_lists
     listed_after q p within =
         omega (
           arith,
@@ -125,16 +125,16 @@ module _ {A : Type 0} where
           counts (is_listed q p),
           counts_after (is_listed q p),
           not_listed q p,
-          count_past q p spot.before,
+          count_past q p position.before,
           count_past q p blocks,
         )
 
-    pool_good : IsGoodPool (pool_at spot (block ∷ blocks)) → IsGoodPool (pool_at past_spot (merged ∷ past_free blocks))
+    pool_good : IsGoodPool (pool_at position (block ∷ blocks)) → IsGoodPool (pool_at past_position (merged ∷ past_free blocks))
     pool_good g =
-        let parts = apart_parts spot.before (block ∷ blocks) g.merged in
-        let P : Bool → Type 0 = λ b. NoFreeNeighbours b spot.before in
+        let parts = apart_parts position.before (block ∷ blocks) g.merged in
+        let P : Bool → Type 0 = λ b. NoFreeNeighbours b position.before in
         let Q : Bool → Type 0 = λ b. NoFreeNeighbours b blocks in
-        let before : NoFreeNeighbours true (past_free spot.before) = past_apart spot.before (subst P live parts.0) in
+        let before : NoFreeNeighbours true (past_free position.before) = past_apart position.before (subst P live parts.0) in
         let R : Bool → Type 0 = λ b. IsTrue (not (b && true)) × NoFreeNeighbours true (past_free blocks) in
         record {
           base_in_units = g.base_in_units;
@@ -142,17 +142,17 @@ module _ {A : Type 0} where
           least_bytes = g.least_bytes;
           most_bytes = g.most_bytes;
           ends = g.ends;
-          covered = covers_merged spot.before block blocks spot.base (spot.base + spot.bytes) g.covered;
-          merged = apart_plugged (past_free spot.before) (merged ∷ past_free blocks) before (subst R (sym (past_live (past_free spot.before) before)) (refl, past_apart blocks (subst Q live parts.1.1)));
+          covered = covers_merged position.before block blocks position.base (position.base + position.bytes) g.covered;
+          merged = apart_plugged (past_free position.before) (merged ∷ past_free blocks) before (subst R (sym (past_live (past_free position.before) before)) (refl, past_apart blocks (subst Q live parts.1.1)));
         }
 
-    pools_good : AreGoodPools 0 (filled_pools past_spot (merged ∷ past_free blocks))
+    pools_good : AreGoodPools 0 (filled_pools past_position (merged ∷ past_free blocks))
     pools_good =
-        pools_plug spot.pools_before (pool_at spot (block ∷ blocks) ∷ spot.pools_behind) (pool_at past_spot (merged ∷ past_free blocks) ∷ spot.pools_behind) (λ from g. (g.0, pool_good g.1, g.2)) 0 good.pools_good
+        pools_plug position.pools_before (pool_at position (block ∷ blocks) ∷ position.pools_behind) (pool_at past_position (merged ∷ past_free blocks) ∷ position.pools_behind) (λ from g. (g.0, pool_good g.1, g.2)) 0 good.pools_good
 
     new_is_good : IsGood new
     new_is_good = record {
-      pools_few = omega (arith, good.pools_few, length-plug spot.pools_before (pool_at spot (block ∷ blocks) ∷ spot.pools_behind), length-plug spot.pools_before (pool_at past_spot (merged ∷ past_free blocks) ∷ spot.pools_behind));
+      pools_few = omega (arith, good.pools_few, length-plug position.pools_before (pool_at position (block ∷ blocks) ∷ position.pools_behind), length-plug position.pools_before (pool_at past_position (merged ∷ past_free blocks) ∷ position.pools_behind));
       pools_good = pools_good;
       lists_count = length-link (unlink_block back (unlink_block front lists)) full_back merged.place merged.size;
       listed = listed_after;
@@ -160,80 +160,80 @@ module _ {A : Type 0} where
           omega (
             arith,
             good.blocks_few,
-            count_all (blocks_of (filled_pools spot (block ∷ blocks))),
-            count_all (blocks_of (filled_pools past_spot (merged ∷ past_free blocks))),
+            count_all (blocks_of (filled_pools position (block ∷ blocks))),
+            count_all (blocks_of (filled_pools past_position (merged ∷ past_free blocks))),
             counts all,
             counts_after all,
-            few_past all spot.before,
+            few_past all position.before,
             few_past all blocks,
           ));
     }
 
     -- what free leaves
-    once_past : (place : ℕ) → count_by (is_at place) (blocks_of (filled_pools past_spot (block ∷ blocks))) ≤ 1
-    once_past place = omega (arith, once place, counts (is_at place), count-filled_pools (is_at place) past_spot (block ∷ blocks), count-cons (is_at place) block blocks, few_past (is_at place) spot.before)
+    once_past : (place : ℕ) → count_by (is_at place) (blocks_of (filled_pools past_position (block ∷ blocks))) ≤ 1
+    once_past place = omega (arith, once place, counts (is_at place), count-filled_pools (is_at place) past_position (block ∷ blocks), count-cons (is_at place) block blocks, few_past (is_at place) position.before)
 
-    once_both : (place : ℕ) → count_by (is_at place) (blocks_of (filled_pools past_spot (block ∷ past_free blocks))) ≤ 1
+    once_both : (place : ℕ) → count_by (is_at place) (blocks_of (filled_pools past_position (block ∷ past_free blocks))) ≤ 1
     once_both place =
         omega (
           arith,
           once_past place,
-          count-filled_pools (is_at place) past_spot (block ∷ blocks),
-          count-filled_pools (is_at place) past_spot (block ∷ past_free blocks),
+          count-filled_pools (is_at place) past_position (block ∷ blocks),
+          count-filled_pools (is_at place) past_position (block ∷ past_free blocks),
           count-cons (is_at place) block blocks,
           count-cons (is_at place) block (past_free blocks),
           few_past (is_at place) blocks,
         )
 
-    without_front : without_block front (filled_pools spot (block ∷ blocks)) ≡ filled_pools past_spot (block ∷ blocks)
-    without_front = go spot.before once
+    without_front : without_block front (filled_pools position (block ∷ blocks)) ≡ filled_pools past_position (block ∷ blocks)
+    without_front = go position.before once
       where
-        go : (before : List (Block A)) → ((place : ℕ) → count_by (is_at place) (blocks_of (filled_pools (record spot { before = before }) (block ∷ blocks))) ≤ 1)
-            → without_block (free_first before) (filled_pools (record spot { before = before }) (block ∷ blocks)) ≡ filled_pools (record spot { before = past_free before }) (block ∷ blocks)
+        go : (before : List (Block A)) → ((place : ℕ) → count_by (is_at place) (blocks_of (filled_pools (record position { before = before }) (block ∷ blocks))) ≤ 1)
+            → without_block (free_first before) (filled_pools (record position { before = before }) (block ∷ blocks)) ≡ filled_pools (record position { before = past_free before }) (block ∷ blocks)
         go [] few = refl
         go (f ∷ before) few = elim (is_free f) as (λ b.
-            without_block (cond b (Some f) None) (filled_pools (record spot { before = f ∷ before }) (block ∷ blocks)) ≡ filled_pools (record spot { before = cond b before (f ∷ before) }) (block ∷ blocks)) [
-              | true ↦ replaced_at (record spot { before = before }) f (block ∷ blocks) (block_alone (record spot { before = before }) f (block ∷ blocks) few) []
+            without_block (cond b (Some f) None) (filled_pools (record position { before = f ∷ before }) (block ∷ blocks)) ≡ filled_pools (record position { before = cond b before (f ∷ before) }) (block ∷ blocks)) [
+              | true ↦ replaced_at (record position { before = before }) f (block ∷ blocks) (block_alone (record position { before = before }) f (block ∷ blocks) few) []
               | false ↦ refl
             ]
 
-    without_back : without_block back (filled_pools past_spot (block ∷ blocks)) ≡ filled_pools past_spot (block ∷ past_free blocks)
-    without_back = without_next past_spot block blocks once_past
+    without_back : without_block back (filled_pools past_position (block ∷ blocks)) ≡ filled_pools past_position (block ∷ past_free blocks)
+    without_back = without_next past_position block blocks once_past
 
     -- the content, where these are the neighbours and this is the size
     abbrev after : Option (Block A) → Option (Block A) → ℕ → Content A
     after f b size = record old {
-      pools = map (replaced_in block.place (free_block (start_of f block.place) (size_of f + size + size_of b) ∷ [])) (without_block b (without_block f (filled_pools spot (block ∷ blocks))));
+      pools = map (replaced_in block.place (free_block (start_of f block.place) (size_of f + size + size_of b) ∷ [])) (without_block b (without_block f (filled_pools position (block ∷ blocks))));
       lists = link (start_of f block.place) (size_of f + size + size_of b) (unlink_block b (unlink_block f lists));
     }
 
     pub after_is : after_free block.place old ≡ new
     after_is =
-        let alone : IsAlone spot block blocks = block_alone spot block blocks once in
-        let f_is : free_previous block.place old ≡ front = ap if_free (front_at spot block blocks alone) in
-        let b_is : free_next block.place old ≡ back = ap if_free (back_at spot block blocks alone) in
+        let alone : IsAlone position block blocks = block_alone position block blocks once in
+        let f_is : free_previous block.place old ≡ front = ap if_free (front_at position block blocks alone) in
+        let b_is : free_next block.place old ≡ back = ap if_free (back_at position block blocks alone) in
         let by_pools : (after front back block.size).pools ≡ new.pools =
         ap (map (replaced_in block.place (merged ∷ []))) (ap (without_block back) without_front ∙ without_back)
-        ∙ replaced_at past_spot block (past_free blocks) (block_alone past_spot block (past_free blocks) once_both) (merged ∷ []) in
+        ∙ replaced_at past_position block (past_free blocks) (block_alone past_position block (past_free blocks) once_both) (merged ∷ []) in
         ap (λ x. after x (free_next block.place old) (size_at block.place (blocks_of old.pools))) f_is
         ∙ ap (λ y. after front y (size_at block.place (blocks_of old.pools))) b_is
-        ∙ ap (after front back) (size_here spot block blocks alone)
+        ∙ ap (after front back) (size_here position block blocks alone)
         ∙ ap (λ pools. record new { pools = pools }) by_pools
 
     pub merged_size : (0 < merged.size) × (merged.size % unit ≡ 0) × (merged.size ≤ greatest_size)
     merged_size =
-        let pool = (good_behind 0 spot.pools_before (pool_at past_spot (merged ∷ past_free blocks) ∷ spot.pools_behind) pools_good).1.1 in
-        let at = within_plug (past_free spot.before) (merged ∷ past_free blocks) past_spot.base (past_spot.base + past_spot.bytes) pool.covered in
-        (at.2.1, at.2.2, omega (arith, at.1, Covers-le (at.0 + merged.size) (past_spot.base + past_spot.bytes) (past_free blocks) at.2.3, pool.most_bytes))
+        let pool = (good_behind 0 position.pools_before (pool_at past_position (merged ∷ past_free blocks) ∷ position.pools_behind) pools_good).1.1 in
+        let at = within_plug (past_free position.before) (merged ∷ past_free blocks) past_position.base (past_position.base + past_position.bytes) pool.covered in
+        (at.2.1, at.2.2, omega (arith, at.1, Covers-le (at.0 + merged.size) (past_position.base + past_position.bytes) (past_free blocks) at.2.3, pool.most_bytes))
 
     pub sizes_are : size_of (free_previous block.place old) + size_at block.place (blocks_of old.pools) + size_of (free_next block.place old) ≡ merged.size
     sizes_are =
-        let alone : IsAlone spot block blocks = block_alone spot block blocks once in
+        let alone : IsAlone position block blocks = block_alone position block blocks once in
         omega (
           arith,
-          ap (λ o. size_of (if_free o)) (front_at spot block blocks alone),
-          ap (λ o. size_of (if_free o)) (back_at spot block blocks alone),
-          size_here spot block blocks alone,
+          ap (λ o. size_of (if_free o)) (front_at position block blocks alone),
+          ap (λ o. size_of (if_free o)) (back_at position block blocks alone),
+          size_here position block blocks alone,
         )
 
     pub after_is_good : IsGood (after_free block.place old)
@@ -250,8 +250,8 @@ module _ {A : Type 0} where
       let at : LocatedBlock test content.pools = located_block test content.pools (any_counts test (blocks_of content.pools) live) in
       let parts = and_parts _ _ at.passes in
       let P : List (Pool A) → Type 0 = λ pools. IsGood (record content { pools = pools }) → IsGood (after_free place (record content { pools = pools })) in
-      let Q : ℕ → Type 0 = λ p. IsGood (after_free p (record content { pools = filled_pools at.spot (at.block ∷ at.blocks) })) in
-      subst P (sym at.whole) (λ g. subst Q (eqb-true at.block.place place parts.0) (after_is_good content.records at.spot at.block at.blocks content.lists g (owned_is_live is_meant at.block.owner parts.1))) good
+      let Q : ℕ → Type 0 = λ p. IsGood (after_free p (record content { pools = filled_pools at.position (at.block ∷ at.blocks) })) in
+      subst P (sym at.whole) (λ g. subst Q (eqb-true at.block.place place parts.0) (after_is_good content.records at.position at.block at.blocks content.lists g (owned_is_live is_meant at.block.owner parts.1))) good
 
   -- the block that is left has a size that a block can have
   pub freed_size : (is_meant : A → Bool) (place : ℕ) (content : Content A) → IsGood content → is_live is_meant place (blocks_of content.pools) ≡ true
@@ -263,8 +263,8 @@ module _ {A : Type 0} where
       let Sized : ℕ → Content A → Type 0 = λ p x.
       let size = size_of (free_previous p x) + size_at p (blocks_of x.pools) + size_of (free_next p x) in (0 < size) × (size % unit ≡ 0) × (size ≤ greatest_size) in
       let P : List (Pool A) → Type 0 = λ pools. IsGood (record content { pools = pools }) → Sized place (record content { pools = pools }) in
-      let Q : ℕ → Type 0 = λ p. Sized p (record content { pools = filled_pools at.spot (at.block ∷ at.blocks) }) in
+      let Q : ℕ → Type 0 = λ p. Sized p (record content { pools = filled_pools at.position (at.block ∷ at.blocks) }) in
       let R : ℕ → Type 0 = λ n. (0 < n) × (n % unit ≡ 0) × (n ≤ greatest_size) in
       subst P (sym at.whole) (λ g.
       let live_one = owned_is_live is_meant at.block.owner parts.1 in
-      subst Q (eqb-true at.block.place place parts.0) (subst R (sym (sizes_are content.records at.spot at.block at.blocks content.lists g live_one)) (merged_size content.records at.spot at.block at.blocks content.lists g live_one))) good
+      subst Q (eqb-true at.block.place place parts.0) (subst R (sym (sizes_are content.records at.position at.block at.blocks content.lists g live_one)) (merged_size content.records at.position at.block at.blocks content.lists g live_one))) good

@@ -8,10 +8,10 @@ use Rattle.tlsf_heap.specs.Content.{Block, blocks_of, is_at}
 use Rattle.tlsf_heap.specs.Lists.{list_of as places_of, without, link, unlink}
 use Rattle.tlsf_heap.specs.Good.{IsGood}
 use Rattle.tlsf_heap.specs.Inner.Nodes.{Node, Area, Layout, block_of, pool_of, content_by, nodes_of, has_slot, has_place, list_of, is_listed_in, without_slot, left, entered}
-use Rattle.tlsf_heap.specs.Inner.Spots.{plug, Spot, filled}
+use Rattle.tlsf_heap.specs.Inner.Positions.{plug, Position, filled}
 use Rattle.tlsf_heap.specs.Inner.Represents.{Agree}
 use Rattle.tlsf_heap.proofs.Content.Blocks.{Ascends-pools}
-use Rattle.tlsf_heap.proofs.Meaning.BlockSpots.{BlockSpot, filled_pools, at_most_one, IsAlone, block_alone}
+use Rattle.tlsf_heap.proofs.Meaning.BlockPositions.{BlockPosition, filled_pools, at_most_one, IsAlone, block_alone}
 use Rattle.tlsf_heap.proofs.Counts.{one_if, count-cons, count_either, count_and, count-map}
 use Rattle.tlsf_heap.proofs.Inner.Plugs.{count-filled, map-plug}
 use Rattle.tlsf_heap.proofs.Inner.Lists.{count-left_same, count-left_other}
@@ -40,25 +40,25 @@ pub record Told (areas : List Area) (lists : List (List Node)) : Type 0 where
   pub slots : SlotsOnce areas
   pub places : PlacesOnce areas
 
--- the same spot among blocks
-abbrev pub block_spot : Spot → BlockSpot ℕ
-block_spot spot = record { pools_before = map pool_of spot.areas_before; base = spot.entry.base; bytes = spot.entry.bytes; before = map block_of spot.before; pools_behind = map pool_of spot.areas_behind }
+-- the same position among blocks
+abbrev pub block_position : Position → BlockPosition ℕ
+block_position position = record { pools_before = map pool_of position.areas_before; base = position.entry.base; bytes = position.entry.bytes; before = map block_of position.before; pools_behind = map pool_of position.areas_behind }
 
-pub pools_are : (spot : Spot) (nodes : List Node) → map pool_of (filled spot nodes) ≡ filled_pools (block_spot spot) (map block_of nodes)
-pools_are spot nodes =
-    map-plug pool_of spot.areas_before (record { entry = spot.entry; nodes = plug spot.before nodes } ∷ spot.areas_behind)
-    ∙ ap (λ blocks. plug (map pool_of spot.areas_before) (record { base = spot.entry.base; bytes = spot.entry.bytes; blocks = blocks } ∷ map pool_of spot.areas_behind)) (map-plug block_of spot.before nodes)
+pub pools_are : (position : Position) (nodes : List Node) → map pool_of (filled position nodes) ≡ filled_pools (block_position position) (map block_of nodes)
+pools_are position nodes =
+    map-plug pool_of position.areas_before (record { entry = position.entry; nodes = plug position.before nodes } ∷ position.areas_behind)
+    ∙ ap (λ blocks. plug (map pool_of position.areas_before) (record { base = position.entry.base; bytes = position.entry.bytes; blocks = blocks } ∷ map pool_of position.areas_behind)) (map-plug block_of position.before nodes)
 
--- the block of a node at a spot begins where no other does
-pub alone : (spot : Spot) (node : Node) (nodes : List Node) → PlacesOnce (filled spot (node ∷ nodes)) → IsAlone (block_spot spot) (block_of node) (map block_of nodes)
-alone spot node nodes once =
-    block_alone (block_spot spot) (block_of node) (map block_of nodes)
+-- the block of a node at a position begins where no other does
+pub alone : (position : Position) (node : Node) (nodes : List Node) → PlacesOnce (filled position (node ∷ nodes)) → IsAlone (block_position position) (block_of node) (map block_of nodes)
+alone position node nodes once =
+    block_alone (block_position position) (block_of node) (map block_of nodes)
     (λ place. omega (
       arith,
       once place,
-      ap (λ pools. count_by (is_at place) (blocks_of pools)) (pools_are spot (node ∷ nodes)),
-      ap (count_by (is_at place)) (blocks_of_areas (filled spot (node ∷ nodes))),
-      count-map (is_at place) block_of (nodes_of (filled spot (node ∷ nodes))),
+      ap (λ pools. count_by (is_at place) (blocks_of pools)) (pools_are position (node ∷ nodes)),
+      ap (count_by (is_at place)) (blocks_of_areas (filled position (node ∷ nodes))),
+      count-map (is_at place) block_of (nodes_of (filled position (node ∷ nodes))),
     ))
 
 -- whether the two tests differ
@@ -96,8 +96,8 @@ by_places lists = map (map (λ node. node.place)) lists
 pub record Alike (node : Node) (lists : List (List Node)) : Type 0 where
   pub none : count_by (λ other. differ (has_slot node.slot other) (has_place node.place other)) (list_of (class node.size) lists) ≡ 0
 
-pub alike : (node : Node) (lists : List (List Node)) (spot : Spot) (at : Node) (nodes : List Node) → at.slot ≡ node.slot → at.place ≡ node.place → Told (filled spot (at ∷ nodes)) lists → Alike node lists
-alike node lists spot at nodes same_slot same_place told =
+pub alike : (node : Node) (lists : List (List Node)) (position : Position) (at : Node) (nodes : List Node) → at.slot ≡ node.slot → at.place ≡ node.place → Told (filled position (at ∷ nodes)) lists → Alike node lists
+alike node lists position at nodes same_slot same_place told =
     let test : Node → Bool = λ other. differ (has_slot node.slot other) (has_place node.place other) in
     let either : (others : List Node) → count_by test others ≤ count_by (has_slot node.slot) others + count_by (has_place node.place) others =
     count_either test (has_slot node.slot) (has_place node.place) (λ other. differ_most (has_slot node.slot other) (has_place node.place other)) in
@@ -106,21 +106,21 @@ alike node lists spot at nodes same_slot same_place told =
       none = omega (
         arith,
         told.agree (class node.size) test,
-        count_and (is_listed_in (class node.size)) test (nodes_of (filled spot (at ∷ nodes))),
-        count-filled test spot (at ∷ nodes),
+        count_and (is_listed_in (class node.size)) test (nodes_of (filled position (at ∷ nodes))),
+        count-filled test position (at ∷ nodes),
         count-cons test at nodes,
         here,
         told.slots node.slot,
-        count-filled (has_slot node.slot) spot (at ∷ nodes),
+        count-filled (has_slot node.slot) position (at ∷ nodes),
         count-cons (has_slot node.slot) at nodes,
         ap one_if (eq-eqb at.slot node.slot same_slot),
         told.places node.place,
-        count-filled (has_place node.place) spot (at ∷ nodes),
+        count-filled (has_place node.place) position (at ∷ nodes),
         count-cons (has_place node.place) at nodes,
         ap one_if (eq-eqb at.place node.place same_place),
-        either (nodes_of spot.areas_before),
-        either spot.before,
-        either (nodes_of spot.areas_behind),
+        either (nodes_of position.areas_before),
+        either position.before,
+        either (nodes_of position.areas_behind),
         either nodes,
       );
     }

@@ -1,11 +1,11 @@
--- Other blocks of the same bytes at a spot keep a content good.
+-- Other blocks of the same bytes at a position keep a content good.
 use Rattle.std.proofs.Common.{◌≡◌, ℕ, ◌+◌, ◌<◌, ◌≤◌, Bool, false, List, [], ◌∷◌, length, arith, count_by}
 use Rattle.tlsf_class.specs.Classes.{classes}
 use Rattle.tlsf_heap.specs.Content.{Block, blocks_of, is_free}
 use Rattle.tlsf_heap.specs.Lists.{list_of}
 use Rattle.tlsf_heap.specs.Good.{Covers, NoFreeNeighbours, IsGoodPool, times, is_listed, IsGood}
-use Rattle.tlsf_heap.specs.Inner.Spots.{plug}
-use Rattle.tlsf_heap.proofs.Meaning.BlockSpots.{BlockSpot, pool_at, filled_pools, count-filled_pools}
+use Rattle.tlsf_heap.specs.Inner.Positions.{plug}
+use Rattle.tlsf_heap.proofs.Meaning.BlockPositions.{BlockPosition, pool_at, filled_pools, count-filled_pools}
 use Rattle.tlsf_heap.proofs.Meaning.FreeFirst.{length-plug, covers_plug, pools_plug}
 
 module _ {A : Type 0} where
@@ -20,24 +20,24 @@ module _ {A : Type 0} where
     pub full : length new_lists ≡ classes
     pub listed : (q p : ℕ) → q < classes → times p (list_of q new_lists) + count_by (is_listed q p) olds ≡ times p (list_of q lists) + count_by (is_listed q p) news
 
-  pub refilled_is_good : (records : ℕ) (spot : BlockSpot A) (olds news : List (Block A)) (lists new_lists : List (List ℕ)) → IsRefill olds news lists new_lists
-      → length (blocks_of (filled_pools spot news)) ≤ records
-      → IsGood (record { records = records; pools = filled_pools spot olds; lists = lists }) → IsGood (record { records = records; pools = filled_pools spot news; lists = new_lists })
-  refilled_is_good records spot olds news lists new_lists is few good = record {
-    pools_few = omega (arith, good.pools_few, length-plug spot.pools_before (pool_at spot olds ∷ spot.pools_behind), length-plug spot.pools_before (pool_at spot news ∷ spot.pools_behind));
-    pools_good = pools_plug spot.pools_before (pool_at spot olds ∷ spot.pools_behind) (pool_at spot news ∷ spot.pools_behind) (λ from g. (g.0, pool_good g.1, g.2)) 0 good.pools_good;
+  pub refilled_is_good : (records : ℕ) (position : BlockPosition A) (olds news : List (Block A)) (lists new_lists : List (List ℕ)) → IsRefill olds news lists new_lists
+      → length (blocks_of (filled_pools position news)) ≤ records
+      → IsGood (record { records = records; pools = filled_pools position olds; lists = lists }) → IsGood (record { records = records; pools = filled_pools position news; lists = new_lists })
+  refilled_is_good records position olds news lists new_lists is few good = record {
+    pools_few = omega (arith, good.pools_few, length-plug position.pools_before (pool_at position olds ∷ position.pools_behind), length-plug position.pools_before (pool_at position news ∷ position.pools_behind));
+    pools_good = pools_plug position.pools_before (pool_at position olds ∷ position.pools_behind) (pool_at position news ∷ position.pools_behind) (λ from g. (g.0, pool_good g.1, g.2)) 0 good.pools_good;
     lists_count = is.full;
-    listed = (λ q p within. omega (arith, good.listed q p within, is.listed q p within, count-filled_pools (is_listed q p) spot olds, count-filled_pools (is_listed q p) spot news));
+    listed = (λ q p within. omega (arith, good.listed q p within, is.listed q p within, count-filled_pools (is_listed q p) position olds, count-filled_pools (is_listed q p) position news));
     blocks_few = few;
   }
     where
-      pool_good : IsGoodPool (pool_at spot olds) → IsGoodPool (pool_at spot news)
+      pool_good : IsGoodPool (pool_at position olds) → IsGoodPool (pool_at position news)
       pool_good g = record {
         base_in_units = g.base_in_units;
         bytes_in_units = g.bytes_in_units;
         least_bytes = g.least_bytes;
         most_bytes = g.most_bytes;
         ends = g.ends;
-        covered = covers_plug (spot.base + spot.bytes) spot.before olds news (λ from. is.covers from (spot.base + spot.bytes)) spot.base g.covered;
-        merged = apart_plug spot.before olds news is.apart false g.merged;
+        covered = covers_plug (position.base + position.bytes) position.before olds news (λ from. is.covers from (position.base + position.bytes)) position.base g.covered;
+        merged = apart_plug position.before olds news is.apart false g.merged;
       }

@@ -13,7 +13,7 @@ use Rattle.tlsf_heap.specs.Good.{Covers, NoFreeNeighbours, times, is_listed, IsG
 use Rattle.tlsf_heap.proofs.Content.Blocks.{Ascends-pools}
 use Rattle.tlsf_heap.proofs.Content.FreeLists.{count_listed-cut, times-link_gap, length-link_gap}
 use Rattle.tlsf_heap.proofs.Counts.{one_if, count-cons, count-append, count_all, any_counts}
-use Rattle.tlsf_heap.proofs.Meaning.BlockSpots.{BlockSpot, pool_at, filled_pools, count-filled_pools, at_most_one, IsAlone, block_alone, replaced_at, back_at, size_here, LocatedBlock, located_block}
+use Rattle.tlsf_heap.proofs.Meaning.BlockPositions.{BlockPosition, pool_at, filled_pools, count-filled_pools, at_most_one, IsAlone, block_alone, replaced_at, back_at, size_here, LocatedBlock, located_block}
 use Rattle.tlsf_heap.proofs.Meaning.FreeFirst.{past_free, free_first, few_past, past_apart, count_past, times-unlink_block, length-unlink_block, covers_behind, without_next, next_once}
 use Rattle.tlsf_heap.proofs.Meaning.Gaps.{covers_cut, apart_cut, length-cut_most}
 use Rattle.tlsf_heap.proofs.Meaning.Refilled.{refilled_is_good}
@@ -57,23 +57,23 @@ module _ {A : Type 0} where
           count_listed-cut owner q p block.place m size,
         )
 
-    module _ (records : ℕ) (spot : BlockSpot A) (good : IsGood (record { records = records; pools = filled_pools spot (block ∷ blocks); lists = lists })) where
+    module _ (records : ℕ) (position : BlockPosition A) (good : IsGood (record { records = records; pools = filled_pools position (block ∷ blocks); lists = lists })) where
       abbrev old : Content A
-      old = record { records = records; pools = filled_pools spot (block ∷ blocks); lists = lists }
+      old = record { records = records; pools = filled_pools position (block ∷ blocks); lists = lists }
 
       abbrev new : Content A
-      new = record { records = records; pools = filled_pools spot news; lists = new_lists }
+      new = record { records = records; pools = filled_pools position news; lists = new_lists }
 
-      once_here : (place : ℕ) → count_by (is_at place) (blocks_of (filled_pools spot (block ∷ blocks))) ≤ 1
-      once_here = at_most_one 0 (blocks_of (filled_pools spot (block ∷ blocks))) (Ascends-pools 0 (filled_pools spot (block ∷ blocks)) good.pools_good)
+      once_here : (place : ℕ) → count_by (is_at place) (blocks_of (filled_pools position (block ∷ blocks))) ≤ 1
+      once_here = at_most_one 0 (blocks_of (filled_pools position (block ∷ blocks))) (Ascends-pools 0 (filled_pools position (block ∷ blocks)) good.pools_good)
 
-      once_past : (place : ℕ) → count_by (is_at place) (blocks_of (filled_pools spot (block ∷ past_free blocks))) ≤ 1
+      once_past : (place : ℕ) → count_by (is_at place) (blocks_of (filled_pools position (block ∷ past_free blocks))) ≤ 1
       once_past place =
           omega (
             arith,
             once_here place,
-            count-filled_pools (is_at place) spot (block ∷ blocks),
-            count-filled_pools (is_at place) spot (block ∷ past_free blocks),
+            count-filled_pools (is_at place) position (block ∷ blocks),
+            count-filled_pools (is_at place) position (block ∷ past_free blocks),
             count-cons (is_at place) block blocks,
             count-cons (is_at place) block (past_free blocks),
             few_past (is_at place) blocks,
@@ -82,28 +82,28 @@ module _ {A : Type 0} where
       -- the content, where this is the next block and this is the size
       abbrev after : Option (Block A) → ℕ → Content A
       after o n = record old {
-        pools = map (replaced_in block.place (cut owner block.place m (n + size_of o))) (without_block o (filled_pools spot (block ∷ blocks)));
+        pools = map (replaced_in block.place (cut owner block.place m (n + size_of o))) (without_block o (filled_pools position (block ∷ blocks)));
         lists = link_gap (block.place + m) ((n + size_of o) - m) (unlink_block o lists);
       }
 
       pub resized_is : resized owner block.place m old ≡ new
       resized_is =
-          let alone : IsAlone spot block blocks = block_alone spot block blocks once_here in
-          let next_is : free_next block.place old ≡ next = ap if_free (back_at spot block blocks alone) in
+          let alone : IsAlone position block blocks = block_alone position block blocks once_here in
+          let next_is : free_next block.place old ≡ next = ap if_free (back_at position block blocks alone) in
           let by_pools : (after next block.size).pools ≡ new.pools =
-          ap (map (replaced_in block.place (cut owner block.place m size))) (without_next spot block blocks once_here)
-          ∙ replaced_at spot block (past_free blocks) (block_alone spot block (past_free blocks) once_past) (cut owner block.place m size) in
+          ap (map (replaced_in block.place (cut owner block.place m size))) (without_next position block blocks once_here)
+          ∙ replaced_at position block (past_free blocks) (block_alone position block (past_free blocks) once_past) (cut owner block.place m size) in
           ap (λ o. after o (size_at block.place (blocks_of old.pools))) next_is
-          ∙ ap (after next) (size_here spot block blocks alone)
+          ∙ ap (after next) (size_here position block blocks alone)
           ∙ ap (λ pools. record new { pools = pools }) by_pools
 
-      new_is_good : m ≤ size → length (blocks_of (filled_pools spot news)) ≤ records → IsGood new
+      new_is_good : m ≤ size → length (blocks_of (filled_pools position news)) ≤ records → IsGood new
       new_is_good fits few =
-          refilled_is_good records spot (block ∷ blocks) news lists new_lists (record {
+          refilled_is_good records position (block ∷ blocks) news lists new_lists (record {
             covers = covers fits;
             apart = apart;
             full = length-link_gap (unlink_block next lists) (length-unlink_block lists good.lists_count next) (block.place + m) (size - m);
-            listed = (λ q p within. listed good.lists_count (next_once records spot block blocks lists good) q p);
+            listed = (λ q p within. listed good.lists_count (next_once records position block blocks lists good) q p);
           }) few good
 
       -- as many blocks as before, or one more where no free one is behind and a record is left
@@ -111,14 +111,14 @@ module _ {A : Type 0} where
       past_length [] = refl
       past_length (b ∷ others) = elim (is_free b) as (λ f. length (cond f others (b ∷ others)) + cond (is_some (cond f (Some b) None)) 1 0 ≡ length (b ∷ others)) [ true ↦ omega arith | false ↦ omega arith ]
 
-      few_after : (is_some next || nat_lt (length (blocks_of old.pools)) records) ≡ true → length (blocks_of (filled_pools spot news)) ≤ records
+      few_after : (is_some next || nat_lt (length (blocks_of old.pools)) records) ≡ true → length (blocks_of (filled_pools position news)) ≤ records
       few_after room =
           let all : Block A → Bool = λ b. true in
-          let before = count-filled_pools all spot (block ∷ blocks) in
-          let behind = count-filled_pools all spot news in
+          let before = count-filled_pools all position (block ∷ blocks) in
+          let behind = count-filled_pools all position news in
           let parts = count_all news in
           let old_count = count_all (blocks_of old.pools) in
-          let new_count = count_all (blocks_of (filled_pools spot news)) in
+          let new_count = count_all (blocks_of (filled_pools position news)) in
           let both = length-append (cut owner block.place m size) (past_free blocks) in
           let past = past_length blocks in
           elim (or_cases (is_some next) (nat_lt (length (blocks_of old.pools)) records) room) [
@@ -132,9 +132,9 @@ module _ {A : Type 0} where
       -- where it fits in place, there is room for it
       fits_room : fits_in_place block.place m old ≡ true → m ≢ block.size → (m ≤ size) × ((is_some next || nat_lt (length (blocks_of old.pools)) records) ≡ true)
       fits_room fits other =
-          let alone : IsAlone spot block blocks = block_alone spot block blocks once_here in
-          let next_is : free_next block.place old ≡ next = ap if_free (back_at spot block blocks alone) in
-          let size_is : size_at block.place (blocks_of old.pools) ≡ block.size = size_here spot block blocks alone in
+          let alone : IsAlone position block blocks = block_alone position block blocks once_here in
+          let next_is : free_next block.place old ≡ next = ap if_free (back_at position block blocks alone) in
+          let size_is : size_at block.place (blocks_of old.pools) ≡ block.size = size_here position block blocks alone in
           let room : Bool = is_some next || nat_lt (length (blocks_of old.pools)) records in
           let is : fits_in_place block.place m old ≡ cond (nat_lt m block.size) room (nat_le m size) =
           ap (λ n. cond (nat_lt m n) (is_some (free_next block.place old) || nat_lt (length (blocks_of old.pools)) records) (nat_le m (n + size_of (free_next block.place old)))) size_is
@@ -164,30 +164,30 @@ module _ {A : Type 0} where
       let parts = and_parts _ _ at.passes in
       let of : List (Pool A) → Content A = λ pools. record content { pools = pools } in
       let P : List (Pool A) → Type 0 = λ pools. IsGood (of pools) → fits_in_place place m (of pools) ≡ true → m ≢ size_at place (blocks_of pools) → IsGood (resized owner place m (of pools)) in
-      let Q : ℕ → Type 0 = λ p. fits_in_place p m (of (filled_pools at.spot (at.block ∷ at.blocks))) ≡ true → m ≢ size_at p (blocks_of (filled_pools at.spot (at.block ∷ at.blocks))) → IsGood (resized owner p m (of (filled_pools at.spot (at.block ∷ at.blocks)))) in
-      let here : IsGood (of (filled_pools at.spot (at.block ∷ at.blocks))) → Q at.block.place = λ g f o.
-      let size_is : size_at at.block.place (blocks_of (filled_pools at.spot (at.block ∷ at.blocks))) ≡ at.block.size =
-      size_here at.spot at.block at.blocks (block_alone at.spot at.block at.blocks (at_most_one 0 (blocks_of (filled_pools at.spot (at.block ∷ at.blocks))) (Ascends-pools 0 (filled_pools at.spot (at.block ∷ at.blocks)) g.pools_good))) in
-      let room = fits_room owner m at.block at.blocks content.lists (owned_is_live is_meant at.block.owner parts.1) some whole content.records at.spot g f (λ e. o (e ∙ sym size_is)) in
-      resized_good owner m at.block at.blocks content.lists (owned_is_live is_meant at.block.owner parts.1) some whole content.records at.spot g room.0 room.1 in
+      let Q : ℕ → Type 0 = λ p. fits_in_place p m (of (filled_pools at.position (at.block ∷ at.blocks))) ≡ true → m ≢ size_at p (blocks_of (filled_pools at.position (at.block ∷ at.blocks))) → IsGood (resized owner p m (of (filled_pools at.position (at.block ∷ at.blocks)))) in
+      let here : IsGood (of (filled_pools at.position (at.block ∷ at.blocks))) → Q at.block.place = λ g f o.
+      let size_is : size_at at.block.place (blocks_of (filled_pools at.position (at.block ∷ at.blocks))) ≡ at.block.size =
+      size_here at.position at.block at.blocks (block_alone at.position at.block at.blocks (at_most_one 0 (blocks_of (filled_pools at.position (at.block ∷ at.blocks))) (Ascends-pools 0 (filled_pools at.position (at.block ∷ at.blocks)) g.pools_good))) in
+      let room = fits_room owner m at.block at.blocks content.lists (owned_is_live is_meant at.block.owner parts.1) some whole content.records at.position g f (λ e. o (e ∙ sym size_is)) in
+      resized_good owner m at.block at.blocks content.lists (owned_is_live is_meant at.block.owner parts.1) some whole content.records at.position g room.0 room.1 in
       subst P (sym at.whole) (λ g. subst Q (eqb-true at.block.place place parts.0) (here g)) good fits other
 
-  -- the bytes of a block at its spot and the free one behind it
-  module _ (records : ℕ) (spot : BlockSpot A) (block : Block A) (blocks : List (Block A)) (lists : List (List ℕ)) (good : IsGood (record { records = records; pools = filled_pools spot (block ∷ blocks); lists = lists })) where
+  -- the bytes of a block at its position and the free one behind it
+  module _ (records : ℕ) (position : BlockPosition A) (block : Block A) (blocks : List (Block A)) (lists : List (List ℕ)) (good : IsGood (record { records = records; pools = filled_pools position (block ∷ blocks); lists = lists })) where
     abbrev both : ℕ
     both = block.size + size_of (free_first blocks)
 
-    both_is : size_with_next block.place (record { records = records; pools = filled_pools spot (block ∷ blocks); lists = lists }) ≡ both
+    both_is : size_with_next block.place (record { records = records; pools = filled_pools position (block ∷ blocks); lists = lists }) ≡ both
     both_is =
-        let once = at_most_one 0 (blocks_of (filled_pools spot (block ∷ blocks))) (Ascends-pools 0 (filled_pools spot (block ∷ blocks)) good.pools_good) in
-        let alone : IsAlone spot block blocks = block_alone spot block blocks once in
-        omega (arith, size_here spot block blocks alone, ap (λ o. size_of (if_free o)) (back_at spot block blocks alone))
+        let once = at_most_one 0 (blocks_of (filled_pools position (block ∷ blocks))) (Ascends-pools 0 (filled_pools position (block ∷ blocks)) good.pools_good) in
+        let alone : IsAlone position block blocks = block_alone position block blocks once in
+        omega (arith, size_here position block blocks alone, ap (λ o. size_of (if_free o)) (back_at position block blocks alone))
 
     both_there : (both % unit ≡ 0) × (both ≤ greatest_size) × (block.place + both ≤ end_of_places)
     both_there =
-        let pool = (good_behind 0 spot.pools_before (pool_at spot (block ∷ blocks) ∷ spot.pools_behind) good.pools_good).1.1 in
-        let end : ℕ = spot.base + spot.bytes in
-        let at = within_plug spot.before (block ∷ blocks) spot.base end pool.covered in
+        let pool = (good_behind 0 position.pools_before (pool_at position (block ∷ blocks) ∷ position.pools_behind) good.pools_good).1.1 in
+        let end : ℕ = position.base + position.bytes in
+        let at = within_plug position.before (block ∷ blocks) position.base end pool.covered in
         let all = covers_behind block blocks at.0 end at.2 in
         let most = Covers-le (at.0 + both) end (past_free blocks) all.3 in
         (all.2, omega (arith, at.1, most, pool.most_bytes), omega (arith, all.0, most, pool.ends))
@@ -198,12 +198,12 @@ module _ {A : Type 0} where
       let test : Block A → Bool = λ block. is_at place block && is_owned_by is_meant block.owner in
       let at : LocatedBlock test content.pools = located_block test content.pools (any_counts test (blocks_of content.pools) live) in
       let of : List (Pool A) → Content A = λ pools. record content { pools = pools } in
-      let all : List (Pool A) = filled_pools at.spot (at.block ∷ at.blocks) in
+      let all : List (Pool A) = filled_pools at.position (at.block ∷ at.blocks) in
       let Whole : ℕ → Content A → Type 0 = λ p x. (size_with_next p x % unit ≡ 0) × (size_with_next p x ≤ greatest_size) × (p + size_with_next p x ≤ end_of_places) in
       let P : List (Pool A) → Type 0 = λ pools. IsGood (of pools) → Whole place (of pools) in
       let Q : ℕ → Type 0 = λ p. Whole p (of all) in
       let R : ℕ → Type 0 = λ n. (n % unit ≡ 0) × (n ≤ greatest_size) × (at.block.place + n ≤ end_of_places) in
-      let here : IsGood (of all) → Q at.block.place = λ g. subst R (sym (both_is content.records at.spot at.block at.blocks content.lists g)) (both_there content.records at.spot at.block at.blocks content.lists g) in
+      let here : IsGood (of all) → Q at.block.place = λ g. subst R (sym (both_is content.records at.position at.block at.blocks content.lists g)) (both_there content.records at.position at.block at.blocks content.lists g) in
       subst P (sym at.whole) (λ g. subst Q (eqb-true at.block.place place (and_parts _ _ at.passes).0) (here g)) good
 
 -- a live block keeps its slot in place
@@ -213,22 +213,22 @@ resized_slots known place m content good live some whole slots =
     let at : LocatedBlock test content.pools = located_block test content.pools (any_counts test (blocks_of content.pools) live) in
     let parts = and_parts _ _ at.passes in
     let of : List (Pool ℕ) → Content ℕ = λ pools. record content { pools = pools } in
-    let all : List (Pool ℕ) = filled_pools at.spot (at.block ∷ at.blocks) in
+    let all : List (Pool ℕ) = filled_pools at.position (at.block ∷ at.blocks) in
     let P : List (Pool ℕ) → Type 0 = λ pools. IsGood (of pools) → HasGoodSlots (of pools) → HasGoodSlots (resized known place m (of pools)) in
     let Q : ℕ → Type 0 = λ p. HasGoodSlots (resized known p m (of all)) in
     let here : IsGood (of all) → HasGoodSlots (of all) → Q at.block.place = λ g s.
-    let is = resized_is known m at.block at.blocks content.lists (owned_is_live (λ owner. owner == known) at.block.owner parts.1) some whole content.records at.spot g in
+    let is = resized_is known m at.block at.blocks content.lists (owned_is_live (λ owner. owner == known) at.block.owner parts.1) some whole content.records at.position g in
     let R : Content ℕ → Type 0 = λ x. HasGoodSlots x in
     let news : List (Block ℕ) = cut known at.block.place m (at.block.size + size_of (free_first at.blocks)) ++ past_free at.blocks in
     let own : at.block.owner ≡ Some known = owner_is at.block.owner parts.1 in
     subst R (sym is)
-    (slots_fewer (of all) (record { records = content.records; pools = filled_pools at.spot news; lists = new_lists known m at.block at.blocks content.lists (owned_is_live (λ owner. owner == known) at.block.owner parts.1) some whole }) refl
+    (slots_fewer (of all) (record { records = content.records; pools = filled_pools at.position news; lists = new_lists known m at.block at.blocks content.lists (owned_is_live (λ owner. owner == known) at.block.owner parts.1) some whole }) refl
     (λ slot.
     let has : Block ℕ → Bool = λ block. is_slot slot block.owner in
     omega (
       arith,
-      count-filled_pools has at.spot (at.block ∷ at.blocks),
-      count-filled_pools has at.spot news,
+      count-filled_pools has at.position (at.block ∷ at.blocks),
+      count-filled_pools has at.position news,
       count-cons has at.block at.blocks,
       ap (λ o. one_if (is_slot slot o)) own,
       slot_times-append slot (cut known at.block.place m (at.block.size + size_of (free_first at.blocks))) (past_free at.blocks),

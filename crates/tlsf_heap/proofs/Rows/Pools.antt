@@ -5,7 +5,7 @@ use Rattle.tlsf_store.specs.Cells.{Cells, empty_cells, with_taken}
 use Rattle.tlsf_heap.specs.declared.pool_entry.PoolEntry.{PoolEntry}
 use Rattle.tlsf_heap.specs.Inner.Entries.{pool_entered}
 use Rattle.tlsf_heap.specs.Pools.{created, with_pool}
-use Rattle.tlsf_heap.specs.Readings.{rows_by, rest_of}
+use Rattle.tlsf_heap.specs.Cursors.{rows_by, rest_of}
 use Rattle.tlsf_heap.specs.Inner.Nodes.{Layout, content_by, entered}
 use Rattle.tlsf_heap.specs.Inner.Represents.{pool_views, in_pool, AreLinked}
 use Rattle.tlsf_heap.specs.Inner.Entering.{pool_node, entries_in, pool_laid}

@@ -1,4 +1,4 @@
--- A node at a spot of a layout, and the steps of free there.
+-- A node at a position of a layout, and the steps of free there.
 use Rattle.std.specs.Prelude.{◌≡◌, ℕ, ◌+◌, ◌%◌, ◌^◌, ◌<◌, ◌≤◌, List, [], ◌∷◌, length, map, count_by, Some, ⊤, ◌-◌, ◌++◌}
 use Rattle.tlsf_class.specs.Classes.{unit, greatest_size}
 use Rattle.tlsf_store.specs.declared.records.Record.{Record}
@@ -9,8 +9,8 @@ use Rattle.tlsf_heap.specs.Content.{Pool}
 use Rattle.tlsf_heap.specs.Good.{Covers}
 use Rattle.tlsf_heap.specs.Pools.{end_of_places}
 use Rattle.tlsf_heap.specs.Inner.Nodes.{Status, InUse, Listed, Loose, Node, Area, Layout, turned, rest_node, pool_of, nodes_of, left, entered, gap_nodes, entered_gap}
-use Rattle.tlsf_heap.specs.Inner.Spots.{Spot, plug, filled, laid}
-use Rattle.tlsf_heap.specs.Inner.Joined.{is_loose, listed_first, past, left_by, grown_in_front, grown_behind, spot_past}
+use Rattle.tlsf_heap.specs.Inner.Positions.{Position, plug, filled, laid}
+use Rattle.tlsf_heap.specs.Inner.Joined.{is_loose, listed_first, past, left_by, grown_in_front, grown_behind, position_past}
 use Rattle.tlsf_heap.specs.Inner.Represents.{Represents}
 
 -- the blocks of the pool cover it
@@ -26,23 +26,23 @@ AreCovered from (pool ∷ pools) = (from ≤ pool.base) × IsCovered pool × Are
 
 pub record At : Type 0 where
   pub count : ℕ
-  pub spot : Spot
+  pub position : Position
   pub node : Node
   pub nodes : List Node
   pub lists : List (List Node)
   pub taken : List ℕ
 
 abbrev pub areas_at : At → List Area
-areas_at at = filled at.spot (at.node ∷ at.nodes)
+areas_at at = filled at.position (at.node ∷ at.nodes)
 
 abbrev pub layout_at : At → Layout
-layout_at at = laid at.count at.spot (at.node ∷ at.nodes) at.lists at.taken
+layout_at at = laid at.count at.position (at.node ∷ at.nodes) at.lists at.taken
 
 -- the node has this slot and this status, no other is loose, and the blocks cover their pools
 pub record IsAt (slot : ℕ) (status : Status) (at : At) : Type 0 where
   pub slot_is : at.node.slot ≡ slot
   pub status_is : at.node.status ≡ status
-  pub others_settled : count_by (λ node. is_loose node.status) (nodes_of (filled at.spot at.nodes)) ≡ 0
+  pub others_settled : count_by (λ node. is_loose node.status) (nodes_of (filled at.position at.nodes)) ≡ 0
   pub covered : AreCovered 0 (map pool_of (areas_at at))
 
 -- the node in another status
@@ -51,7 +51,7 @@ at_turned status at = record at { node = turned status at.node }
 
 -- a free node in front, if there is one, left its list and took in the node
 abbrev pub previous_joined : At → At
-previous_joined at = record at { spot = spot_past at.spot; node = grown_in_front (listed_first at.spot.before) at.node; lists = left_by (listed_first at.spot.before) at.lists }
+previous_joined at = record at { position = position_past at.position; node = grown_in_front (listed_first at.position.before) at.node; lists = left_by (listed_first at.position.before) at.lists }
 
 -- a free node behind, if there is one, left its list, and the node took it in
 abbrev pub next_joined : At → At
@@ -75,7 +75,7 @@ with_slot slot at = record at { taken = slot ∷ at.taken }
 
 -- the node of what is left behind the first bytes of the node, which keeps those
 abbrev pub at_split : ℕ → ℕ → At → At
-at_split rest bytes at = record at { spot = record at.spot { before = record at.node { size = bytes } ∷ at.spot.before }; node = rest_node rest bytes at.node }
+at_split rest bytes at = record at { position = record at.position { before = record at.node { size = bytes } ∷ at.position.before }; node = rest_node rest bytes at.node }
 
 -- and it entered its list
 abbrev pub at_cut : ℕ → ℕ → At → At
@@ -92,7 +92,7 @@ at_trimmed rest bytes at = record at {
 -- a listed node of its first bytes, where there are any, has its slot; it begins behind them, with a slot of its own
 abbrev pub at_gapped : ℕ → ℕ → At → At
 at_gapped live bytes at = record at {
-  spot = record at.spot { before = gap_nodes at.node.slot at.node.place bytes ++ at.spot.before };
+  position = record at.position { before = gap_nodes at.node.slot at.node.place bytes ++ at.position.before };
   node = record at.node { slot = live; place = at.node.place + bytes; size = at.node.size - bytes };
   lists = entered_gap at.node.slot at.node.place bytes at.lists;
 }
@@ -103,7 +103,7 @@ at_freed at = at_listed (next_joined (previous_joined (at_turned Loose at)))
 
 -- the layout without the node's area, whose node left its list
 abbrev pub without_area : At → Layout
-without_area at = record { count = at.count; areas = plug at.spot.areas_before at.spot.areas_behind; lists = left (turned Listed at.node) at.lists; taken = at.taken }
+without_area at = record { count = at.count; areas = plug at.position.areas_before at.position.areas_behind; lists = left (turned Listed at.node) at.lists; taken = at.taken }
 
 -- the cells represent the layout, and the node has this slot and this status
 abbrev pub StandsAt : ℕ → Status → Cells → At → Type 0

@@ -1,7 +1,7 @@
 -- A node and the free ones beside it in its pool, made one.
 use Rattle.std.specs.Prelude.{ℕ, ◌+◌, Bool, true, false, List, [], ◌∷◌, Option, Some, None, if◌then◌else◌}
 use Rattle.tlsf_heap.specs.Inner.Nodes.{Status, InUse, Listed, Loose, Node, Layout, turned, is_listed, left, entered}
-use Rattle.tlsf_heap.specs.Inner.Spots.{Spot, laid}
+use Rattle.tlsf_heap.specs.Inner.Positions.{Position, laid}
 
 abbrev pub is_loose : Status → Bool
 is_loose InUse = false
@@ -33,16 +33,16 @@ abbrev pub grown_behind : Option Node → Node → Node
 grown_behind None node = node
 grown_behind (Some behind) node = record node { size = node.size + behind.size }
 
--- the spot without a listed node in front
-abbrev pub spot_past : Spot → Spot
-spot_past spot = record spot { before = past spot.before }
+-- the position without a listed node in front
+abbrev pub position_past : Position → Position
+position_past position = record position { before = past position.before }
 
 -- the loose node that is left of a node and those beside it
-abbrev pub merged_node : Spot → Node → List Node → Node
-merged_node spot node nodes = grown_behind (listed_first nodes) (grown_in_front (listed_first spot.before) (turned Loose node))
+abbrev pub merged_node : Position → Node → List Node → Node
+merged_node position node nodes = grown_behind (listed_first nodes) (grown_in_front (listed_first position.before) (turned Loose node))
 
--- the layout after the node at the spot was freed: one listed node is left of it and those beside it
-abbrev pub freed_layout : ℕ → Spot → Node → List Node → List (List Node) → List ℕ → Layout
-freed_layout count spot node nodes lists taken =
-    let merged = turned Listed (merged_node spot node nodes) in
-    laid count (spot_past spot) (merged ∷ past nodes) (entered merged (left_by (listed_first nodes) (left_by (listed_first spot.before) lists))) taken
+-- the layout after the node at the position was freed: one listed node is left of it and those beside it
+abbrev pub freed_layout : ℕ → Position → Node → List Node → List (List Node) → List ℕ → Layout
+freed_layout count position node nodes lists taken =
+    let merged = turned Listed (merged_node position node nodes) in
+    laid count (position_past position) (merged ∷ past nodes) (entered merged (left_by (listed_first nodes) (left_by (listed_first position.before) lists))) taken

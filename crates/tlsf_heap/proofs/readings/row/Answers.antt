@@ -3,7 +3,7 @@ use Rattle.tlsf_store.specs.declared.records.Record.{Record}
 use Rattle.tlsf_store.specs.Records.{record_at}
 use Rattle.tlsf_heap.specs.Inner.Edits.{IsUsed}
 use Rattle.tlsf_heap.specs.Rows.{row_of}
-use Rattle.tlsf_heap.specs.Readings.{rows_by, rest_of}
+use Rattle.tlsf_heap.specs.Cursors.{rows_by, rest_of}
 use Rattle.tlsf_heap.specs.Inner.Following.{block_at}
 use Rattle.tlsf_heap.proofs.Inner.RowsRead.{stands_used, row_then_rest, rest_stands, live_is_used, past_rest}
 use Rattle.tlsf_heap.proofs.readings.row.Goals as goal

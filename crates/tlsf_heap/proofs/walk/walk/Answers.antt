@@ -1,7 +1,7 @@
 use Rattle.std.proofs.Common.{◌≡◌, ◌∷◌, refl, ap, ◌∙◌, arith, length}
 use denote.Param.Always.{mut_next}
 use Rattle.tlsf_store.specs.Cells.{Cells}
-use Rattle.tlsf_heap.specs.Readings.{rows_by, rest_of}
+use Rattle.tlsf_heap.specs.Cursors.{rows_by, rest_of}
 use Rattle.tlsf_heap.proofs.walk.walk.Goals as goal
 
 pub loop-row-preserved : goal.loop-row-preserved

@@ -1,6 +1,6 @@
 use Rattle.std.proofs.Common.{◌≡◌, ◌+◌, ◌≤◌, length}
 use Rattle.std.specs.List.{FoldsTo}
-use Rattle.tlsf_heap.specs.Readings.{rows_by, rest_of, stands_at}
+use Rattle.tlsf_heap.specs.Cursors.{rows_by, rest_of, stands_at}
 use Rattle.tlsf_heap.proofs.walk.walk.Given as goal
 
 -- visits of the rows that are left end visits of all

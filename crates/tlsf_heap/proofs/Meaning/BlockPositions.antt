@@ -1,11 +1,11 @@
--- A block at a spot among the blocks of all pools: it gives way to others, its size, and the blocks beside it.
+-- A block at a position among the blocks of all pools: it gives way to others, its size, and the blocks beside it.
 use Rattle.std.proofs.Common.{◌≡◌, ℕ, ◌+◌, ◌≤◌, Bool, true, false, List, [], ◌∷◌, ◌++◌, map, find, refl, ap, ◌∙◌, arith, count_by, Option, Some, None, option_map, unwrap_or, inl, inr}
 use Rattle.std.specs.Option.{option_or}
 use Rattle.std.proofs.lemmas.Bool.{cases_Bool, cases_lt, eq-eqb, eqb-true}
 use Rattle.tlsf_heap.specs.Content.{Block, Pool, blocks_of, is_at, size_at}
 use Rattle.tlsf_heap.specs.Malloc.{replaced, replaced_in}
 use Rattle.tlsf_heap.specs.Free.{previous_of, next_of, first_in_pools}
-use Rattle.tlsf_heap.specs.Inner.Spots.{plug}
+use Rattle.tlsf_heap.specs.Inner.Positions.{plug}
 use Rattle.tlsf_heap.proofs.Content.Blocks.{Ascends, NoneAt, NoneAt-below}
 use Rattle.tlsf_heap.proofs.Counts.{one_if, count-cons, count-append, count-plug, Split, split_at}
 use Rattle.tlsf_heap.proofs.Inner.Plugs.{map-plug}
@@ -15,7 +15,7 @@ option_or-None None = refl
 option_or-None (Some b) = refl
 
 -- a place between the blocks of a pool, what is in front nearest first
-pub record BlockSpot (A : Type 0) : Type 0 where
+pub record BlockPosition (A : Type 0) : Type 0 where
   pub pools_before : List (Pool A)
   pub base : ℕ
   pub bytes : ℕ
@@ -28,15 +28,15 @@ first_of [] = None
 first_of (block ∷ blocks) = Some block
 
 module _ {A : Type 0} where
-  abbrev pub pool_at : BlockSpot A → List (Block A) → Pool A
-  pool_at spot blocks = record { base = spot.base; bytes = spot.bytes; blocks = plug spot.before blocks }
+  abbrev pub pool_at : BlockPosition A → List (Block A) → Pool A
+  pool_at position blocks = record { base = position.base; bytes = position.bytes; blocks = plug position.before blocks }
 
-  -- the pools with these blocks at the spot
-  abbrev pub filled_pools : BlockSpot A → List (Block A) → List (Pool A)
-  filled_pools spot blocks = plug spot.pools_before (pool_at spot blocks ∷ spot.pools_behind)
+  -- the pools with these blocks at the position
+  abbrev pub filled_pools : BlockPosition A → List (Block A) → List (Pool A)
+  filled_pools position blocks = plug position.pools_before (pool_at position blocks ∷ position.pools_behind)
 
-  abbrev pub around_blocks : (Block A → Bool) → BlockSpot A → ℕ
-  around_blocks p spot = count_by p (blocks_of spot.pools_before) + count_by p spot.before + count_by p (blocks_of spot.pools_behind)
+  abbrev pub around_blocks : (Block A → Bool) → BlockPosition A → ℕ
+  around_blocks p position = count_by p (blocks_of position.pools_before) + count_by p position.before + count_by p (blocks_of position.pools_behind)
 
   pub count-blocks : (p : Block A → Bool) (pool : Pool A) (pools : List (Pool A)) → count_by p (blocks_of (pool ∷ pools)) ≡ count_by p pool.blocks + count_by p (blocks_of pools)
   count-blocks p pool pools = count-append p pool.blocks (blocks_of pools)
@@ -45,16 +45,16 @@ module _ {A : Type 0} where
   count-blocks-plug p [] behind = omega arith
   count-blocks-plug p (pool ∷ front) behind = omega (arith, count-blocks-plug p front (pool ∷ behind), count-blocks p pool behind, count-blocks p pool front)
 
-  pub count-filled_pools : (p : Block A → Bool) (spot : BlockSpot A) (blocks : List (Block A)) → count_by p (blocks_of (filled_pools spot blocks)) ≡ around_blocks p spot + count_by p blocks
-  count-filled_pools p spot blocks =
-      omega (arith, count-blocks-plug p spot.pools_before (pool_at spot blocks ∷ spot.pools_behind), count-blocks p (pool_at spot blocks) spot.pools_behind, count-plug p spot.before blocks)
+  pub count-filled_pools : (p : Block A → Bool) (position : BlockPosition A) (blocks : List (Block A)) → count_by p (blocks_of (filled_pools position blocks)) ≡ around_blocks p position + count_by p blocks
+  count-filled_pools p position blocks =
+      omega (arith, count-blocks-plug p position.pools_before (pool_at position blocks ∷ position.pools_behind), count-blocks p (pool_at position blocks) position.pools_behind, count-plug p position.before blocks)
 
-  -- the first block that passes the test, at its spot
+  -- the first block that passes the test, at its position
   pub record LocatedBlock (test : Block A → Bool) (pools : List (Pool A)) : Type 0 where
-    pub spot : BlockSpot A
+    pub position : BlockPosition A
     pub block : Block A
     pub blocks : List (Block A)
-    pub whole : pools ≡ filled_pools spot (block ∷ blocks)
+    pub whole : pools ≡ filled_pools position (block ∷ blocks)
     pub passes : test block ≡ true
 
   located_behind : (test : Block A → Bool) (front pools : List (Pool A)) → 1 ≤ count_by test (blocks_of pools) → LocatedBlock test (plug front pools)
@@ -63,7 +63,7 @@ module _ {A : Type 0} where
     | inl here ↦
         let at : Split test pool.blocks = split_at test pool.blocks (omega (arith, here)) in
         record {
-          spot = record { pools_before = front; base = pool.base; bytes = pool.bytes; before = at.front; pools_behind = pools };
+          position = record { pools_before = front; base = pool.base; bytes = pool.bytes; before = at.front; pools_behind = pools };
           block = at.item;
           blocks = at.behind;
           whole = ap (λ blocks. plug front (record pool { blocks = blocks } ∷ pools)) at.whole;
@@ -164,59 +164,59 @@ module _ {A : Type 0} where
     | inr elsewhere ↦ omega (arith, count-cons (is_at place) block blocks, ap one_if elsewhere, at_most_one (block.place + block.size) blocks a.2 place)
   ]
 
-  -- the block at the spot begins where no other does
-  pub record IsAlone (spot : BlockSpot A) (block : Block A) (blocks : List (Block A)) : Type 0 where
-    pub outside : around_blocks (is_at block.place) spot ≡ 0
+  -- the block at the position begins where no other does
+  pub record IsAlone (position : BlockPosition A) (block : Block A) (blocks : List (Block A)) : Type 0 where
+    pub outside : around_blocks (is_at block.place) position ≡ 0
     pub behind : count_by (is_at block.place) blocks ≡ 0
 
-  pub block_alone : (spot : BlockSpot A) (block : Block A) (blocks : List (Block A)) → ((place : ℕ) → count_by (is_at place) (blocks_of (filled_pools spot (block ∷ blocks))) ≤ 1) → IsAlone spot block blocks
-  block_alone spot block blocks once =
+  pub block_alone : (position : BlockPosition A) (block : Block A) (blocks : List (Block A)) → ((place : ℕ) → count_by (is_at place) (blocks_of (filled_pools position (block ∷ blocks))) ≤ 1) → IsAlone position block blocks
+  block_alone position block blocks once =
       let all = once block.place in
-      let parts = count-filled_pools (is_at block.place) spot (block ∷ blocks) in
+      let parts = count-filled_pools (is_at block.place) position (block ∷ blocks) in
       let here = count-cons (is_at block.place) block blocks in
       let own = ap one_if (eq-eqb block.place block.place refl) in
       record { outside = omega (arith, all, parts, here, own); behind = omega (arith, all, parts, here, own) }
 
-  module _ (spot : BlockSpot A) (block : Block A) (blocks : List (Block A)) (alone : IsAlone spot block blocks) where
+  module _ (position : BlockPosition A) (block : Block A) (blocks : List (Block A)) (alone : IsAlone position block blocks) where
     -- it gives way to others
-    pub replaced_at : (others : List (Block A)) → map (replaced_in block.place others) (filled_pools spot (block ∷ blocks)) ≡ filled_pools spot (others ++ blocks)
+    pub replaced_at : (others : List (Block A)) → map (replaced_in block.place others) (filled_pools position (block ∷ blocks)) ≡ filled_pools position (others ++ blocks)
     replaced_at others =
         let here : replaced block.place others (block ∷ blocks) ≡ others ++ blocks = rw (eq-eqb block.place block.place refl) (ap (λ bs. others ++ bs) (replaced_none block.place others blocks alone.behind)) in
-        map-plug (replaced_in block.place others) spot.pools_before (pool_at spot (block ∷ blocks) ∷ spot.pools_behind)
-        ∙ ap (λ pools. plug pools (map (replaced_in block.place others) (pool_at spot (block ∷ blocks) ∷ spot.pools_behind))) (replaced_pools block.place others spot.pools_before (omega (arith, alone.outside)))
-        ∙ ap (λ bs. plug spot.pools_before (record { base = spot.base; bytes = spot.bytes; blocks = bs } ∷ map (replaced_in block.place others) spot.pools_behind))
-        (replaced_plug block.place others spot.before (block ∷ blocks) (omega (arith, alone.outside)) ∙ ap (plug spot.before) here)
-        ∙ ap (λ pools. plug spot.pools_before (pool_at spot (others ++ blocks) ∷ pools)) (replaced_pools block.place others spot.pools_behind (omega (arith, alone.outside)))
+        map-plug (replaced_in block.place others) position.pools_before (pool_at position (block ∷ blocks) ∷ position.pools_behind)
+        ∙ ap (λ pools. plug pools (map (replaced_in block.place others) (pool_at position (block ∷ blocks) ∷ position.pools_behind))) (replaced_pools block.place others position.pools_before (omega (arith, alone.outside)))
+        ∙ ap (λ bs. plug position.pools_before (record { base = position.base; bytes = position.bytes; blocks = bs } ∷ map (replaced_in block.place others) position.pools_behind))
+        (replaced_plug block.place others position.before (block ∷ blocks) (omega (arith, alone.outside)) ∙ ap (plug position.before) here)
+        ∙ ap (λ pools. plug position.pools_before (pool_at position (others ++ blocks) ∷ pools)) (replaced_pools block.place others position.pools_behind (omega (arith, alone.outside)))
 
-    told : (tell : List (Block A) → Option (Block A)) → ((others : List (Block A)) → count_by (is_at block.place) others ≡ 0 → tell others ≡ None) → first_in_pools tell (filled_pools spot (block ∷ blocks)) ≡ tell (plug spot.before (block ∷ blocks))
+    told : (tell : List (Block A) → Option (Block A)) → ((others : List (Block A)) → count_by (is_at block.place) others ≡ 0 → tell others ≡ None) → first_in_pools tell (filled_pools position (block ∷ blocks)) ≡ tell (plug position.before (block ∷ blocks))
     told tell tells =
-        tells_later block.place tell tells spot.pools_before (pool_at spot (block ∷ blocks) ∷ spot.pools_behind) (omega (arith, alone.outside))
-        ∙ ap (option_or (tell (plug spot.before (block ∷ blocks)))) (tells_none block.place tell tells spot.pools_behind (omega (arith, alone.outside)))
-        ∙ option_or-None (tell (plug spot.before (block ∷ blocks)))
+        tells_later block.place tell tells position.pools_before (pool_at position (block ∷ blocks) ∷ position.pools_behind) (omega (arith, alone.outside))
+        ∙ ap (option_or (tell (plug position.before (block ∷ blocks)))) (tells_none block.place tell tells position.pools_behind (omega (arith, alone.outside)))
+        ∙ option_or-None (tell (plug position.before (block ∷ blocks)))
 
     -- the block in front of it is the nearest
-    pub front_at : first_in_pools (previous_of block.place) (filled_pools spot (block ∷ blocks)) ≡ first_of spot.before
-    front_at = told (previous_of block.place) (none_at_all block.place) ∙ nearest spot.before (omega (arith, alone.outside))
+    pub front_at : first_in_pools (previous_of block.place) (filled_pools position (block ∷ blocks)) ≡ first_of position.before
+    front_at = told (previous_of block.place) (none_at_all block.place) ∙ nearest position.before (omega (arith, alone.outside))
       where
         nearest : (front : List (Block A)) → count_by (is_at block.place) front ≡ 0 → previous_of block.place (plug front (block ∷ blocks)) ≡ first_of front
         nearest [] none = none_in_front block.place block blocks alone.behind
         nearest (f ∷ front) none = in_front_plug block.place front f (block ∷ blocks) (later block.place f front none) (apart_first block.place f front none) ∙ rw (eq-eqb block.place block.place refl) refl
 
     -- and the one behind it the next
-    pub back_at : first_in_pools (next_of block.place) (filled_pools spot (block ∷ blocks)) ≡ first_of blocks
-    back_at = told (next_of block.place) (none_behind block.place) ∙ behind_plug block.place spot.before block blocks (omega (arith, alone.outside)) ∙ next blocks
+    pub back_at : first_in_pools (next_of block.place) (filled_pools position (block ∷ blocks)) ≡ first_of blocks
+    back_at = told (next_of block.place) (none_behind block.place) ∙ behind_plug block.place position.before block blocks (omega (arith, alone.outside)) ∙ next blocks
       where
         next : (others : List (Block A)) → next_of block.place (block ∷ others) ≡ first_of others
         next [] = refl
         next (n ∷ others) = rw (eq-eqb block.place block.place refl) refl
 
     -- its size
-    pub size_here : size_at block.place (blocks_of (filled_pools spot (block ∷ blocks))) ≡ block.size
+    pub size_here : size_at block.place (blocks_of (filled_pools position (block ∷ blocks))) ≡ block.size
     size_here =
-        let found : find (is_at block.place) (block ∷ blocks ++ blocks_of spot.pools_behind) ≡ Some block = rw (eq-eqb block.place block.place refl) refl in
+        let found : find (is_at block.place) (block ∷ blocks ++ blocks_of position.pools_behind) ≡ Some block = rw (eq-eqb block.place block.place refl) refl in
         ap (λ (o : Option (Block A)). unwrap_or (option_map (λ b. b.size) o) 0)
         (
-        find_pools block.place spot.pools_before (pool_at spot (block ∷ blocks) ∷ spot.pools_behind) (omega (arith, alone.outside))
-        ∙ find_within block.place spot.before (block ∷ blocks) (blocks_of spot.pools_behind) (omega (arith, alone.outside))
+        find_pools block.place position.pools_before (pool_at position (block ∷ blocks) ∷ position.pools_behind) (omega (arith, alone.outside))
+        ∙ find_within block.place position.before (block ∷ blocks) (blocks_of position.pools_behind) (omega (arith, alone.outside))
         ∙ found
         )

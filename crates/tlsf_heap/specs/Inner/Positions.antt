@@ -1,4 +1,4 @@
--- A spot in a layout: what stands in front of it and behind it, the nearest first.
+-- A position in a layout: what stands in front of it and behind it, the nearest first.
 use Rattle.std.specs.Prelude.{ℕ, List, [], ◌∷◌}
 use Rattle.tlsf_heap.specs.declared.pool_entry.PoolEntry.{PoolEntry}
 use Rattle.tlsf_heap.specs.Inner.Nodes.{Node, Area, Layout}
@@ -9,7 +9,7 @@ plug [] behind = behind
 plug (item ∷ front) behind = plug front (item ∷ behind)
 
 -- a place between the nodes of an area
-pub record Spot : Type 0 where
+pub record Position : Type 0 where
   -- the areas in front of its own, nearest first
   pub areas_before : List Area
   -- the entry of its area
@@ -19,10 +19,10 @@ pub record Spot : Type 0 where
   -- the areas behind its own, in order
   pub areas_behind : List Area
 
--- the areas with these nodes at the spot, up to the end of its area
-abbrev pub filled : Spot → List Node → List Area
-filled spot nodes = plug spot.areas_before (record { entry = spot.entry; nodes = plug spot.before nodes } ∷ spot.areas_behind)
+-- the areas with these nodes at the position, up to the end of its area
+abbrev pub filled : Position → List Node → List Area
+filled position nodes = plug position.areas_before (record { entry = position.entry; nodes = plug position.before nodes } ∷ position.areas_behind)
 
--- the layout with these nodes at the spot
-abbrev pub laid : ℕ → Spot → List Node → List (List Node) → List ℕ → Layout
-laid count spot nodes lists taken = record { count = count; areas = filled spot nodes; lists = lists; taken = taken }
+-- the layout with these nodes at the position
+abbrev pub laid : ℕ → Position → List Node → List (List Node) → List ℕ → Layout
+laid count position nodes lists taken = record { count = count; areas = filled position nodes; lists = lists; taken = taken }
