@@ -1,5 +1,6 @@
 //! Rows of the heap.
 
+mod hostile;
 mod random;
 mod rows;
 mod walking;
