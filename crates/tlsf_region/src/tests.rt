@@ -1,5 +1,7 @@
 //! Rows of the region.
 
+mod hostile;
+
 use super::*;
 use std::alloc::Global;
 use std::process::Abort;
