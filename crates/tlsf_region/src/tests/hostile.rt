@@ -43,3 +43,17 @@ fn greatest_arguments(rt: HostRuntime) {
     assert_eq!(rt; region.add_pool(0, 1024), Ok(()));
     refuses_greatest(&rt, &mut region);
 }
+
+/// Its memory refused, a region isn't made; made again it is. It passes whichever allocation is refused.
+#[test]
+fn refused_memory(rt: HostRuntime) {
+    let mut region = match Region::create(rt.alloc(), 1024, 4) {
+        Ok(region) => region,
+        Err(error) => {
+            assert_eq!(rt; error, RegionError::OutOfMemory);
+            made(&rt, rt.alloc(), 1024, 4)
+        }
+    };
+    assert_eq!(rt; region.add_pool(0, 1024), Ok(()));
+    assert_eq!(rt; region.malloc(100).map(|ptr| ptr.place()), Ok(0));
+}
