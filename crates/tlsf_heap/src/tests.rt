@@ -1,5 +1,6 @@
 //! Rows of the heap.
 
+mod hostile;
 mod long_runs;
 mod random;
 mod rows;

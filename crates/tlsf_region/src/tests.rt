@@ -1,6 +1,7 @@
 //! Rows of the region.
 
 mod example;
+mod hostile;
 mod sizes;
 
 use super::*;

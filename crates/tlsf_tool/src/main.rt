@@ -14,6 +14,7 @@ use crate::service::serve;
 use crate::words::command;
 use mtrace_log::{FromRead, ToWrite};
 use mtrace_replay::{RunFault, Settings};
+use std::alloc::Global;
 use std::io::{BufWriter, Read};
 use std::process::ExitCode;
 use std::{env, fs, io};
@@ -21,12 +22,21 @@ use std::{env, fs, io};
 /// The line on words that aren't text.
 const NOT_TEXT: &str = "tlsf: a word is no text; for more, try 'tlsf --help'\n";
 
+/// The words in a list. To collect them would ask for its memory again where that is refused.
+fn listed_words(rt: &HostRuntime, all: env::Args<Global>) -> Result<Vec<String>, ToolFault> {
+    let mut words = Vec::new(rt.alloc());
+    for word in all {
+        if words.push(word).is_err() {
+            return Err(ToolFault::Run(RunFault::OutOfMemory));
+        }
+    }
+    Ok(words)
+}
+
 /// The words, of which the first is the program's name. Words that aren't text are wrong words.
 fn asked_words(rt: &HostRuntime) -> Result<Vec<String>, ToolFault> {
     match env::args(rt) {
-        Ok(all) => all
-            .collect(rt.alloc())
-            .map_err(|_| ToolFault::Run(RunFault::OutOfMemory)),
+        Ok(all) => listed_words(rt, all),
         Err(fault) if fault.kind() == io::ErrorKind::OutOfMemory => {
             Err(ToolFault::Run(RunFault::OutOfMemory))
         }

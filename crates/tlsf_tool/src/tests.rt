@@ -1,6 +1,7 @@
 //! Rows of whole runs: logs, faults of reader and writer, and words.
 
 mod glibc_log;
+mod hostile;
 mod program;
 mod reports;
 mod rows;

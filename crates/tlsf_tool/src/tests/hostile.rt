@@ -1,0 +1,159 @@
+//! Readers and writers that fail at each byte in turn, over all three reports.
+
+use super::rows::{SMALL, WHOLE};
+use crate::asked::Name;
+use mtrace_log::memory::{Full, MemorySink, MemorySource};
+use mtrace_log::{Sink, Source};
+use mtrace_replay::{RunFault, Status, run_leaks, run_peak, run_walk};
+use std::alloc::Global;
+
+/// A line that is none, one that is served, one without effect, and half of a reallocation with no newline.
+const HALF: &[u8] = b"+ 0x01000 0x10\n+ 0x1000 0\n- 0x2000\n< 0x1000";
+
+/// What each report of it says: what is wrong with its lines, and then what stands at its end.
+const TEXTS: [(Name, &[u8]); 3] = [
+    (
+        Name::Leaks,
+        b"line 1: not a line\nline 3: 0x2000 is not held\nline 4: half of a reallocation\nMemory not freed:\n0x1000 0 line 2\nTotal: 1 blocks, 0 bytes.\n",
+    ),
+    (
+        Name::Peak,
+        b"line 1: not a line\nline 3: 0x2000 is not held\nline 4: half of a reallocation\nlines: 4\nserved: 1\nrefused: 0\nlive: 0 bytes in 1 blocks\npeak: 0 bytes at line 0\nhigh place: 8\nfree: 1016 bytes in 1 blocks\nlargest free: 1016\nspread: -\n",
+    ),
+    (
+        Name::Walk,
+        b"line 1: not a line\nline 3: 0x2000 is not held\nline 4: half of a reallocation\npool 0: 1024 bytes\n0 8 used\n8 1016 free\n",
+    ),
+];
+
+const REPORTS: [Name; 3] = [Name::Leaks, Name::Peak, Name::Walk];
+
+/// What the first bytes of the log come to, where the reader fails behind them: the first number of bytes that
+/// comes to a text, and the text.
+const READ: [(u64, &[u8]); 3] = [
+    (0, b""),
+    (15, b"line 1: not a line\n"),
+    (35, b"line 1: not a line\nline 3: 0x2000 is not held\n"),
+];
+
+/// One report of what the reader gives.
+fn run_one<R: Source, W: Sink>(
+    alloc: Global,
+    report: Name,
+    reader: &mut R,
+    writer: &mut W,
+) -> Result<Status, RunFault> {
+    match report {
+        Name::Leaks => run_leaks(alloc, reader, writer, SMALL),
+        Name::Peak => run_peak(alloc, reader, writer, SMALL),
+        Name::Walk => run_walk(alloc, reader, writer, SMALL),
+    }
+}
+
+#[test]
+fn reader_fails_at_each_byte(rt: HostRuntime) {
+    for report in REPORTS {
+        let mut text: &[u8] = b"";
+        for bytes in 0..44 {
+            for (first, from_first) in READ {
+                if bytes == first {
+                    text = from_first;
+                }
+            }
+            let mut reader = MemorySource::failing_after(HALF, 1, bytes);
+            let mut writer = MemorySink::in_pieces(rt.alloc(), WHOLE);
+            let answer = run_one(rt.alloc(), report, &mut reader, &mut writer);
+            assert_eq!(rt; answer, Err(RunFault::Read), "{report:?} {bytes}");
+            assert_eq!(rt; writer.bytes(), text, "{report:?} {bytes}");
+        }
+    }
+}
+
+#[test]
+fn writer_fails_at_each_byte(rt: HostRuntime) {
+    for (report, text) in TEXTS {
+        for room in 0..text.len() {
+            for full in [Full::Fails, Full::TakesNone] {
+                let mut reader = MemorySource::in_pieces(HALF, WHOLE);
+                let mut writer = MemorySink::with_room(rt.alloc(), WHOLE, room, full);
+                let answer = run_one(rt.alloc(), report, &mut reader, &mut writer);
+                assert_eq!(rt; answer, Err(RunFault::Write), "{report:?} {room} {full:?}");
+                assert_eq!(rt; writer.bytes(), &text[..room], "{report:?} {room} {full:?}");
+            }
+        }
+    }
+}
+
+/// The writer takes the whole text, and its flush fails; with a flush that doesn't, the run is done.
+#[test]
+fn flush_fails_behind_the_text(rt: HostRuntime) {
+    for (report, text) in TEXTS {
+        let mut reader = MemorySource::in_pieces(HALF, WHOLE);
+        let mut writer = MemorySink::with_room(
+            rt.alloc(),
+            WHOLE,
+            text.len(),
+            Full::Fails,
+        ).failing_flush();
+        let answer = run_one(rt.alloc(), report, &mut reader, &mut writer);
+        assert_eq!(rt; answer, Err(RunFault::Write), "{report:?}");
+        assert_eq!(rt; writer.bytes(), text, "{report:?}");
+
+        let mut reader = MemorySource::in_pieces(HALF, WHOLE);
+        let mut writer = MemorySink::with_room(rt.alloc(), WHOLE, text.len(), Full::Fails);
+        let answer = run_one(rt.alloc(), report, &mut reader, &mut writer);
+        assert_eq!(rt; answer, Ok(Status::Found), "{report:?}");
+        assert_eq!(rt; writer.bytes(), text, "{report:?}");
+    }
+}
+
+#[test]
+fn read_fault_before_flush_fault(rt: HostRuntime) {
+    for report in REPORTS {
+        let mut reader = MemorySource::failing_after(HALF, 1, 15);
+        let mut writer = MemorySink::in_pieces(rt.alloc(), WHOLE).failing_flush();
+        let answer = run_one(rt.alloc(), report, &mut reader, &mut writer);
+        assert_eq!(rt; answer, Err(RunFault::Read), "{report:?}");
+        assert_eq!(rt;
+            writer.bytes(),
+            b"line 1: not a line\n".as_slice(),
+            "{report:?}"
+        );
+    }
+}
+
+#[test]
+fn pending_half_at_read_fault(rt: HostRuntime) {
+    for report in REPORTS {
+        let mut reader = MemorySource::failing_after(b"< 0x10\n", WHOLE, 1);
+        let mut writer = MemorySink::in_pieces(rt.alloc(), WHOLE);
+        let answer = run_one(rt.alloc(), report, &mut reader, &mut writer);
+        assert_eq!(rt; answer, Err(RunFault::Read), "{report:?}");
+        assert_eq!(rt; writer.bytes(), b"".as_slice(), "{report:?}");
+    }
+}
+
+/// A byte 0x0D in front of the newline belongs to the line.
+#[test]
+fn carriage_return(rt: HostRuntime) {
+    let texts: [(Name, &[u8]); 3] = [
+        (Name::Leaks, b"line 1: not a line\nNo memory leaks.\n"),
+        (
+            Name::Peak,
+            b"line 1: not a line\nlines: 1\nserved: 0\nrefused: 0\nlive: 0 bytes in 0 blocks\npeak: 0 bytes at line 0\nhigh place: 0\nfree: 1024 bytes in 1 blocks\nlargest free: 1024\nspread: -\n",
+        ),
+        (
+            Name::Walk,
+            b"line 1: not a line\npool 0: 1024 bytes\n0 1024 free\n",
+        ),
+    ];
+    for (report, text) in texts {
+        for log in [b"= Start\r".as_slice(), b"= Start\r\n"] {
+            let mut reader = MemorySource::in_pieces(log, WHOLE);
+            let mut writer = MemorySink::in_pieces(rt.alloc(), WHOLE);
+            let answer = run_one(rt.alloc(), report, &mut reader, &mut writer);
+            assert_eq!(rt; answer, Ok(Status::Found), "{report:?}");
+            assert_eq!(rt; writer.bytes(), text, "{report:?}");
+        }
+    }
+}

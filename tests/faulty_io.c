@@ -1,0 +1,76 @@
+/* The calls of the C library that read and write, which fail or move one byte where the environment tells them
+   to. Each read and each write counts as one call, from 1 on. tests/faults preloads them.
+   IO_FAIL=N       call N fails
+   IO_SHORT=N      call N moves one byte at most
+   IO_ERROR=E      the error of a call that fails; else 5, a fault of the device
+   IO_COUNT=FILE   at the end FILE gets the number of calls
+   IO_GROW=FILE    behind call IO_GROW_AT a line is appended to FILE */
+#define _GNU_SOURCE
+#include <dlfcn.h>
+#include <errno.h>
+#include <stdio.h>
+#include <stdlib.h>
+#include <string.h>
+#include <unistd.h>
+
+static long calls;
+
+static long number_of(const char *name) {
+    const char *number = getenv(name);
+    return number == NULL ? 0 : strtol(number, NULL, 10);
+}
+
+static void append_line(const char *name) {
+    FILE *file = fopen(name, "a");
+    if (file == NULL || fputs("+ 0xfff0 0x8\n", file) == EOF || fclose(file) == EOF)
+        abort();
+}
+
+/* The call with this many bytes: how many of them it may move, or -1 where it fails. */
+static ssize_t begin(size_t count) {
+    calls++;
+    if (calls == number_of("IO_FAIL")) {
+        errno = getenv("IO_ERROR") == NULL ? EIO : (int)number_of("IO_ERROR");
+        return -1;
+    }
+    return calls == number_of("IO_SHORT") && count > 1 ? 1 : (ssize_t)count;
+}
+
+static void end(void) {
+    const char *name = getenv("IO_GROW");
+    int error = errno;
+    if (name != NULL && calls == number_of("IO_GROW_AT"))
+        append_line(name);
+    errno = error;
+}
+
+ssize_t read(int file, void *bytes, size_t count) {
+    static ssize_t (*next)(int, void *, size_t);
+    ssize_t most = begin(count);
+    if (next == NULL)
+        next = dlsym(RTLD_NEXT, "read");
+    if (most >= 0)
+        most = next(file, bytes, most);
+    end();
+    return most;
+}
+
+ssize_t write(int file, const void *bytes, size_t count) {
+    static ssize_t (*next)(int, const void *, size_t);
+    ssize_t most = begin(count);
+    if (next == NULL)
+        next = dlsym(RTLD_NEXT, "write");
+    if (most >= 0)
+        most = next(file, bytes, most);
+    end();
+    return most;
+}
+
+__attribute__((destructor)) static void tell_count(void) {
+    const char *name = getenv("IO_COUNT");
+    FILE *file = name == NULL ? NULL : fopen(name, "w");
+    if (file != NULL) {
+        fprintf(file, "%ld\n", calls);
+        fclose(file);
+    }
+}
