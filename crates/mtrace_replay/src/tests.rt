@@ -2,6 +2,7 @@
 
 ghost use Rattle.std.specs.Prelude.{◌≡◌, false};
 
+mod hostile;
 mod random_lines;
 mod refused_memory;
 mod rows;

@@ -1,0 +1,57 @@
+//! Memory refused to each of the reports. The test passes whichever allocation is refused, and where none is.
+
+use super::*;
+use mtrace_log::Source;
+use mtrace_log::memory::{MemorySink, MemorySource};
+
+const SETTINGS: Settings = Settings {
+    pool: 4096,
+    pools: 2,
+    records: 64,
+};
+
+const LOG: &[u8] = b"- 0x10\n+ 0x10 0x1\n- 0x20\n+ 0x20 0x1\n= Stop\n+ 0x30 0x1\n";
+
+/// What each report of it says.
+const TEXTS: [(Report, &[u8]); 3] = [
+    (
+        Report::Leaks,
+        b"line 1: 0x10 is not held\nline 3: 0x20 is not held\nline 5: not a line\nMemory not freed:\n0x10 1 line 2\n0x20 1 line 4\n0x30 1 line 6\nTotal: 3 blocks, 3 bytes.\n",
+    ),
+    (
+        Report::Peak,
+        b"line 1: 0x10 is not held\nline 3: 0x20 is not held\nline 5: not a line\nlines: 6\nserved: 3\nrefused: 0\nlive: 3 bytes in 3 blocks\npeak: 3 bytes at line 6\nhigh place: 24\nfree: 8168 bytes in 2 blocks\nlargest free: 4096\nspread: 8000\n",
+    ),
+    (
+        Report::Walk,
+        b"line 1: 0x10 is not held\nline 3: 0x20 is not held\nline 5: not a line\npool 0: 4096 bytes\n0 8 used\n8 8 used\n16 8 used\n24 4072 free\npool 4096: 4096 bytes\n4096 4096 free\n",
+    ),
+];
+
+/// Where a run is refused memory, nothing is read or written.
+#[test]
+fn each_report_with_refused_memory(rt: HostRuntime) {
+    let alloc = rt.alloc();
+    for (report, text) in TEXTS {
+        let mut reader = MemorySource::in_pieces(LOG, 4096);
+        let mut writer = MemorySink::in_pieces(alloc, 4096);
+        let answer = match report {
+            Report::Leaks => run_leaks(alloc, &mut reader, &mut writer, SETTINGS),
+            Report::Peak => run_peak(alloc, &mut reader, &mut writer, SETTINGS),
+            Report::Walk => run_walk(alloc, &mut reader, &mut writer, SETTINGS),
+        };
+        match answer {
+            Ok(status) => {
+                assert_eq!(rt; status, Status::Found, "{report:?}");
+                assert_eq!(rt; writer.bytes(), text, "{report:?}");
+            }
+            // The writer was refused memory.
+            Err(RunFault::Write) => assert!(rt; text.starts_with(writer.bytes()), "{report:?}"),
+            Err(fault) => {
+                assert_eq!(rt; fault, RunFault::OutOfMemory, "{report:?}");
+                assert!(rt; reader.pull(&mut [0; 4096]) == Ok(LOG.len()), "{report:?}");
+                assert!(rt; writer.bytes().is_empty(), "{report:?}");
+            }
+        }
+    }
+}
