@@ -7,6 +7,7 @@ use Rattle.clap.specs.Simple.{on_top}
 use Rattle.clap.specs.declared.builder.value_parser.ValueParser.{ValueParser}
 use Rattle.clap.specs.declared.builder.value_parser.ValueParser.TheVariants as parser
 use Rattle.std.specs.Prelude.{pos}
+use Rattle.tlsf_class.specs.Classes.{unit, greatest_size}
 use Rattle.mtrace_replay.specs.declared.settings.Settings.{Settings}
 use Rattle.tlsf_tool.specs.declared.asked.Command.{Command}
 use Rattle.tlsf_tool.specs.declared.asked.Command.TheVariants.{Report}
@@ -25,7 +26,7 @@ option_rule id default takes = record (new_rule id) {
 }
 
 abbrev pub pool_rule : Rule
-pool_rule = option_rule (codes "pool") (codes "16777216") (parser.Unsigned 8 1073741816)
+pool_rule = option_rule (codes "pool") (codes "16777216") (parser.Unsigned unit greatest_size)
 
 abbrev pub pools_rule : Rule
 pools_rule = option_rule (codes "pools") (codes "1") (parser.Signed (pos 1) (pos 8))

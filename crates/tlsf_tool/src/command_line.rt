@@ -7,6 +7,7 @@ ghost use Rattle.tlsf_tool.specs.CommandLine.{log_rule, pool_rule, pools_rule, r
 
 use clap::{Arg, Command, value_parser};
 use std::alloc::{AllocError, Global};
+use tlsf_class::{GREATEST_SIZE, UNIT};
 
 /// The program's name, in usage and help too, whatever the file is called that it runs from.
 const NAME: &str = "tlsf";
@@ -44,7 +45,7 @@ fn pool_option<'a>(alloc: Global) -> Arg<'a>
     ensures rule { rule_of result ≡ pool_rule }
     ensures own { result.global ≡ false }
 {
-    let parser = value_parser!(u64).range(8..=1_073_741_816);
+    let parser = value_parser!(u64).range(i64::from(UNIT)..=i64::from(GREATEST_SIZE));
     Arg::new(alloc, "pool")
         .long("pool")
         .value_name("BYTES")
