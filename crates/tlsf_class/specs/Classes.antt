@@ -4,7 +4,7 @@ use Rattle.std.specs.Prelude.{ℕ, zero, suc, ◌+◌, ◌-◌, ◌*◌, ◌/◌
 
 -- the unit is this power of two
 abbrev pub unit_power : ℕ
-unit_power = 3
+unit_power = 4
 
 -- every place and every size is a multiple of it, in bytes
 abbrev pub unit : ℕ

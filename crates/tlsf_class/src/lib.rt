@@ -18,7 +18,7 @@ pub use sizes::{class_for, class_of, low};
 pub const CLASSES: u32 = LEVELS * STEPS;
 
 /// The unit is this power of two.
-const UNIT_POWER: u32 = 3;
+const UNIT_POWER: u32 = 4;
 
 /// Every place and every size is a multiple of it, in bytes.
 pub const UNIT: u32 = 1 << UNIT_POWER;
