@@ -64,12 +64,12 @@ fn counts_of_records(rt: HostRuntime) {
 #[test]
 fn greatest_table_filled(rt: HostRuntime) {
     let mut heap: Heap = made(&rt, rt.alloc(), 65_535);
-    assert_eq!(rt; heap.add_pool(0, 524_288), Ok(()));
+    assert_eq!(rt; heap.add_pool(0, 1_048_576), Ok(()));
     for number in 1..65_535 {
-        assert_eq!(rt; heap.malloc(8).map(|ptr| ptr.place()), Ok((number - 1) * 8));
+        assert_eq!(rt; heap.malloc(8).map(|ptr| ptr.place()), Ok((number - 1) * 16));
     }
     assert_eq!(rt; heap.malloc(8), Err(Refusal::TableFull));
-    assert_eq!(rt; heap.malloc(16).map(|ptr| ptr.place()), Ok(524_272));
+    assert_eq!(rt; heap.malloc(32).map(|ptr| ptr.place()), Ok(1_048_544));
     assert_eq!(rt; heap.malloc(8), Err(Refusal::NoFit));
 }
 
@@ -91,6 +91,9 @@ fn pool_limits<H: Heaped>(rt: &impl Abort, alloc: Global) {
     assert_eq!(rt; heap.add_pool(4, 64), Err(Refusal::BadPool));
     assert_eq!(rt; heap.add_pool(0, 0), Err(Refusal::BadPool));
     assert_eq!(rt; heap.add_pool(4_294_967_168, 72), Err(Refusal::BadPool));
+    assert_eq!(rt; heap.add_pool(8, 64), Err(Refusal::BadPool));
+    assert_eq!(rt; heap.add_pool(4_294_967_248, 64), Err(Refusal::BadPool));
+    assert_eq!(rt; heap.add_pool(4_294_967_168, 80), Err(Refusal::BadPool));
     assert_eq!(rt;
         heap.add_pool(18_446_744_073_709_551_552, 64),
         Err(Refusal::BadPool)
@@ -115,7 +118,7 @@ fn first_of_each_pool<H: Heaped>(rt: &impl Abort, alloc: Global) {
     }
     for number in 0..8 {
         assert!(rt; heap.first(number * 64).is_ok());
-        assert!(rt; heap.first(number * 64 + 8) == Err(Refusal::NoPool));
+        assert!(rt; heap.first(number * 64 + 16) == Err(Refusal::NoPool));
     }
     assert!(rt; heap.first(512) == Err(Refusal::NoPool));
 }
@@ -157,8 +160,8 @@ fn refused_runs(rt: HostRuntime) {
 
 #[test]
 fn pointers(rt: HostRuntime) {
-    let ptr = Ptr::new(104, 9);
-    assert_eq!(rt; ptr.place(), 104);
+    let ptr = Ptr::new(112, 9);
+    assert_eq!(rt; ptr.place(), 112);
     assert_eq!(rt; ptr.slot(), 9);
 }
 
@@ -173,7 +176,7 @@ fn memory_taken_once(rt: HostRuntime) {
     let second = heap.memalign(64, 1).expect(&rt, "a block");
     assert_eq!(rt; (first.place(), second.place()), (0, 128));
     assert_eq!(rt; heap.realloc(Some(first), 8), Ok(Some(first)));
-    assert_eq!(rt; heap.block_size(first), Ok(8));
+    assert_eq!(rt; heap.block_size(first), Ok(16));
     let cursor = heap.first(0).expect(&rt, "a pool");
     assert!(rt; heap.row(cursor).is_some());
     assert_eq!(rt; heap.walk(0, |_row| {}), Ok(()));

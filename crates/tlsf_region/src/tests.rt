@@ -50,18 +50,18 @@ fn errors_in_order(rt: HostRuntime) {
 fn pools_within_the_bytes(rt: HostRuntime) {
     let mut region = made(&rt, rt.alloc(), 1024, 4);
     let rows = [
-        (0, 1032),
-        (8, 1024),
-        (1024, 8),
-        (1032, 8),
-        (u64::MAX, 8),
-        (8, u64::MAX),
+        (0, 1040),
+        (16, 1024),
+        (1024, 16),
+        (1040, 16),
+        (u64::MAX, 16),
+        (16, u64::MAX),
     ];
     for (base, bytes) in rows {
         assert_eq!(rt; region.add_pool(base, bytes), Err(Refusal::BadPool));
     }
-    assert_eq!(rt; region.add_pool(0, 8), Ok(()));
-    assert_eq!(rt; region.add_pool(8, 1016), Ok(()));
+    assert_eq!(rt; region.add_pool(0, 16), Ok(()));
+    assert_eq!(rt; region.add_pool(16, 1008), Ok(()));
 }
 
 /// Writes 0, 1, 2 and so on over the bytes of a block.
@@ -93,18 +93,18 @@ fn bytes_move(rt: HostRuntime) {
     let Some(block) = region.bytes_mut(p) else {
         panic!(rt; "no bytes");
     };
-    assert_eq!(rt; block.len(), 104);
+    assert_eq!(rt; block.len(), 112);
     count_up(block);
     assert!(rt; region.malloc(1).is_ok());
     let Ok(Some(q)) = region.realloc(Some(p), 200) else {
         panic!(rt; "not moved");
     };
-    assert_eq!(rt; q.place(), 112);
+    assert_eq!(rt; q.place(), 128);
     let Some(block) = region.bytes(q) else {
         panic!(rt; "no bytes");
     };
-    assert_eq!(rt; block.len(), 200);
-    assert!(rt; counts_up_to(block, 104));
+    assert_eq!(rt; block.len(), 208);
+    assert!(rt; counts_up_to(block, 112));
     assert!(rt; region.bytes(p).is_none());
     assert!(rt; region.bytes_mut(p).is_none());
 }
@@ -138,7 +138,7 @@ fn readings(rt: HostRuntime) {
     let Ok(p) = region.malloc(8) else {
         panic!(rt; "no block");
     };
-    assert_eq!(rt; region.block_size(p), Ok(8));
+    assert_eq!(rt; region.block_size(p), Ok(16));
     let Ok(cursor) = region.first(0) else {
         panic!(rt; "no pool");
     };
@@ -147,7 +147,7 @@ fn readings(rt: HostRuntime) {
     };
     let wanted = Row {
         place: 0,
-        size: 8,
+        size: 16,
         used: true,
     };
     assert_eq!(rt; row, wanted);
@@ -172,21 +172,21 @@ fn walked(region: &mut Region, base: u64) -> Result<(usize, u32), Refusal> {
 #[test]
 fn aligned_block_and_pool_that_goes(rt: HostRuntime) {
     let mut region = made(&rt, rt.alloc(), 1024, 4);
-    assert_eq!(rt; region.add_pool(8, 256), Ok(()));
+    assert_eq!(rt; region.add_pool(16, 256), Ok(()));
     assert_eq!(rt; region.memalign(3, 0), Err(Refusal::BadAlign));
     assert_eq!(rt; region.memalign(8, 0), Err(Refusal::ZeroSize));
     let Ok(p) = region.memalign(64, 32) else {
         panic!(rt; "no block");
     };
     assert_eq!(rt; p.place(), 64);
-    assert_eq!(rt; walked(&mut region, 8), Ok((3, 96)));
+    assert_eq!(rt; walked(&mut region, 16), Ok((3, 96)));
     assert_eq!(rt; walked(&mut region, 0), Err(Refusal::NoPool));
     assert!(rt; region.check());
     assert_eq!(rt; region.remove_pool(0), Err(Refusal::NoPool));
-    assert_eq!(rt; region.remove_pool(8), Err(Refusal::PoolInUse));
+    assert_eq!(rt; region.remove_pool(16), Err(Refusal::PoolInUse));
     assert_eq!(rt; region.free(p), Ok(()));
-    assert_eq!(rt; walked(&mut region, 8), Ok((1, 8)));
-    assert_eq!(rt; region.remove_pool(8), Ok(()));
+    assert_eq!(rt; walked(&mut region, 16), Ok((1, 16)));
+    assert_eq!(rt; region.remove_pool(16), Ok(()));
     assert!(rt; has_pools(&mut region, &[]));
     assert!(rt; region.check());
 }
@@ -203,12 +203,12 @@ fn memory_taken_twice(rt: HostRuntime) {
     let moved = region.realloc(Some(first), 200).expect(&rt, "a block");
     let third = moved.expect(&rt, "a pointer");
     assert!(rt; region.bytes_mut(third).is_some());
-    assert_eq!(rt; region.block_size(third), Ok(200));
-    assert_eq!(rt; walked(&mut region, 0), Ok((4, 336)));
+    assert_eq!(rt; region.block_size(third), Ok(208));
+    assert_eq!(rt; walked(&mut region, 0), Ok((4, 352)));
     assert!(rt; has_pools(&mut region, &[(0, 1024)]));
     assert!(rt; region.first(0).is_ok() && region.check());
     assert_eq!(rt; region.free(second), Ok(()));
     assert_eq!(rt; region.free(third), Ok(()));
     assert_eq!(rt; region.remove_pool(0), Ok(()));
-    drop(made(&rt, rt.alloc(), 8, 1));
+    drop(made(&rt, rt.alloc(), 16, 1));
 }

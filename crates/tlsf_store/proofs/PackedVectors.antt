@@ -23,9 +23,9 @@ vacant_before_slot_7 = refl
 free_of_64 : unpacked (record { place = 0; size_word = 0x41; prev = 65535; next = 65535; prev_free = 65535; next_free = 65535 }) ≡ record { place = 0; size = 64; state = Free; prev = None; next = None; prev_free = None; next_free = None }
 free_of_64 = refl
 
-live_of_104 : unpacked (record { place = 16; size_word = 106; prev = 1; next = 2; prev_free = 65535; next_free = 65535 }) ≡ record { place = 16; size = 104; state = Live; prev = Some 1; next = Some 2; prev_free = None; next_free = None }
-live_of_104 = refl
+live_of_112 : unpacked (record { place = 16; size_word = 114; prev = 1; next = 2; prev_free = 65535; next_free = 65535 }) ≡ record { place = 16; size = 112; state = Live; prev = Some 1; next = Some 2; prev_free = None; next_free = None }
+live_of_112 = refl
 
 -- the greatest place, size and slot, and all links present
-greatest : unpacked (record { place = 0xfffffff8; size_word = 0xfffffffa; prev = 65534; next = 0; prev_free = 65533; next_free = 1 }) ≡ record { place = 4294967288; size = 4294967288; state = Live; prev = Some 65534; next = Some 0; prev_free = Some 65533; next_free = Some 1 }
+greatest : unpacked (record { place = 0xfffffff0; size_word = 0xfffffff2; prev = 65534; next = 0; prev_free = 65533; next_free = 1 }) ≡ record { place = 4294967280; size = 4294967280; state = Live; prev = Some 65534; next = Some 0; prev_free = Some 65533; next_free = Some 1 }
 greatest = refl

@@ -78,16 +78,16 @@ fn bad_counts(rt: HostRuntime) {
 fn memory_taken_once(rt: HostRuntime) {
     let mut store = Store::create(rt.alloc(), 3).expect(&rt, "a store");
     let slot = store.take_vacant().expect(&rt, "a slot");
-    let value = row((16, 104), State::Live, (None, None), (None, None));
+    let value = row((16, 112), State::Live, (None, None), (None, None));
     write(&rt, &mut store, slot, value);
     assert_eq!(rt; read(&rt, &mut store, slot), value);
-    let class = Class::new(735);
+    let class = Class::new(703);
     store.set_head(class, None);
     assert_eq!(rt; store.head(class), None);
     store.set_level_word(1);
     assert_eq!(rt; store.level_word(), 1);
-    store.set_step_word(22, 1);
-    assert_eq!(rt; store.step_word(22), 1);
+    store.set_step_word(21, 1);
+    assert_eq!(rt; store.step_word(21), 1);
     store.set_pool(7, None);
     assert_eq!(rt; store.pool(7), None);
     give(&rt, &mut store, slot);
@@ -170,10 +170,10 @@ fn records_are_kept(rt: HostRuntime) {
     };
     let taken = read(&rt, &mut store, slot);
     assert_eq!(rt; (taken.place, taken.size, taken.state), (0, 0, State::Free));
-    let value = row((16, 104), State::Live, (None, Some(slot)), (None, None));
+    let value = row((16, 112), State::Live, (None, Some(slot)), (None, None));
     write(&rt, &mut store, slot, value);
     let kept = read(&rt, &mut store, slot);
-    assert_eq!(rt; (kept.place, kept.size, kept.state), (16, 104, State::Live));
+    assert_eq!(rt; (kept.place, kept.size, kept.state), (16, 112, State::Live));
     assert_eq!(rt;
         (kept.prev, kept.next, kept.prev_free, kept.next_free),
         (None, Some(slot), None, None)
@@ -192,12 +192,12 @@ fn heads_are_kept(rt: HostRuntime) {
     let Ok(mut store) = Store::create(rt.alloc(), 3) else {
         panic!(rt; "no store");
     };
-    let class = Class::new(735);
+    let class = Class::new(703);
     let slot = Some(Slot(2));
     assert_eq!(rt; store.head(class), None);
     store.set_head(class, slot);
     assert_eq!(rt; store.head(class), slot);
-    assert_eq!(rt; store.head(Class::new(734)), None);
+    assert_eq!(rt; store.head(Class::new(702)), None);
 }
 
 #[test]
@@ -206,12 +206,12 @@ fn words_are_kept(rt: HostRuntime) {
         panic!(rt; "no store");
     };
     assert_eq!(rt; store.level_word(), 0);
-    store.set_level_word(1 << 22);
-    assert_eq!(rt; store.level_word(), 1 << 22);
-    assert_eq!(rt; store.step_word(22), 0);
-    store.set_step_word(22, u32::MAX);
-    assert_eq!(rt; store.step_word(22), u32::MAX);
+    store.set_level_word(1 << 21);
+    assert_eq!(rt; store.level_word(), 1 << 21);
     assert_eq!(rt; store.step_word(21), 0);
+    store.set_step_word(21, u32::MAX);
+    assert_eq!(rt; store.step_word(21), u32::MAX);
+    assert_eq!(rt; store.step_word(20), 0);
 }
 
 #[test]
@@ -260,7 +260,7 @@ const FIRST: Option<Slot> = Some(Slot(0));
 const LAST: Option<Slot> = Some(Slot(65_534));
 
 /// The greatest place and the greatest size.
-const MOST: u32 = 4_294_967_288;
+const MOST: u32 = 4_294_967_280;
 
 /// Records at the ends of what is packed: each link present and missing, the least and the greatest place,
 /// size and slot, free and live.
@@ -271,11 +271,11 @@ fn packed_records_survive(rt: HostRuntime) {
     };
     for value in [
         row((0, 0), State::Free, (None, None), (None, None)),
-        row((8, 64), State::Free, (LAST, None), (None, FIRST)),
-        row((8, 64), State::Live, (None, LAST), (FIRST, None)),
+        row((16, 64), State::Free, (LAST, None), (None, FIRST)),
+        row((16, 64), State::Live, (None, LAST), (FIRST, None)),
         row((0, MOST), State::Live, (FIRST, LAST), (Some(Slot(1)), LAST)),
         row(
-            (MOST, 8),
+            (MOST, 16),
             State::Free,
             (LAST, FIRST),
             (LAST, Some(Slot(32_768))),

@@ -24,15 +24,15 @@ entry = record { base = 0; bytes = 1024; first = 0 }
 abbrev position : List Node → Position
 position before = record { areas_before = []; entry = entry; before = before; areas_behind = [] }
 
--- its first 104 bytes are taken
+-- its first 112 bytes are taken
 abbrev first_split : Cells
-first_split = with_state 0 Live (linked 89 1 (split 0 1 104 (unlinked 96 0 (with_taken (pool_entered entry (with_taken (empty_cells 4) (Some 0))) (Some 1)))))
+first_split = with_state 0 Live (linked 57 1 (split 0 1 112 (unlinked 64 0 (with_taken (pool_entered entry (with_taken (empty_cells 4) (Some 0))) (Some 1)))))
 
 abbrev taken : Node
-taken = record { slot = 0; place = 0; size = 104; status = InUse }
+taken = record { slot = 0; place = 0; size = 112; status = InUse }
 
 abbrev rest : Node
-rest = record { slot = 1; place = 104; size = 920; status = Listed }
+rest = record { slot = 1; place = 112; size = 912; status = Listed }
 
 abbrev split_layout : Layout
 split_layout = laid 4 (position []) (taken ∷ rest ∷ []) (entered rest (replicate classes [])) []
@@ -41,7 +41,7 @@ in_the_pool : AreLinked in_pool (pool_views first_split.records) None (taken ∷
 unfolding class low
 in_the_pool = (refl, (refl, tt))
 
-in_the_list : AreLinked in_list (list_views first_split.records) None (list_of 89 split_layout.lists)
+in_the_list : AreLinked in_list (list_views first_split.records) None (list_of 57 split_layout.lists)
 unfolding class low entered
 in_the_list = (refl, tt)
 
@@ -58,15 +58,15 @@ the_row : malloc 0 100 (with_pool 0 1024 (created 4)) ≡ Ok (0, content_by spli
 unfolding class low Rattle.tlsf_class.specs.Classes.need Rattle.tlsf_class.specs.Rounding.rounded entered
 the_row = refl
 
--- eight bytes more are taken, and the first block is freed; then the one between two free ones is freed
+-- sixteen bytes more are taken, and the first block is freed; then the one between two free ones is freed
 abbrev front : Node
-front = record { slot = 0; place = 0; size = 104; status = Listed }
+front = record { slot = 0; place = 0; size = 112; status = Listed }
 
 abbrev middle : Node
-middle = record { slot = 1; place = 104; size = 8; status = InUse }
+middle = record { slot = 1; place = 112; size = 16; status = InUse }
 
 abbrev back : Node
-back = record { slot = 2; place = 112; size = 912; status = Listed }
+back = record { slot = 2; place = 128; size = 896; status = Listed }
 
 abbrev before_free : Layout
 before_free = laid 4 (position (front ∷ [])) (middle ∷ back ∷ []) (entered front (entered back (replicate classes []))) []
@@ -78,6 +78,6 @@ both_sides : content_by (freed_layout 4 (position (front ∷ [])) middle (back �
 unfolding class low left entered
 both_sides = refl
 
-free_both_sides : after_free 104 (content_by before_free) ≡ one_block
+free_both_sides : after_free 112 (content_by before_free) ≡ one_block
 unfolding class low entered
 free_both_sides = refl

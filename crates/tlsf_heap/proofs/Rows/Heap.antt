@@ -91,38 +91,38 @@ first_split-answers : (from_create 4 (pool 0 1024 ∷ malloc_of 100 ∷ [])).ans
 unfolding class need low rounded
 first_split-answers = refl
 
-first_split-rows : rows (from_create 4 (pool 0 1024 ∷ malloc_of 100 ∷ [])).content ≡ (0, 104, true) ∷ (104, 920, false) ∷ []
+first_split-rows : rows (from_create 4 (pool 0 1024 ∷ malloc_of 100 ∷ [])).content ≡ (0, 112, true) ∷ (112, 912, false) ∷ []
 unfolding class need low rounded
 first_split-rows = refl
 
-first_split-list : list_of 89 (from_create 4 (pool 0 1024 ∷ malloc_of 100 ∷ [])).content.lists ≡ 104 ∷ []
+first_split-list : list_of 57 (from_create 4 (pool 0 1024 ∷ malloc_of 100 ∷ [])).content.lists ≡ 112 ∷ []
 unfolding class need low rounded
 first_split-list = refl
 
 -- reuse-without-split, up to its free
-reuse : (from_create 4 (pool 0 1024 ∷ malloc_of 100 ∷ malloc_of 1 ∷ [])).answers ≡ done ∷ given 0 ∷ given 104 ∷ []
+reuse : (from_create 4 (pool 0 1024 ∷ malloc_of 100 ∷ malloc_of 1 ∷ [])).answers ≡ done ∷ given 0 ∷ given 112 ∷ []
 unfolding class need low rounded
 reuse = refl
 
 -- lower-class-not-taken
-lower_class-answers : (from_create 2 (pool 0 520 ∷ malloc_of 520 ∷ malloc_of 512 ∷ [])).answers ≡ done ∷ refused NoFit ∷ given 0 ∷ []
+lower_class-answers : (from_create 2 (pool 0 1040 ∷ malloc_of 1040 ∷ malloc_of 1024 ∷ [])).answers ≡ done ∷ refused NoFit ∷ given 0 ∷ []
 unfolding class need low rounded
 lower_class-answers = refl
 
-lower_class-rows : rows (from_create 2 (pool 0 520 ∷ malloc_of 520 ∷ malloc_of 512 ∷ [])).content ≡ (0, 512, true) ∷ (512, 8, false) ∷ []
+lower_class-rows : rows (from_create 2 (pool 0 1040 ∷ malloc_of 1040 ∷ malloc_of 1024 ∷ [])).content ≡ (0, 1024, true) ∷ (1024, 16, false) ∷ []
 unfolding class need low rounded
 lower_class-rows = refl
 
 -- greatest-class
-greatest-answers : (from_create 2 (pool 0 1073741816 ∷ malloc_of 1056964609 ∷ malloc_of 1056964608 ∷ [])).answers ≡ done ∷ refused NoFit ∷ given 0 ∷ []
+greatest-answers : (from_create 2 (pool 0 1073741808 ∷ malloc_of 1056964609 ∷ malloc_of 1056964608 ∷ [])).answers ≡ done ∷ refused NoFit ∷ given 0 ∷ []
 unfolding class need low rounded
 greatest-answers = refl
 
-greatest-rows : rows (from_create 2 (pool 0 1073741816 ∷ malloc_of 1056964609 ∷ malloc_of 1056964608 ∷ [])).content ≡ (0, 1056964608, true) ∷ (1056964608, 16777208, false) ∷ []
+greatest-rows : rows (from_create 2 (pool 0 1073741808 ∷ malloc_of 1056964609 ∷ malloc_of 1056964608 ∷ [])).content ≡ (0, 1056964608, true) ∷ (1056964608, 16777200, false) ∷ []
 unfolding class need low rounded
 greatest-rows = refl
 
-greatest-list : list_of 543 (from_create 2 (pool 0 1073741816 ∷ malloc_of 1056964608 ∷ [])).content.lists ≡ 1056964608 ∷ []
+greatest-list : list_of 511 (from_create 2 (pool 0 1073741808 ∷ malloc_of 1056964608 ∷ [])).content.lists ≡ 1056964608 ∷ []
 unfolding class need low rounded
 greatest-list = refl
 
@@ -137,7 +137,8 @@ unfolding class need low rounded
 full_table = refl
 
 -- pool-limits, its add_pool
-pool_limits : (from_create 4 (pool 4294967232 64 ∷ pool 4294967240 64 ∷ pool 4 64 ∷ pool 0 0 ∷ pool 4294967168 72 ∷ [])).answers ≡ done ∷ refused BadPool ∷ refused BadPool ∷ refused BadPool ∷ refused BadPool ∷ []
+pool_limits : (from_create 4 (pool 4294967232 64 ∷ pool 4294967240 64 ∷ pool 4 64 ∷ pool 0 0 ∷ pool 4294967168 72 ∷ pool 8 64 ∷ pool 4294967248 64 ∷ pool 4294967168 80 ∷ [])).answers
+    ≡ done ∷ refused BadPool ∷ refused BadPool ∷ refused BadPool ∷ refused BadPool ∷ refused BadPool ∷ refused BadPool ∷ refused BadPool ∷ []
 unfolding class need low rounded
 pool_limits = refl
 
@@ -151,23 +152,23 @@ unfolding class need low rounded
 in_order-pools = refl
 
 -- reuse-without-split, whole: the slot of a live block is the number of its request
-reuse_whole : (from_create 4 (pool 0 1024 ∷ malloc_of 100 ∷ malloc_of 1 ∷ free_of 0 1 ∷ malloc_of 100 ∷ [])).answers ≡ done ∷ given 0 ∷ given 104 ∷ done ∷ given 0 ∷ []
+reuse_whole : (from_create 4 (pool 0 1024 ∷ malloc_of 100 ∷ malloc_of 1 ∷ free_of 0 1 ∷ malloc_of 100 ∷ [])).answers ≡ done ∷ given 0 ∷ given 112 ∷ done ∷ given 0 ∷ []
 unfolding class need low rounded
 reuse_whole = refl
 
 -- merge-both-sides
-both_sides : rows (from_create 4 (pool 0 1024 ∷ malloc_of 100 ∷ malloc_of 1 ∷ free_of 0 1 ∷ free_of 104 2 ∷ [])).content ≡ (0, 1024, false) ∷ []
+both_sides : rows (from_create 4 (pool 0 1024 ∷ malloc_of 100 ∷ malloc_of 1 ∷ free_of 0 1 ∷ free_of 112 2 ∷ [])).content ≡ (0, 1024, false) ∷ []
 unfolding class need low rounded
 both_sides = refl
 
-both_sides-lists : list_of 96 (from_create 4 (pool 0 1024 ∷ malloc_of 100 ∷ malloc_of 1 ∷ free_of 0 1 ∷ free_of 104 2 ∷ [])).content.lists ≡ 0 ∷ []
+both_sides-lists : list_of 64 (from_create 4 (pool 0 1024 ∷ malloc_of 100 ∷ malloc_of 1 ∷ free_of 0 1 ∷ free_of 112 2 ∷ [])).content.lists ≡ 0 ∷ []
 unfolding class need low rounded
 both_sides-lists = refl
 
 -- newest-freed-first
-newest_first : (from_create 8 (pool 0 64 ∷ malloc_of 8 ∷ malloc_of 8 ∷ malloc_of 8 ∷ malloc_of 8 ∷ malloc_of 8 ∷ malloc_of 8 ∷ malloc_of 8 ∷ malloc_of 8
-    ∷ free_of 0 1 ∷ free_of 16 3 ∷ malloc_of 8 ∷ malloc_of 8 ∷ malloc_of 8 ∷ [])).answers
-    ≡ done ∷ given 0 ∷ given 8 ∷ given 16 ∷ given 24 ∷ given 32 ∷ given 40 ∷ given 48 ∷ given 56 ∷ done ∷ done ∷ given 16 ∷ given 0 ∷ refused NoFit ∷ []
+newest_first : (from_create 8 (pool 0 128 ∷ malloc_of 8 ∷ malloc_of 8 ∷ malloc_of 8 ∷ malloc_of 8 ∷ malloc_of 8 ∷ malloc_of 8 ∷ malloc_of 8 ∷ malloc_of 8
+    ∷ free_of 0 1 ∷ free_of 32 3 ∷ malloc_of 8 ∷ malloc_of 8 ∷ malloc_of 8 ∷ [])).answers
+    ≡ done ∷ given 0 ∷ given 16 ∷ given 32 ∷ given 48 ∷ given 64 ∷ given 80 ∷ given 96 ∷ given 112 ∷ done ∷ done ∷ given 32 ∷ given 0 ∷ refused NoFit ∷ []
 unfolding class need low rounded
 newest_first = refl
 
@@ -177,13 +178,13 @@ unfolding class need low rounded
 never_merged_whole = refl
 
 -- a second free of the block, and one by its place alone
-free_twice : (from_create 4 (pool 0 1024 ∷ malloc_of 100 ∷ free_of 0 9 ∷ free_of 8 1 ∷ free_of 0 1 ∷ free_of 0 1 ∷ [])).answers ≡ done ∷ given 0 ∷ refused BadPointer ∷ refused BadPointer ∷ done ∷ refused BadPointer ∷ []
+free_twice : (from_create 4 (pool 0 1024 ∷ malloc_of 100 ∷ free_of 0 9 ∷ free_of 16 1 ∷ free_of 0 1 ∷ free_of 0 1 ∷ [])).answers ≡ done ∷ given 0 ∷ refused BadPointer ∷ refused BadPointer ∷ done ∷ refused BadPointer ∷ []
 unfolding class need low rounded
 free_twice = refl
 
 -- first-split: its two blocks are aligned and disjoint
 abbrev two_blocks : List (Block ℕ)
-two_blocks = record { place = 0; size = 104; owner = Some 1 } ∷ record { place = 104; size = 920; owner = None } ∷ []
+two_blocks = record { place = 0; size = 112; owner = Some 1 } ∷ record { place = 112; size = 912; owner = None } ∷ []
 
 first_split-blocks : blocks_of (from_create 4 (pool 0 1024 ∷ malloc_of 100 ∷ [])).content.pools ≡ two_blocks
 unfolding class need low rounded
@@ -197,12 +198,12 @@ first_split-aligned =
 first_split-disjoint : HasDisjointBlocks (from_create 4 (pool 0 1024 ∷ malloc_of 100 ∷ [])).content
 first_split-disjoint =
     let P : List (Block ℕ) → Type 0 = λ blocks. AllPairs AreDisjoint blocks in
-    let last : Block ℕ = record { place = 104; size = 920; owner = None } in
+    let last : Block ℕ = record { place = 112; size = 912; owner = None } in
     let none_behind : AllPairs {X = Block ℕ} AreDisjoint (last ∷ []) = AllPairs-cons AreDisjoint last [] (All-nil (AreDisjoint last)) (λ i j d less within. absurd (omega (arith, within))) in
     subst P (sym first_split-blocks)
-    (AllPairs-cons AreDisjoint (record { place = 0; size = 104; owner = Some 1 }) (last ∷ []) (All-from_recursion (AreDisjoint (record { place = 0; size = 104; owner = Some 1 })) (last ∷ []) (inl (omega arith), tt)) none_behind)
+    (AllPairs-cons AreDisjoint (record { place = 0; size = 112; owner = Some 1 }) (last ∷ []) (All-from_recursion (AreDisjoint (record { place = 0; size = 112; owner = Some 1 })) (last ∷ []) (inl (omega arith), tt)) none_behind)
 
-first_split-once : times 104 (list_of (class 920) (from_create 4 (pool 0 1024 ∷ malloc_of 100 ∷ [])).content.lists) ≡ 1
+first_split-once : times 112 (list_of (class 912) (from_create 4 (pool 0 1024 ∷ malloc_of 100 ∷ [])).content.lists) ≡ 1
 unfolding class need low rounded
 first_split-once = refl
 
@@ -215,28 +216,28 @@ overlapping : AreDisjoint {A = ℕ} (record { place = 0; size = 16; owner = None
 overlapping (inl e) = omega (arith, e)
 overlapping (inr e) = omega (arith, e)
 
--- lower-class-not-taken: 520 bytes need the class of 528, and the free block of 520 is smaller
-lower_class-need : need 520 ≡ Some 65
+-- lower-class-not-taken: 1040 bytes need the class of 1056, and the free block of 1040 is smaller
+lower_class-need : need 1040 ≡ Some 65
 unfolding class need low rounded
 lower_class-need = refl
 
-lower_class-low : low 65 ≡ 528
+lower_class-low : low 65 ≡ 1056
 unfolding low
 lower_class-low = refl
 
 abbrev one_free : List (Block ℕ)
-one_free = record { place = 0; size = 520; owner = None } ∷ []
+one_free = record { place = 0; size = 1040; owner = None } ∷ []
 
-lower_class-blocks : blocks_of (from_create 2 (pool 0 520 ∷ malloc_of 520 ∷ [])).content.pools ≡ one_free
+lower_class-blocks : blocks_of (from_create 2 (pool 0 1040 ∷ malloc_of 1040 ∷ [])).content.pools ≡ one_free
 unfolding class need low rounded
 lower_class-blocks = refl
 
-lower_class-free : AreFreeBelow 528 (blocks_of (from_create 2 (pool 0 520 ∷ malloc_of 520 ∷ [])).content.pools)
+lower_class-free : AreFreeBelow 1056 (blocks_of (from_create 2 (pool 0 1040 ∷ malloc_of 1040 ∷ [])).content.pools)
 lower_class-free =
-    let P : List (Block ℕ) → Type 0 = λ blocks. AreFreeBelow 528 blocks in
+    let P : List (Block ℕ) → Type 0 = λ blocks. AreFreeBelow 1056 blocks in
     subst P (sym lower_class-blocks) (All-from_recursion (λ (block : Block ℕ). IsTrue (is_free block) → block.size < 528) one_free (λ _. omega arith, tt))
 
-lower_class-not_below : AreFreeBelow 520 one_free → ⊥
+lower_class-not_below : AreFreeBelow 1040 one_free → ⊥
 lower_class-not_below below = omega (arith, below 0 (record { place = 0; size = 0; owner = None }) (omega arith) refl)
 
 -- full-table: one record, one pool, no live block
@@ -249,25 +250,25 @@ unfolding class need low rounded
 not_full few = omega (arith, few)
 
 -- memalign-gap-and-rest
-gap_and_rest : (from_create 4 (pool 8 256 ∷ memalign_of 64 32 ∷ memalign_of 3 0 ∷ memalign_of 1073741824 8 ∷ memalign_of 8 0 ∷ [])).answers ≡ done ∷ given 64 ∷ refused BadAlign ∷ refused BadAlign ∷ refused ZeroSize ∷ []
+gap_and_rest : (from_create 4 (pool 16 256 ∷ memalign_of 64 32 ∷ memalign_of 3 0 ∷ memalign_of 1073741824 8 ∷ memalign_of 8 0 ∷ [])).answers ≡ done ∷ given 64 ∷ refused BadAlign ∷ refused BadAlign ∷ refused ZeroSize ∷ []
 unfolding class need low rounded
 gap_and_rest = refl
 
-gap_and_rest-rows : rows (from_create 4 (pool 8 256 ∷ memalign_of 64 32 ∷ [])).content ≡ (8, 56, false) ∷ (64, 32, true) ∷ (96, 168, false) ∷ []
+gap_and_rest-rows : rows (from_create 4 (pool 16 256 ∷ memalign_of 64 32 ∷ [])).content ≡ (16, 48, false) ∷ (64, 32, true) ∷ (96, 176, false) ∷ []
 unfolding class need low rounded
 gap_and_rest-rows = refl
 
 -- memalign-needs-records: the gap alone takes the one that is vacant
-needs_records : (from_create 2 (pool 8 256 ∷ memalign_of 64 32 ∷ memalign_of 64 200 ∷ [])).answers ≡ done ∷ refused TableFull ∷ given 64 ∷ []
+needs_records : (from_create 2 (pool 16 256 ∷ memalign_of 64 32 ∷ memalign_of 64 200 ∷ [])).answers ≡ done ∷ refused TableFull ∷ given 64 ∷ []
 unfolding class need low rounded
 needs_records = refl
 
-needs_records-rows : rows (from_create 2 (pool 8 256 ∷ memalign_of 64 32 ∷ memalign_of 64 200 ∷ [])).content ≡ (8, 56, false) ∷ (64, 200, true) ∷ []
+needs_records-rows : rows (from_create 2 (pool 16 256 ∷ memalign_of 64 32 ∷ memalign_of 64 200 ∷ [])).content ≡ (16, 48, false) ∷ (64, 208, true) ∷ []
 unfolding class need low rounded
 needs_records-rows = refl
 
 -- the gap enters its list before the rest, where both are of one class
-gap_first : list_of 3 (from_create 3 (pool 40 80 ∷ memalign_of 32 32 ∷ [])).content.lists ≡ 96 ∷ 40 ∷ []
+gap_first : list_of 3 (from_create 3 (pool 16 128 ∷ memalign_of 64 32 ∷ [])).content.lists ≡ 96 ∷ 16 ∷ []
 unfolding class need low rounded
 gap_first = refl
 
@@ -280,20 +281,20 @@ grown_in_place : (from_create 4 (pool 0 1024 ∷ malloc_of 100 ∷ realloc_of (S
 unfolding class need low rounded
 grown_in_place = refl
 
-grown_in_place-rows : rows (from_create 4 (pool 0 1024 ∷ malloc_of 100 ∷ realloc_of (Some (0, 1)) 200 ∷ [])).content ≡ (0, 200, true) ∷ (200, 824, false) ∷ []
+grown_in_place-rows : rows (from_create 4 (pool 0 1024 ∷ malloc_of 100 ∷ realloc_of (Some (0, 1)) 200 ∷ [])).content ≡ (0, 208, true) ∷ (208, 816, false) ∷ []
 unfolding class need low rounded
 grown_in_place-rows = refl
 
-shrunk_in_place-rows : rows (from_create 4 (pool 0 1024 ∷ malloc_of 100 ∷ realloc_of (Some (0, 1)) 200 ∷ realloc_of (Some (0, 1)) 8 ∷ [])).content ≡ (0, 8, true) ∷ (8, 1016, false) ∷ []
+shrunk_in_place-rows : rows (from_create 4 (pool 0 1024 ∷ malloc_of 100 ∷ realloc_of (Some (0, 1)) 200 ∷ realloc_of (Some (0, 1)) 8 ∷ [])).content ≡ (0, 16, true) ∷ (16, 1008, false) ∷ []
 unfolding class need low rounded
 shrunk_in_place-rows = refl
 
 -- realloc-moves
-moves : (from_create 4 (pool 0 1024 ∷ malloc_of 100 ∷ malloc_of 1 ∷ realloc_of (Some (0, 1)) 200 ∷ [])).answers ≡ done ∷ given 0 ∷ given 104 ∷ moved (Some (112, 3)) ∷ []
+moves : (from_create 4 (pool 0 1024 ∷ malloc_of 100 ∷ malloc_of 1 ∷ realloc_of (Some (0, 1)) 200 ∷ [])).answers ≡ done ∷ given 0 ∷ given 112 ∷ moved (Some (128, 3)) ∷ []
 unfolding class need low rounded
 moves = refl
 
-moves-rows : rows (from_create 4 (pool 0 1024 ∷ malloc_of 100 ∷ malloc_of 1 ∷ realloc_of (Some (0, 1)) 200 ∷ [])).content ≡ (0, 104, false) ∷ (104, 8, true) ∷ (112, 200, true) ∷ (312, 712, false) ∷ []
+moves-rows : rows (from_create 4 (pool 0 1024 ∷ malloc_of 100 ∷ malloc_of 1 ∷ realloc_of (Some (0, 1)) 200 ∷ [])).content ≡ (0, 112, false) ∷ (112, 16, true) ∷ (128, 208, true) ∷ (336, 688, false) ∷ []
 unfolding class need low rounded
 moves-rows = refl
 
@@ -309,13 +310,13 @@ unfolding class need low rounded
 to_zero = refl
 
 -- a move that is refused, and sizes that are the block's or too large
-not_moved : (from_create 4 (pool 0 64 ∷ malloc_of 8 ∷ malloc_of 8 ∷ realloc_of (Some (0, 1)) 128 ∷ realloc_of (Some (0, 1)) 1 ∷ realloc_of (Some (0, 1)) 1073741817 ∷ realloc_of (Some (8, 1)) 1 ∷ [])).answers
-    ≡ done ∷ given 0 ∷ given 8 ∷ refused NoFit ∷ moved (Some (0, 1)) ∷ refused NoFit ∷ refused BadPointer ∷ []
+not_moved : (from_create 4 (pool 0 64 ∷ malloc_of 8 ∷ malloc_of 8 ∷ realloc_of (Some (0, 1)) 128 ∷ realloc_of (Some (0, 1)) 1 ∷ realloc_of (Some (0, 1)) 1073741809 ∷ realloc_of (Some (16, 1)) 1 ∷ [])).answers
+    ≡ done ∷ given 0 ∷ given 16 ∷ refused NoFit ∷ moved (Some (0, 1)) ∷ refused NoFit ∷ refused BadPointer ∷ []
 unfolding class need low rounded
 not_moved = refl
 
 -- a block that gets smaller before a live one leaves a free block
-shrunk_beside : rows (from_create 4 (pool 0 64 ∷ malloc_of 24 ∷ malloc_of 40 ∷ realloc_of (Some (0, 1)) 8 ∷ [])).content ≡ (0, 8, true) ∷ (8, 16, false) ∷ (24, 40, true) ∷ []
+shrunk_beside : rows (from_create 4 (pool 0 80 ∷ malloc_of 32 ∷ malloc_of 48 ∷ realloc_of (Some (0, 1)) 8 ∷ [])).content ≡ (0, 16, true) ∷ (16, 16, false) ∷ (32, 48, true) ∷ []
 unfolding class need low rounded
 shrunk_beside = refl
 
@@ -326,10 +327,10 @@ unfolding class need low rounded
 pool_limits_whole = refl
 
 -- realloc-grows-over-freed
-grows_over_freed : (from_create 3 (pool 0 64 ∷ malloc_of 8 ∷ malloc_of 8 ∷ free_of 8 2 ∷ realloc_of (Some (0, 1)) 64 ∷ [])).answers ≡ done ∷ given 0 ∷ given 8 ∷ done ∷ moved (Some (0, 1)) ∷ []
+grows_over_freed : (from_create 3 (pool 0 64 ∷ malloc_of 8 ∷ malloc_of 8 ∷ free_of 16 2 ∷ realloc_of (Some (0, 1)) 64 ∷ [])).answers ≡ done ∷ given 0 ∷ given 16 ∷ done ∷ moved (Some (0, 1)) ∷ []
 unfolding class need low rounded
 grows_over_freed = refl
 
-grows_over_freed-rows : rows (from_create 3 (pool 0 64 ∷ malloc_of 8 ∷ malloc_of 8 ∷ free_of 8 2 ∷ realloc_of (Some (0, 1)) 64 ∷ [])).content ≡ (0, 64, true) ∷ []
+grows_over_freed-rows : rows (from_create 3 (pool 0 64 ∷ malloc_of 8 ∷ malloc_of 8 ∷ free_of 16 2 ∷ realloc_of (Some (0, 1)) 64 ∷ [])).content ≡ (0, 64, true) ∷ []
 unfolding class need low rounded
 grows_over_freed-rows = refl

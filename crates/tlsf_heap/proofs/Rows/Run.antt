@@ -30,16 +30,16 @@ abbrev two_blocks : Content ℕ
 two_blocks = served one_block (malloc 0 1 one_block)
 
 abbrev three_blocks : Content ℕ
-three_blocks = served two_blocks (malloc 3 912 two_blocks)
+three_blocks = served two_blocks (malloc 3 896 two_blocks)
 
 abbrev at : ℕ → ℕ → Pointer
 at place slot = record { place = place; slot = slot }
 
 abbrev asked : List Request
-asked = AddPool 0 1024 ∷ Malloc 100 ∷ Malloc 0 ∷ Malloc 1 ∷ Free (at 0 9) ∷ Malloc 2000 ∷ Malloc 912 ∷ []
+asked = AddPool 0 1024 ∷ Malloc 100 ∷ Malloc 0 ∷ Malloc 1 ∷ Free (at 0 9) ∷ Malloc 2000 ∷ Malloc 896 ∷ []
 
 abbrev answered : List Answer
-answered = Done ∷ Given (at 0 2) ∷ Refused ZeroSize ∷ Given (at 104 0) ∷ Refused BadPointer ∷ Refused NoFit ∷ Given (at 112 3) ∷ []
+answered = Done ∷ Given (at 0 2) ∷ Refused ZeroSize ∷ Given (at 112 0) ∷ Refused BadPointer ∷ Refused NoFit ∷ Given (at 128 3) ∷ []
 
 -- run-of-requests, with slots that a heap may choose, and touches that it may need
 run_of_requests : Run ⊥ asked answered (created 4) three_blocks 0 5
@@ -95,6 +95,6 @@ run_of_requests = (
   ),
 )
 
-run_of_requests-rows : rows_from 0 three_blocks.pools ≡ Ok (record { place = 0; size = 104; used = true } ∷ record { place = 104; size = 8; used = true } ∷ record { place = 112; size = 912; used = true } ∷ [])
+run_of_requests-rows : rows_from 0 three_blocks.pools ≡ Ok (record { place = 0; size = 112; used = true } ∷ record { place = 112; size = 16; used = true } ∷ record { place = 128; size = 896; used = true } ∷ [])
 unfolding class need low rounded
 run_of_requests-rows = refl

@@ -33,8 +33,8 @@ fn empty(rt: &impl Abort, alloc: Global, records: u32) -> Store
     }
 }
 
-/// A store of eight records with a pool of four blocks: a free one of 104 bytes, live ones of 8 and 104 bytes, and
-/// a free one of 808 bytes.
+/// A store of eight records with a pool of four blocks: a free one of 112 bytes, live ones of 16 and 112 bytes,
+/// and a free one of 784 bytes.
 fn filled(rt: &impl Abort, alloc: Global) -> Store {
     let mut store = empty(rt, alloc, 8);
     assert_eq!(rt; add_pool(&mut store, 0, 1024), Ok(()));
@@ -134,9 +134,9 @@ const SPOILED_FIELDS: [(Slot, Field); 17] = [
     (THIRD, Field::Next(None)),
     (LAST, Field::Next(Some(FIRST))),
     (SECOND, Field::Size(0)),
-    (SECOND, Field::Size(16)),
-    (LAST, Field::Size(800)),
-    (THIRD, Field::Place(120)),
+    (SECOND, Field::Size(32)),
+    (LAST, Field::Size(768)),
+    (THIRD, Field::Place(144)),
     (THIRD, Field::State(State::Free)),
     (FIRST, Field::PrevFree(Some(LAST))),
     (FIRST, Field::NextFree(Some(LAST))),
@@ -158,8 +158,8 @@ fn fields_spoiled(rt: HostRuntime) {
 fn points_spoiled(rt: HostRuntime) {
     let block_of_no_bytes = [
         (SECOND, Field::Size(0)),
-        (THIRD, Field::Place(104)),
-        (THIRD, Field::Size(112)),
+        (THIRD, Field::Place(112)),
+        (THIRD, Field::Size(128)),
     ];
     let free_neighbours = [
         (THIRD, Field::State(State::Free)),
@@ -213,7 +213,7 @@ fn chain_of_each_pool(rt: HostRuntime) {
     for number in 0..8 {
         let mut store = eight_pools(&rt, rt.alloc());
         let pool = store.pool(number).expect(&rt, "a pool");
-        edit(&rt, &mut store, pool.first, Field::Size(56));
+        edit(&rt, &mut store, pool.first, Field::Size(48));
         assert!(rt; !check(&mut store));
     }
 }
@@ -221,7 +221,7 @@ fn chain_of_each_pool(rt: HostRuntime) {
 /// A chain ends at its pool's end, neither behind it nor before it, and begins where the pool does.
 #[test]
 fn ends_of_a_chain(rt: HostRuntime) {
-    for (base, bytes) in [(0, 8), (0, 1016), (0, 1032), (8, 1016), (8, 1024)] {
+    for (base, bytes) in [(0, 16), (0, 1008), (0, 1040), (16, 1008), (16, 1024)] {
         let mut store = filled(&rt, rt.alloc());
         assert!(rt; u32::from(FIRST.0) < store.records());
         let first = FIRST;
@@ -233,14 +233,14 @@ fn ends_of_a_chain(rt: HostRuntime) {
 /// A store of one free block of the greatest size, which stands in the list of the last class.
 fn greatest(rt: &impl Abort, alloc: Global) -> Store {
     let mut store = empty(rt, alloc, 1);
-    assert_eq!(rt; add_pool(&mut store, 0, 1_073_741_816), Ok(()));
+    assert_eq!(rt; add_pool(&mut store, 0, 1_073_741_808), Ok(()));
     store
 }
 
 #[test]
 fn list_of_the_last_class(rt: HostRuntime) {
     let only = Slot(0);
-    let last = Class::new(735);
+    let last = Class::new(703);
     let mut store = greatest(&rt, rt.alloc());
     assert_eq!(rt; store.head(last), Some(only));
     assert!(rt; check(&mut store));
@@ -256,8 +256,8 @@ fn list_of_the_last_class(rt: HostRuntime) {
     let mut store = greatest(&rt, rt.alloc());
     let first = store.head(last);
     store.set_head(last, None);
-    store.set_head(Class::new(734), first);
-    store.set_step_word(22, 1 << 30);
+    store.set_head(Class::new(702), first);
+    store.set_step_word(21, 1 << 30);
     assert!(rt; !check(&mut store));
 }
 
@@ -265,10 +265,10 @@ fn list_of_the_last_class(rt: HostRuntime) {
 #[test]
 fn list_of_another_class(rt: HostRuntime) {
     let mut store = filled(&rt, rt.alloc());
-    let first = store.head(class_of(104));
-    store.set_head(Class::new(14), first);
-    store.set_head(class_of(104), None);
-    store.set_step_word(0, 1 << 14);
+    let first = store.head(class_of(112));
+    store.set_head(Class::new(8), first);
+    store.set_head(class_of(112), None);
+    store.set_step_word(0, 1 << 8);
     assert!(rt; !check(&mut store));
 }
 
@@ -276,48 +276,48 @@ fn list_of_another_class(rt: HostRuntime) {
 #[test]
 fn block_in_no_list(rt: HostRuntime) {
     let mut store = filled(&rt, rt.alloc());
-    store.set_head(class_of(104), None);
+    store.set_head(class_of(112), None);
     store.set_step_word(0, 0);
     let levels = store.level_word();
     store.set_level_word(levels & !1);
     assert!(rt; !check(&mut store));
 }
 
-/// A level word and the step words of the levels 0 and 2, with what is wrong with them in a filled store: its free
-/// blocks are of the classes 13 and 82.
+/// A level word and the step words of the levels 0 and 1, with what is wrong with them in a filled store: its free
+/// blocks are of the classes 7 and 49.
 const SPOILED_BITMAPS: [(u32, u32, u32); 7] = [
     // The bit of a class without a block.
-    (0b101, 1 << 13 | 1, 1 << 18),
-    (0b101, 1 << 13, 1 << 18 | 1 << 31),
+    (0b11, 1 << 7 | 1, 1 << 17),
+    (0b11, 1 << 7, 1 << 17 | 1 << 31),
     // No bit of a class with a block.
-    (0b100, 0, 1 << 18),
-    (0b001, 1 << 13, 0),
+    (0b10, 0, 1 << 17),
+    (0b01, 1 << 7, 0),
     // The bit of a level without a class, and no bit of one with a class.
-    (0b101 | 1 << 22, 1 << 13, 1 << 18),
-    (0b100, 1 << 13, 1 << 18),
-    (0b001, 1 << 13, 1 << 18),
+    (0b11 | 1 << 21, 1 << 7, 1 << 17),
+    (0b10, 1 << 7, 1 << 17),
+    (0b01, 1 << 7, 1 << 17),
 ];
 
 /// A filled store with these bitmaps.
-fn with_bitmaps(rt: &impl Abort, alloc: Global, levels: u32, first: u32, third: u32) -> Store {
+fn with_bitmaps(rt: &impl Abort, alloc: Global, levels: u32, first: u32, second: u32) -> Store {
     let mut store = filled(rt, alloc);
-    assert!(rt; levels < 1 << 23);
+    assert!(rt; levels < 1 << 22);
     store.set_level_word(levels);
     store.set_step_word(0, first);
-    store.set_step_word(2, third);
+    store.set_step_word(1, second);
     store
 }
 
 #[test]
 fn bitmaps_spoiled(rt: HostRuntime) {
-    let mut store = with_bitmaps(&rt, rt.alloc(), 0b101, 1 << 13, 1 << 18);
+    let mut store = with_bitmaps(&rt, rt.alloc(), 0b11, 1 << 7, 1 << 17);
     assert!(rt; check(&mut store));
-    for (levels, first, third) in SPOILED_BITMAPS {
-        let mut store = with_bitmaps(&rt, rt.alloc(), levels, first, third);
+    for (levels, first, second) in SPOILED_BITMAPS {
+        let mut store = with_bitmaps(&rt, rt.alloc(), levels, first, second);
         assert!(rt; !check(&mut store));
     }
     let mut store = filled(&rt, rt.alloc());
-    store.set_head(class_of(104), None);
+    store.set_head(class_of(112), None);
     assert!(rt; !check(&mut store));
 }
 

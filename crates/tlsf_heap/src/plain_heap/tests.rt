@@ -55,9 +55,9 @@ fn first_split(rt: HostRuntime) {
     let mut heap = PlainHeap::create(rt.alloc(), 4).expect(&rt, "a heap");
     assert_eq!(rt; heap.add_pool(0, 1024), Ok(()));
     assert!(rt; heap.malloc(100).ok().map(|ptr| ptr.place()) == Some(0));
-    assert!(rt; has_rows(&mut heap, 0, 104, 104, 920));
+    assert!(rt; has_rows(&mut heap, 0, 112, 112, 912));
     assert!(rt; has_pools(&mut heap, &[(0, 1024)]));
-    assert!(rt; heap.first(8).err() == Some(Refusal::NoPool));
+    assert!(rt; heap.first(16).err() == Some(Refusal::NoPool));
 }
 
 #[test]
@@ -66,7 +66,7 @@ fn slots_of_live_blocks(rt: HostRuntime) {
     assert_eq!(rt; heap.add_pool(0, 1024), Ok(()));
     let first = heap.malloc(8).expect(&rt, "a block");
     let second = heap.malloc(8).expect(&rt, "a block");
-    assert_eq!(rt; (first.place(), second.place()), (0, 8));
+    assert_eq!(rt; (first.place(), second.place()), (0, 16));
     assert_ne!(rt; first.slot(), second.slot());
     let stale = Ptr::new(first.place(), second.slot());
     assert_eq!(rt; heap.free(stale), Err(Refusal::BadPointer));
@@ -110,9 +110,9 @@ fn refused_memory(rt: HostRuntime) {
         given = heap.malloc(100);
     }
     let ptr = given.expect(&rt, "a block");
-    assert!(rt; has_rows(&mut heap, 0, 104, 104, 920));
+    assert!(rt; has_rows(&mut heap, 0, 112, 112, 912));
     if heap.free(ptr) == Err(Refusal::OutOfMemory) {
-        assert!(rt; has_rows(&mut heap, 0, 104, 104, 920));
+        assert!(rt; has_rows(&mut heap, 0, 112, 112, 912));
         assert_eq!(rt; heap.free(ptr), Ok(()));
     }
     assert!(rt; has_row(&mut heap, 0, 1024, false));
@@ -129,12 +129,12 @@ fn refused_memory_of_others(rt: HostRuntime) {
     }
     let ptr = given.expect(&rt, "a block");
     if heap.realloc(Some(ptr), 200) == Err(Refusal::OutOfMemory) {
-        assert!(rt; has_rows(&mut heap, 0, 104, 104, 920));
+        assert!(rt; has_rows(&mut heap, 0, 112, 112, 912));
         assert_eq!(rt; heap.realloc(Some(ptr), 200), Ok(Some(ptr)));
     }
-    assert!(rt; has_rows(&mut heap, 0, 200, 200, 824));
+    assert!(rt; has_rows(&mut heap, 0, 208, 208, 816));
     if heap.realloc(Some(ptr), 0) == Err(Refusal::OutOfMemory) {
-        assert!(rt; has_rows(&mut heap, 0, 200, 200, 824));
+        assert!(rt; has_rows(&mut heap, 0, 208, 208, 816));
         assert_eq!(rt; heap.realloc(Some(ptr), 0), Ok(None));
     }
     if heap.remove_pool(0) == Err(Refusal::OutOfMemory) {
@@ -152,13 +152,13 @@ fn refused_memory_of_a_move(rt: HostRuntime) {
     let second = given_at_last(&rt, &mut heap, 1);
     let mut moved = heap.realloc(Some(first), 200);
     if moved == Err(Refusal::OutOfMemory) {
-        assert_eq!(rt; heap.block_size(first), Ok(104));
-        assert_eq!(rt; heap.block_size(second), Ok(8));
+        assert_eq!(rt; heap.block_size(first), Ok(112));
+        assert_eq!(rt; heap.block_size(second), Ok(16));
         moved = heap.realloc(Some(first), 200);
     }
     let Ok(Some(ptr)) = moved else {
         panic!(rt; "no block");
     };
-    assert_eq!(rt; ptr.place(), 112);
+    assert_eq!(rt; ptr.place(), 128);
     assert_eq!(rt; heap.block_size(first), Err(Refusal::BadPointer));
 }

@@ -12,7 +12,7 @@ fn refuses_pointers<H: Heaped>(rt: &impl Abort, alloc: Global) {
     let other_slot = if q.slot() == 0 { 1 } else { 0 };
     for wrong in [
         Ptr::new(0, other_slot),
-        Ptr::new(8, q.slot()),
+        Ptr::new(16, q.slot()),
         Ptr::new(0, 65_535),
     ] {
         assert_eq!(rt; heap.free(wrong), Err(Refusal::BadPointer), "{wrong:?}");
@@ -42,7 +42,7 @@ fn refuses_greatest_on_any<H: Heaped>(rt: &impl Abort, alloc: Global) {
     refuses_greatest(rt, &mut heap);
     for number in 0..4 {
         assert_eq!(rt;
-            heap.add_pool(number * 1_073_741_816, 1_073_741_816),
+            heap.add_pool(number * 1_073_741_808, 1_073_741_808),
             Ok(())
         );
     }
@@ -82,10 +82,10 @@ const SERVED: [Said; 7] = [
     Ok(None),
     Ok(Some(0)),
     Err(Refusal::ZeroSize),
-    Ok(Some(104)),
+    Ok(Some(112)),
     Err(Refusal::BadPointer),
     Err(Refusal::NoFit),
-    Ok(Some(112)),
+    Ok(Some(128)),
 ];
 
 /// What they are answered where memory is refused to one of the calls that take some.
@@ -106,7 +106,7 @@ const LACKING: [[Said; 7]; 4] = [
         Ok(Some(0)),
         Err(Refusal::BadPointer),
         Err(Refusal::NoFit),
-        Ok(Some(8)),
+        Ok(Some(16)),
     ],
     [
         Ok(None),
@@ -115,13 +115,13 @@ const LACKING: [[Said; 7]; 4] = [
         Err(Refusal::OutOfMemory),
         Err(Refusal::BadPointer),
         Err(Refusal::NoFit),
-        Ok(Some(104)),
+        Ok(Some(112)),
     ],
     [
         Ok(None),
         Ok(Some(0)),
         Err(Refusal::ZeroSize),
-        Ok(Some(104)),
+        Ok(Some(112)),
         Err(Refusal::BadPointer),
         Err(Refusal::NoFit),
         Err(Refusal::OutOfMemory),
@@ -149,7 +149,7 @@ fn plain_heap_refusals(rt: HostRuntime) {
         Request::Malloc(1),
         Request::Free(Ptr::new(0, 9)),
         Request::Malloc(2000),
-        Request::Malloc(912),
+        Request::Malloc(896),
     ];
     let mut heap = match PlainHeap::create(rt.alloc(), 4) {
         Ok(heap) => heap,

@@ -16,7 +16,7 @@ const ASKED: usize = 1_100;
 fn is_of_filling(number: usize, answer: &Answer) -> bool {
     match answer {
         Answer::Done => number == 0,
-        Answer::Given(ptr) => number <= BLOCKS && ptr.place() as usize + 8 == 8 * number,
+        Answer::Given(ptr) => number <= BLOCKS && ptr.place() as usize + 16 == 16 * number,
         Answer::Refused(refusal) => number > BLOCKS && *refusal == Refusal::NoFit,
         _ => false,
     }
@@ -47,7 +47,7 @@ fn is_of_freeing(number: usize, answer: &Answer) -> bool {
 /// Whether the pool is filled in one run and freed in another, as it has to be.
 fn fills_and_frees<H: Heaped>(alloc: Global, heap: &mut H) -> Result<bool, StoreError> {
     let mut requests = [Request::Malloc(8); 1 + ASKED];
-    requests[0] = Request::AddPool(0, 8 * BLOCKS as u64);
+    requests[0] = Request::AddPool(0, 16 * BLOCKS as u64);
     let given = run(alloc, heap, &requests)?;
     let Ok(requests) = freeing(alloc, given.as_slice()) else {
         return Err(StoreError::OutOfMemory);
@@ -61,7 +61,7 @@ fn fills_and_frees<H: Heaped>(alloc: Global, heap: &mut H) -> Result<bool, Store
         .iter()
         .enumerate()
         .all(|(number, answer)| is_of_freeing(number, answer));
-    let rows = [(0, 8 * BLOCKS as u32, false)];
+    let rows = [(0, 16 * BLOCKS as u32, false)];
     Ok(
         given.len() == 1 + ASKED
             && freed.len() == 2 * BLOCKS

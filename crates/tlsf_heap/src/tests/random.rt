@@ -16,14 +16,14 @@ struct Setup {
 const SMALL: Setup = Setup {
     runs: 200,
     records: 24,
-    pools: [(0, 4096), (4096, 1024), (8192, 520)],
+    pools: [(0, 8192), (8192, 2048), (16_384, 1040)],
 };
 
 /// More records than a byte has numbers.
 const LARGE: Setup = Setup {
     runs: 80,
     records: 400,
-    pools: [(0, 131_072), (131_072, 32_768), (163_840, 8_200)],
+    pools: [(0, 262_144), (262_144, 65_536), (327_680, 16_400)],
 };
 
 /// How many requests a run has.
@@ -44,7 +44,7 @@ fn size_near_class(number: u64) -> u64 {
     } else {
         0
     };
-    (u64::from(least) + number / 90 % 17).saturating_sub(8)
+    (u64::from(least) + number / 90 % 33).saturating_sub(16)
 }
 
 /// The pointers that both heaps gave for one request, while their block is live.
@@ -124,7 +124,7 @@ impl Tally {
 
 /// A pointer that no heap gave: no block begins at its place.
 fn stale(number: u64) -> Ptr {
-    let place = (number >> 8) % 8192 * 8 + 4;
+    let place = (number >> 8) % 8192 * 16 + 8;
     Ptr::new(place as u32, (number % 32) as u16)
 }
 

@@ -185,27 +185,27 @@ fn first_split_and_reuse(rt: HostRuntime) {
             (Ask::Pool(0, 1024), Seen::Done),
             (Ask::Malloc(100), Seen::At(0)),
         ],
-        pools: &[(0, &[(0, 104, true), (104, 920, false)])],
+        pools: &[(0, &[(0, 112, true), (112, 912, false)])],
     };
     let reuse_without_split = Case {
         records: 4,
         steps: &[
             (Ask::Pool(0, 1024), Seen::Done),
             (Ask::Malloc(100), Seen::At(0)),
-            (Ask::Malloc(1), Seen::At(104)),
+            (Ask::Malloc(1), Seen::At(112)),
             (Ask::Free(0), Seen::Done),
             (Ask::Malloc(100), Seen::At(0)),
         ],
-        pools: &[(0, &[(0, 104, true), (104, 8, true), (112, 912, false)])],
+        pools: &[(0, &[(0, 112, true), (112, 16, true), (128, 896, false)])],
     };
     let merge_both_sides = Case {
         records: 4,
         steps: &[
             (Ask::Pool(0, 1024), Seen::Done),
             (Ask::Malloc(100), Seen::At(0)),
-            (Ask::Malloc(1), Seen::At(104)),
+            (Ask::Malloc(1), Seen::At(112)),
             (Ask::Free(0), Seen::Done),
-            (Ask::Free(104), Seen::Done),
+            (Ask::Free(112), Seen::Done),
         ],
         pools: &[(0, &[(0, 1024, false)])],
     };
@@ -230,22 +230,22 @@ fn blocks_chosen(rt: HostRuntime) {
     let lower_class_not_taken = Case {
         records: 2,
         steps: &[
-            (Ask::Pool(0, 520), Seen::Done),
-            (Ask::Malloc(520), Seen::Refused(Refusal::NoFit)),
-            (Ask::Malloc(512), Seen::At(0)),
+            (Ask::Pool(0, 1040), Seen::Done),
+            (Ask::Malloc(1040), Seen::Refused(Refusal::NoFit)),
+            (Ask::Malloc(1024), Seen::At(0)),
         ],
-        pools: &[(0, &[(0, 512, true), (512, 8, false)])],
+        pools: &[(0, &[(0, 1024, true), (1024, 16, false)])],
     };
     let greatest_class = Case {
         records: 2,
         steps: &[
-            (Ask::Pool(0, 1_073_741_816), Seen::Done),
+            (Ask::Pool(0, 1_073_741_808), Seen::Done),
             (Ask::Malloc(1_056_964_609), Seen::Refused(Refusal::NoFit)),
             (Ask::Malloc(1_056_964_608), Seen::At(0)),
         ],
         pools: &[(
             0,
-            &[(0, 1_056_964_608, true), (1_056_964_608, 16_777_208, false)],
+            &[(0, 1_056_964_608, true), (1_056_964_608, 16_777_200, false)],
         )],
     };
     assert!(rt; both_hold(rt.alloc(), &lower_class_not_taken));
@@ -258,11 +258,11 @@ fn sizes_above_the_greatest(rt: HostRuntime) {
     let above = Case {
         records: 4,
         steps: &[
-            (Ask::Pool(0, 1_073_741_816), Seen::Done),
-            (Ask::Malloc(1_073_741_817), Seen::Refused(Refusal::NoFit)),
+            (Ask::Pool(0, 1_073_741_808), Seen::Done),
+            (Ask::Malloc(1_073_741_809), Seen::Refused(Refusal::NoFit)),
             (Ask::Malloc(u64::MAX), Seen::Refused(Refusal::NoFit)),
             (
-                Ask::Memalign(536_870_912, 1_073_741_808),
+                Ask::Memalign(536_870_912, 1_073_741_792),
                 Seen::Refused(Refusal::NoFit),
             ),
             (
@@ -271,7 +271,7 @@ fn sizes_above_the_greatest(rt: HostRuntime) {
             ),
             (Ask::Memalign(536_870_912, 8), Seen::At(0)),
         ],
-        pools: &[(0, &[(0, 8, true), (8, 1_073_741_808, false)])],
+        pools: &[(0, &[(0, 16, true), (16, 1_073_741_792, false)])],
     };
     assert!(rt; both_hold(rt.alloc(), &above));
 }
@@ -281,32 +281,32 @@ fn newest_freed_first(rt: HostRuntime) {
     let newest_freed_first = Case {
         records: 8,
         steps: &[
-            (Ask::Pool(0, 64), Seen::Done),
+            (Ask::Pool(0, 128), Seen::Done),
             (Ask::Malloc(8), Seen::At(0)),
-            (Ask::Malloc(8), Seen::At(8)),
             (Ask::Malloc(8), Seen::At(16)),
-            (Ask::Malloc(8), Seen::At(24)),
             (Ask::Malloc(8), Seen::At(32)),
-            (Ask::Malloc(8), Seen::At(40)),
             (Ask::Malloc(8), Seen::At(48)),
-            (Ask::Malloc(8), Seen::At(56)),
+            (Ask::Malloc(8), Seen::At(64)),
+            (Ask::Malloc(8), Seen::At(80)),
+            (Ask::Malloc(8), Seen::At(96)),
+            (Ask::Malloc(8), Seen::At(112)),
             (Ask::Free(0), Seen::Done),
-            (Ask::Free(16), Seen::Done),
-            (Ask::Malloc(8), Seen::At(16)),
+            (Ask::Free(32), Seen::Done),
+            (Ask::Malloc(8), Seen::At(32)),
             (Ask::Malloc(8), Seen::At(0)),
             (Ask::Malloc(8), Seen::Refused(Refusal::NoFit)),
         ],
         pools: &[(
             0,
             &[
-                (0, 8, true),
-                (8, 8, true),
-                (16, 8, true),
-                (24, 8, true),
-                (32, 8, true),
-                (40, 8, true),
-                (48, 8, true),
-                (56, 8, true),
+                (0, 16, true),
+                (16, 16, true),
+                (32, 16, true),
+                (48, 16, true),
+                (64, 16, true),
+                (80, 16, true),
+                (96, 16, true),
+                (112, 16, true),
             ],
         )],
     };
@@ -354,6 +354,15 @@ fn pool_limits(rt: HostRuntime) {
                 Ask::Pool(4_294_967_168, 72),
                 Seen::Refused(Refusal::BadPool),
             ),
+            (Ask::Pool(8, 64), Seen::Refused(Refusal::BadPool)),
+            (
+                Ask::Pool(4_294_967_248, 64),
+                Seen::Refused(Refusal::BadPool),
+            ),
+            (
+                Ask::Pool(4_294_967_168, 80),
+                Seen::Refused(Refusal::BadPool),
+            ),
             (Ask::RemovePool(8), Seen::Refused(Refusal::NoPool)),
             (Ask::Malloc(8), Seen::At(4_294_967_232)),
             (
@@ -374,7 +383,7 @@ fn memalign_rows(rt: HostRuntime) {
     let gap_and_rest = Case {
         records: 4,
         steps: &[
-            (Ask::Pool(8, 256), Seen::Done),
+            (Ask::Pool(16, 256), Seen::Done),
             (Ask::Memalign(64, 32), Seen::At(64)),
             (Ask::Memalign(3, 0), Seen::Refused(Refusal::BadAlign)),
             (
@@ -383,16 +392,16 @@ fn memalign_rows(rt: HostRuntime) {
             ),
             (Ask::Memalign(8, 0), Seen::Refused(Refusal::ZeroSize)),
         ],
-        pools: &[(8, &[(8, 56, false), (64, 32, true), (96, 168, false)])],
+        pools: &[(16, &[(16, 48, false), (64, 32, true), (96, 176, false)])],
     };
     let needs_records = Case {
         records: 2,
         steps: &[
-            (Ask::Pool(8, 256), Seen::Done),
+            (Ask::Pool(16, 256), Seen::Done),
             (Ask::Memalign(64, 32), Seen::Refused(Refusal::TableFull)),
             (Ask::Memalign(64, 200), Seen::At(64)),
         ],
-        pools: &[(8, &[(8, 56, false), (64, 200, true)])],
+        pools: &[(16, &[(16, 48, false), (64, 208, true)])],
     };
     assert!(rt; both_hold(rt.alloc(), &gap_and_rest));
     assert!(rt; both_hold(rt.alloc(), &needs_records));
@@ -407,7 +416,7 @@ fn realloc_in_place(rt: HostRuntime) {
             (Ask::Malloc(100), Seen::At(0)),
             (Ask::Realloc(0, 200), Seen::Kept),
         ],
-        pools: &[(0, &[(0, 200, true), (200, 824, false)])],
+        pools: &[(0, &[(0, 208, true), (208, 816, false)])],
     };
     let and_shrink = Case {
         records: 4,
@@ -417,17 +426,17 @@ fn realloc_in_place(rt: HostRuntime) {
             (Ask::Realloc(0, 200), Seen::Kept),
             (Ask::Realloc(0, 8), Seen::Kept),
             (Ask::Realloc(0, 1), Seen::Kept),
-            (Ask::Size(0), Seen::Bytes(8)),
+            (Ask::Size(0), Seen::Bytes(16)),
         ],
-        pools: &[(0, &[(0, 8, true), (8, 1016, false)])],
+        pools: &[(0, &[(0, 16, true), (16, 1008, false)])],
     };
     let grows_over_freed = Case {
         records: 3,
         steps: &[
             (Ask::Pool(0, 64), Seen::Done),
             (Ask::Malloc(8), Seen::At(0)),
-            (Ask::Malloc(8), Seen::At(8)),
-            (Ask::Free(8), Seen::Done),
+            (Ask::Malloc(8), Seen::At(16)),
+            (Ask::Free(16), Seen::Done),
             (Ask::Realloc(0, 64), Seen::Kept),
         ],
         pools: &[(0, &[(0, 64, true)])],
@@ -436,14 +445,14 @@ fn realloc_in_place(rt: HostRuntime) {
     let shrinks = Case {
         records: 3,
         steps: &[
-            (Ask::Pool(0, 64), Seen::Done),
-            (Ask::Malloc(24), Seen::At(0)),
-            (Ask::Malloc(40), Seen::At(24)),
+            (Ask::Pool(0, 80), Seen::Done),
+            (Ask::Malloc(32), Seen::At(0)),
+            (Ask::Malloc(48), Seen::At(32)),
             (Ask::Realloc(0, 8), Seen::Kept),
-            (Ask::Realloc(24, 8), Seen::Kept),
-            (Ask::Size(24), Seen::Bytes(40)),
+            (Ask::Realloc(32, 8), Seen::Kept),
+            (Ask::Size(32), Seen::Bytes(48)),
         ],
-        pools: &[(0, &[(0, 8, true), (8, 16, false), (24, 40, true)])],
+        pools: &[(0, &[(0, 16, true), (16, 16, false), (32, 48, true)])],
     };
     assert!(rt; both_hold(rt.alloc(), &grow));
     assert!(rt; both_hold(rt.alloc(), &and_shrink));
@@ -458,18 +467,18 @@ fn realloc_elsewhere(rt: HostRuntime) {
         steps: &[
             (Ask::Pool(0, 1024), Seen::Done),
             (Ask::Malloc(100), Seen::At(0)),
-            (Ask::Malloc(1), Seen::At(104)),
-            (Ask::Realloc(0, 200), Seen::At(112)),
+            (Ask::Malloc(1), Seen::At(112)),
+            (Ask::Realloc(0, 200), Seen::At(128)),
             (Ask::Size(0), Seen::Refused(Refusal::BadPointer)),
             (Ask::Realloc(0, 8), Seen::Refused(Refusal::BadPointer)),
         ],
         pools: &[(
             0,
             &[
-                (0, 104, false),
-                (104, 8, true),
-                (112, 200, true),
-                (312, 712, false),
+                (0, 112, false),
+                (112, 16, true),
+                (128, 208, true),
+                (336, 688, false),
             ],
         )],
     };
@@ -489,16 +498,16 @@ fn realloc_elsewhere(rt: HostRuntime) {
         steps: &[
             (Ask::Pool(0, 64), Seen::Done),
             (Ask::Malloc(8), Seen::At(0)),
-            (Ask::Malloc(8), Seen::At(8)),
+            (Ask::Malloc(8), Seen::At(16)),
             (Ask::Realloc(0, 128), Seen::Refused(Refusal::NoFit)),
             (
-                Ask::Realloc(0, 1_073_741_817),
+                Ask::Realloc(0, 1_073_741_809),
                 Seen::Refused(Refusal::NoFit),
             ),
             (Ask::Realloc(0, u64::MAX), Seen::Refused(Refusal::NoFit)),
-            (Ask::Size(0), Seen::Bytes(8)),
+            (Ask::Size(0), Seen::Bytes(16)),
         ],
-        pools: &[(0, &[(0, 8, true), (8, 8, true), (16, 48, false)])],
+        pools: &[(0, &[(0, 16, true), (16, 16, true), (32, 32, false)])],
     };
     assert!(rt; both_hold(rt.alloc(), &moves));
     assert!(rt; both_hold(rt.alloc(), &to_zero));
@@ -530,15 +539,15 @@ fn run_of_requests(rt: HostRuntime) {
             (Ask::Pool(0, 1024), Seen::Done),
             (Ask::Malloc(100), Seen::At(0)),
             (Ask::Malloc(0), Seen::Refused(Refusal::ZeroSize)),
-            (Ask::Malloc(1), Seen::At(104)),
+            (Ask::Malloc(1), Seen::At(112)),
             (
                 Ask::FreeOf(Ptr::new(0, 9)),
                 Seen::Refused(Refusal::BadPointer),
             ),
             (Ask::Malloc(2000), Seen::Refused(Refusal::NoFit)),
-            (Ask::Malloc(912), Seen::At(112)),
+            (Ask::Malloc(896), Seen::At(128)),
         ],
-        pools: &[(0, &[(0, 104, true), (104, 8, true), (112, 912, true)])],
+        pools: &[(0, &[(0, 112, true), (112, 16, true), (128, 896, true)])],
     };
     assert!(rt; both_hold(rt.alloc(), &run_of_requests));
 }
@@ -556,23 +565,23 @@ fn runs_at_once<H: Heaped>(alloc: Global) -> Result<bool, StoreError> {
             Request::Malloc(1),
             Request::Free(Ptr::new(0, 9)),
             Request::Malloc(2000),
-            Request::Malloc(912),
+            Request::Malloc(896),
         ],
     )?;
     let wanted = [
         Seen::Done,
         Seen::At(0),
         Seen::Refused(Refusal::ZeroSize),
-        Seen::At(104),
+        Seen::At(112),
         Seen::Refused(Refusal::BadPointer),
         Seen::Refused(Refusal::NoFit),
-        Seen::At(112),
+        Seen::At(128),
     ];
     let same = answers.iter().zip(wanted.iter()).all(|(answer, wanted)| Seen::of(
         Request::Malloc(0),
         Some(answer),
     ) == *wanted);
-    let rows = [(0, 104, true), (104, 8, true), (112, 912, true)];
+    let rows = [(0, 112, true), (112, 16, true), (128, 896, true)];
     Ok(same && answers.len() == 7 && has_rows(&mut heap, 0, &rows))
 }
 

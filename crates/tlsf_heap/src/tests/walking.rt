@@ -30,12 +30,12 @@ fn rows_of_each_pool(rt: HostRuntime) {
     assert!(rt; refuses(&mut heap, 0));
     assert_eq!(rt; heap.add_pool(0, 1024), Ok(()));
     let first = heap.malloc(100).expect(&rt, "a block");
-    assert_eq!(rt; heap.malloc(1).map(|ptr| ptr.place()), Ok(104));
+    assert_eq!(rt; heap.malloc(1).map(|ptr| ptr.place()), Ok(112));
     assert_eq!(rt; heap.free(first), Ok(()));
     assert_eq!(rt; heap.add_pool(1024, 64), Ok(()));
-    let rows = [row(0, 104, false), row(104, 8, true), row(112, 912, false)];
+    let rows = [row(0, 112, false), row(112, 16, true), row(128, 896, false)];
     assert!(rt; walks(rt.alloc(), &mut heap, 0, &rows));
     assert!(rt; walks(rt.alloc(), &mut heap, 1024, &[row(1024, 64, false)]));
-    assert!(rt; refuses(&mut heap, 104));
+    assert!(rt; refuses(&mut heap, 112));
     assert!(rt; refuses(&mut heap, 1088));
 }

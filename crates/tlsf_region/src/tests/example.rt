@@ -15,19 +15,19 @@ const WRITTEN: &str = "\
 text at 0, buffer at 64
   0: 16 bytes, used
   16: 48 bytes, free
-  64: 104 bytes, used
-  168: 856 bytes, free
-text moved to 168
+  64: 112 bytes, used
+  176: 848 bytes, free
+text moved to 176
 Hello, region
   0: 64 bytes, free
-  64: 104 bytes, used
-  168: 104 bytes, used
-  272: 752 bytes, free
+  64: 112 bytes, used
+  176: 112 bytes, used
+  288: 736 bytes, free
 free of the old pointer: Err(BadPointer)
 buffer freed
-  0: 168 bytes, free
-  168: 104 bytes, used
-  272: 752 bytes, free
+  0: 176 bytes, free
+  176: 112 bytes, used
+  288: 736 bytes, free
 text freed
   0: 1024 bytes, free
 check: true

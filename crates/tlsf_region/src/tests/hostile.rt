@@ -12,7 +12,7 @@ fn wrong_pointers(rt: HostRuntime) {
     let other_slot = if q.slot() == 0 { 1 } else { 0 };
     for wrong in [
         Ptr::new(0, other_slot),
-        Ptr::new(8, q.slot()),
+        Ptr::new(16, q.slot()),
         Ptr::new(0, 65_535),
     ] {
         assert_eq!(rt; region.free(wrong), Err(Refusal::BadPointer), "{wrong:?}");

@@ -17,20 +17,20 @@ fn lends_zeros(rt: &impl Abort, region: &mut Region, bytes: u64, size: u64) {
 /// The lengths, each with a size that is served: the least of the last class that the pool's block is of.
 #[test]
 fn lengths(rt: HostRuntime) {
-    for len in [0, 1, 7] {
+    for len in [0, 1, 15] {
         let mut region = made(&rt, rt.alloc(), len, 1);
-        assert!(rt; region.add_pool(0, 8).is_err());
+        assert!(rt; region.add_pool(0, 16).is_err());
     }
     for (len, size) in [
-        (8, 8),
-        (9, 8),
-        (255, 248),
+        (16, 16),
+        (17, 16),
+        (255, 240),
         (1_000_000, 999_424),
         (1_048_576, 1_048_576),
         (1_048_577, 1_048_576),
     ] {
         let mut region = made(&rt, rt.alloc(), len, 2);
-        lends_zeros(&rt, &mut region, len / 8 * 8, size);
+        lends_zeros(&rt, &mut region, len / 16 * 16, size);
     }
 }
 
