@@ -235,7 +235,7 @@ lower_class-blocks = refl
 lower_class-free : AreFreeBelow 1056 (blocks_of (from_create 2 (pool 0 1040 ∷ malloc_of 1040 ∷ [])).content.pools)
 lower_class-free =
     let P : List (Block ℕ) → Type 0 = λ blocks. AreFreeBelow 1056 blocks in
-    subst P (sym lower_class-blocks) (All-from_recursion (λ (block : Block ℕ). IsTrue (is_free block) → block.size < 528) one_free (λ _. omega arith, tt))
+    subst P (sym lower_class-blocks) (All-from_recursion (λ (block : Block ℕ). IsTrue (is_free block) → block.size < 1056) one_free (λ _. omega arith, tt))
 
 lower_class-not_below : AreFreeBelow 1040 one_free → ⊥
 lower_class-not_below below = omega (arith, below 0 (record { place = 0; size = 0; owner = None }) (omega arith) refl)
