@@ -1,16 +1,16 @@
 -- The form of each event, and that a line has one form only.
-use Rattle.std.proofs.Common.{◌≡◌, ◌≢◌, ℕ, zero, ◌<◌, ◌≤◌, List, [], ◌∷◌, length, get_or, drop, cond, ◌==◌, Option, Some, None, IfSome, refl, sym, ap, ◌∙◌, subst, arith, append_assoc}
+use Rattle.std.proofs.Common.{◌≡◌, ◌≢◌, ℕ, zero, ◌<◌, ◌≤◌, List, [], ◌∷◌, ◌++◌, length, get_or, drop, cond, ◌==◌, Option, Some, None, IfSome, refl, sym, ap, ◌∙◌, subst, arith, append_assoc}
 use Rattle.mtrace_log.specs.Bytes.{Lacks, space, newline}
-use Rattle.mtrace_log.specs.Address.{size_text, pointer_text}
+use Rattle.mtrace_log.specs.Address.{address_text, size_text, pointer_text}
 use Rattle.mtrace_log.specs.Location.{IsLocation}
 use Rattle.mtrace_log.specs.Spelling.{spell, IsEvent}
-use Rattle.mtrace_log.specs.Form.{Form, fields_text, form_text, form}
+use Rattle.mtrace_log.specs.Form.{Form, Numbers, numbers_text, fields_text, form_text, form}
 use Rattle.mtrace_log.specs.Form.Form.{alone, marked}
-use Rattle.mtrace_log.specs.Fields.{IsPointer, IsSize}
+use Rattle.mtrace_log.specs.Fields.{IsPointer, AreNumbers}
 use Rattle.mtrace_log.specs.declared.event.Event.{Event}
-use Rattle.mtrace_log.specs.declared.event.Event.TheVariants.{Start, End, Alloc, Free, Old, New, Failed}
+use Rattle.mtrace_log.specs.declared.event.Event.TheVariants.{Start, End, Alloc, Free, Old, New, Failed, Aligned}
 use Rattle.mtrace_log.proofs.TextLemmas.{split-same, Lacks-middle}
-use Rattle.mtrace_log.proofs.FieldLemmas.{Lacks-pointer_text, Lacks-location, pointer_text-same, size_text-same}
+use Rattle.mtrace_log.proofs.FieldLemmas.{Lacks-address_text, Lacks-pointer_text, Lacks-size_text, Lacks-location, address_text-same, pointer_text-same, size_text-same}
 
 -- ---- an event and its form
 
@@ -22,11 +22,12 @@ spell-form (Free place address) = refl
 spell-form (Old place address) = refl
 spell-form (New place address size) = refl
 spell-form (Failed place address size) = refl
+spell-form (Aligned place address align size) = refl
 
 -- what the parts of a form can hold
 abbrev pub Fits : Form → Type 0
 Fits (alone line) = Unit {0}
-Fits (marked place mark pointer size) = IfSome place IsLocation × IsPointer pointer × IfSome size IsSize
+Fits (marked place mark pointer numbers) = IfSome place IsLocation × IsPointer pointer × IfSome numbers AreNumbers
 
 pub Fits-form : (event : Event) → IsEvent event → Fits (form event)
 Fits-form Start valid = tt
@@ -36,6 +37,7 @@ Fits-form (Free place address) valid = (valid.0, valid.1, tt)
 Fits-form (Old place address) valid = (valid.0, valid.1, tt)
 Fits-form (New place address size) valid = valid
 Fits-form (Failed place address size) valid = valid
+Fits-form (Aligned place address align size) valid = (valid.0, valid.1, (valid.2, valid.3))
 
 pub IsEvent-form : (event : Event) → Fits (form event) → IsEvent event
 IsEvent-form Start fits = tt
@@ -45,11 +47,12 @@ IsEvent-form (Free place address) fits = (fits.0, fits.1)
 IsEvent-form (Old place address) fits = (fits.0, fits.1)
 IsEvent-form (New place address size) fits = fits
 IsEvent-form (Failed place address size) fits = fits
+IsEvent-form (Aligned place address align size) fits = (fits.0, fits.1, fits.2.0, fits.2.1)
 
 -- a line alone begins with `=`, and a mark is neither that byte nor `@`
 abbrev pub HasShape : Form → Type 0
 HasShape (alone line) = (get_or line 0 0 ≡ 61) × (length line ≤ 7) × Lacks newline line
-HasShape (marked place mark pointer size) = (32 < mark) × (mark < 64) × (mark ≢ 61)
+HasShape (marked place mark pointer numbers) = (32 < mark) × (mark < 64) × (mark ≢ 61)
 
 pub HasShape-form : (event : Event) → HasShape (form event)
 HasShape-form Start =
@@ -60,6 +63,7 @@ HasShape-form (Free place address) = (omega arith, omega arith, omega arith)
 HasShape-form (Old place address) = (omega arith, omega arith, omega arith)
 HasShape-form (New place address size) = (omega arith, omega arith, omega arith)
 HasShape-form (Failed place address size) = (omega arith, omega arith, omega arith)
+HasShape-form (Aligned place address align size) = (omega arith, omega arith, omega arith)
 
 -- ---- the same form is the same event
 
@@ -67,14 +71,23 @@ abbrev or_zero : Option ℕ → ℕ
 or_zero None = zero
 or_zero (Some n) = n
 
+abbrev size_in : Option Numbers → ℕ
+size_in None = zero
+size_in (Some (align, size)) = size
+
+abbrev align_in : Option Numbers → ℕ
+align_in None = zero
+align_in (Some (align, size)) = or_zero align
+
 -- the event that has a form
 abbrev event_with : Form → Event
 event_with (alone line) = cond (get_or line 2 0 == 83) Start End
-event_with (marked place mark pointer size) =
-    cond (mark == 43) (Alloc place pointer (or_zero size))
+event_with (marked place mark pointer numbers) =
+    cond (mark == 43) (Alloc place pointer (size_in numbers))
     (cond (mark == 45) (Free place (or_zero pointer))
     (cond (mark == 60) (Old place (or_zero pointer))
-    (cond (mark == 62) (New place (or_zero pointer) (or_zero size)) (Failed place pointer (or_zero size)))))
+    (cond (mark == 62) (New place (or_zero pointer) (size_in numbers))
+    (cond (mark == 33) (Failed place pointer (size_in numbers)) (Aligned place (or_zero pointer) (align_in numbers) (size_in numbers))))))
 
 event_with-form : (event : Event) → event_with (form event) ≡ event
 event_with-form Start = refl
@@ -84,22 +97,35 @@ event_with-form (Free place address) = refl
 event_with-form (Old place address) = refl
 event_with-form (New place address size) = refl
 event_with-form (Failed place address size) = refl
+event_with-form (Aligned place address align size) = refl
 
 pub form-same : (first second : Event) → form first ≡ form second → first ≡ second
 form-same first second same = sym (event_with-form first) ∙ ap event_with same ∙ event_with-form second
 
 -- ---- the same line is the same form
 
-pub fields_text-same : (p q m n : Option ℕ) → fields_text p m ≡ fields_text q n → (p ≡ q) × (m ≡ n)
+-- a size alone and an alignment before a size differ by their spaces
+size-or-align : (size align other : ℕ) → size_text size ≢ address_text align ++ space ∷ size_text other
+size-or-align size align other same = Lacks-middle space (address_text align) (size_text other) (subst (Lacks space) same (Lacks-size_text space size (omega arith)))
+
+numbers_text-same : (m n : Numbers) → numbers_text m ≡ numbers_text n → m ≡ n
+numbers_text-same (None, size) (None, other) same = ap (λ k. (None, k)) (size_text-same size other same)
+numbers_text-same (None, size) (Some align, other) same = absurd (size-or-align size align other same)
+numbers_text-same (Some align, size) (None, other) same = absurd (size-or-align other align size (sym same))
+numbers_text-same (Some align, size) (Some last, other) same =
+    let parts = split-same space (address_text align) (address_text last) (size_text size) (size_text other) (Lacks-address_text space align (omega arith)) (Lacks-address_text space last (omega arith)) same in
+    ap (λ k. (Some k, size)) (address_text-same align last parts.0) ∙ ap (λ k. (Some last, k)) (size_text-same size other parts.1)
+
+pub fields_text-same : (p q : Option ℕ) (m n : Option Numbers) → fields_text p m ≡ fields_text q n → (p ≡ q) × (m ≡ n)
 fields_text-same p q None None same = (pointer_text-same p q same, refl)
-fields_text-same p q None (Some n) same = absurd (Lacks-middle space (pointer_text q) (size_text n) (subst (Lacks space) same (Lacks-pointer_text space p (omega arith))))
-fields_text-same p q (Some m) None same = absurd (Lacks-middle space (pointer_text p) (size_text m) (subst (Lacks space) (sym same) (Lacks-pointer_text space q (omega arith))))
+fields_text-same p q None (Some n) same = absurd (Lacks-middle space (pointer_text q) (numbers_text n) (subst (Lacks space) same (Lacks-pointer_text space p (omega arith))))
+fields_text-same p q (Some m) None same = absurd (Lacks-middle space (pointer_text p) (numbers_text m) (subst (Lacks space) (sym same) (Lacks-pointer_text space q (omega arith))))
 fields_text-same p q (Some m) (Some n) same =
-    let parts = split-same space (pointer_text p) (pointer_text q) (size_text m) (size_text n) (Lacks-pointer_text space p (omega arith)) (Lacks-pointer_text space q (omega arith)) same in
-    (pointer_text-same p q parts.0, ap (λ k. Some k) (size_text-same m n parts.1))
+    let parts = split-same space (pointer_text p) (pointer_text q) (numbers_text m) (numbers_text n) (Lacks-pointer_text space p (omega arith)) (Lacks-pointer_text space q (omega arith)) same in
+    (pointer_text-same p q parts.0, ap (λ k. Some k) (numbers_text-same m n parts.1))
 
 -- a mark and the fields behind it
-pub behind-same : (place : Option (List ℕ)) (mark other : ℕ) (p q m n : Option ℕ) → mark ∷ space ∷ fields_text p m ≡ other ∷ space ∷ fields_text q n
+pub behind-same : (place : Option (List ℕ)) (mark other : ℕ) (p q : Option ℕ) (m n : Option Numbers) → mark ∷ space ∷ fields_text p m ≡ other ∷ space ∷ fields_text q n
     → marked place mark p m ≡ marked place other q n
 behind-same place mark other p q m n same =
     let marks : mark ≡ other = ap (λ text. get_or text 0 0) same in

@@ -8,7 +8,7 @@ use Rattle.mtrace_log.specs.Address.{address_text}
 use Rattle.mtrace_log.specs.Location.{longest_location}
 use Rattle.mtrace_log.specs.Spelling.{spell, longest_line}
 use Rattle.mtrace_log.specs.Lines.{lines_of}
-use Rattle.mtrace_log.specs.declared.event.Event.TheVariants.{Start, End, Alloc, Free, Old, New, Failed}
+use Rattle.mtrace_log.specs.declared.event.Event.TheVariants.{Start, End, Alloc, Free, Old, New, Failed, Aligned}
 
 -- ---- events
 
@@ -54,6 +54,12 @@ spell_failed = refl
 spell_located_failed : spell (Failed (Some (codes "a")) None 1) ≡ codes "@ a ! (nil) 0x1"
 spell_located_failed = refl
 
+spell_aligned : spell (Aligned None 0x20 0x40 0x20) ≡ codes "* 0x20 0x40 0x20"
+spell_aligned = refl
+
+spell_located_aligned : spell (Aligned (Some (codes "a")) 0x20 3 0) ≡ codes "@ a * 0x20 0x3 0"
+spell_located_aligned = refl
+
 -- ---- the greatest address
 
 -- as many turns as digits are enough
@@ -68,9 +74,9 @@ digits-turns (suc turns) (suc n) fits =
 greatest_address : address_text 0xffff_ffff_ffff_ffff ≡ codes "0xffffffffffffffff"
 greatest_address = ap (λ digits. codes "0x" ++ map digit_char digits) (digits-turns 16 0xffff_ffff_ffff_ffff (omega arith))
 
-length_of_longest_line : length (spell (Alloc (Some (replicate longest_location 97)) (Some 0xffff_ffff_ffff_ffff) 0xffff_ffff_ffff_ffff)) ≡ longest_line
+length_of_longest_line : length (spell (Aligned (Some (replicate longest_location 97)) 0xffff_ffff_ffff_ffff 0xffff_ffff_ffff_ffff 0xffff_ffff_ffff_ffff)) ≡ longest_line
 length_of_longest_line =
-    ap (λ text. length (codes "@ " ++ (replicate longest_location 97 ++ 32 ∷ []) ++ (codes "+ " ++ (text ++ 32 ∷ text)))) greatest_address
+    ap (λ text. length (codes "@ " ++ (replicate longest_location 97 ++ 32 ∷ []) ++ (codes "* " ++ (text ++ 32 ∷ (text ++ 32 ∷ text))))) greatest_address
 
 -- ---- lines
 

@@ -1,7 +1,7 @@
 -- What the readers of the fields of a line answer.
-use Rattle.std.specs.Prelude.{◌≡◌, ◌≢◌, ℕ, ◌^◌, ◌<◌, List, Option, IfSome, MatchOption, Result, Ok, Err}
+use Rattle.std.specs.Prelude.{◌≡◌, ◌≢◌, ℕ, ◌^◌, ◌<◌, List, Option, Some, None, IfSome, MatchOption, Result, Ok, Err}
 use Rattle.mtrace_log.specs.Address.{IsAddress}
-use Rattle.mtrace_log.specs.Form.{Form, form}
+use Rattle.mtrace_log.specs.Form.{Form, Numbers, form}
 use Rattle.mtrace_log.specs.declared.event.Event.{Event}
 use Rattle.mtrace_log.specs.declared.event.LineFault.{LineFault}
 use Rattle.mtrace_log.specs.declared.event.LineFault.TheVariants.{NotALine}
@@ -18,9 +18,14 @@ IsPointer pointer = IfSome pointer IsAddress
 abbrev pub IsSize : ℕ → Type 0
 IsSize size = size < 2 ^ 64
 
--- a pointer, and a size or none
-abbrev pub AreFields : Option ℕ → Option ℕ → Type 0
-AreFields pointer size = IsPointer pointer × IfSome size IsSize
+-- an alignment is any number that is spelled as an address is
+abbrev pub AreNumbers : Numbers → Type 0
+AreNumbers (None, size) = IsSize size
+AreNumbers (Some align, size) = IsAddress align × IsSize size
+
+-- a pointer, and numbers or none
+abbrev pub AreFields : Option ℕ → Option Numbers → Type 0
+AreFields pointer numbers = IsPointer pointer × IfSome numbers AreNumbers
 
 -- the answer is the event of that form, or no line where no event has it
 abbrev pub HasForm : Form → Result Event LineFault → Type 0

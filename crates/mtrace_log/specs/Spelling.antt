@@ -1,14 +1,15 @@
--- The one line of each event: the forms of glibc's mtrace(3) that this project reads.
+-- The one line of each event: the forms of glibc's mtrace(3) that this project reads, and one of its own, for an
+-- allocation at a multiple of an alignment.
 use Rattle.std.specs.Prelude.{ℕ, ◌^◌, ◌<◌, List, [], ◌∷◌, ◌++◌, codes, Option, Some, None, IfSome}
 use Rattle.mtrace_log.specs.Bytes.{space}
 use Rattle.mtrace_log.specs.Address.{IsAddress, address_text, pointer_text, size_text}
 use Rattle.mtrace_log.specs.Location.{IsLocation}
 use Rattle.mtrace_log.specs.declared.event.Event.{Event}
-use Rattle.mtrace_log.specs.declared.event.Event.TheVariants.{Start, End, Alloc, Free, Old, New, Failed}
+use Rattle.mtrace_log.specs.declared.event.Event.TheVariants.{Start, End, Alloc, Free, Old, New, Failed, Aligned}
 
 -- the longest line of any event, in bytes without its newline
 abbrev pub longest_line : ℕ
-longest_line = 297
+longest_line = 316
 
 -- `@ LOCATION `, or nothing
 abbrev pub location_text : Option (List ℕ) → List ℕ
@@ -24,6 +25,7 @@ spell (Free place address) = location_text place ++ (codes "- " ++ address_text 
 spell (Old place address) = location_text place ++ (codes "< " ++ address_text address)
 spell (New place address size) = location_text place ++ (codes "> " ++ (address_text address ++ space ∷ size_text size))
 spell (Failed place address size) = location_text place ++ (codes "! " ++ (pointer_text address ++ space ∷ size_text size))
+spell (Aligned place address align size) = location_text place ++ (codes "* " ++ (address_text address ++ space ∷ (address_text align ++ space ∷ size_text size)))
 
 -- what the fields of an event can hold
 abbrev pub IsEvent : Event → Type 0
@@ -34,3 +36,4 @@ IsEvent (Free place address) = IfSome place IsLocation × IsAddress address
 IsEvent (Old place address) = IfSome place IsLocation × IsAddress address
 IsEvent (New place address size) = IfSome place IsLocation × IsAddress address × (size < 2 ^ 64)
 IsEvent (Failed place address size) = IfSome place IsLocation × IfSome address IsAddress × (size < 2 ^ 64)
+IsEvent (Aligned place address align size) = IfSome place IsLocation × IsAddress address × IsAddress align × (size < 2 ^ 64)

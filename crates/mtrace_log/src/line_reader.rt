@@ -1,9 +1,9 @@
 ghost use Rattle.std.specs.Prelude.{◌≡◌, ◌≢◌, ℕ, ◌+◌, ◌<◌, ◌≤◌, ◌++◌, ◌∷◌, List, length, codes, Err, MatchOption};
 ghost use Rattle.mtrace_log.specs.Bytes.{Lacks, space};
-ghost use Rattle.mtrace_log.specs.Address.{pointer_text, size_text};
-ghost use Rattle.mtrace_log.specs.Form.{fields_text};
+ghost use Rattle.mtrace_log.specs.Address.{IsAddress, address_text, pointer_text, size_text};
+ghost use Rattle.mtrace_log.specs.Form.{numbers_text, fields_text};
 ghost use Rattle.mtrace_log.specs.Form.Form.{marked};
-ghost use Rattle.mtrace_log.specs.Fields.{Finds, IsPointer, IsSize, AreFields, HasForm};
+ghost use Rattle.mtrace_log.specs.Fields.{Finds, IsPointer, IsSize, AreNumbers, AreFields, HasForm};
 ghost use Rattle.mtrace_log.specs.Reading.{Reads};
 ghost use Rattle.mtrace_log.specs.declared.event.LineFault.TheVariants.{TooLong};
 
@@ -14,7 +14,10 @@ use crate::location::Location;
 use memchr::memchr;
 
 /// The longest line of any event, in bytes without its newline.
-pub const LONGEST_LINE: usize = 297;
+pub const LONGEST_LINE: usize = 316;
+
+/// The numbers behind the pointer of a line: an alignment or none, and a size.
+type Numbers = (Option<Addr>, u64);
 
 /// What stands before the first space, and what behind it.
 fn split_at_space(bytes: &[u8]) -> Option<(&[u8], &[u8])>
@@ -27,6 +30,16 @@ fn split_at_space(bytes: &[u8]) -> Option<(&[u8], &[u8])>
     Some((&bytes[..at], &bytes[at + 1..]))
 }
 
+/// ADDR
+fn read_addr(bytes: &[u8]) -> Option<Addr>
+    ensures { Finds IsAddress address_text bytes.now result }
+{
+    let Some(number) = hex::read_address(bytes) else {
+        return None;
+    };
+    Addr::new(number)
+}
+
 /// PTR
 fn read_pointer(bytes: &[u8]) -> Option<Option<Addr>>
     ensures { Finds IsPointer pointer_text bytes.now result }
@@ -34,10 +47,10 @@ fn read_pointer(bytes: &[u8]) -> Option<Option<Addr>>
     if bytes == b"(nil)".as_slice() {
         return Some(None);
     }
-    let Some(number) = hex::read_address(bytes) else {
+    let Some(addr) = read_addr(bytes) else {
         return None;
     };
-    Some(Addr::new(number))
+    Some(Some(addr))
 }
 
 /// SIZE
@@ -50,11 +63,30 @@ fn read_size(bytes: &[u8]) -> Option<u64>
     hex::read_address(bytes)
 }
 
-/// PTR, or PTR SIZE
-fn read_fields(bytes: &[u8]) -> Option<(Option<Addr>, Option<u64>)>
+/// SIZE, or ALIGN SIZE
+fn read_numbers(bytes: &[u8]) -> Option<Numbers>
+    ensures { Finds AreNumbers numbers_text bytes.now result }
+{
+    let Some((alignment, number)) = split_at_space(bytes) else {
+        let Some(size) = read_size(bytes) else {
+            return None;
+        };
+        return Some((None, size));
+    };
+    let Some(align) = read_addr(alignment) else {
+        return None;
+    };
+    let Some(size) = read_size(number) else {
+        return None;
+    };
+    Some((Some(align), size))
+}
+
+/// PTR, or PTR and the numbers
+fn read_fields(bytes: &[u8]) -> Option<(Option<Addr>, Option<Numbers>)>
     ensures { Finds (λ fields. AreFields fields.0 fields.1) (λ fields. fields_text fields.0 fields.1) bytes.now result }
 {
-    let Some((pointer, number)) = split_at_space(bytes) else {
+    let Some((pointer, rest)) = split_at_space(bytes) else {
         let Some(addr) = read_pointer(bytes) else {
             return None;
         };
@@ -63,10 +95,10 @@ fn read_fields(bytes: &[u8]) -> Option<(Option<Addr>, Option<u64>)>
     let Some(addr) = read_pointer(pointer) else {
         return None;
     };
-    let Some(size) = read_size(number) else {
+    let Some(numbers) = read_numbers(rest) else {
         return None;
     };
-    Some((addr, Some(size)))
+    Some((addr, Some(numbers)))
 }
 
 /// The first byte, where a space follows it, and what stands behind that space.
@@ -81,16 +113,16 @@ fn split_mark(bytes: &[u8]) -> Option<(u8, &[u8])>
 }
 
 /// A mark, a space and fields.
-fn read_marked(bytes: &[u8]) -> Option<(u8, Option<Addr>, Option<u64>)>
+fn read_marked(bytes: &[u8]) -> Option<(u8, Option<Addr>, Option<Numbers>)>
     ensures { Finds (λ parts. AreFields parts.1 parts.2) (λ parts. parts.0 ∷ space ∷ fields_text parts.1 parts.2) bytes.now result }
 {
     let Some((mark, fields)) = split_mark(bytes) else {
         return None;
     };
-    let Some((addr, size)) = read_fields(fields) else {
+    let Some((addr, numbers)) = read_fields(fields) else {
         return None;
     };
-    Some((mark, addr, size))
+    Some((mark, addr, numbers))
 }
 
 /// The event with this place, mark and fields. Each arm returns by itself, which saves a copy of the event.
@@ -99,16 +131,24 @@ fn event_of(
     at: Option<Location>,
     mark: u8,
     addr: Option<Addr>,
-    size: Option<u64>,
+    numbers: Option<Numbers>,
 ) -> Result<Event, LineFault>
-    ensures { HasForm (marked at mark addr size) result }
+    ensures { HasForm (marked at mark addr numbers) result }
 {
-    match (mark, addr, size) {
-        (b'+', addr, Some(size)) => return Ok(Event::Alloc { at, addr, size }),
+    match (mark, addr, numbers) {
+        (b'+', addr, Some((None, size))) => return Ok(Event::Alloc { at, addr, size }),
         (b'-', Some(addr), None) => return Ok(Event::Free { at, addr }),
         (b'<', Some(addr), None) => return Ok(Event::Old { at, addr }),
-        (b'>', Some(addr), Some(size)) => return Ok(Event::New { at, addr, size }),
-        (b'!', addr, Some(size)) => return Ok(Event::Failed { at, addr, size }),
+        (b'>', Some(addr), Some((None, size))) => return Ok(Event::New { at, addr, size }),
+        (b'!', addr, Some((None, size))) => return Ok(Event::Failed { at, addr, size }),
+        (b'*', Some(addr), Some((Some(align), size))) => {
+            return Ok(Event::Aligned {
+                at,
+                addr,
+                align,
+                size,
+            })
+        }
         _ => return Err(LineFault::NotALine),
     }
 }
@@ -136,18 +176,18 @@ fn read_unlocated(bytes: &[u8]) -> Result<Event, LineFault>
     if bytes == b"= End".as_slice() {
         return Ok(Event::End);
     }
-    let Some((mark, addr, size)) = read_marked(bytes) else {
+    let Some((mark, addr, numbers)) = read_marked(bytes) else {
         return Err(LineFault::NotALine);
     };
-    event_of(None, mark, addr, size)
+    event_of(None, mark, addr, numbers)
 }
 
 /// What a line says, given without its newline.
 ///
 /// # Errors
 ///
-/// `TooLong` exactly where it has more than 297 bytes, and `NotALine` exactly where it has no more
-/// and is the line of no event.
+/// `TooLong` exactly where it has more bytes than [`LONGEST_LINE`], and `NotALine` exactly where it has no
+/// more and is the line of no event.
 pub fn read_line(bytes: &[u8]) -> Result<Event, LineFault>
     // The event whose spelling the line is; or too long; or no event's spelling.
     ensures reads { Reads bytes.now result }
@@ -162,7 +202,7 @@ pub fn read_line(bytes: &[u8]) -> Result<Event, LineFault>
     let Some((place, marked)) = split_at_space(located) else {
         return Err(LineFault::NotALine);
     };
-    let Some((mark, addr, size)) = read_marked(marked) else {
+    let Some((mark, addr, numbers)) = read_marked(marked) else {
         return Err(LineFault::NotALine);
     };
     // The location is made last, and once.
@@ -170,5 +210,5 @@ pub fn read_line(bytes: &[u8]) -> Result<Event, LineFault>
     if at.is_none() {
         return Err(LineFault::NotALine);
     }
-    event_of(at, mark, addr, size)
+    event_of(at, mark, addr, numbers)
 }

@@ -1,19 +1,19 @@
 -- What a heap answers, told of its content without slots.
-use Rattle.std.proofs.Common.{◌≡◌, ℕ, true, Some, sym, ap, ◌∙◌, Ok, Err}
+use Rattle.std.proofs.Common.{◌≡◌, ℕ, true, Option, Some, sym, ap, ◌∙◌, Ok, Err}
 use Rattle.std.specs.Prelude.{◌==◌}
 use Rattle.tlsf_heap.specs.declared.refusal.Refusal.{Refusal}
 use Rattle.tlsf_heap.specs.Content.{Content, blocks_of}
-use Rattle.tlsf_heap.specs.Malloc.{malloc}
 use Rattle.tlsf_heap.specs.Pools.{add_pool}
 use Rattle.tlsf_heap.specs.Free.{free, is_live}
 use Rattle.tlsf_heap.specs.Realloc.{realloc}
 use Rattle.tlsf_heap.specs.Bare.{bare, renamed_result, renamed_given, renamed_moved}
-use Rattle.tlsf_heap.proofs.Content.BareSteps.{malloc-renamed, add_pool-renamed}
+use Rattle.tlsf_heap.proofs.Content.BareSteps.{add_pool-renamed}
 use Rattle.tlsf_heap.proofs.Content.BareFree.{free-renamed}
 use Rattle.tlsf_heap.proofs.Content.BareRealloc.{realloc-renamed}
 use Rattle.tlsf_heap.proofs.Good.StaysLive.{live_bare}
 use Rattle.mtrace_replay.specs.Started.{left_by}
-use Rattle.mtrace_replay.specs.Moment.{without}
+use Rattle.mtrace_replay.specs.Moment.{asked_block, without}
+use Rattle.mtrace_replay.proofs.AskedBlock.{asked-renamed}
 
 module _ (old new : Content ℕ) where
   pub bare_added : (base bytes : ℕ) → add_pool base bytes old ≡ Ok new → bare new ≡ left_by (bare old) (add_pool base bytes (bare old))
@@ -24,11 +24,11 @@ module _ (old new : Content ℕ) where
   bare_not_added base bytes refusal refused same =
       ap bare same ∙ sym (ap (left_by (bare old)) (add_pool-renamed (λ owner. tt) base bytes old ∙ ap (renamed_result (λ owner. tt)) refused))
 
-  pub bare_served : (slot n place : ℕ) → malloc slot n old ≡ Ok (place, new) → malloc tt n (bare old) ≡ Ok (place, bare new)
-  bare_served slot n place served = malloc-renamed (λ owner. tt) slot n old ∙ ap (renamed_given (λ owner. tt)) served
+  pub bare_served : (slot : ℕ) (align : Option ℕ) (n place : ℕ) → asked_block slot align n old ≡ Ok (place, new) → asked_block tt align n (bare old) ≡ Ok (place, bare new)
+  bare_served slot align n place served = asked-renamed (λ owner. tt) slot align n old ∙ ap (renamed_given (λ owner. tt)) served
 
-  pub bare_refused : (slot n : ℕ) (refusal : Refusal) → malloc slot n old ≡ Err refusal → malloc tt n (bare old) ≡ Err refusal
-  bare_refused slot n refusal refused = malloc-renamed (λ owner. tt) slot n old ∙ ap (renamed_given (λ owner. tt)) refused
+  pub bare_refused : (slot : ℕ) (align : Option ℕ) (n : ℕ) (refusal : Refusal) → asked_block slot align n old ≡ Err refusal → asked_block tt align n (bare old) ≡ Err refusal
+  bare_refused slot align n refusal refused = asked-renamed (λ owner. tt) slot align n old ∙ ap (renamed_given (λ owner. tt)) refused
 
   module _ (place slot : ℕ) (live : is_live (λ other. other == slot) place (blocks_of old.pools) ≡ true) where
     pub bare_freed : free (λ other. other == slot) place old ≡ Ok new → bare new ≡ without place (bare old)

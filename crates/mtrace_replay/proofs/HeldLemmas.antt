@@ -3,15 +3,14 @@ use Rattle.std.proofs.Common.{◌≡◌, ◌≢◌, ◌↔◌, ℕ, suc, List, [
 use Rattle.std.specs.Prelude.{◌==◌, ◌&&◌, if◌then◌else◌}
 use Rattle.std.specs.List.{AllByRecursion}
 use Rattle.std.proofs.lemmas.Bool.{cases_Bool, eqb-true, eq-eqb}
-use Rattle.mtrace_log.specs.declared.event.Event.TheVariants.{Start, End, Alloc, Free, Old, New, Failed}
+use Rattle.mtrace_log.specs.declared.event.Event.TheVariants.{Start, End, Alloc, Free, Old, New, Failed, Aligned}
 use Rattle.mtrace_log.specs.declared.event.LineFault.TheVariants as fault
 use Rattle.mtrace_replay.specs.declared.diagnostic.Diagnostic.{Diagnostic}
 use Rattle.mtrace_replay.specs.declared.diagnostic.Kind.TheVariants.{NotHeld, AlreadyHeld}
 use Rattle.tlsf_heap.specs.declared.refusal.Refusal.{Refusal}
-use Rattle.tlsf_heap.specs.Malloc.{malloc}
 use Rattle.tlsf_heap.specs.Realloc.{realloc}
 use Rattle.mtrace_replay.specs.Started.{Bare}
-use Rattle.mtrace_replay.specs.Moment.{Reading, Given, Moment, noted_after, note, unserved, asked_size, answered, allocation, release, moved, reallocation, renewal, outcome, moment}
+use Rattle.mtrace_replay.specs.Moment.{Reading, Given, Moment, noted_after, note, unserved, asked_size, asked_block, answered, allocation, release, moved, reallocation, renewal, outcome, moment}
 use Rattle.mtrace_replay.specs.History.{held, given_or, unless_taken, moments, pending, content_after}
 use Rattle.mtrace_replay.specs.Held.{IsHeldUnder}
 
@@ -41,10 +40,10 @@ answered_gives : (number : ℕ) (before : ℕ → Option Given) (at : Option (Li
 answered_gives number before at address size content (Ok (place, new)) free = gives_entry number before _ _ refl refl (inl free)
 answered_gives number before at address size content (Err refusal) free = gives_none number before _ refl
 
-allocation_gives : (number : ℕ) (before : ℕ → Option Given) (at : Option (List ℕ)) (address size : ℕ) (here : Option Given) (content : Bare)
-    → before address ≡ here → Gives number before (allocation number at address size here content)
-allocation_gives number before at address size (Some given) content is = gives_none number before _ refl
-allocation_gives number before at address size None content is = answered_gives number before at address size content (malloc tt (asked_size size) content) is
+allocation_gives : (number : ℕ) (before : ℕ → Option Given) (at : Option (List ℕ)) (address : ℕ) (align : Option ℕ) (size : ℕ) (here : Option Given) (content : Bare)
+    → before address ≡ here → Gives number before (allocation number at address align size here content)
+allocation_gives number before at address align size (Some given) content is = gives_none number before _ refl
+allocation_gives number before at address align size None content is = answered_gives number before at address size content (asked_block tt align (asked_size size) content) is
 
 release_gives : (number : ℕ) (before : ℕ → Option Given) (address : ℕ) (here : Option Given) (content : Bare) → Gives number before (release number address here content)
 release_gives number before address None content = gives_none number before _ refl
@@ -67,7 +66,7 @@ free_again old address (Some given) h = elim (cases_Bool (address == old)) [
 reallocation_gives : (number : ℕ) (before : ℕ → Option Given) (at : Option (List ℕ)) (old : ℕ) (there : Option Given) (address size : ℕ) (here : Option Given) (content : Bare)
     → before address ≡ here → Gives number before (reallocation number at old there address size here content)
 reallocation_gives number before at old None address size here content is =
-    gives_after number before (note number (NotHeld old)) (allocation number at address size here content) (allocation_gives number before at address size here content is)
+    gives_after number before (note number (NotHeld old)) (allocation number at address None size here content) (allocation_gives number before at address None size here content is)
 reallocation_gives number before at old (Some given) address size here content is = by_test (not (address == old) && is_some here) refl
   where
     by_test : (test : Bool) → not (address == old) && is_some here ≡ test
@@ -90,11 +89,12 @@ outcome_gives number (Err fault.NotALine) pending before content = gives_none nu
 outcome_gives number (Ok Start) pending before content = gives_none number before _ refl
 outcome_gives number (Ok End) pending before content = gives_none number before _ refl
 outcome_gives number (Ok (Alloc at None size)) pending before content = gives_none number before _ refl
-outcome_gives number (Ok (Alloc at (Some address) size)) pending before content = allocation_gives number before at address size (before address) content refl
+outcome_gives number (Ok (Alloc at (Some address) size)) pending before content = allocation_gives number before at address None size (before address) content refl
 outcome_gives number (Ok (Free at address)) pending before content = release_gives number before address (before address) content
 outcome_gives number (Ok (Old at address)) pending before content = gives_none number before _ refl
 outcome_gives number (Ok (New at address size)) pending before content = renewal_gives number before at pending address size content
 outcome_gives number (Ok (Failed at address size)) pending before content = gives_none number before _ refl
+outcome_gives number (Ok (Aligned at address align size)) pending before content = allocation_gives number before at address (Some align) size (before address) content refl
 
 moment_gives : (count : ℕ) (line : Reading) (pending : Option ℕ) (before : ℕ → Option Given) (content : Bare) → Gives (suc count) before (moment count line pending before content)
 moment_gives count line pending before content = gives_after (suc count) before _ (outcome (suc count) line pending before content) (outcome_gives (suc count) line pending before content)

@@ -1,4 +1,5 @@
 mod ArrangeLemmas
+mod AskedBlock
 mod EnterLemmas
 mod FoundLemmas
 mod HeapSteps
@@ -9,6 +10,7 @@ mod Living
 mod LogRows
 mod LookLemmas
 mod Moments
+mod NoteLemmas
 mod RowLemmas
 mod RunLemmas
 mod SearchLemmas

@@ -3,17 +3,18 @@ use Rattle.std.proofs.Common.{◌≡◌, ◌≢◌, ◌≤◌, ◌<◌, arith, �
 use Rattle.std.specs.Prelude.{◌==◌}
 use Rattle.std.proofs.lemmas.Bool.{cases_Bool, eqb-true, eq-eqb}
 use Rattle.tlsf_heap.specs.Content.{Content}
-use Rattle.tlsf_heap.specs.Malloc.{malloc}
 use Rattle.tlsf_heap.specs.Free.{free}
 use Rattle.tlsf_heap.specs.Realloc.{realloc}
 use Rattle.tlsf_heap.specs.Good.{IsGood}
-use Rattle.tlsf_heap.proofs.Good.StaysLive.{live_given, live_through_malloc, given_elsewhere, live_through_free, live_through_realloc, moved_elsewhere, live_moved}
+use Rattle.tlsf_heap.proofs.Good.StaysLive.{live_through_free, live_through_realloc, moved_elsewhere, live_moved}
 use Rattle.tlsf_class.specs.Classes.{greatest_size}
 use Rattle.tlsf_heap.specs.Pools.{most_records}
 use Rattle.mtrace_replay.specs.declared.holding.Holding.{Holding}
 use Rattle.mtrace_replay.specs.Index.{held_at}
+use Rattle.mtrace_replay.specs.Moment.{asked_block}
 use Rattle.mtrace_replay.specs.Step.{IsLive, AreLive}
-use Rattle.mtrace_replay.proofs.Served.{served_small, served_records, freed_records, moved_small, moved_records}
+use Rattle.mtrace_replay.proofs.AskedBlock.{asked_small, asked_records, live_asked, live_through_asked, asked_elsewhere}
+use Rattle.mtrace_replay.proofs.Served.{freed_records, moved_small, moved_records}
 
 -- nothing is held
 pub none_live : (content : Content ℕ) → content.records ≤ most_records → AreLive [] content
@@ -72,18 +73,18 @@ live_with held new after holding were_apart changed live_now small_now few other
 
 module _ (old new : List Holding) (before after : Content ℕ) (good : IsGood before) (are : AreLive old before) where
   -- a block was given
-  pub live_after_malloc : (holding : Holding) (n : ℕ) → malloc holding.ptr.slot n before ≡ Ok (holding.ptr.place, after)
+  pub live_after_asked : (holding : Holding) (align : Option ℕ) (n : ℕ) → asked_block holding.ptr.slot align n before ≡ Ok (holding.ptr.place, after)
       → holding.entry.size ≤ n → ((other : ℕ) → held_at new other ≡ cond (holding.entry.addr == other) (Some holding) (held_at old other)) → AreLive new after
-  live_after_malloc holding n served asked changed =
+  live_after_asked holding align n served asked changed =
       let meant : ℕ → ℕ → Bool = λ slot other. other == slot in
       live_with (held_at old) new after holding are.apart changed
-      (live_given (meant holding.ptr.slot) holding.ptr.slot n holding.ptr.place before after good served (eq-eqb holding.ptr.slot holding.ptr.slot refl))
-      (let most = served_small holding.ptr.slot n before (holding.ptr.place, after) served in omega (arith, asked, most))
-      (let same = served_records holding.ptr.slot n before (holding.ptr.place, after) served in omega (arith, same, are.records))
+      (live_asked (meant holding.ptr.slot) holding.ptr.slot align n holding.ptr.place before after good served (eq-eqb holding.ptr.slot holding.ptr.slot refl))
+      (let most = asked_small holding.ptr.slot align n before (holding.ptr.place, after) served in omega (arith, asked, most))
+      (let same = asked_records holding.ptr.slot align n before (holding.ptr.place, after) served in omega (arith, same, are.records))
       (λ other found at.
       let live = are.live other found at in (
-        live_through_malloc (meant found.ptr.slot) holding.ptr.slot found.ptr.place n holding.ptr.place before after good live served,
-        given_elsewhere (meant found.ptr.slot) holding.ptr.slot found.ptr.place n holding.ptr.place before after good live served,
+        live_through_asked (meant found.ptr.slot) holding.ptr.slot align found.ptr.place n holding.ptr.place before after good live served,
+        asked_elsewhere (meant found.ptr.slot) holding.ptr.slot align found.ptr.place n holding.ptr.place before after good live served,
         are.small other found at,
       ))
 

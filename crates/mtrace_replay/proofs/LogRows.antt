@@ -1,6 +1,6 @@
 -- Worked logs, computed by the definitions.
 use Rattle.std.proofs.Common.{◌≡◌, List, [], ◌∷◌, Some, None, Ok, Err, refl, codes}
-use Rattle.mtrace_log.specs.declared.event.Event.TheVariants.{Start, End, Alloc, Free, Old, New, Failed}
+use Rattle.mtrace_log.specs.declared.event.Event.TheVariants.{Start, End, Alloc, Free, Old, New, Failed, Aligned}
 use Rattle.mtrace_log.specs.declared.event.LineFault.TheVariants as fault
 use Rattle.std.specs.Fmt.{digits}
 use Rattle.tlsf_class.specs.Classes.{class, need, low}
@@ -188,6 +188,41 @@ lines_without_effect-text = refl
 lines_without_effect-gone : held (history small lines_without_effect) 16 ≡ None
 unfolding started moments class need low rounded digits
 lines_without_effect-gone = refl
+
+-- aligned-line (one pool of 1024 bytes, 16 records): `+ 0x10 0x8`, `* 0x20 0x40 0x20`
+abbrev aligned_line : List Reading
+aligned_line = Ok (Alloc None (Some 16) 8) ∷ Ok (Aligned None 32 64 32) ∷ []
+
+aligned_line-text : leaks_text (diagnostics small aligned_line) (record { addr = 16; size = 8; line = 1; at = None } ∷ record { addr = 32; size = 32; line = 2; at = None } ∷ [])
+    ≡ codes "Memory not freed:\n0x10 8 line 1\n0x20 32 line 2\nTotal: 2 blocks, 40 bytes.\n"
+unfolding started moments class need low rounded digits
+aligned_line-text = refl
+
+aligned_line-held : held (history small aligned_line) 32 ≡ Some (record { entry = record { addr = 32; size = 32; line = 2; at = None }; place = 64 })
+unfolding started moments class need low rounded digits
+aligned_line-held = refl
+
+-- bad-alignment (one pool of 1024 bytes, 16 records): `* 0x10 0x3 0x8`, `* 0x10 0 0x8` (not a line), `* 0x10 0x1 0`
+abbrev bad_alignment : List Reading
+bad_alignment = Ok (Aligned None 16 3 8) ∷ Err fault.NotALine ∷ Ok (Aligned None 16 1 0) ∷ []
+
+bad_alignment-text : leaks_text (diagnostics small bad_alignment) (record { addr = 16; size = 0; line = 3; at = None } ∷ [])
+    ≡ codes "line 1: 0x10 refused: bad alignment\nline 2: not a line\nMemory not freed:\n0x10 0 line 3\nTotal: 1 blocks, 0 bytes.\n"
+unfolding started moments class need low rounded digits
+bad_alignment-text = refl
+
+bad_alignment-held : held (history small bad_alignment) 16 ≡ Some (record { entry = record { addr = 16; size = 0; line = 3; at = None }; place = 0 })
+unfolding started moments class need low rounded digits
+bad_alignment-held = refl
+
+-- aligned-behind-half (one pool of 1024 bytes, 16 records): `< 0x10`, `* 0x10 0x40 0x8`, `> 0x10 0x8`
+abbrev aligned_behind_half : List Reading
+aligned_behind_half = Ok (Old None 16) ∷ Ok (Aligned None 16 64 8) ∷ Ok (New None 16 8) ∷ []
+
+aligned_behind_half-text : leaks_text (diagnostics small aligned_behind_half) (record { addr = 16; size = 8; line = 2; at = None } ∷ [])
+    ≡ codes "line 1: half of a reallocation\nline 3: no < before >\nMemory not freed:\n0x10 8 line 2\nTotal: 1 blocks, 8 bytes.\n"
+unfolding started moments class need low rounded digits
+aligned_behind_half-text = refl
 
 -- empty-log (one pool of 1024 bytes, 16 records): no line
 abbrev empty_log : List Reading

@@ -1,4 +1,4 @@
--- What is served is at most the greatest size, and no call changes the number of records.
+-- What is reallocated is at most the greatest size, and neither free nor realloc changes the number of records.
 use Rattle.std.proofs.Common.{◌≡◌, ◌≢◌, ℕ, ◌≤◌, Bool, Option, Some, None, refl, sym, ap, ◌∙◌, Ok, Err, inl, inr}
 use Rattle.std.specs.Prelude.{◌==◌}
 use Rattle.std.proofs.lemmas.Bool.{cases_Bool, eqb-true}
@@ -7,17 +7,10 @@ use Rattle.tlsf_class.specs.Rounding.{round}
 use Rattle.tlsf_class.proofs.RoundingLaws.{round-Some}
 use Rattle.tlsf_heap.specs.declared.refusal.Refusal.TheVariants.{BadPointer}
 use Rattle.tlsf_heap.specs.Content.{Content, blocks_of}
-use Rattle.tlsf_heap.specs.Malloc.{malloc}
 use Rattle.tlsf_heap.specs.Free.{free, is_live, after_free}
 use Rattle.tlsf_heap.specs.Realloc.{realloc, realloc_rounded}
-use Rattle.tlsf_heap.proofs.Content.Given.{malloc_gave, realloc_gave}
-
-module _ {A : Type 0} (owner : A) (n : ℕ) (content : Content A) where
-  pub served_small : (given : ℕ × Content A) → malloc owner n content ≡ Ok given → n ≤ greatest_size
-  served_small given served = let gave = malloc_gave owner content n given served in (round-Some n gave.0 gave.2).most
-
-  pub served_records : (given : ℕ × Content A) → malloc owner n content ≡ Ok given → given.1.records ≡ content.records
-  served_records given served = let gave = malloc_gave owner content n given served in sym (ap (λ (g : ℕ × Content A). g.1.records) gave.4)
+use Rattle.tlsf_heap.proofs.Content.Given.{realloc_gave}
+use Rattle.mtrace_replay.proofs.AskedBlock.{asked_records}
 
 pub freed_records : {A : Type 0} (meant : A → Bool) (place : ℕ) (content new : Content A) → free meant place content ≡ Ok new → new.records ≡ content.records
 freed_records meant place content new freed = elim (cases_Bool (is_live meant place (blocks_of content.pools))) [
@@ -28,7 +21,7 @@ freed_records meant place content new freed = elim (cases_Bool (is_live meant pl
 module _ {A : Type 0} (same : A → A → Bool) (owner known : A) (place n : ℕ) (content : Content A) where
   pub moved_records : (given : Option (ℕ × A) × Content A) → realloc same owner (Some (place, known)) n content ≡ Ok given → given.1.records ≡ content.records
   moved_records given served = realloc_gave same owner known place n content (λ (g : Option (ℕ × A) × Content A). g.1.records ≡ content.records)
-      (λ live none. refl) (λ live some. refl) (λ m live some. refl) (λ new live some is. served_records owner n content new is) given served
+      (λ live none. refl) (λ live some. refl) (λ m live some. refl) (λ new live some is. asked_records owner None n content new is) given served
 
   rounded_small : (m : Option ℕ) (given : Option (ℕ × A) × Content A) → round n ≡ m → realloc_rounded owner place known m content ≡ Ok given → n ≤ greatest_size
   rounded_small None given is served = absurd (cc)

@@ -2,7 +2,7 @@
 use Rattle.std.proofs.Common.{◌⊎◌, inl, inr, cond, option_map, is_some, Bool, true, false, ◌≤◌, Option, Some, None, ◌≡◌, ℕ, suc, ◌+◌, List, [], ◌∷◌, ◌++◌, length, refl, sym, ap, ◌∙◌, subst, arith}
 use Rattle.std.specs.Prelude.{Ok, Err, if◌then◌else◌}
 use Rattle.std.specs.List.Sorted.{IsStrictlyIncreasing}
-use Rattle.mtrace_log.specs.declared.event.Event.TheVariants.{Start, End, Alloc, Free, Old, New, Failed}
+use Rattle.mtrace_log.specs.declared.event.Event.TheVariants.{Start, End, Alloc, Free, Old, New, Failed, Aligned}
 use Rattle.mtrace_log.specs.declared.event.LineFault.TheVariants as fault
 use Rattle.mtrace_replay.specs.declared.diagnostic.Diagnostic.{Diagnostic}
 use Rattle.mtrace_replay.specs.declared.settings.Settings.{Settings}
@@ -47,11 +47,12 @@ same_outcome number (Err fault.NotALine) before one other content same = refl
 same_outcome number (Ok Start) before one other content same = refl
 same_outcome number (Ok End) before one other content same = refl
 same_outcome number (Ok (Alloc at None size)) before one other content same = refl
-same_outcome number (Ok (Alloc at (Some address) size)) before one other content same = ap (λ held. allocation number at address size held content) (same address)
+same_outcome number (Ok (Alloc at (Some address) size)) before one other content same = ap (λ held. allocation number at address None size held content) (same address)
 same_outcome number (Ok (Free at address)) before one other content same = ap (λ held. release number address held content) (same address)
 same_outcome number (Ok (Old at address)) before one other content same = refl
 same_outcome number (Ok (New at address size)) before one other content same = same_renewal number at before address size one other content same
 same_outcome number (Ok (Failed at address size)) before one other content same = refl
+same_outcome number (Ok (Aligned at address align size)) before one other content same = ap (λ held. allocation number at address (Some align) size held content) (same address)
 
 -- what a moment leaves held, by two look-ups that agree
 same_held : (moment : Moment) (one other : ℕ → Option Given) → ((q : ℕ) → one q ≡ other q) → (address : ℕ) → held_after moment one address ≡ held_after moment other address

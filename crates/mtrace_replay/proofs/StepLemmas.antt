@@ -4,7 +4,6 @@ use Rattle.std.specs.Prelude.{◌==◌, ◌&&◌}
 use Rattle.std.proofs.lemmas.Bool.{cases_Bool, eqb-true, eqb-false}
 use Rattle.tlsf_heap.specs.declared.refusal.Refusal.{Refusal}
 use Rattle.tlsf_heap.specs.Content.{blocks_of, size_at}
-use Rattle.tlsf_heap.specs.Malloc.{malloc}
 use Rattle.tlsf_heap.specs.Pointer.{Pointer}
 use Rattle.tlsf_heap.specs.Realloc.{realloc}
 use Rattle.tlsf_heap.proofs.Content.BareSteps.{ap-cond}
@@ -13,7 +12,7 @@ use Rattle.mtrace_replay.specs.declared.diagnostic.Diagnostic.{Diagnostic}
 use Rattle.mtrace_replay.specs.declared.diagnostic.Kind.TheVariants.{NotHeld, AlreadyHeld, Refused}
 use Rattle.mtrace_replay.specs.declared.holding.Holding.{Holding}
 use Rattle.mtrace_replay.specs.Started.{Bare}
-use Rattle.mtrace_replay.specs.Moment.{Given, Moment, unserved, note, noted_after, asked_size, without, answered, allocation, release, moved, reallocation, renewal, renewal_asks}
+use Rattle.mtrace_replay.specs.Moment.{Given, Moment, unserved, note, noted_after, asked_size, asked_block, without, answered, allocation, release, moved, reallocation, renewal, renewal_asks}
 use Rattle.mtrace_replay.specs.Index.{held_at}
 use Rattle.mtrace_replay.specs.Step.{given_of, all_given, found, Comes, IsUnder}
 
@@ -82,23 +81,23 @@ pub comes_unserved : (content : Bare) (given : List Given) (notes : List Diagnos
 comes_unserved content given notes = record { content_is = refl; held_is = (λ address. refl); notes_are = refl; end_is = refl }
 
 module _ (old new : List Holding) (content after : Bare) where
-  -- `+` for an address that is held
-  pub comes_held : (number : ℕ) (at : Option (List ℕ)) (address size : ℕ) → is_some (held_at old address) ≡ true
-      → Comes content content (all_given old) (all_given old) (note number (AlreadyHeld address)) None (allocation number at address size (found (all_given old) address) content)
-  comes_held number at address size is =
+  -- `+` or `*` for an address that is held
+  pub comes_held : (number : ℕ) (at : Option (List ℕ)) (address : ℕ) (align : Option ℕ) (size : ℕ) → is_some (held_at old address) ≡ true
+      → Comes content content (all_given old) (all_given old) (note number (AlreadyHeld address)) None (allocation number at address align size (found (all_given old) address) content)
+  comes_held number at address align size is =
       let some = some_is (held_at old address) is in
-      let P : Option Given → Type 0 = λ held. Comes content content (all_given old) (all_given old) (note number (AlreadyHeld address)) None (allocation number at address size held content) in
+      let P : Option Given → Type 0 = λ held. Comes content content (all_given old) (all_given old) (note number (AlreadyHeld address)) None (allocation number at address align size held content) in
       subst P (sym (found_under old address (Some some.0) some.1)) (comes_unserved content (all_given old) (note number (AlreadyHeld address)))
 
-  -- `+` that was served
-  pub comes_served : (holding : Holding) → is_some (held_at old holding.entry.addr) ≡ false → malloc tt (asked_size holding.entry.size) content ≡ Ok (holding.ptr.place, after)
+  -- `+` or `*` that was served
+  pub comes_served : (holding : Holding) (align : Option ℕ) → is_some (held_at old holding.entry.addr) ≡ false → asked_block tt align (asked_size holding.entry.size) content ≡ Ok (holding.ptr.place, after)
       → ((other : ℕ) → held_at new other ≡ cond (holding.entry.addr == other) (Some holding) (held_at old other))
-      → Comes content after (all_given old) (all_given new) [] (Some (holding.ptr.place + size_at holding.ptr.place (blocks_of after.pools))) (allocation holding.entry.line holding.entry.at holding.entry.addr holding.entry.size (found (all_given old) holding.entry.addr) content)
-  comes_served holding absent served changed =
+      → Comes content after (all_given old) (all_given new) [] (Some (holding.ptr.place + size_at holding.ptr.place (blocks_of after.pools))) (allocation holding.entry.line holding.entry.at holding.entry.addr align holding.entry.size (found (all_given old) holding.entry.addr) content)
+  comes_served holding align absent served changed =
       let entry = holding.entry in
-      let is : allocation entry.line entry.at entry.addr entry.size (found (all_given old) entry.addr) content
+      let is : allocation entry.line entry.at entry.addr align entry.size (found (all_given old) entry.addr) content
       ≡ record { given = Some (given_of holding); taken = None; notes = []; content = after } =
-      ap (λ held. allocation entry.line entry.at entry.addr entry.size held content) (found_under old entry.addr None (none_is (held_at old entry.addr) absent))
+      ap (λ held. allocation entry.line entry.at entry.addr align entry.size held content) (found_under old entry.addr None (none_is (held_at old entry.addr) absent))
       ∙ ap (answered entry.line entry.at entry.addr entry.size content) served in
       subst (Comes content after (all_given old) (all_given new) [] (Some (holding.ptr.place + size_at holding.ptr.place (blocks_of after.pools)))) (sym is) (record {
         content_is = refl;
@@ -108,13 +107,13 @@ module _ (old new : List Holding) (content after : Bare) where
         end_is = refl;
       })
 
-  -- `+` that was refused
-  pub comes_refused : (entry : Entry) (refusal : Refusal) → is_some (held_at old entry.addr) ≡ false → malloc tt (asked_size entry.size) content ≡ Err refusal
+  -- `+` or `*` that was refused
+  pub comes_refused : (entry : Entry) (align : Option ℕ) (refusal : Refusal) → is_some (held_at old entry.addr) ≡ false → asked_block tt align (asked_size entry.size) content ≡ Err refusal
       → Comes content content (all_given old) (all_given old) (note entry.line (Refused entry.addr refusal)) None
-      (allocation entry.line entry.at entry.addr entry.size (found (all_given old) entry.addr) content)
-  comes_refused entry refusal absent refused =
-      let is : allocation entry.line entry.at entry.addr entry.size (found (all_given old) entry.addr) content ≡ unserved (note entry.line (Refused entry.addr refusal)) content =
-      ap (λ held. allocation entry.line entry.at entry.addr entry.size held content) (found_under old entry.addr None (none_is (held_at old entry.addr) absent))
+      (allocation entry.line entry.at entry.addr align entry.size (found (all_given old) entry.addr) content)
+  comes_refused entry align refusal absent refused =
+      let is : allocation entry.line entry.at entry.addr align entry.size (found (all_given old) entry.addr) content ≡ unserved (note entry.line (Refused entry.addr refusal)) content =
+      ap (λ held. allocation entry.line entry.at entry.addr align entry.size held content) (found_under old entry.addr None (none_is (held_at old entry.addr) absent))
       ∙ ap (answered entry.line entry.at entry.addr entry.size content) refused in
       subst (Comes content content (all_given old) (all_given old) (note entry.line (Refused entry.addr refusal)) None) (sym is)
       (comes_unserved content (all_given old) (note entry.line (Refused entry.addr refusal)))
@@ -186,7 +185,7 @@ module _ (old_held : List Holding) (content : Bare) (number : ℕ) (at : Option 
   -- the old address isn't held
   pub renewal_allocates : held_at old_held old ≡ None
       → renewal number at pending address size (found (all_given old_held)) content
-      ≡ noted_after (note number (NotHeld old)) (allocation number at address size (found (all_given old_held) address) content)
+      ≡ noted_after (note number (NotHeld old)) (allocation number at address None size (found (all_given old_held) address) content)
   renewal_allocates none = renewed None (found (all_given old_held) address) (found_under old_held old None none) refl
 
   module _ (holding : Holding) (held : held_at old_held old ≡ Some holding) where

@@ -4,16 +4,16 @@ use Rattle.std.specs.Prelude.{Result, Ok, Err, if◌then◌else◌, not, ◌&&�
 use Rattle.std.specs.List.{Contains}
 use Rattle.tlsf_heap.specs.declared.refusal.Refusal.{Refusal}
 use Rattle.tlsf_heap.specs.Content.{Block, blocks_of, is_free}
-use Rattle.tlsf_heap.specs.Malloc.{malloc}
 use Rattle.tlsf_heap.specs.Free.{free}
 use Rattle.tlsf_heap.specs.Realloc.{realloc}
-use Rattle.tlsf_heap.proofs.Good.LiveBlocks.{live_from_malloc, live_from_free, live_from_realloc, live_from_realloc_none}
-use Rattle.mtrace_log.specs.declared.event.Event.TheVariants.{Start, End, Alloc, Free, Old, New, Failed}
+use Rattle.tlsf_heap.proofs.Good.LiveBlocks.{live_from_free, live_from_realloc, live_from_realloc_none}
+use Rattle.mtrace_log.specs.declared.event.Event.TheVariants.{Start, End, Alloc, Free, Old, New, Failed, Aligned}
 use Rattle.mtrace_log.specs.declared.event.LineFault.TheVariants as fault
 use Rattle.mtrace_replay.specs.declared.diagnostic.Diagnostic.{Diagnostic}
 use Rattle.mtrace_replay.specs.declared.diagnostic.Kind.TheVariants.{AlreadyHeld}
 use Rattle.mtrace_replay.specs.Started.{Bare, left_by}
-use Rattle.mtrace_replay.specs.Moment.{Reading, Given, Moment, unserved, note, without, outcome, renewal, reallocation, allocation, answered, asked_size, release, moved}
+use Rattle.mtrace_replay.specs.Moment.{Reading, Given, Moment, unserved, note, without, outcome, renewal, reallocation, allocation, answered, asked_size, asked_block, release, moved}
+use Rattle.mtrace_replay.proofs.AskedBlock.{live_from_asked}
 
 -- the block was live in the content, or begins where the moment gave one
 abbrev pub HasStood : Bare → Moment → Block (Unit {0}) → Type 0
@@ -26,16 +26,16 @@ stood_unserved : (content : Bare) (notes : List Diagnostic) → StoodIn content 
 stood_unserved content notes block has live = inl has
 
 module _ (content : Bare) (number : ℕ) (at : Option (List ℕ)) (address size : ℕ) where
-  stood_answered : (answer : Result (ℕ × Bare) Refusal) → malloc tt (asked_size size) content ≡ answer → StoodIn content (answered number at address size content answer)
-  stood_answered (Ok (place, new)) is block has live = elim (live_from_malloc tt (asked_size size) place content new block is has live) [
+  stood_answered : (align : Option ℕ) (answer : Result (ℕ × Bare) Refusal) → asked_block tt align (asked_size size) content ≡ answer → StoodIn content (answered number at address size content answer)
+  stood_answered align (Ok (place, new)) is block has live = elim (live_from_asked tt align (asked_size size) place content new block is has live) [
     | inl stood ↦ inl stood
     | inr here ↦ inr (record { entry = record { addr = address; size = size; line = number; at = at }; place = place }, refl, here)
   ]
-  stood_answered (Err refusal) is block has live = inl has
+  stood_answered align (Err refusal) is block has live = inl has
 
-  stood_allocation : (held : Option Given) → StoodIn content (allocation number at address size held content)
-  stood_allocation None = stood_answered (malloc tt (asked_size size) content) refl
-  stood_allocation (Some given) = stood_unserved content (note number (AlreadyHeld address))
+  stood_allocation : (align : Option ℕ) (held : Option Given) → StoodIn content (allocation number at address align size held content)
+  stood_allocation align None = stood_answered align (asked_block tt align (asked_size size) content) refl
+  stood_allocation align (Some given) = stood_unserved content (note number (AlreadyHeld address))
 
   stood_without : (place : ℕ) (block : Block (Unit {0})) → Contains (blocks_of (without place content).pools) block → is_free block ≡ false → Contains (blocks_of content.pools) block
   stood_without place block has live = by_answer (free (λ owner. true) place content) refl has
@@ -59,7 +59,7 @@ module _ (content : Bare) (number : ℕ) (at : Option (List ℕ)) (address size 
   stood_either false one other stood stood_too = stood_too
 
   stood_reallocation : (old : ℕ) (held held_new : Option Given) → StoodIn content (reallocation number at old held address size held_new content)
-  stood_reallocation old None held_new = stood_allocation held_new
+  stood_reallocation old None held_new = stood_allocation None held_new
   stood_reallocation old (Some given) held_new =
       let answer = realloc (λ one other. true) tt (Some (given.place, tt)) (asked_size size) content in
       stood_either (not (address == old) && is_some held_new) (unserved (note number (AlreadyHeld address)) content) (moved number at old given.place address size content answer)
@@ -79,8 +79,9 @@ stood_outcome content number (Err fault.NotALine) pending held block has live = 
 stood_outcome content number (Ok Start) pending held block has live = inl has
 stood_outcome content number (Ok End) pending held block has live = inl has
 stood_outcome content number (Ok (Alloc at None size)) pending held block has live = inl has
-stood_outcome content number (Ok (Alloc at (Some address) size)) pending held block has live = stood_allocation content number at address size (held address) block has live
+stood_outcome content number (Ok (Alloc at (Some address) size)) pending held block has live = stood_allocation content number at address size None (held address) block has live
 stood_outcome content number (Ok (Free at address)) pending held block has live = stood_release content number address (held address) block has live
 stood_outcome content number (Ok (Old at address)) pending held block has live = inl has
 stood_outcome content number (Ok (New at address size)) pending held block has live = stood_renewal content number at address size pending held block has live
 stood_outcome content number (Ok (Failed at address size)) pending held block has live = inl has
+stood_outcome content number (Ok (Aligned at address align size)) pending held block has live = stood_allocation content number at address size (Some align) (held address) block has live

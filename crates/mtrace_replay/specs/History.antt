@@ -2,7 +2,7 @@
 use Rattle.std.specs.Prelude.{◌≡◌, ℕ, List, [], ◌∷◌, ◌++◌, length, map, reverse, ◌↔◌, Option, Some, None, Ok, Err, if◌then◌else◌, ◌==◌}
 use Rattle.std.specs.List.{Contains}
 use Rattle.std.specs.List.Sorted.{IsStrictlyIncreasing}
-use Rattle.mtrace_log.specs.declared.event.Event.TheVariants.{Start, End, Alloc, Free, Old, New, Failed}
+use Rattle.mtrace_log.specs.declared.event.Event.TheVariants.{Start, End, Alloc, Free, Old, New, Failed, Aligned}
 use Rattle.mtrace_replay.specs.declared.entry.Entry.{Entry}
 use Rattle.mtrace_replay.specs.declared.diagnostic.Diagnostic.{Diagnostic}
 use Rattle.mtrace_replay.specs.declared.settings.Settings.{Settings}
@@ -43,6 +43,7 @@ old_address (Ok (Free at address)) = None
 old_address (Ok (Old at address)) = Some address
 old_address (Ok (New at address size)) = None
 old_address (Ok (Failed at address size)) = None
+old_address (Ok (Aligned at address align size)) = None
 
 -- the address of the last line, where that is `<`
 abbrev pub pending : List Reading → Option ℕ

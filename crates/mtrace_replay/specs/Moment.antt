@@ -1,7 +1,7 @@
 -- What one line of a log comes to, by the line before it, by what is held, and on what the heap holds.
 use Rattle.std.specs.Prelude.{ℕ, suc, Bool, true, false, not, ◌&&◌, List, [], ◌∷◌, ◌++◌, is_some, Option, Some, None, Result, Ok, Err, if◌then◌else◌, ◌==◌}
 use Rattle.mtrace_log.specs.declared.event.Event.{Event}
-use Rattle.mtrace_log.specs.declared.event.Event.TheVariants.{Start, End, Alloc, Free, Old, New, Failed}
+use Rattle.mtrace_log.specs.declared.event.Event.TheVariants.{Start, End, Alloc, Free, Old, New, Failed, Aligned}
 use Rattle.mtrace_log.specs.declared.event.LineFault.{LineFault}
 use Rattle.mtrace_log.specs.declared.event.LineFault.TheVariants as fault
 use Rattle.mtrace_replay.specs.declared.entry.Entry.{Entry}
@@ -9,7 +9,9 @@ use Rattle.mtrace_replay.specs.declared.diagnostic.Diagnostic.{Diagnostic}
 use Rattle.mtrace_replay.specs.declared.diagnostic.Kind.{Kind}
 use Rattle.mtrace_replay.specs.declared.diagnostic.Kind.TheVariants.{TooLong, NotALine, NotHeld, AlreadyHeld, Refused, Half, Stray}
 use Rattle.tlsf_heap.specs.declared.refusal.Refusal.{Refusal}
+use Rattle.tlsf_heap.specs.Content.{Content}
 use Rattle.tlsf_heap.specs.Malloc.{malloc}
+use Rattle.tlsf_heap.specs.Memalign.{memalign}
 use Rattle.tlsf_heap.specs.Free.{free}
 use Rattle.tlsf_heap.specs.Realloc.{realloc}
 use Rattle.mtrace_replay.specs.Started.{Bare, left_by}
@@ -45,20 +47,25 @@ noted_after notes moment = record { given = moment.given; taken = moment.taken; 
 abbrev pub asked_size : ℕ → ℕ
 asked_size size = if size == 0 then 1 else size
 
+-- a block is asked for, at a multiple of an alignment where there is one
+abbrev pub asked_block : {A : Type 0} → A → Option ℕ → ℕ → Content A → Result (ℕ × Content A) Refusal
+asked_block owner None n content = malloc owner n content
+asked_block owner (Some align) n content = memalign owner align n content
+
 -- the heap after the block at the place was freed
 abbrev pub without : ℕ → Bare → Bare
 without place content = left_by content (free (λ owner. true) place content)
 
--- `+ address size`, by what the heap answered
+-- `+ address size` or `* address align size`, by what the heap answered
 abbrev pub answered : ℕ → Option (List ℕ) → ℕ → ℕ → Bare → Result (ℕ × Bare) Refusal → Moment
 answered number at address size content (Ok (place, new)) =
     record { given = Some (record { entry = record { addr = address; size = size; line = number; at = at }; place = place }); taken = None; notes = []; content = new }
 answered number at address size content (Err refusal) = unserved (note number (Refused address refusal)) content
 
--- `+ address size`, by what the address is held under
-abbrev pub allocation : ℕ → Option (List ℕ) → ℕ → ℕ → Option Given → Bare → Moment
-allocation number at address size (Some given) content = unserved (note number (AlreadyHeld address)) content
-allocation number at address size None content = answered number at address size content (malloc tt (asked_size size) content)
+-- `+ address size` or `* address align size`, by what the address is held under
+abbrev pub allocation : ℕ → Option (List ℕ) → (address : ℕ) → (align : Option ℕ) → (size : ℕ) → Option Given → Bare → Moment
+allocation number at address align size (Some given) content = unserved (note number (AlreadyHeld address)) content
+allocation number at address align size None content = answered number at address size content (asked_block tt align (asked_size size) content)
 
 -- `- address`, by what the address is held under
 abbrev pub release : ℕ → ℕ → Option Given → Bare → Moment
@@ -75,7 +82,7 @@ moved number at old from address size content (Err refusal) =
 
 -- `> address size` after `< old`, by what the two are held under
 abbrev pub reallocation : ℕ → Option (List ℕ) → (old : ℕ) → Option Given → (address size : ℕ) → Option Given → Bare → Moment
-reallocation number at old None address size held_new content = noted_after (note number (NotHeld old)) (allocation number at address size held_new content)
+reallocation number at old None address size held_new content = noted_after (note number (NotHeld old)) (allocation number at address None size held_new content)
 reallocation number at old (Some given) address size held_new content =
     if not (address == old) && is_some held_new then unserved (note number (AlreadyHeld address)) content
     else moved number at old given.place address size content (realloc (λ one other. true) tt (Some (given.place, tt)) (asked_size size) content)
@@ -92,11 +99,12 @@ outcome number (Err fault.NotALine) pending held content = unserved (note number
 outcome number (Ok Start) pending held content = unserved [] content
 outcome number (Ok End) pending held content = unserved [] content
 outcome number (Ok (Alloc at None size)) pending held content = unserved [] content
-outcome number (Ok (Alloc at (Some address) size)) pending held content = allocation number at address size (held address) content
+outcome number (Ok (Alloc at (Some address) size)) pending held content = allocation number at address None size (held address) content
 outcome number (Ok (Free at address)) pending held content = release number address (held address) content
 outcome number (Ok (Old at address)) pending held content = unserved [] content
 outcome number (Ok (New at address size)) pending held content = renewal number at pending address size held content
 outcome number (Ok (Failed at address size)) pending held content = unserved [] content
+outcome number (Ok (Aligned at address align size)) pending held content = allocation number at address (Some align) size (held address) content
 
 -- whether the table names a request for `> address size`, by the address of the line before, where that is `<`
 abbrev pub renewal_asks : Option ℕ → (address : ℕ) → (ℕ → Option Given) → Bool
@@ -115,6 +123,7 @@ asks (Ok (Free at address)) pending held = is_some (held address)
 asks (Ok (Old at address)) pending held = false
 asks (Ok (New at address size)) pending held = renewal_asks pending address held
 asks (Ok (Failed at address size)) pending held = false
+asks (Ok (Aligned at address align size)) pending held = not (is_some (held address))
 
 -- whether a line is `>`
 abbrev pub is_new : Reading → Bool
@@ -126,6 +135,7 @@ is_new (Ok (Free at address)) = false
 is_new (Ok (Old at address)) = false
 is_new (Ok (New at address size)) = true
 is_new (Ok (Failed at address size)) = false
+is_new (Ok (Aligned at address align size)) = false
 
 -- the line of this number is `<`, where an address is pending, and no `>` follows
 abbrev pub half : ℕ → Option ℕ → List Diagnostic

@@ -5,11 +5,10 @@ ghost use Rattle.arrayvec.specs.ArrayVec.{array_vec_len};
 ghost use Rattle.tlsf_heap.specs.Bare.{bare};
 ghost use Rattle.tlsf_heap.specs.Content.{blocks_of, size_at};
 ghost use Rattle.tlsf_heap.specs.Free.{is_live};
-ghost use Rattle.tlsf_heap.specs.Malloc.{malloc};
 ghost use Rattle.tlsf_heap.specs.Realloc.{realloc as reallocated};
 ghost use Rattle.tlsf_heap.specs.Run.{MayLack};
 ghost use Rattle.mtrace_replay.specs.Index.{held_at, LooksUp};
-ghost use Rattle.mtrace_replay.specs.Moment.{asked_size as size_asked, without, allocation, release as released, moved, renewal, renewal_asks, asks, outcome as outcome_of};
+ghost use Rattle.mtrace_replay.specs.Moment.{asked_size as size_asked, asked_block, without, allocation, release as released, moved, renewal, renewal_asks, asks, outcome as outcome_of};
 ghost use Rattle.mtrace_replay.specs.Step.{found, all_given, Replays, IsUnder, AreLive};
 
 use crate::diagnostic::{Diagnostic, Kind, Note};
@@ -102,17 +101,31 @@ struct Block {
     end: u64,
 }
 
-/// A block of at least `n` bytes, and where it ends.
-fn malloc_block<H: Heaped>(heap: &mut H, n: u64) -> Result<Block, Refusal>
-    ensures ok { IfOk result (λ given. malloc given.ptr.slot n (H.content heap.old) ≡ Ok (given.ptr.place, H.content heap.new)) }
-    ensures end { IfOk result (λ given. given.end ≡ given.ptr.place + size_at given.ptr.place (blocks_of (H.content heap.new).pools)) }
-    ensures refused { IfErr result (λ refusal. refusal ≢ Refusal.OutOfMemory → (slot : ℕ) → malloc slot n (H.content heap.old) ≡ Err refusal) }
+/// Asks for a block of at least `n` bytes, at a multiple of an alignment where there is one.
+fn ask_block<H: Heaped>(heap: &mut H, align: Option<Addr>, n: u64) -> Result<Ptr, Refusal>
+    ensures ok { IfOk result (λ ptr. asked_block ptr.slot align n (H.content heap.old) ≡ Ok (ptr.place, H.content heap.new)) }
+    ensures refused { IfErr result (λ refusal. refusal ≢ Refusal.OutOfMemory → (slot : ℕ) → asked_block slot align n (H.content heap.old) ≡ Err refusal) }
     ensures memory { IfErr result (λ refusal. refusal ≡ Refusal.OutOfMemory → MayLack H.lacks) }
     ensures unchanged { OnErr result (H.content heap.new ≡ H.content heap.old) }
-    ensures bound { H.touches heap.new ≤ H.touches heap.old + 100 }
+    ensures bound { H.touches heap.new ≤ H.touches heap.old + 160 }
+{
+    match align {
+        None => heap.malloc(n),
+        Some(align) => heap.memalign(align.value(), n),
+    }
+}
+
+/// The block that was asked for, and where it ends.
+fn new_block<H: Heaped>(heap: &mut H, align: Option<Addr>, n: u64) -> Result<Block, Refusal>
+    ensures ok { IfOk result (λ given. asked_block given.ptr.slot align n (H.content heap.old) ≡ Ok (given.ptr.place, H.content heap.new)) }
+    ensures end { IfOk result (λ given. given.end ≡ given.ptr.place + size_at given.ptr.place (blocks_of (H.content heap.new).pools)) }
+    ensures refused { IfErr result (λ refusal. refusal ≢ Refusal.OutOfMemory → (slot : ℕ) → asked_block slot align n (H.content heap.old) ≡ Err refusal) }
+    ensures memory { IfErr result (λ refusal. refusal ≡ Refusal.OutOfMemory → MayLack H.lacks) }
+    ensures unchanged { OnErr result (H.content heap.new ≡ H.content heap.old) }
+    ensures bound { H.touches heap.new ≤ H.touches heap.old + 164 }
 {
     heap.keeps_good();
-    match heap.malloc(n) {
+    match ask_block(heap, align, n) {
         Ok(ptr) => {
             let end = end_of_block(heap, ptr);
             Ok(Block { ptr, end })
@@ -144,12 +157,17 @@ fn realloc_block<H: Heaped>(heap: &mut H, ptr: Ptr, n: u64) -> Result<Block, Ref
     }
 }
 
-/// `+ address size`: asks the heap for a block for the entry, unless its address is held.
-fn allocate<H: Heaped>(heap: &mut H, held: &mut Index, entry: Entry) -> Result<Effect, AllocError>
+/// `+ address size`, or `* address align size`: asks the heap for a block for the entry, unless its address is held.
+fn allocate<H: Heaped>(
+    heap: &mut H,
+    held: &mut Index,
+    align: Option<Addr>,
+    entry: Entry,
+) -> Result<Effect, AllocError>
     requires live { AreLive held.old.all (H.content heap.old) }
     requires room { held.old.room ≡ (H.content heap.old).records }
-    ensures { Replays H.content H.touches H.lacks 2 100 (not (is_some (found (all_given held.old.all) entry.addr)))
-        (allocation entry.line entry.at entry.addr entry.size (found (all_given held.old.all) entry.addr) (bare (H.content heap.old)))
+    ensures { Replays H.content H.touches H.lacks 2 164 (not (is_some (found (all_given held.old.all) entry.addr)))
+        (allocation entry.line entry.at entry.addr align entry.size (found (all_given held.old.all) entry.addr) (bare (H.content heap.old)))
         result heap.old heap.new held.old held.new }
 {
     if held.contains(entry.addr) {
@@ -157,7 +175,7 @@ fn allocate<H: Heaped>(heap: &mut H, held: &mut Index, entry: Entry) -> Result<E
     }
     heap.keeps_good();
     held.keeps_order();
-    match malloc_block(heap, asked_size(entry.size)) {
+    match new_block(heap, align, asked_size(entry.size)) {
         Ok(block) => {
             let ptr = block.ptr;
             heap.keeps_good();
@@ -288,7 +306,7 @@ fn renew<H: Heaped>(
         return Ok(unserved(one_note(number, Kind::Stray)));
     };
     let Some(ptr) = held.block(old) else {
-        let more = allocate(heap, held, entry)?;
+        let more = allocate(heap, held, None, entry)?;
         let first = Diagnostic {
             line: number,
             kind: Kind::NotHeld(old),
@@ -325,6 +343,7 @@ pub(crate) fn outcome<H: Heaped>(
             Some(addr) => allocate(
                 heap,
                 held,
+                None,
                 Entry {
                     addr,
                     size,
@@ -359,5 +378,23 @@ pub(crate) fn outcome<H: Heaped>(
                 size: _size,
             },
         ) => Ok(unserved(no_note())),
+        Ok(
+            Event::Aligned {
+                at,
+                addr,
+                align,
+                size,
+            },
+        ) => allocate(
+            heap,
+            held,
+            Some(align),
+            Entry {
+                addr,
+                size,
+                line: number,
+                at,
+            },
+        ),
     }
 }

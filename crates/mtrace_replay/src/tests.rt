@@ -2,6 +2,7 @@
 
 ghost use Rattle.std.specs.Prelude.{◌≡◌, false};
 
+mod all_forms;
 mod hostile;
 mod random_lines;
 mod refused_memory;

@@ -10,5 +10,6 @@ pub mod MemalignCases
 pub mod BareSteps
 pub mod BareFree
 pub mod BareRealloc
+pub mod BareMemalign
 pub mod Given
 pub mod PoolCases

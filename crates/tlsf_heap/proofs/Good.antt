@@ -7,4 +7,5 @@ pub mod AlignedImplied
 pub mod RemovedPool
 pub mod Realloc
 pub mod StaysLive
+pub mod AlignedStaysLive
 pub mod LiveBlocks

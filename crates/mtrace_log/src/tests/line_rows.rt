@@ -77,6 +77,33 @@ fn expect_failed(
     assert_eq!(rt; *size, bytes, "{line:?}");
 }
 
+/// What a line says of an aligned allocation: its place, its address, its alignment and its size.
+fn expect_aligned(
+    rt: &impl Abort,
+    line: &[u8],
+    place: Option<&[u8]>,
+    address: u64,
+    alignment: u64,
+    bytes: u64,
+) {
+    let answer = read_line(line);
+    let Ok(
+        Event::Aligned {
+            at,
+            addr,
+            align,
+            size,
+        },
+    ) = &answer
+    else {
+        panic!(rt; "no aligned allocation: {line:?}");
+    };
+    expect_place(rt, line, at, place);
+    assert_eq!(rt; addr.value(), address, "{line:?}");
+    assert_eq!(rt; align.value(), alignment, "{line:?}");
+    assert_eq!(rt; *size, bytes, "{line:?}");
+}
+
 #[test]
 fn reads_each_form(rt: HostRuntime) {
     assert!(rt; read_line(b"= Start") == Ok(Event::Start));
@@ -98,6 +125,17 @@ fn reads_each_form(rt: HostRuntime) {
     );
     expect_failed(&rt, b"! (nil) 0x10", None, None, 16);
     expect_failed(&rt, b"! (nil) 0", None, None, 0);
+    expect_aligned(&rt, b"* 0x20 0x40 0x20", None, 32, 64, 32);
+    expect_aligned(&rt, b"* 0x10 0x3 0x8", None, 16, 3, 8);
+    expect_aligned(&rt, b"* 0x10 0x1 0", None, 16, 1, 0);
+    expect_aligned(
+        &rt,
+        b"* 0x1 0x20000000 0x40000000",
+        None,
+        1,
+        536870912,
+        1073741824,
+    );
 }
 
 #[test]
@@ -147,6 +185,8 @@ fn reads_each_form_behind_a_place(rt: HostRuntime) {
         16,
     );
     expect_new(&rt, b"@ \xFF\x80! > 0x10 0x8", Some(b"\xFF\x80!"), 16, 8);
+    expect_aligned(&rt, b"@ a * 0x20 0x40 0x20", Some(b"a"), 32, 64, 32);
+    expect_aligned(&rt, b"@ * * 0x20 0x40 0", Some(b"*"), 32, 64, 0);
 }
 
 fn expect_no_event(rt: &impl Abort, lines: &[&[u8]]) {
@@ -248,8 +288,44 @@ fn refuses_other_lines_of_the_sizes(rt: HostRuntime) {
 }
 
 #[test]
+fn refuses_other_lines_of_the_alignments(rt: HostRuntime) {
+    let lines: [&[u8]; 29] = [
+        b"*",
+        b"* ",
+        b"* 0x10",
+        b"* 0x10 ",
+        b"* 0x10 0x8",
+        b"* 0x10 0x8 ",
+        b"* 0x10 0 0x8",
+        b"* 0x10 0x0 0x8",
+        b"* 0x10 (nil) 0x8",
+        b"* (nil) 0x8 0x8",
+        b"* 0x0 0x8 0x8",
+        b"* 0 0x8 0x8",
+        b"* 0x10 0x08 0x8",
+        b"* 0x10 0x8 0x08",
+        b"* 0x10 0x8 00",
+        b"* 0x10 0x8 (nil)",
+        b"* 0x10 0xA 0x8",
+        b"* 0x10 16 0x8",
+        b"* 0x10 0x8 0x8 ",
+        b"* 0x10 0x8 0x8 0x8",
+        b"*  0x10 0x8 0x8",
+        b"* 0x10  0x8 0x8",
+        b"* 0x10 0x8  0x8",
+        b"* 0x10 0x10000000000000000 0x8",
+        b"+ 0x10 0x8 0x8",
+        b"+ (nil) 0x8 0x8",
+        b"! 0x10 0x8 0x8",
+        b"- 0x10 0x8 0x8",
+        b"< 0x10 0x8 0x8",
+    ];
+    expect_no_event(&rt, &lines);
+}
+
+#[test]
 fn refuses_other_lines_behind_a_place(rt: HostRuntime) {
-    let lines: [&[u8]; 16] = [
+    let lines: [&[u8]; 18] = [
         b"@",
         b"@ ",
         b"@ a",
@@ -264,31 +340,58 @@ fn refuses_other_lines_behind_a_place(rt: HostRuntime) {
         b"@ a < 0x10 0x8",
         b"@ a > (nil) 0x8",
         b"@ a ! 0x10",
+        b"@ a * 0x10 0x8",
+        b"@ a * 0x10 0 0x8",
         b"@ a @ b - 0x10",
         b"@ a\tb - 0x10",
     ];
     expect_no_event(&rt, &lines);
 }
 
-/// `@ `, so many times `a`, and the 40 bytes of the longest pointer and size.
-fn long_line(line: &mut Vec<u8>, count: usize, rt: &impl Abort) {
+/// `@ `, so many times `a`, and then what stands behind the place.
+fn long_line(line: &mut Vec<u8>, count: usize, behind: &[u8], rt: &impl Abort) {
     line.extend_from_slice(b"@ ").expect(rt, "memory");
     for _ in 0..count {
         line.push(b'a').expect(rt, "memory");
     }
-    line.extend_from_slice(b" + 0xffffffffffffffff 0xffffffffffffffff")
-        .expect(rt, "memory");
+    line.extend_from_slice(behind).expect(rt, "memory");
 }
 
 #[test]
 fn reads_the_longest_line(rt: HostRuntime) {
+    let behind = b" * 0xffffffffffffffff 0xffffffffffffffff 0xffffffffffffffff".as_slice();
     let mut longest = Vec::new(rt.alloc());
-    long_line(&mut longest, LONGEST_LOCATION, &rt);
+    long_line(&mut longest, LONGEST_LOCATION, behind, &rt);
     let mut place = Vec::new(rt.alloc());
     for _ in 0..LONGEST_LOCATION {
         place.push(b'a').expect(&rt, "memory");
     }
-    assert_eq!(rt; longest.len(), LONGEST_LINE);
+    assert_eq!(rt; longest.len(), 316);
+    assert_eq!(rt; LONGEST_LINE, 316);
+    expect_aligned(
+        &rt,
+        longest.as_slice(),
+        Some(place.as_slice()),
+        u64::MAX,
+        u64::MAX,
+        u64::MAX,
+    );
+
+    let mut longer = Vec::new(rt.alloc());
+    long_line(&mut longer, LONGEST_LOCATION + 1, behind, &rt);
+    assert!(rt; read_line(longer.as_slice()) == Err(LineFault::TooLong));
+}
+
+#[test]
+fn reads_the_longest_line_of_the_tracer(rt: HostRuntime) {
+    let behind = b" + 0xffffffffffffffff 0xffffffffffffffff".as_slice();
+    let mut longest = Vec::new(rt.alloc());
+    long_line(&mut longest, LONGEST_LOCATION, behind, &rt);
+    let mut place = Vec::new(rt.alloc());
+    for _ in 0..LONGEST_LOCATION {
+        place.push(b'a').expect(&rt, "memory");
+    }
+    assert_eq!(rt; longest.len(), 297);
     expect_alloc(
         &rt,
         longest.as_slice(),
@@ -297,8 +400,8 @@ fn reads_the_longest_line(rt: HostRuntime) {
         u64::MAX,
     );
 
+    // It isn't too long to be kept, but its location is.
     let mut longer = Vec::new(rt.alloc());
-    long_line(&mut longer, LONGEST_LOCATION + 1, &rt);
-    assert_eq!(rt; longer.len(), LONGEST_LINE + 1);
-    assert!(rt; read_line(longer.as_slice()) == Err(LineFault::TooLong));
+    long_line(&mut longer, LONGEST_LOCATION + 1, behind, &rt);
+    assert!(rt; read_line(longer.as_slice()) == Err(LineFault::NotALine));
 }

@@ -11,6 +11,7 @@ enum Said {
     Start,
     End,
     Size(u64),
+    Aligned(u64),
     TooLong,
     NotALine,
 }
@@ -46,6 +47,17 @@ fn expect_line<R: Source>(
                 },
             ),
             Said::Size(bytes),
+        ) => assert_eq!(rt; *size, *bytes),
+        (
+            Ok(
+                Event::Aligned {
+                    at: _,
+                    addr: _,
+                    align: _,
+                    size,
+                },
+            ),
+            Said::Aligned(bytes),
         ) => assert_eq!(rt; *size, *bytes),
         (Err(LineFault::TooLong), Said::TooLong) => {}
         (Err(LineFault::NotALine), Said::NotALine) => {}
@@ -155,8 +167,8 @@ fn reads_a_last_line_across_the_buffers_end(rt: HostRuntime) {
 
 #[test]
 fn reads_the_longest_line_across_the_buffers_end(rt: HostRuntime) {
-    // 4,000 bytes of starts, and then 297 bytes of a line, or 298.
-    let rows = [(255usize, Said::Size(u64::MAX)), (256, Said::TooLong)];
+    // 4,000 bytes of starts, and then 316 bytes of a line, or 317.
+    let rows = [(255usize, Said::Aligned(u64::MAX)), (256, Said::TooLong)];
     for (letters, said) in rows {
         let mut text = Vec::new(rt.alloc());
         append(&rt, &mut text, b"= Start\n", 500);
@@ -165,14 +177,14 @@ fn reads_the_longest_line_across_the_buffers_end(rt: HostRuntime) {
         append(
             &rt,
             &mut text,
-            b" + 0xffffffffffffffff 0xffffffffffffffff\n= End",
+            b" * 0xffffffffffffffff 0xffffffffffffffff 0xffffffffffffffff\n= End",
             1,
         );
         for piece in PIECES {
             expect_lines(&rt, text.as_slice(), piece, 500, &[said, Said::End]);
         }
     }
-    for (letters, said) in [(297usize, Said::NotALine), (298, Said::TooLong)] {
+    for (letters, said) in [(316usize, Said::NotALine), (317, Said::TooLong)] {
         let mut text = Vec::new(rt.alloc());
         append(&rt, &mut text, b"= Start\n", 500);
         append(&rt, &mut text, b"a", letters);

@@ -15,12 +15,12 @@ const ADDRESSES: usize = 24;
 
 /// Random numbers, as xorshift gives them.
 #[derive(Drop)]
-struct Random {
-    state: u64,
+pub struct Random {
+    pub state: u64,
 }
 
 impl Random {
-    fn below(&mut self, bound: u64) -> u64 {
+    pub fn below(&mut self, bound: u64) -> u64 {
         self.state ^= self.state.wrapping_shl(13);
         self.state ^= self.state.wrapping_shr(7);
         self.state ^= self.state.wrapping_shl(17);

@@ -59,6 +59,13 @@ const FOUR_RECORDS: Settings = Settings {
     records: 4,
 };
 
+/// One pool of as many bytes as the greatest alignment.
+const GREATEST_ALIGNMENT: Settings = Settings {
+    pool: 536_870_912,
+    pools: 1,
+    records: 16,
+};
+
 /// Compares the diagnostics of one answer.
 fn expect_note(rt: &impl Abort, name: &str, note: &Note, at: u64, wanted: &[Told]) {
     let mut found = note.as_slice().iter();
@@ -96,7 +103,7 @@ fn expect_row<H: Heaped>(rt: &impl Abort, alloc: Global, row: &Row) {
     expect_held(rt, row.name, &fed.replay, row.held);
 }
 
-const ROWS: [Row; 11] = [
+const ROWS: [Row; 16] = [
     Row {
         name: "half of a reallocation at the end",
         settings: SMALL,
@@ -221,6 +228,124 @@ const ROWS: [Row; 11] = [
         lines: &["! 0x10 0x8", "! (nil) 0", "+ (nil) 0x8", "= End"],
         told: &[],
         held: &[],
+    },
+    Row {
+        name: "aligned blocks",
+        settings: SMALL,
+        lines: &["+ 0x10 0x8", "@ a * 0x20 0x40 0x20", "* 0x30 0x1 0"],
+        told: &[],
+        held: &[
+            Held {
+                addr: 0x10,
+                size: 8,
+                line: 1,
+                at: None,
+            },
+            Held {
+                addr: 0x20,
+                size: 32,
+                line: 2,
+                at: Some("a"),
+            },
+            Held {
+                addr: 0x30,
+                size: 0,
+                line: 3,
+                at: None,
+            },
+        ],
+    },
+    Row {
+        name: "alignments that are none",
+        settings: SMALL,
+        lines: &[
+            "* 0x10 0x3 0x8",
+            "* 0x10 0 0x8",
+            "* 0x10 0xffffffffffffffff 0xffffffffffffffff",
+            "* 0x10 0x1 0xffffffffffffffff",
+            "* 0x10 0x1 0",
+        ],
+        told: &[
+            (1, 1, Wrong::Refused(0x10, Refusal::BadAlign)),
+            (2, 2, Wrong::NotALine),
+            (3, 3, Wrong::Refused(0x10, Refusal::BadAlign)),
+            (4, 4, Wrong::Refused(0x10, Refusal::NoFit)),
+        ],
+        held: &[Held {
+            addr: 0x10,
+            size: 0,
+            line: 5,
+            at: None,
+        }],
+    },
+    Row {
+        name: "the greatest alignment, and the next one",
+        settings: GREATEST_ALIGNMENT,
+        lines: &[
+            "* 0x10 0x20000000 0x8",
+            "* 0x20 0x20000000 0x8",
+            "* 0x30 0x40000000 0x8",
+        ],
+        told: &[
+            (2, 2, Wrong::Refused(0x20, Refusal::NoFit)),
+            (3, 3, Wrong::Refused(0x30, Refusal::BadAlign)),
+        ],
+        held: &[Held {
+            addr: 0x10,
+            size: 8,
+            line: 1,
+            at: None,
+        }],
+    },
+    Row {
+        name: "aligned blocks behind halves, and for an address that is held",
+        settings: SMALL,
+        lines: &[
+            "+ 0x10 0x8",
+            "< 0x10",
+            "* 0x20 0x40 0x8",
+            "< 0x10",
+            "* 0x10 0x3 0x8",
+            "> 0x10 0x8",
+        ],
+        told: &[
+            (3, 2, Wrong::Half),
+            (5, 4, Wrong::Half),
+            (5, 5, Wrong::AlreadyHeld(0x10)),
+            (6, 6, Wrong::Stray),
+        ],
+        held: &[
+            Held {
+                addr: 0x10,
+                size: 8,
+                line: 1,
+                at: None,
+            },
+            Held {
+                addr: 0x20,
+                size: 8,
+                line: 3,
+                at: None,
+            },
+        ],
+    },
+    Row {
+        name: "an aligned block that moves, and one that is freed",
+        settings: SMALL,
+        lines: &[
+            "* 0x10 0x40 0x20",
+            "* 0x20 0x40 0x20",
+            "< 0x10",
+            "> 0x30 0x40",
+            "- 0x20",
+        ],
+        told: &[],
+        held: &[Held {
+            addr: 0x30,
+            size: 64,
+            line: 4,
+            at: None,
+        }],
     },
     Row {
         name: "in order of address",

@@ -2,6 +2,12 @@
 
 use super::*;
 
+/// Lines, and what they come to.
+struct Row {
+    lines: &'static [&'static str],
+    totals: Totals,
+}
+
 /// Two blocks, one of them freed.
 const LINES: [&str; 5] = [
     "= Start",
@@ -22,18 +28,50 @@ const TOTALS: Totals = Totals {
     high_place: 128,
 };
 
-fn expect_totals<H: Heaped>(rt: &impl Abort, alloc: Global) {
+/// An alignment that is none, a block at the start, one for an address that is held, and one at place 64.
+const ALIGNED: [&str; 4] = [
+    "* 0x10 0x3 0x8",
+    "@ a * 0x20 0x40 0x20",
+    "* 0x20 0x40 0x20",
+    "* 0x30 0x40 0x10",
+];
+
+const ALIGNED_TOTALS: Totals = Totals {
+    lines: 4,
+    served: 2,
+    refused: 1,
+    live_bytes: 48,
+    live_blocks: 2,
+    peak_bytes: 48,
+    peak_line: 4,
+    high_place: 80,
+};
+
+const ROWS: [Row; 2] = [
+    Row {
+        lines: &LINES,
+        totals: TOTALS,
+    },
+    Row {
+        lines: &ALIGNED,
+        totals: ALIGNED_TOTALS,
+    },
+];
+
+fn expect_totals<H: Heaped>(rt: &impl Abort, alloc: Global, row: &Row) {
     let Ok(mut fed) = Fed::<H>::create(alloc, SMALL) else {
         panic!(rt; "no replay");
     };
-    for text in LINES {
+    for text in row.lines {
         assert!(rt; fed.feed(rt, text).is_ok(), "{text}");
     }
-    assert_eq!(rt; fed.replay.totals(), TOTALS);
+    assert_eq!(rt; fed.replay.totals(), row.totals);
 }
 
 #[test]
 fn totals_over_both_heaps(rt: HostRuntime) {
-    expect_totals::<Heap>(&rt, rt.alloc());
-    expect_totals::<PlainHeap>(&rt, rt.alloc());
+    for row in &ROWS {
+        expect_totals::<Heap>(&rt, rt.alloc(), row);
+        expect_totals::<PlainHeap>(&rt, rt.alloc(), row);
+    }
 }

@@ -37,7 +37,7 @@ module _ {A B : Type 0} (rename : A → B) where
   pub used_records-renamed : (content : Content A) → used_records (renamed rename content) ≡ used_records content
   used_records-renamed content = ap length (blocks_of-renamed content.pools) ∙ length-map (blocks_of content.pools) (renamed_block rename)
 
-  gap-renamed : (place size : ℕ) → map (renamed_block rename) (gap place size) ≡ gap place size
+  pub gap-renamed : (place size : ℕ) → map (renamed_block rename) (gap place size) ≡ gap place size
   gap-renamed place size = ap-cond (map (renamed_block rename)) (size == 0) [] (record { place = place; size = size; owner = None } ∷ [])
 
   pub cut-renamed : (owner : A) (place m size : ℕ) → map (renamed_block rename) (cut owner place m size) ≡ cut (rename owner) place m size

@@ -1,6 +1,7 @@
 -- Each live block after a call was one before it, or begins where the call gave one; and the live block that a test tells.
 use Rattle.std.proofs.Common.{◌≡◌, ℕ, ◌+◌, ◌-◌, ◌≤◌, Bool, true, false, ◌&&◌, List, [], ◌∷◌, map, refl, sym, ap, ◌∙◌, subst, arith, Option, Some, None, Ok, Err, ◌⊎◌, inl, inr}
 use Rattle.std.specs.Prelude.{◌==◌, is_none}
+use Rattle.std.specs.Int.{next_multiple_of}
 use Rattle.std.specs.List.{Contains, list_any}
 use Rattle.std.proofs.lemmas.Bool.{cases_Bool, eq-eqb, ne_eqb, eqb-true, and_parts}
 use Rattle.std.proofs.lemmas.List.Elements.{Contains-append_left, Contains-append_right, Contains-append_cases, Contains-push, Contains-push_cases}
@@ -8,12 +9,14 @@ use Rattle.tlsf_heap.specs.declared.refusal.Refusal.TheVariants.{BadPointer}
 use Rattle.tlsf_heap.specs.Content.{Block, Pool, Content, blocks_of, is_free, is_at, size_at}
 use Rattle.tlsf_heap.specs.Malloc.{gap, replaced, replaced_in, cut, malloc}
 use Rattle.tlsf_heap.specs.Free.{is_owned_by, is_live, free_previous, free_next, size_of, start_of, free_block, without_block, after_free, free}
+use Rattle.tlsf_heap.specs.Memalign.{carved, memalign}
 use Rattle.tlsf_heap.specs.Realloc.{size_with_next, realloc}
 use Rattle.tlsf_heap.specs.Good.{IsGood}
 use Rattle.tlsf_heap.specs.Bare.{renamed_block, renamed, bare}
 use Rattle.tlsf_heap.proofs.Content.Blocks.{Ascends, Ascends-pools}
 use Rattle.tlsf_heap.proofs.Content.Replacing.{replaced-here, blocks_of-replaced}
 use Rattle.tlsf_heap.proofs.Content.Given.{malloc_gave, realloc_gave}
+use Rattle.tlsf_heap.proofs.Content.MemalignCases.{IsPicked, memalign_given}
 use Rattle.tlsf_heap.proofs.Content.BareSteps.{blocks_of-renamed, size_at-renamed}
 use Rattle.tlsf_heap.proofs.Good.StaysLive.{live_bare}
 
@@ -121,6 +124,29 @@ module _ {A : Type 0} where
       let gave = malloc_gave owner content n (place, new) e in
       let P : ℕ × Content A → Type 0 = λ given. Contains (blocks_of given.1.pools) b → is_free b ≡ false → Contains (blocks_of content.pools) b ⊎ (b.place ≡ given.0) in
       subst P gave.4 (from_cut_in owner gave.1 gave.0 (size_at gave.1 (blocks_of content.pools)) content.pools b)
+
+  -- the live block of a carving begins at its start
+  from_carved : (owner : A) (start m place size : ℕ) (b : Block A) → Contains (carved owner start m place size) b → is_free b ≡ false → b.place ≡ start
+  from_carved owner start m place size b has live =
+      let left : ℕ = size - (start - place) in
+      elim (Contains-append_cases (gap place (start - place)) (cut owner start m left) b has) [
+        | inl front ↦ live_or_free b live (gap_is_free place (start - place) b front)
+        | inr back ↦ from_cut owner start m left b back live
+      ]
+
+  -- a live block after memalign was one before, or begins where memalign gave one
+  pub live_from_memalign : (owner : A) (align n place : ℕ) (content new : Content A) (b : Block A) → memalign owner align n content ≡ Ok (place, new) → Contains (blocks_of new.pools) b → is_free b ≡ false
+      → Contains (blocks_of content.pools) b ⊎ (b.place ≡ place)
+  live_from_memalign owner align n place content new b e =
+      let gave = memalign_given owner align n content (place, new) e in
+      let p : IsPicked owner align n content = gave.0 in
+      let start : ℕ = next_multiple_of p.place align in
+      let size : ℕ = size_at p.place (blocks_of content.pools) in
+      let P : ℕ × Content A → Type 0 = λ given. Contains (blocks_of given.1.pools) b → is_free b ≡ false → Contains (blocks_of content.pools) b ⊎ (b.place ≡ given.0) in
+      subst P gave.1 (λ has live. elim (from_replaced_in p.place (carved owner start p.asked p.place size) content.pools b has) [
+        | inl stood ↦ inl stood
+        | inr came ↦ inr (from_carved owner start p.asked p.place size b came live)
+      ])
 
   -- a live block after free was one before
   pub live_from_free : (meant : A → Bool) (place : ℕ) (content new : Content A) (b : Block A) → free meant place content ≡ Ok new → Contains (blocks_of new.pools) b → is_free b ≡ false → Contains (blocks_of content.pools) b

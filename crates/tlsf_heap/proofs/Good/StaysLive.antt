@@ -22,11 +22,11 @@ use Rattle.tlsf_heap.proofs.Good.Calls.{picked, malloc_is_good}
 use Rattle.tlsf_heap.proofs.Good.Realloc.{live_still}
 
 -- whether a free block begins at the place
-abbrev is_free_at : {A : Type 0} → ℕ → Block A → Bool
+abbrev pub is_free_at : {A : Type 0} → ℕ → Block A → Bool
 is_free_at place block = is_at place block && is_free block
 
 -- whether a live block begins at the place, and has the owner that is meant
-abbrev is_live_at : {A : Type 0} → (A → Bool) → ℕ → Block A → Bool
+abbrev pub is_live_at : {A : Type 0} → (A → Bool) → ℕ → Block A → Bool
 is_live_at is_meant place block = is_at place block && is_owned_by is_meant block.owner
 
 same_pointer : {A : Type 0} (one other : ℕ × A) → Some one ≡ Some other → one ≡ other
@@ -89,14 +89,14 @@ module _ {A : Type 0} where
   found_stands kind place blocks found passes =
       omega (arith, ap (count_by kind) found.whole, count-append kind found.front (found.block ∷ found.back), count-cons kind found.block found.back, ap one_if passes)
 
-  picked_stands : (m place : ℕ) (content : Content A) → IsGood content → pick m content.lists ≡ Some place → 1 ≤ count_by (is_free_at place) (blocks_of content.pools)
+  pub picked_stands : (m place : ℕ) (content : Content A) → IsGood content → pick m content.lists ≡ Some place → 1 ≤ count_by (is_free_at place) (blocks_of content.pools)
   picked_stands m place content good is =
       let there = picked m place content good is in
       let P : ℕ → Type 0 = λ at. 1 ≤ count_by (is_free_at at) (blocks_of content.pools) in
       subst P there.found.here (found_stands (is_free_at there.found.block.place) place (blocks_of content.pools) there.found (free_at_own there.found.block there.free))
 
   -- others come in where a block gives way
-  given_replaced : (test kind : Block A → Bool) (place : ℕ) (others blocks : List (Block A)) → ((block : Block A) → is_at place block ≡ false → kind block ≡ false) → 1 ≤ count_by kind blocks
+  pub given_replaced : (test kind : Block A → Bool) (place : ℕ) (others blocks : List (Block A)) → ((block : Block A) → is_at place block ≡ false → kind block ≡ false) → 1 ≤ count_by kind blocks
       → count_by test others ≤ count_by test (replaced place others blocks)
   given_replaced test kind place others [] there some = absurd (omega (arith, some))
   given_replaced test kind place others (block ∷ blocks) there some = elim (cases_Bool (is_at place block)) [
@@ -127,13 +127,13 @@ module _ {A : Type 0} where
       ]
 
 module _ {A : Type 0} (is_meant : A → Bool) where
-  one_kind : (here : Bool) (owner : Option A) → one_if (here && is_owned_by is_meant owner) + one_if (here && is_none owner) ≤ one_if here
+  pub one_kind : (here : Bool) (owner : Option A) → one_if (here && is_owned_by is_meant owner) + one_if (here && is_none owner) ≤ one_if here
   one_kind true None = omega arith
   one_kind true (Some owner) = elim (is_meant owner) as (λ b. one_if b + 0 ≤ 1) [ true ↦ omega arith | false ↦ omega arith ]
   one_kind false owner = omega arith
 
   -- a free block stands where no live one does
-  apart_from_free : (place other : ℕ) (content : Content A) → IsGood content → is_live is_meant place (blocks_of content.pools) ≡ true → 1 ≤ count_by (is_free_at other) (blocks_of content.pools) → place ≢ other
+  pub apart_from_free : (place other : ℕ) (content : Content A) → IsGood content → is_live is_meant place (blocks_of content.pools) ≡ true → 1 ≤ count_by (is_free_at other) (blocks_of content.pools) → place ≢ other
   apart_from_free place other content good live some same =
       let blocks : List (Block A) = blocks_of content.pools in
       let P : ℕ → Type 0 = λ at. 1 ≤ count_by (is_free_at at) blocks in
@@ -160,7 +160,7 @@ module _ {A : Type 0} (is_meant : A → Bool) where
       (told_stands (next_of other) (is_free_at found.place) found (λ blocks here. next_stands (is_free_at found.place) other blocks found own here) content.pools told.0)
 
   -- a live block is live still where blocks give way elsewhere
-  live_replaced : (place other : ℕ) (others : List (Block A)) (pools : List (Pool A)) → place ≢ other → is_live is_meant place (blocks_of pools) ≡ true → is_live is_meant place (blocks_of (map (replaced_in other others) pools)) ≡ true
+  pub live_replaced : (place other : ℕ) (others : List (Block A)) (pools : List (Pool A)) → place ≢ other → is_live is_meant place (blocks_of pools) ≡ true → is_live is_meant place (blocks_of (map (replaced_in other others) pools)) ≡ true
   live_replaced place other others pools apart live =
       let test : Block A → Bool = is_live_at is_meant place in
       let elsewhere : (block : Block A) → is_at other block ≡ true → test block ≡ false = λ block here.

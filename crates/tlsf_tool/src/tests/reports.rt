@@ -25,7 +25,7 @@ const TWO_POOLS: Settings = Settings {
     records: 8192,
 };
 
-const ROWS: [Row; 8] = [
+const ROWS: [Row; 11] = [
     Row {
         name: "empty-log",
         report: Name::Peak,
@@ -76,6 +76,30 @@ const ROWS: [Row; 8] = [
         settings: TWO_POOLS,
         log: b"+ 0x10 0x40\n",
         text: b"pool 0: 64 bytes\n0 64 used\npool 64: 64 bytes\n64 64 free\n",
+        status: 1,
+    },
+    Row {
+        name: "aligned-line",
+        report: Name::Walk,
+        settings: SMALL,
+        log: b"+ 0x10 0x8\n* 0x20 0x40 0x20\n",
+        text: b"pool 0: 1024 bytes\n0 16 used\n16 48 free\n64 32 used\n96 928 free\n",
+        status: 1,
+    },
+    Row {
+        name: "aligned-line",
+        report: Name::Peak,
+        settings: SMALL,
+        log: b"+ 0x10 0x8\n* 0x20 0x40 0x20\n",
+        text: b"lines: 2\nserved: 2\nrefused: 0\nlive: 40 bytes in 2 blocks\npeak: 40 bytes at line 2\nhigh place: 96\nfree: 976 bytes in 2 blocks\nlargest free: 928\nspread: 2400\n",
+        status: 1,
+    },
+    Row {
+        name: "bad-alignment",
+        report: Name::Peak,
+        settings: SMALL,
+        log: b"* 0x10 0x3 0x8\n* 0x10 0 0x8\n* 0x10 0x1 0\n",
+        text: b"line 1: 0x10 refused: bad alignment\nline 2: not a line\nlines: 3\nserved: 1\nrefused: 1\nlive: 0 bytes in 1 blocks\npeak: 0 bytes at line 0\nhigh place: 16\nfree: 1008 bytes in 1 blocks\nlargest free: 1008\nspread: -\n",
         status: 1,
     },
     Row {

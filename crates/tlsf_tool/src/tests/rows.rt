@@ -39,7 +39,7 @@ struct Row {
     status: u8,
 }
 
-const ROWS: [Row; 19] = [
+const ROWS: [Row; 23] = [
     Row {
         name: "first-leak",
         settings: Settings::DEFAULT,
@@ -167,6 +167,38 @@ const ROWS: [Row; 19] = [
         status: 1,
     },
     Row {
+        name: "aligned-line",
+        settings: SMALL,
+        log: b"+ 0x10 0x8\n* 0x20 0x40 0x20\n",
+        text: b"Memory not freed:\n0x10 8 line 1\n0x20 32 line 2\nTotal: 2 blocks, 40 bytes.\n",
+        status: 1,
+    },
+    Row {
+        name: "bad-alignment",
+        settings: SMALL,
+        log: b"* 0x10 0x3 0x8\n* 0x10 0 0x8\n* 0x10 0x1 0\n",
+        text: b"line 1: 0x10 refused: bad alignment\nline 2: not a line\nMemory not freed:\n0x10 0 line 3\nTotal: 1 blocks, 0 bytes.\n",
+        status: 1,
+    },
+    Row {
+        name: "an aligned line behind a half",
+        settings: SMALL,
+        log: b"+ 0x10 0x8\n< 0x10\n@ a * 0x20 0x40 0x8\n> 0x30 0x8\n* 0x10 0x3 0x8\n",
+        text: b"line 2: half of a reallocation\nline 4: no < before >\nline 5: 0x10 is already held\nMemory not freed:\n0x10 8 line 1\n0x20 8 line 3 at a\nTotal: 2 blocks, 16 bytes.\n",
+        status: 1,
+    },
+    Row {
+        name: "the greatest alignment, and the next one",
+        settings: Settings {
+            pool: 536_870_912,
+            pools: 1,
+            records: 16,
+        },
+        log: b"* 0x10 0x20000000 0x8\n* 0x20 0x20000000 0x8\n* 0x30 0x40000000 0x8\n",
+        text: b"line 2: 0x20 refused: no fit\nline 3: 0x30 refused: bad alignment\nMemory not freed:\n0x10 8 line 1\nTotal: 1 blocks, 8 bytes.\n",
+        status: 1,
+    },
+    Row {
         name: "location-bytes",
         settings: SMALL,
         log: b"@ \xC3\xA9 + 0x10 0x8\n",
@@ -243,21 +275,27 @@ fn rows_in_one_piece_and_in_pieces(rt: HostRuntime) {
     }
 }
 
-/// A line of `@ `, so many times `a`, and the greatest address and size.
-fn long_line(alloc: Global, location: usize) -> Result<Vec<u8>, AllocError> {
+/// A line of `@ `, so many times `a`, and what stands behind the location.
+fn long_line(alloc: Global, location: usize, behind: &[u8]) -> Result<Vec<u8>, AllocError> {
     let mut line = Vec::from_slice(alloc, b"@ ")?;
     for _ in 0..location {
         line.push(b'a')?;
     }
-    line.extend_from_slice(b" + 0xffffffffffffffff 0xffffffffffffffff")?;
+    line.extend_from_slice(behind)?;
     Ok(line)
 }
 
+/// The greatest address and size.
+const GREATEST: &[u8] = b" + 0xffffffffffffffff 0xffffffffffffffff";
+
+/// The greatest address, alignment and size.
+const GREATEST_ALIGNED: &[u8] = b" * 0xffffffffffffffff 0xffffffffffffffff 0xffffffffffffffff";
+
 #[test]
 fn longest_line(rt: HostRuntime) -> Result<(), Fail> {
-    let longest = long_line(rt.alloc(), LONGEST_LOCATION)?;
-    assert_eq!(rt; longest.len(), LONGEST_LINE);
-    let longer = long_line(rt.alloc(), LONGEST_LOCATION + 1)?;
+    let longest = long_line(rt.alloc(), LONGEST_LOCATION, GREATEST)?;
+    assert_eq!(rt; longest.len(), 297);
+    let longer = long_line(rt.alloc(), LONGEST_LOCATION + 1, GREATEST)?;
     for piece in PIECES {
         expect_report(
             &rt,
@@ -273,6 +311,36 @@ fn longest_line(rt: HostRuntime) -> Result<(), Fail> {
             &rt,
             rt.alloc(),
             "one byte longer",
+            SMALL,
+            longer.as_slice(),
+            piece,
+            b"line 1: not a line\nNo memory leaks.\n",
+            1,
+        );
+    }
+    Ok(())
+}
+
+#[test]
+fn longest_aligned_line(rt: HostRuntime) -> Result<(), Fail> {
+    let longest = long_line(rt.alloc(), LONGEST_LOCATION, GREATEST_ALIGNED)?;
+    assert_eq!(rt; longest.len(), LONGEST_LINE);
+    let longer = long_line(rt.alloc(), LONGEST_LOCATION + 1, GREATEST_ALIGNED)?;
+    for piece in PIECES {
+        expect_report(
+            &rt,
+            rt.alloc(),
+            "longest-aligned-line",
+            SMALL,
+            longest.as_slice(),
+            piece,
+            b"line 1: 0xffffffffffffffff refused: bad alignment\nNo memory leaks.\n",
+            1,
+        );
+        expect_report(
+            &rt,
+            rt.alloc(),
+            "one byte longer than the longest aligned line",
             SMALL,
             longer.as_slice(),
             piece,

@@ -34,5 +34,5 @@ returns-clause-reads c =
     (located-from_behind c.in-Some.located.now c.in-Some-split_at_space.place.now c.in-Some-split_at_space.marked.now c.event_of.result c.in-Some-split_at_space.ensures.0 c.in-Some-split_at_space.ensures.1 made.0
     (subst (λ bytes. length bytes ≤ longest_line) c.in-Some.ensures short)
     (subst (λ at. ReadsBehind at c.in-Some-split_at_space.marked.now c.event_of.result) made.1
-    (behind-from_form c.new-at.result c.in-Some-split_at_space.marked.now c.in-Some-read_marked.mark c.in-Some-read_marked.addr c.in-Some-read_marked.size c.event_of.result
+    (behind-from_form c.new-at.result c.in-Some-split_at_space.marked.now c.in-Some-read_marked.mark c.in-Some-read_marked.addr c.in-Some-read_marked.numbers c.event_of.result
     c.in-Some-read_marked.ensures.0 c.in-Some-read_marked.ensures.1 c.event_of.ensures)))

@@ -20,4 +20,4 @@ returns c =
     (λ is. false≢true (c.if-eq.ensures ∙ (bytes_eq-Decides c.args.bytes.now c.as_slice.result.now).1 (is ∙ sym c.as_slice.ensures)))
     (λ is. false≢true (c.if-eq-2.ensures ∙ (bytes_eq-Decides c.args.bytes.now c.as_slice-2.result.now).1 (is ∙ sym c.as_slice-2.ensures)))
     c.requires.unlocated c.requires.short
-    (behind-from_form None c.args.bytes.now c.in-Some.mark c.in-Some.addr c.in-Some.size c.event_of.result c.in-Some.ensures.0 c.in-Some.ensures.1 c.event_of.ensures)
+    (behind-from_form None c.args.bytes.now c.in-Some.mark c.in-Some.addr c.in-Some.numbers c.event_of.result c.in-Some.ensures.0 c.in-Some.ensures.1 c.event_of.ensures)

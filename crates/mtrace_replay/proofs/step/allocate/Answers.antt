@@ -2,18 +2,17 @@ use Rattle.std.proofs.Common.{◌≡◌, ℕ, arith, true, false, not, is_some, 
 use Rattle.std.specs.Prelude.{◌==◌}
 use Rattle.tlsf_heap.specs.Bare.{bare}
 use Rattle.tlsf_heap.specs.Content.{Content}
-use Rattle.tlsf_heap.specs.Malloc.{malloc}
 use Rattle.tlsf_heap.proofs.Content.BareSteps.{size_at-renamed}
 use Rattle.mtrace_replay.specs.declared.diagnostic.Diagnostic.{Diagnostic}
 use Rattle.mtrace_replay.specs.declared.step.Effect.{Effect}
 use Rattle.mtrace_replay.specs.declared.diagnostic.Kind.TheVariants.{Refused}
 use Rattle.mtrace_replay.specs.declared.holding.Holding.{Holding}
-use Rattle.mtrace_replay.specs.Moment.{note, allocation}
+use Rattle.mtrace_replay.specs.Moment.{note, allocation, asked_block}
 use Rattle.mtrace_replay.specs.Index.{AreInOrder, held_at, held_bytes}
 use Rattle.mtrace_replay.specs.Step.{all_given, found, Comes, AreLive}
 use Rattle.mtrace_replay.proofs.HeapSteps.{bare_served, bare_refused}
-use Rattle.mtrace_replay.proofs.Living.{live_after_malloc}
-use Rattle.mtrace_replay.proofs.Served.{served_small, served_records}
+use Rattle.mtrace_replay.proofs.AskedBlock.{asked_small, asked_records}
+use Rattle.mtrace_replay.proofs.Living.{live_after_asked}
 use Rattle.mtrace_replay.proofs.HeldFew.{held_fits, held_room}
 use Rattle.mtrace_replay.proofs.LookLemmas.{look_on, looks_up_fewer}
 use Rattle.mtrace_replay.proofs.StepLemmas.{asked_least, found_some, none_is, comes_held, comes_served, comes_refused}
@@ -22,18 +21,18 @@ use Rattle.mtrace_replay.proofs.step.allocate.Goals as goal
 pub insert-requires : goal.insert-requires
 insert-requires g c =
     let old = g.H.Heaped.content c.args.heap.now in
-    let new = g.H.Heaped.content c.malloc_block.new.heap in
+    let new = g.H.Heaped.content c.new_block.new.heap in
     let held = c.args.held.now.all in
     let same = c.contains.ensures.unchanged in
     let ordered = subst AreInOrder same c.keeps_order.ensures in
-    let most = served_small c.in-Ok.block.ptr.slot c.asked_size.result old (c.in-Ok.block.ptr.place, new) c.in-Ok.ensures.ok in
+    let most = asked_small c.in-Ok.block.ptr.slot c.args.align c.asked_size.result old (c.in-Ok.block.ptr.place, new) c.in-Ok.ensures.ok in
     let fits = held_fits held old ordered c.keeps_good.ensures.good c.requires.live in
     let asked = asked_least c.args.entry.size in
     let is = c.asked_size.ensures in
     let more : Holding = record { entry = c.args.entry; ptr = c.in-Ok.block.ptr } in
-    let live = live_after_malloc held (more ∷ held) old new c.keeps_good.ensures.good c.requires.live more c.asked_size.result c.in-Ok.ensures.ok (omega (arith, asked, is)) (λ other. refl) in
+    let live = live_after_asked held (more ∷ held) old new c.keeps_good.ensures.good c.requires.live more c.args.align c.asked_size.result c.in-Ok.ensures.ok (omega (arith, asked, is)) (λ other. refl) in
     let room = held_room held new ordered c.keeps_good-in-Ok.ensures.good more (none_is (held_at held c.args.entry.addr) (sym c.contains.ensures.value ∙ c.if-contains.false)) live in
-    let records = served_records c.in-Ok.block.ptr.slot c.asked_size.result old (c.in-Ok.block.ptr.place, new) c.in-Ok.ensures.ok in
+    let records = asked_records c.in-Ok.block.ptr.slot c.args.align c.asked_size.result old (c.in-Ok.block.ptr.place, new) c.in-Ok.ensures.ok in
     record {
       bytes = omega (arith, most, fits, asked, is, ap held_bytes same);
       room = omega (arith, room, records, c.requires.room, c.contains.ensures.looked.room, ap (length {A = Holding}) same);
@@ -49,12 +48,12 @@ returns-then-contains g c =
     let content = bare heap in
     let held = c.args.held.now.all in
     let entry = c.args.entry in
-    let moment = allocation entry.line entry.at entry.addr entry.size (found (all_given held) entry.addr) content in
+    let moment = allocation entry.line entry.at entry.addr c.args.align entry.size (found (all_given held) entry.addr) content in
     let P : List Diagnostic → Type 0 = λ notes. Comes content content (all_given held) (all_given held) notes None moment in
     let Q : Effect → List Holding → Type 0 = λ effect all. Comes content content (all_given held) (all_given all) effect.note.items effect.end moment in
     record {
       comes = subst (Q c.unserved.result) (sym c.contains.ensures.unchanged)
-          (subst (λ effect. Q effect held) (sym c.unserved.ensures) (subst P (sym c.one_note.ensures) (comes_held held held content content entry.line entry.at entry.addr entry.size (sym c.contains.ensures.value ∙ c.if-contains.true))));
+          (subst (λ effect. Q effect held) (sym c.unserved.ensures) (subst P (sym c.one_note.ensures) (comes_held held held content content entry.line entry.at entry.addr c.args.align entry.size (sym c.contains.ensures.value ∙ c.if-contains.true))));
       live = subst (λ all. AreLive all heap) (sym c.contains.ensures.unchanged) c.requires.live;
       memory = tt;
       unchanged = tt;
@@ -67,28 +66,28 @@ returns-then-contains g c =
 pub returns-in-Ok : goal.returns-in-Ok
 returns-in-Ok g c =
     let old = g.H.Heaped.content c.args.heap.now in
-    let new = g.H.Heaped.content c.malloc_block.new.heap in
+    let new = g.H.Heaped.content c.new_block.new.heap in
     let held = c.args.held.now.all in
     let after = c.insert.new.self.all in
     let entry = c.args.entry in
     let ptr = c.in-Ok.block.ptr in
     let more : Holding = record { entry = entry; ptr = ptr } in
-    let moment = allocation entry.line entry.at entry.addr entry.size (found (all_given held) entry.addr) (bare old) in
+    let moment = allocation entry.line entry.at entry.addr c.args.align entry.size (found (all_given held) entry.addr) (bare old) in
     let P : List Diagnostic → Option ℕ → Type 0 = λ notes end. Comes (bare old) (bare new) (all_given held) (all_given after) notes end moment in
     let absent = sym c.contains.ensures.value ∙ c.if-contains.false in
-    let served = bare_served old new ptr.slot c.asked_size.result ptr.place c.in-Ok.ensures.ok in
+    let served = bare_served old new ptr.slot c.args.align c.asked_size.result ptr.place c.in-Ok.ensures.ok in
     let end = c.served.ensures.end ∙ ap (λ (n : ℕ). Some n) (c.in-Ok.ensures.end ∙ ap (λ (n : ℕ). ptr.place + n) (sym (size_at-renamed (λ owner. tt) ptr.place new.pools))) in
     let changed = (λ (other : ℕ). c.insert.ensures.held other ∙ ap (λ all. cond (entry.addr == other) (Some more) (held_at all other)) c.contains.ensures.unchanged) in
     let asked = asked_least entry.size in
     record {
       comes = subst (λ notes. P notes c.served.result.end) (sym c.served.ensures.note) (subst (P []) (sym end)
-          (comes_served held after (bare old) (bare new) more absent (ap (λ n. malloc tt n (bare old)) (sym c.asked_size.ensures) ∙ served) changed));
-      live = live_after_malloc held after old new c.keeps_good.ensures.good c.requires.live more c.asked_size.result c.in-Ok.ensures.ok (omega (arith, asked, c.asked_size.ensures)) changed;
+          (comes_served held after (bare old) (bare new) more c.args.align absent (ap (λ n. asked_block tt c.args.align n (bare old)) (sym c.asked_size.ensures) ∙ served) changed));
+      live = live_after_asked held after old new c.keeps_good.ensures.good c.requires.live more c.args.align c.asked_size.result c.in-Ok.ensures.ok (omega (arith, asked, c.asked_size.ensures)) changed;
       memory = tt;
       unchanged = tt;
-      records = served_records ptr.slot c.asked_size.result old (ptr.place, new) c.in-Ok.ensures.ok;
+      records = asked_records ptr.slot c.args.align c.asked_size.result old (ptr.place, new) c.in-Ok.ensures.ok;
       looked = look_on 1 1 c.args.held.now c.contains.new.self c.insert.new.self c.contains.ensures.looked c.insert.ensures.looked;
-      bound = omega (arith, c.malloc_block.ensures.bound);
+      bound = omega (arith, c.new_block.ensures.bound);
       idle = λ idle. absurd (let is = is_asked held entry.addr absent in cc);
     }
 
@@ -100,23 +99,23 @@ returns-in-Err-OutOfMemory g c = record {
   unchanged = c.contains.ensures.unchanged;
   records = search rules;
   looked = looks_up_fewer 1 1 c.args.held.now c.contains.new.self c.contains.ensures.looked;
-  bound = omega (arith, c.malloc_block.ensures.bound);
+  bound = omega (arith, c.new_block.ensures.bound);
   idle = λ idle. absurd (let is = is_asked c.args.held.now.all c.args.entry.addr (sym c.contains.ensures.value ∙ c.if-contains.false) in cc);
 }
 
 pub returns-in-Err : goal.returns-in-Err
 returns-in-Err g c =
     let old = g.H.Heaped.content c.args.heap.now in
-    let new = g.H.Heaped.content c.malloc_block.new.heap in
+    let new = g.H.Heaped.content c.new_block.new.heap in
     let held = c.args.held.now.all in
     let entry = c.args.entry in
-    let moment = allocation entry.line entry.at entry.addr entry.size (found (all_given held) entry.addr) (bare old) in
+    let moment = allocation entry.line entry.at entry.addr c.args.align entry.size (found (all_given held) entry.addr) (bare old) in
     let P : List Diagnostic → Type 0 = λ notes. Comes (bare old) (bare old) (all_given held) (all_given held) notes None moment in
     let Q : Effect → Content ℕ → List Holding → Type 0 = λ effect content all. Comes (bare old) (bare content) (all_given held) (all_given all) effect.note.items effect.end moment in
-    let refused = bare_refused old new 0 c.asked_size.result c.in-Err.refusal (c.in-Err.ensures.refused (search rules) 0) in
+    let refused = bare_refused old new 0 c.args.align c.asked_size.result c.in-Err.refusal (c.in-Err.ensures.refused (search rules) 0) in
     let same = c.in-Err.ensures.unchanged in
     let told : P (note entry.line (Refused entry.addr c.in-Err.refusal)) =
-    comes_refused held held (bare old) (bare new) entry c.in-Err.refusal (sym c.contains.ensures.value ∙ c.if-contains.false) (ap (λ n. malloc tt n (bare old)) (sym c.asked_size.ensures) ∙ refused) in
+    comes_refused held held (bare old) (bare new) entry c.args.align c.in-Err.refusal (sym c.contains.ensures.value ∙ c.if-contains.false) (ap (λ n. asked_block tt c.args.align n (bare old)) (sym c.asked_size.ensures) ∙ refused) in
     record {
       comes = subst (Q c.unserved-in-Err.result new) (sym c.contains.ensures.unchanged)
           (subst (λ content. Q c.unserved-in-Err.result content held) (sym same) (subst (λ effect. Q effect old held) (sym c.unserved-in-Err.ensures) (subst P (sym c.one_note-in-Err.ensures) told)));

@@ -1,4 +1,4 @@
-use Rattle.std.proofs.Common.{ℕ, Option, None, true, not, is_some, List, [], ◌∷◌, Some, IfOk, refl, sym, subst, ap, ◌∙◌, arith, rules}
+use Rattle.std.proofs.Common.{ℕ, Option, None, true, not, is_some, List, [], ◌∷◌, Some, IfOk, refl, sym, subst, ap, ◌∙◌, arith}
 use Rattle.std.specs.Prelude.{◌==◌, ◌&&◌}
 use Rattle.tlsf_heap.specs.Bare.{bare}
 use Rattle.tlsf_heap.specs.Pointer.{Pointer}
@@ -25,10 +25,10 @@ returns-in_default-block g c =
     let old = c.in-Some.old in
     let none = under_none (held_at held old) (sym c.block.ensures.value ∙ c.in_default-block.is) in
     let is = renewal_allocates held content entry.line entry.at c.args.pending old entry.addr entry.size c.in-Some.is none in
-    let moment = allocation entry.line entry.at entry.addr entry.size (found (all_given held) entry.addr) content in
+    let moment = allocation entry.line entry.at entry.addr None entry.size (found (all_given held) entry.addr) content in
     let first : Diagnostic = record { line = entry.line; kind = NotHeld old } in
     let C : List Holding → Type 0 = λ all. Comes content after (all_given all) (all_given new) c.in_ok-more.more.note.items c.in_ok-more.more.end
-    (allocation entry.line entry.at entry.addr entry.size (found (all_given all) entry.addr) content) in
+    (allocation entry.line entry.at entry.addr None entry.size (found (all_given all) entry.addr) content) in
     let P : List Diagnostic → Option ℕ → Type 0 = λ notes end. Comes content after (all_given held) (all_given new) notes end (noted_after (first ∷ []) moment) in
     record {
       comes = subst (Comes content after (all_given held) (all_given new) c.after_note.result.note.items c.after_note.result.end) (sym is)

@@ -1,13 +1,14 @@
-use Rattle.std.proofs.Common.{◌≡◌, ◌+◌, ◌∷◌, ◌++◌, false, List, refl, sym, subst, ap, ◌∙◌}
+use Rattle.std.proofs.Common.{◌≡◌, ◌+◌, ◌∷◌, ◌++◌, false, List, length, arith, refl, sym, subst, ap, ◌∙◌}
 use Rattle.std.specs.List.{list_any}
 use Rattle.std.specs.List.Sorted.{IsStrictlyIncreasing}
 use Rattle.std.proofs.lemmas.List.{length-map}
 use Rattle.tlsf_heap.specs.Bare.{bare}
 use Rattle.mtrace_replay.specs.declared.diagnostic.Diagnostic.{Diagnostic}
 use Rattle.mtrace_replay.specs.Replay.{Replayed, StandsFor, added_notes}
-use Rattle.mtrace_replay.specs.Step.{given_of, all_given}
+use Rattle.mtrace_replay.specs.Step.{given_of, all_given, found}
 use Rattle.mtrace_replay.specs.Totals.{is_refusal}
 use Rattle.mtrace_replay.proofs.FoundLemmas.{addresses_given, sizes_given}
+use Rattle.mtrace_replay.proofs.NoteLemmas.{notes_few}
 use Rattle.mtrace_replay.proofs.HeldFew.{held_few}
 use Rattle.mtrace_replay.proofs.Standing.{served_within, refused_within, stands_for_line, notes_of_line}
 use Rattle.mtrace_replay.proofs.replay.Replay.feed.Goals as goal
@@ -24,6 +25,16 @@ invariant_of-self g c =
       served = served_within old c.in-Ok.done.end c.has_refusal-is_refused.result c.bytes-bytes.result c.len-blocks.result c.after-self-inside.result gone c.self.invariant.served;
       refused = refused_within old c.in-Ok.done.end c.has_refusal-is_refused.result c.bytes-bytes.result c.len-blocks.result c.after-self-inside.result gone c.self.invariant.refused;
     }
+
+pub after_half-note-requires : goal.after_half-note-requires
+after_half-note-requires g c =
+    let inside = c.self.inside in
+    omega (
+      arith,
+      ap (length {A = Diagnostic}) c.half_before-half.ensures,
+      ap (length {A = Diagnostic}) c.in-Ok.ensures.comes.notes_are,
+      notes_few inside.totals.lines c.args.line.number c.args.line.event inside.pending (found (all_given inside.held.all)) (bare (g.H.Heaped.content inside.heap)),
+    )
 
 pub returns-in-Ok-clause-note : goal.returns-in-Ok-clause-note
 returns-in-Ok-clause-note g c = λ settings past.
