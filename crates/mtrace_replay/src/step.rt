@@ -319,6 +319,18 @@ fn renew<H: Heaped>(
     reallocate(heap, held, old, ptr, entry)
 }
 
+/// The entry of a line that asks for a block.
+fn entry_of(number: u64, at: Option<Location>, addr: Addr, size: u64) -> Entry
+    ensures { result ≡ record { addr = addr; size = size; line = number; at = at } }
+{
+    Entry {
+        addr,
+        size,
+        line: number,
+        at,
+    }
+}
+
 /// What the line of this number does, where `pending` is the address of the line before, if that is `<`. At most 356
 /// touches.
 pub(crate) fn outcome<H: Heaped>(
@@ -340,17 +352,7 @@ pub(crate) fn outcome<H: Heaped>(
         Ok(Event::Start) => Ok(unserved(no_note())),
         Ok(Event::End) => Ok(unserved(no_note())),
         Ok(Event::Alloc { at, addr, size }) => match addr {
-            Some(addr) => allocate(
-                heap,
-                held,
-                None,
-                Entry {
-                    addr,
-                    size,
-                    line: number,
-                    at,
-                },
-            ),
+            Some(addr) => allocate(heap, held, None, entry_of(number, at, addr, size)),
             None => Ok(unserved(no_note())),
         },
         Ok(Event::Free { at: _at, addr }) => release(heap, held, number, addr),
@@ -364,12 +366,7 @@ pub(crate) fn outcome<H: Heaped>(
             heap,
             held,
             pending,
-            Entry {
-                addr,
-                size,
-                line: number,
-                at,
-            },
+            entry_of(number, at, addr, size),
         ),
         Ok(
             Event::Failed {
@@ -385,16 +382,6 @@ pub(crate) fn outcome<H: Heaped>(
                 align,
                 size,
             },
-        ) => allocate(
-            heap,
-            held,
-            Some(align),
-            Entry {
-                addr,
-                size,
-                line: number,
-                at,
-            },
-        ),
+        ) => allocate(heap, held, Some(align), entry_of(number, at, addr, size)),
     }
 }
