@@ -1,0 +1,6 @@
+//! Images of a heap: what stands where in their bytes, and the twelve rules that tell whether bytes are one.
+#![tactic(auto)]
+
+mod rule;
+
+pub use rule::Rule;
