@@ -1,5 +1,5 @@
 -- What stands where in an image of a heap.
-use Rattle.std.specs.Prelude.{ℕ, ◌+◌, ◌-◌, ◌*◌, ◌%◌, ◌==◌, if◌then◌else◌, Bool, List, map, Option, Some, None, slice_index, codes}
+use Rattle.std.specs.Prelude.{ℕ, ◌+◌, ◌-◌, ◌*◌, ◌%◌, ◌==◌, nat_lt, if◌then◌else◌, Bool, List, map, Option, Some, None, slice_index, codes}
 use Rattle.std.specs.List.{range_with_len, list_all}
 use Rattle.tlsf_class.specs.Classes.{unit, classes}
 use Rattle.tlsf_store.specs.declared.records.State.{State}
@@ -83,15 +83,15 @@ record_in bytes slot = record {
   next_free = link_of (two_at (record_at slot + 14) bytes);
 }
 
--- what an image describes: its pools in order, the head of each class, and the records by slot
+-- what an image describes: the pools by number, the head of each class, and the records by slot
 pub record Parts : Type 0 where
-  pub pools : List Pool
+  pub pools : List (Option Pool)
   pub heads : List (Option ℕ)
   pub records : List Record
 
 abbrev pub parts_in : List ℕ → Parts
 parts_in bytes = record {
-  pools = map (pool_in bytes) (range_with_len 0 (two_at pools_at bytes));
+  pools = map (λ number. if nat_lt number (two_at pools_at bytes) then Some (pool_in bytes number) else None) (range_with_len 0 most_pools);
   heads = map (head_in bytes) (range_with_len 0 classes);
   records = map (record_in bytes) (range_with_len 0 (two_at count_at bytes));
 }

@@ -3,3 +3,4 @@ pub mod Image
 pub mod Links
 pub mod Ranges
 pub mod Rules
+pub mod Findings

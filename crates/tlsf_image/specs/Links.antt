@@ -1,6 +1,7 @@
 -- Records that are linked: the chain of a pool, and the list of a class.
 use Rattle.std.specs.Prelude.{ℕ, zero, suc, ◌&&◌, Bool, true, false, List, [], ◌∷◌, length, Option, Some, None, nat_eq}
 use Rattle.std.specs.Option.{option_eq}
+use Rattle.std.specs.List.{list_all}
 use Rattle.tlsf_store.specs.declared.records.Record.{Record}
 use Rattle.tlsf_store.specs.Records.{record_at}
 
@@ -27,3 +28,8 @@ ends_within (suc n) next (Some slot) = ends_within n next (next slot)
 abbrev pub are_linked_back : (ℕ → Option ℕ) → Option ℕ → List ℕ → Bool
 are_linked_back back before [] = true
 are_linked_back back before (slot ∷ slots) = option_eq nat_eq (back slot) before && are_linked_back back (Some slot) slots
+
+-- whether links end after at most so many slots, each of which passes a test and is linked back, the first to `before`
+abbrev pub is_linked : (ℕ → Bool) → (next back : ℕ → Option ℕ) → ℕ → (before first : Option ℕ) → Bool
+is_linked test next back n before first =
+    ends_within n next first && (list_all test (follow n next first) && are_linked_back back before (follow n next first))

@@ -1,6 +1,6 @@
 -- The rules of an image, in order, each a test; and the first that is broken.
 use Rattle.std.specs.Prelude.{ℕ, ◌+◌, ◌-◌, ◌*◌, ◌%◌, ◌==◌, nat_lt, nat_le, ◌&&◌, ◌||◌, not, Bool, true, false, List, [], ◌∷◌, length, take, map, Option, Some, None, is_none, if◌then◌else◌, bytes_eq}
-use Rattle.std.specs.List.{range_with_len, list_all, list_any, enumerate_from}
+use Rattle.std.specs.List.{range_with_len, list_all, list_any, filter_map}
 use Rattle.tlsf_class.specs.Classes.{unit, classes, class}
 use Rattle.tlsf_store.specs.declared.records.State.{State}
 use Rattle.tlsf_store.specs.declared.records.State.TheVariants.{Vacant, Free, Live}
@@ -11,7 +11,7 @@ use Rattle.tlsf_store.specs.Cells.{most_pools}
 use Rattle.tlsf_image.specs.declared.rule.Rule.{Rule}
 use Rattle.tlsf_image.specs.declared.rule.Rule.TheVariants.{Magic, Length, Pools, UnusedPools, States, Links, Chains, Cover, OnChains, Merged, Lists, OnLists}
 use Rattle.tlsf_image.specs.Image.{two_at, four_at, are_zero, magic, count_at, pools_at, zeros_at, entry_at, record_at, size_word, pool_in, Parts, parts_in}
-use Rattle.tlsf_image.specs.Links.{chain_from, list_from, ends_within, are_linked_back}
+use Rattle.tlsf_image.specs.Links.{chain_from, list_from, is_linked}
 use Rattle.tlsf_image.specs.Ranges.{can_be_pool}
 
 -- ---- of the bytes
@@ -25,6 +25,10 @@ abbrev pub has_length : List ℕ → Bool
 has_length bytes =
     nat_lt 0 (two_at count_at bytes) && (nat_le (two_at pools_at bytes) most_pools && (are_zero zeros_at 4 bytes && (length bytes == record_at (two_at count_at bytes))))
 
+-- the pools that there are
+abbrev pub present : List (Option Pool) → List Pool
+present pools = filter_map (λ pool. pool) pools
+
 -- a pool can be at its range, from a place on, and its first record is one of so many
 abbrev pub is_pool : ℕ → ℕ → Pool → Bool
 is_pool count from pool = can_be_pool pool.base pool.bytes && (nat_le from pool.base && nat_lt pool.first count)
@@ -37,7 +41,7 @@ are_pools count from (pool ∷ pools) = is_pool count from pool && are_pools cou
 -- 3: the pools are such, and their entries end with zeros
 abbrev pub has_pools : List ℕ → Bool
 has_pools bytes =
-    are_pools (two_at count_at bytes) 0 (parts_in bytes).pools && list_all (λ number. are_zero (entry_at number + 10) 2 bytes) (range_with_len 0 (two_at pools_at bytes))
+    are_pools (two_at count_at bytes) 0 (present (parts_in bytes).pools) && list_all (λ number. are_zero (entry_at number + 10) 2 bytes) (range_with_len 0 (two_at pools_at bytes))
 
 -- 4: the entries behind them are zero
 abbrev pub has_unused_pools : List ℕ → Bool
@@ -93,13 +97,11 @@ at parts slot = record_of parts.records slot
 
 -- a chain ends, has blocks alone, and is linked back
 abbrev pub is_chain : Parts → Pool → Bool
-is_chain parts pool =
-    ends_within (length parts.records) (λ slot. (at parts slot).next) (Some pool.first)
-    && (list_all (λ slot. is_used (at parts slot).state) (chain_of parts pool) && are_linked_back (λ slot. (at parts slot).prev) None (chain_of parts pool))
+is_chain parts pool = is_linked (λ slot. is_used (at parts slot).state) (λ slot. (at parts slot).next) (λ slot. (at parts slot).prev) (length parts.records) None (Some pool.first)
 
 -- 7: the chain of each pool is such
 abbrev pub has_chains : Parts → Bool
-has_chains parts = list_all (is_chain parts) parts.pools
+has_chains parts = list_all (is_chain parts) (present parts.pools)
 
 -- each block begins where the one before ends, from one place up to another
 abbrev pub covers : Parts → ℕ → ℕ → List ℕ → Bool
@@ -108,7 +110,7 @@ covers parts from to (slot ∷ slots) = ((at parts slot).place == from) && cover
 
 -- 8: the blocks of each chain cover its pool
 abbrev pub has_cover : Parts → Bool
-has_cover parts = list_all (λ pool. covers parts pool.base (pool.base + pool.bytes) (chain_of parts pool)) parts.pools
+has_cover parts = list_all (λ pool. covers parts pool.base (pool.base + pool.bytes) (chain_of parts pool)) (present parts.pools)
 
 -- whether the slot is one of these
 abbrev pub is_among : ℕ → List ℕ → Bool
@@ -117,7 +119,7 @@ is_among slot slots = list_any (λ other. other == slot) slots
 -- 9: each block is on the chain of a pool
 abbrev pub has_all_on_chains : Parts → Bool
 has_all_on_chains parts =
-    list_all (λ slot. not (is_used (at parts slot).state) || list_any (λ pool. is_among slot (chain_of parts pool)) parts.pools) (range_with_len 0 (length parts.records))
+    list_all (λ slot. not (is_used (at parts slot).state) || list_any (λ pool. is_among slot (chain_of parts pool)) (present parts.pools)) (range_with_len 0 (length parts.records))
 
 -- no free block stands behind a free one; after_free: one stands in front of the first
 abbrev pub are_merged : Parts → Bool → List ℕ → Bool
@@ -126,7 +128,7 @@ are_merged parts after_free (slot ∷ slots) = not (after_free && is_free (at pa
 
 -- 10: no two free blocks stand side by side on a chain
 abbrev pub has_merged : Parts → Bool
-has_merged parts = list_all (λ pool. are_merged parts false (chain_of parts pool)) parts.pools
+has_merged parts = list_all (λ pool. are_merged parts false (chain_of parts pool)) (present parts.pools)
 
 -- the list of a class with this head
 abbrev pub list_of : Parts → Option ℕ → List ℕ
@@ -135,8 +137,7 @@ list_of parts first = list_from parts.records first
 -- a list ends, has free blocks of its class alone, and is linked back
 abbrev pub is_list : Parts → ℕ → Option ℕ → Bool
 is_list parts number first =
-    ends_within (length parts.records) (λ slot. (at parts slot).next_free) first
-    && (list_all (λ slot. is_free (at parts slot).state && (class (at parts slot).size == number)) (list_of parts first) && are_linked_back (λ slot. (at parts slot).prev_free) None (list_of parts first))
+    is_linked (λ slot. is_free (at parts slot).state && (class (at parts slot).size == number)) (λ slot. (at parts slot).next_free) (λ slot. (at parts slot).prev_free) (length parts.records) None first
 
 -- such lists, from the class of this number on
 abbrev pub are_lists : Parts → ℕ → List (Option ℕ) → Bool

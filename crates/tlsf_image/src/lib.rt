@@ -1,6 +1,9 @@
 //! Images of a heap: what stands where in their bytes, and the twelve rules that tell whether bytes are one.
 #![tactic(auto)]
 
+mod chains;
 mod rule;
+mod table;
 
 pub use rule::Rule;
+pub use table::Table;

@@ -1,0 +1,138 @@
+-- What is found in a chain, block after block.
+use Rattle.std.proofs.Common.{◌≡◌, ℕ, zero, suc, ◌+◌, ◌-◌, ◌<◌, ◌≤◌, Bool, true, false, not, ◌&&◌, ◌||◌, List, [], ◌∷◌, length, Option, Some, None, refl, sym, ap, ◌∙◌, subst, arith, cond, inl, inr}
+use Rattle.std.specs.Prelude.{if◌then◌else◌, ◌==◌, nat_eq}
+use Rattle.std.proofs.lemmas.Bool.{cases_Bool, eqb-true, and_left, and_parts, both_ways, ltb-true}
+use Rattle.std.proofs.Math.Bool.{and-true}
+use Rattle.std.proofs.lemmas.List.Folds.{list_all_at}
+use Rattle.tlsf_store.specs.declared.pools.Pool.{Pool}
+use Rattle.tlsf_store.specs.Records.{IsBelow, blank}
+use Rattle.tlsf_store.specs.declared.records.Record.{Record}
+use Rattle.tlsf_store.specs.declared.records.State.{State}
+use Rattle.tlsf_store.specs.declared.records.State.TheVariants.{Vacant, Free, Live}
+use Rattle.tlsf_image.specs.declared.chains.Chain.{Chain}
+use Rattle.tlsf_image.specs.declared.chains.Front.{Front}
+use Rattle.tlsf_image.specs.Image.{Parts}
+use Rattle.tlsf_image.specs.Links.{follow, is_linked}
+use Rattle.tlsf_image.specs.Rules.{at, is_used, is_free, is_below, has_record_links, has_links, covers, are_merged}
+use Rattle.tlsf_image.specs.Findings.{chain_found, front_of, is_before, with_block}
+use Rattle.tlsf_image.proofs.LinkLemmas.{linked_on, linked_not_on, linked_end, follow_none}
+
+of_used : (used rest : Bool) → used ≡ true → (not used || rest) ≡ true → rest ≡ true
+of_used true rest is e = e
+of_used false rest is e = absurd (cc)
+
+below : (count : ℕ) (link : Option ℕ) → is_below count link ≡ true → IsBelow count link
+below count None e = tt
+below count (Some slot) e = ltb-true slot count e
+
+module _ (parts : Parts) where
+  abbrev next_of : ℕ → Option ℕ
+  next_of slot = (at parts slot).next
+
+  abbrev is_chain_from : ℕ → (before first : Option ℕ) → Bool
+  is_chain_from n before first = is_linked (λ slot. is_used (at parts slot).state) next_of (λ slot. (at parts slot).prev) n before first
+
+  -- the finding of a chain up to an end, where these blocks were seen and these slots are left behind a front
+  abbrev seen_with : ℕ → Chain → Front → List ℕ → Chain
+  seen_with end chain front rest = record {
+    blocks = chain.blocks + length rest;
+    covers = chain.covers && covers parts front.end end rest;
+    is_merged = chain.is_merged && are_merged parts front.is_free rest;
+  }
+
+  -- the same where at most so many slots are left, from the next one on
+  abbrev found_with : ℕ → ℕ → Chain → Front → Option ℕ → Option Chain
+  found_with end n chain front next = if is_chain_from n front.block next then Some (seen_with end chain front (follow n next_of next)) else None
+
+  abbrev pub rest_found : ℕ → Chain → Front → Option ℕ → Option Chain
+  rest_found end chain front next = found_with end (length parts.records - chain.blocks) chain front next
+
+  -- covers: a place that isn't the front's end spoils it whatever comes
+  covers_on : (c : Bool) (place from size end : ℕ) (rest : List ℕ) → (c && ((place == from) && covers parts (from + size) end rest)) ≡ ((c && (place == from)) && covers parts (place + size) end rest)
+  covers_on false place from size end rest = refl
+  covers_on true place from size end rest = elim (cases_Bool (nat_eq place from)) [
+    | inl e ↦ ap (λ f. (place == from) && covers parts (f + size) end rest) (sym (eqb-true place from e))
+    | inr e ↦ and_left (nat_eq place from) (covers parts (from + size) end rest) e ∙ sym (and_left (nat_eq place from) (covers parts (place + size) end rest) e)
+  ]
+
+  and_on : (a b c : Bool) → (a && (b && c)) ≡ ((a && b) && c)
+  and_on true b c = refl
+  and_on false b c = refl
+
+  seen_on : (end : ℕ) (chain : Chain) (front : Front) (slot : ℕ) (rest : List ℕ) → seen_with end chain front (slot ∷ rest) ≡ seen_with end (with_block front (at parts slot) chain) (front_of slot (at parts slot)) rest
+  seen_on end chain front slot rest =
+      let r = at parts slot in
+      let blocks : chain.blocks + length (slot ∷ rest) ≡ chain.blocks + 1 + length rest = omega arith in
+      let covered = covers_on chain.covers r.place front.end r.size end rest in
+      let merged = and_on chain.is_merged (not (front.is_free && is_free r.state)) (are_merged parts (is_free r.state) rest) in
+      cc
+
+  module _ (end : ℕ) (chain : Chain) (front : Front) (slot : ℕ) where
+    on_by : (n : ℕ) → is_before front (at parts slot) ≡ true → found_with end (suc n) chain front (Some slot) ≡ found_with end n (with_block front (at parts slot) chain) (front_of slot (at parts slot)) (next_of slot)
+    on_by n on =
+        let whole = linked_on (λ slot. is_used (at parts slot).state) next_of (λ slot. (at parts slot).prev) n front.block slot on in
+        let seen = seen_on end chain front slot (follow n next_of (next_of slot)) in
+        rw (whole, seen) refl
+
+    stops_by : (n : ℕ) → is_before front (at parts slot) ≡ false → found_with end n chain front (Some slot) ≡ None
+    stops_by zero off = refl
+    stops_by (suc n) off = rw (linked_not_on (λ slot. is_used (at parts slot).state) next_of (λ slot. (at parts slot).prev) n front.block slot off) refl
+
+    -- a block behind the front
+    pub found_on : chain.blocks < length parts.records → is_before front (at parts slot) ≡ true → rest_found end chain front (Some slot) ≡ rest_found end (with_block front (at parts slot) chain) (front_of slot (at parts slot)) (next_of slot)
+    found_on few on =
+        let P : ℕ → Type 0 = λ left. found_with end left chain front (Some slot) ≡ found_with end (length parts.records - (chain.blocks + 1)) (with_block front (at parts slot) chain) (front_of slot (at parts slot)) (next_of slot) in
+        let one : suc (length parts.records - (chain.blocks + 1)) ≡ length parts.records - chain.blocks = omega (arith, few) in
+        subst P one (on_by (length parts.records - (chain.blocks + 1)) on)
+
+    -- nothing that can stand behind it
+    pub found_off : is_before front (at parts slot) ≡ false → rest_found end chain front (Some slot) ≡ None
+    found_off off = stops_by (length parts.records - chain.blocks) off
+
+    -- more slots than records
+    pub found_more : length parts.records ≤ chain.blocks → rest_found end chain front (Some slot) ≡ None
+    found_more many =
+        let P : ℕ → Type 0 = λ left. found_with end left chain front (Some slot) ≡ None in
+        let none : 0 ≡ length parts.records - chain.blocks = omega (arith, many) in
+        subst P none refl
+
+  ends_by : (end : ℕ) (chain : Chain) (front : Front) (n : ℕ) → found_with end n chain front None ≡ Some (record chain { covers = chain.covers && (front.end == end) })
+  ends_by end chain front n =
+      let merged : (chain.is_merged && true) ≡ chain.is_merged = and-true chain.is_merged in
+      let blocks : chain.blocks + 0 ≡ chain.blocks = omega arith in
+      rw (linked_end (λ slot. is_used (at parts slot).state) next_of (λ slot. (at parts slot).prev) n front.block, follow_none n next_of, merged, blocks) refl
+
+  module _ (end : ℕ) (chain : Chain) (front : Front) (next : Option ℕ) (is : next ≡ None) where
+    at_end : rest_found end chain front next ≡ Some (record chain { covers = chain.covers && (front.end == end) })
+    at_end = let P : Option ℕ → Type 0 = λ o. rest_found end chain front o ≡ Some (record chain { covers = chain.covers && (front.end == end) }) in subst P (sym is) (ends_by end chain front (length parts.records - chain.blocks))
+
+    -- no block is left, and those before cover all up to the front
+    pub found_covered : chain.covers ≡ true → rest_found end chain front next ≡ Some (record chain { covers = front.end == end })
+    found_covered covers = at_end ∙ ap (λ c. Some (record chain { covers = c && (front.end == end) })) covers
+
+    -- the same where they don't
+    pub found_uncovered : chain.covers ≡ false → rest_found end chain front next ≡ Some (record chain { covers = false })
+    found_uncovered covers = at_end ∙ ap (λ c. Some (record chain { covers = c && (front.end == end) })) covers
+
+  first_by : (pool : Pool) → found_with (pool.base + pool.bytes) (length parts.records) (record { blocks = 0; covers = true; is_merged = true }) (record { block = None; end = pool.base; is_free = false }) (Some pool.first) ≡ chain_found parts pool
+  first_by pool =
+      let rest = follow (length parts.records) next_of (Some pool.first) in
+      let none : 0 + length rest ≡ length rest = omega arith in
+      rw none refl
+
+  -- all is left
+  pub found_first : (pool : Pool) → rest_found (pool.base + pool.bytes) (record { blocks = 0; covers = true; is_merged = true }) (record { block = None; end = pool.base; is_free = false }) (Some pool.first) ≡ chain_found parts pool
+  found_first pool =
+      let P : ℕ → Type 0 = λ left. found_with (pool.base + pool.bytes) left (record { blocks = 0; covers = true; is_merged = true }) (record { block = None; end = pool.base; is_free = false }) (Some pool.first) ≡ chain_found parts pool in
+      let all : length parts.records ≡ length parts.records - 0 = omega arith in
+      subst P all (first_by pool)
+
+  -- the block behind a block of the table is of the table
+  pub next_below : has_links parts ≡ true → (slot : ℕ) → slot < length parts.records → is_used (at parts slot).state ≡ true → IsBelow (length parts.records) (next_of slot)
+  next_below linked slot within used =
+      let r = at parts slot in
+      let all = (and_parts _ _ linked).1 in
+      elim (cases_Bool (has_record_links (length parts.records) r)) [
+        | inl e ↦ below (length parts.records) r.next (and_parts _ _ (and_parts _ _ (and_parts _ _ (of_used (is_used r.state) _ used e)).1).0).1
+        | inr e ↦ absurd (both_ways _ (list_all_at (has_record_links (length parts.records)) parts.records slot blank within e) all)
+      ]
