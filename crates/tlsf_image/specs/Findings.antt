@@ -1,16 +1,17 @@
 -- What is found where chains and lists are followed.
 use Rattle.std.specs.Prelude.{ℕ, ◌+◌, ◌&&◌, ◌==◌, not, Bool, true, false, List, length, Option, Some, None, if◌then◌else◌, nat_eq}
 use Rattle.std.specs.Option.{option_eq}
+use Rattle.std.specs.List.{list_all, flat_map}
 use Rattle.tlsf_store.specs.declared.pools.Pool.{Pool}
 use Rattle.tlsf_store.specs.declared.records.Record.{Record}
-use Rattle.tlsf_image.specs.declared.chains.Chain.{Chain}
+use Rattle.tlsf_image.specs.declared.chains.Tally.{Tally}
 use Rattle.tlsf_image.specs.declared.chains.Front.{Front}
 use Rattle.tlsf_image.specs.Image.{Parts}
 use Rattle.tlsf_image.specs.Links.{follow, is_linked}
-use Rattle.tlsf_image.specs.Rules.{at, is_used, is_free, is_chain, chain_of, covers, are_merged}
+use Rattle.tlsf_image.specs.Rules.{present, at, is_used, is_free, is_chain, chain_of, covers, are_merged}
 
 -- a pool's chain: how many blocks it has, whether they cover the pool, and whether no two free ones are neighbours
-abbrev pub chain_found : Parts → Pool → Option Chain
+abbrev pub chain_found : Parts → Pool → Option Tally
 chain_found parts pool =
     if is_chain parts pool
     then Some (record {
@@ -20,16 +21,39 @@ chain_found parts pool =
     })
     else None
 
+-- the chains of these pools together, where each is one, with the tally of those before
+abbrev pub tally_with : Parts → Tally → List (Option Pool) → Option Tally
+tally_with parts tally pools =
+    if list_all (is_chain parts) (present pools)
+    then Some (record {
+      blocks = tally.blocks + length (flat_map (chain_of parts) (present pools));
+      covers = tally.covers && list_all (λ pool. covers parts pool.base (pool.base + pool.bytes) (chain_of parts pool)) (present pools);
+      is_merged = tally.is_merged && list_all (λ pool. are_merged parts false (chain_of parts pool)) (present pools);
+    })
+    else None
+
+-- nothing is seen yet
+abbrev pub no_tally : Tally
+no_tally = record { blocks = 0; covers = true; is_merged = true }
+
+-- all chains, where each is one
+abbrev pub chains_found : Parts → Option Tally
+chains_found parts = tally_with parts no_tally parts.pools
+
+-- two tallies together
+abbrev pub both : Tally → Tally → Tally
+both one other = record { blocks = one.blocks + other.blocks; covers = one.covers && other.covers; is_merged = one.is_merged && other.is_merged }
+
 -- what stands in front of the block behind this one
 abbrev pub front_of : ℕ → Record → Front
 front_of slot block = record { block = Some slot; end = block.place + block.size; is_free = is_free block.state }
 
--- the chain with a block behind a front
-abbrev pub with_block : Front → Record → Chain → Chain
-with_block front block chain = record {
-  blocks = chain.blocks + 1;
-  covers = chain.covers && (block.place == front.end);
-  is_merged = chain.is_merged && not (front.is_free && is_free block.state);
+-- the tally with a block behind a front
+abbrev pub with_block : Front → Record → Tally → Tally
+with_block front block tally = record {
+  blocks = tally.blocks + 1;
+  covers = tally.covers && (block.place == front.end);
+  is_merged = tally.is_merged && not (front.is_free && is_free block.state);
 }
 
 -- whether a record is of a block that this stands in front of

@@ -3,7 +3,7 @@
 ghost use Rattle.std.specs.Prelude.{◌≡◌, ℕ, ◌<◌, ◌≤◌, length};
 ghost use Rattle.tlsf_class.specs.Classes.{classes};
 ghost use Rattle.tlsf_store.specs.Records.{record_at, most_records};
-ghost use Rattle.tlsf_store.specs.Cells.{head_at, pool_at, most_pools};
+ghost use Rattle.tlsf_store.specs.Cells.{head_at, pool_at, most_pools, IsPoolBelow};
 ghost use Rattle.tlsf_image.specs.Image.{Parts};
 
 use tlsf_class::Class;
@@ -41,6 +41,7 @@ pub trait Table {
     fn pool(&mut self, number: u32) -> Option<Pool>
         requires { number < most_pools }
         ensures value { result ≡ pool_at (parts self.old).pools number }
+        ensures below { IsPoolBelow (length (parts self.old).records) result }
         ensures whole { length (parts self.old).pools ≡ most_pools }
         ensures same { parts self.new ≡ parts self.old }
         ensures floor { touches self.old ≤ touches self.new };

@@ -12,9 +12,9 @@ invariant-loop-next g l =
       same : g.T.Table.parts l.table ≡ parts;
       floor : g.T.Table.touches l.fn.table ≤ g.T.Table.touches l.table;
       below : IsBelow (length parts.records) l.next;
-      few : l.chain.blocks ≤ length parts.records;
-      told : rest_found parts (l.fn.pool.base + l.fn.pool.bytes) l.chain l.front l.next ≡ chain_found parts l.fn.pool;
+      few : l.tally.blocks ≤ length parts.records;
+      told : rest_found parts (l.fn.pool.base + l.fn.pool.bytes) l.tally l.front l.next ≡ chain_found parts l.fn.pool;
     }
 
 abbrev pub decreases-loop-next : goal.decreases-loop-next
-decreases-loop-next g l = length (g.T.Table.parts l.fn.table).records - l.chain.blocks
+decreases-loop-next g l = length (g.T.Table.parts l.fn.table).records - l.tally.blocks
