@@ -66,7 +66,10 @@ fn greatest_table_filled(rt: HostRuntime) {
     let mut heap: Heap = made(&rt, rt.alloc(), 65_535);
     assert_eq!(rt; heap.add_pool(0, 1_048_576), Ok(()));
     for number in 1..65_535 {
-        assert_eq!(rt; heap.malloc(8).map(|ptr| ptr.place()), Ok((number - 1) * 16));
+        assert_eq!(rt;
+            heap.malloc(8).map(|ptr| ptr.place()),
+            Ok((number - 1) * 16)
+        );
     }
     assert_eq!(rt; heap.malloc(8), Err(Refusal::TableFull));
     assert_eq!(rt; heap.malloc(32).map(|ptr| ptr.place()), Ok(1_048_544));

@@ -51,7 +51,7 @@ fn pool_option<'a>(alloc: Global) -> Arg<'a>
         .value_name("BYTES")
         .default_value("16777216")
         .value_parser(parser)
-        .help("Bytes of each pool, a multiple of 8 from 8 to 1073741816")
+        .help("Bytes of each pool, a multiple of 16 from 16 to 1073741808")
 }
 
 /// The option of the number of pools.

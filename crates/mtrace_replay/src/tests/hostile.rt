@@ -20,11 +20,11 @@ const TEXTS: [(Report, &[u8]); 3] = [
     ),
     (
         Report::Peak,
-        b"line 1: 0x10 is not held\nline 3: 0x20 is not held\nline 5: not a line\nlines: 6\nserved: 3\nrefused: 0\nlive: 3 bytes in 3 blocks\npeak: 3 bytes at line 6\nhigh place: 24\nfree: 8168 bytes in 2 blocks\nlargest free: 4096\nspread: 8000\n",
+        b"line 1: 0x10 is not held\nline 3: 0x20 is not held\nline 5: not a line\nlines: 6\nserved: 3\nrefused: 0\nlive: 3 bytes in 3 blocks\npeak: 3 bytes at line 6\nhigh place: 48\nfree: 8144 bytes in 2 blocks\nlargest free: 4096\nspread: 16000\n",
     ),
     (
         Report::Walk,
-        b"line 1: 0x10 is not held\nline 3: 0x20 is not held\nline 5: not a line\npool 0: 4096 bytes\n0 8 used\n8 8 used\n16 8 used\n24 4072 free\npool 4096: 4096 bytes\n4096 4096 free\n",
+        b"line 1: 0x10 is not held\nline 3: 0x20 is not held\nline 5: not a line\npool 0: 4096 bytes\n0 16 used\n16 16 used\n32 16 used\n48 4048 free\npool 4096: 4096 bytes\n4096 4096 free\n",
     ),
 ];
 

@@ -9,7 +9,8 @@ fn is_bad<H: Heaped>(alloc: Global, settings: Settings) -> bool {
 #[test]
 fn bad_settings(rt: HostRuntime) {
     let bad = [
-        Settings { pool: 12, ..SMALL },
+        Settings { pool: 8, ..SMALL },
+        Settings { pool: 24, ..SMALL },
         Settings { pool: 0, ..SMALL },
         Settings {
             pool: 1_073_741_824,
@@ -31,7 +32,7 @@ fn bad_settings(rt: HostRuntime) {
             ..SMALL
         },
         Settings {
-            pool: 1_073_741_816,
+            pool: 1_073_741_808,
             pools: 8,
             records: 8,
         },
@@ -46,12 +47,12 @@ fn bad_settings(rt: HostRuntime) {
 fn settings_at_the_limits(rt: HostRuntime) {
     let taken = [
         Settings {
-            pool: 1_073_741_816,
+            pool: 1_073_741_808,
             pools: 4,
             records: 4,
         },
         Settings {
-            pool: 8,
+            pool: 16,
             pools: 8,
             records: 8,
         },

@@ -19,7 +19,7 @@ const TOTALS: Totals = Totals {
     live_blocks: 1,
     peak_bytes: 101,
     peak_line: 3,
-    high_place: 112,
+    high_place: 128,
 };
 
 fn expect_totals<H: Heaped>(rt: &impl Abort, alloc: Global) {

@@ -18,11 +18,11 @@ const TEXTS: [(Name, &[u8]); 3] = [
     ),
     (
         Name::Peak,
-        b"line 1: not a line\nline 3: 0x2000 is not held\nline 4: half of a reallocation\nlines: 4\nserved: 1\nrefused: 0\nlive: 0 bytes in 1 blocks\npeak: 0 bytes at line 0\nhigh place: 8\nfree: 1016 bytes in 1 blocks\nlargest free: 1016\nspread: -\n",
+        b"line 1: not a line\nline 3: 0x2000 is not held\nline 4: half of a reallocation\nlines: 4\nserved: 1\nrefused: 0\nlive: 0 bytes in 1 blocks\npeak: 0 bytes at line 0\nhigh place: 16\nfree: 1008 bytes in 1 blocks\nlargest free: 1008\nspread: -\n",
     ),
     (
         Name::Walk,
-        b"line 1: not a line\nline 3: 0x2000 is not held\nline 4: half of a reallocation\npool 0: 1024 bytes\n0 8 used\n8 1016 free\n",
+        b"line 1: not a line\nline 3: 0x2000 is not held\nline 4: half of a reallocation\npool 0: 1024 bytes\n0 16 used\n16 1008 free\n",
     ),
 ];
 

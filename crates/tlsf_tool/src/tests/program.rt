@@ -39,7 +39,7 @@ fn first_leak_through_command_and_serve(rt: HostRuntime) -> Result<(), Fail> {
 #[test]
 fn full_standard_error_changes_nothing_else(rt: HostRuntime) {
     let alloc = rt.alloc();
-    let bad = Settings { pool: 12, ..SMALL };
+    let bad = Settings { pool: 24, ..SMALL };
     let mut reader = MemorySource::in_pieces(b"= Start\n", 4096);
     let mut writer = MemorySink::in_pieces(alloc, 4096);
     let mut errors = MemorySink::with_room(alloc, 4096, 5, Full::Fails);

@@ -39,7 +39,7 @@ const ROWS: [Row; 8] = [
         report: Name::Peak,
         settings: SMALL,
         log: b"= Start\n@ a + 0x10 0x64\n@ b + 0x20 0x1\n@ c - 0x10\n= End\n",
-        text: b"lines: 5\nserved: 2\nrefused: 0\nlive: 1 bytes in 1 blocks\npeak: 101 bytes at line 3\nhigh place: 112\nfree: 1016 bytes in 2 blocks\nlargest free: 912\nspread: 1108\n",
+        text: b"lines: 5\nserved: 2\nrefused: 0\nlive: 1 bytes in 1 blocks\npeak: 101 bytes at line 3\nhigh place: 128\nfree: 1008 bytes in 2 blocks\nlargest free: 896\nspread: 1267\n",
         status: 1,
     },
     Row {
@@ -47,7 +47,7 @@ const ROWS: [Row; 8] = [
         report: Name::Walk,
         settings: SMALL,
         log: b"= Start\n@ a + 0x10 0x64\n@ b + 0x20 0x1\n@ c - 0x10\n= End\n",
-        text: b"pool 0: 1024 bytes\n0 104 free\n104 8 used\n112 912 free\n",
+        text: b"pool 0: 1024 bytes\n0 112 free\n112 16 used\n128 896 free\n",
         status: 1,
     },
     Row {
@@ -55,7 +55,7 @@ const ROWS: [Row; 8] = [
         report: Name::Walk,
         settings: SMALL,
         log: b"@ a + 0x10 0x64\n@ b < 0x10\n@ b > 0x30 0xc8\n",
-        text: b"pool 0: 1024 bytes\n0 200 used\n200 824 free\n",
+        text: b"pool 0: 1024 bytes\n0 208 used\n208 816 free\n",
         status: 1,
     },
     Row {
@@ -83,7 +83,7 @@ const ROWS: [Row; 8] = [
         report: Name::Peak,
         settings: SMALL,
         log: b"+ 0x10 0\n",
-        text: b"lines: 1\nserved: 1\nrefused: 0\nlive: 0 bytes in 1 blocks\npeak: 0 bytes at line 0\nhigh place: 8\nfree: 1016 bytes in 1 blocks\nlargest free: 1016\nspread: -\n",
+        text: b"lines: 1\nserved: 1\nrefused: 0\nlive: 0 bytes in 1 blocks\npeak: 0 bytes at line 0\nhigh place: 16\nfree: 1008 bytes in 1 blocks\nlargest free: 1008\nspread: -\n",
         status: 1,
     },
     Row {
@@ -91,7 +91,7 @@ const ROWS: [Row; 8] = [
         report: Name::Peak,
         settings: TWO_POOLS,
         log: b"+ 0x10 0x40\n+ 0x20 0x8\n",
-        text: b"lines: 2\nserved: 2\nrefused: 0\nlive: 72 bytes in 2 blocks\npeak: 72 bytes at line 2\nhigh place: 72\nfree: 56 bytes in 1 blocks\nlargest free: 56\nspread: 1000\n",
+        text: b"lines: 2\nserved: 2\nrefused: 0\nlive: 72 bytes in 2 blocks\npeak: 72 bytes at line 2\nhigh place: 80\nfree: 48 bytes in 1 blocks\nlargest free: 48\nspread: 1111\n",
         status: 1,
     },
 ];

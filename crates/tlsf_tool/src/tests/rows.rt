@@ -286,7 +286,7 @@ fn longest_line(rt: HostRuntime) -> Result<(), Fail> {
 #[test]
 fn greatest_pools(rt: HostRuntime) {
     let settings = Settings {
-        pool: 1_073_741_816,
+        pool: 1_073_741_808,
         pools: 4,
         records: 5,
     };

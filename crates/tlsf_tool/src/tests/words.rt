@@ -68,10 +68,10 @@ const TAKEN: [Row; 18] = [
         log: "a.log",
     },
     Row {
-        words: &["tlsf", "peak", "--pool", "12", "-"],
+        words: &["tlsf", "peak", "--pool", "24", "-"],
         name: Name::Peak,
         settings: Settings {
-            pool: 12,
+            pool: 24,
             ..DEFAULT
         },
         log: "-",
@@ -105,16 +105,19 @@ const TAKEN: [Row; 18] = [
         log: "a.log",
     },
     Row {
-        words: &["tlsf", "leaks", "--pool", "8", "a.log"],
+        words: &["tlsf", "leaks", "--pool", "16", "a.log"],
         name: Name::Leaks,
-        settings: Settings { pool: 8, ..DEFAULT },
+        settings: Settings {
+            pool: 16,
+            ..DEFAULT
+        },
         log: "a.log",
     },
     Row {
-        words: &["tlsf", "leaks", "--pool", "1073741816", "a.log"],
+        words: &["tlsf", "leaks", "--pool", "1073741808", "a.log"],
         name: Name::Leaks,
         settings: Settings {
-            pool: 1_073_741_816,
+            pool: 1_073_741_808,
             ..DEFAULT
         },
         log: "a.log",
@@ -186,7 +189,7 @@ fn words_that_are_taken(rt: HostRuntime) -> Result<(), Fail> {
 }
 
 /// Words that ask for nothing that there is.
-const WRONG: [&[&str]; 22] = [
+const WRONG: [&[&str]; 24] = [
     &[],
     &["tlsf"],
     &["tlsf", "leaks"],
@@ -201,8 +204,10 @@ const WRONG: [&[&str]; 22] = [
     &["tlsf", "leaks", "--pool", "-8", "a"],
     &["tlsf", "leaks", "--pool", "0x40", "a"],
     &["tlsf", "leaks", "--pool=", "a"],
-    &["tlsf", "peak", "--pool", "7", "-"],
-    &["tlsf", "peak", "--pool", "1073741817", "-"],
+    &["tlsf", "peak", "--pool", "12", "-"],
+    &["tlsf", "peak", "--pool", "15", "-"],
+    &["tlsf", "peak", "--pool", "1073741809", "-"],
+    &["tlsf", "peak", "--pool", "1073741816", "-"],
     &["tlsf", "peak", "--pools", "0", "-"],
     &["tlsf", "peak", "--pools", "9", "-"],
     &["tlsf", "peak", "--records", "0", "-"],
