@@ -16,7 +16,7 @@ use Rattle.tlsf_image.specs.declared.chains.Tally.{Tally}
 use Rattle.tlsf_image.specs.declared.chains.Front.{Front}
 use Rattle.tlsf_image.specs.Image.{Parts}
 use Rattle.tlsf_image.specs.Links.{follow, is_linked}
-use Rattle.tlsf_image.specs.Rules.{present, at, is_used, is_free, is_chain, chain_of, is_below, has_record_links, has_links, covers, are_merged}
+use Rattle.tlsf_image.specs.Rules.{present, at, is_used, is_free, is_chain, chain_of, is_below, has_links_in, has_record_links, has_links, covers, are_merged}
 use Rattle.tlsf_image.specs.Findings.{chain_found, tally_with, both, front_of, is_before, with_block}
 use Rattle.tlsf_image.proofs.LinkLemmas.{linked_on, linked_not_on, linked_end, follow_none}
 
@@ -24,7 +24,7 @@ of_used : (used rest : Bool) → used ≡ true → (not used || rest) ≡ true �
 of_used true rest is e = e
 of_used false rest is e = absurd (cc)
 
-below : (count : ℕ) (link : Option ℕ) → is_below count link ≡ true → IsBelow count link
+pub below : (count : ℕ) (link : Option ℕ) → is_below count link ≡ true → IsBelow count link
 below count None e = tt
 below count (Some slot) e = ltb-true slot count e
 
@@ -138,15 +138,18 @@ module _ (parts : Parts) where
       let all : length parts.records ≡ length parts.records - 0 = omega arith in
       subst P all (first_by pool)
 
+  -- a block of the table has bytes and links of the table
+  pub record_links : has_links parts ≡ true → (slot : ℕ) → slot < length parts.records → is_used (at parts slot).state ≡ true → ((is_below (length parts.records) (at parts slot).prev && is_below (length parts.records) (next_of slot)) && has_links_in (at parts slot).state (length parts.records) (at parts slot)) ≡ true
+  record_links linked slot within used =
+      let r = at parts slot in
+      elim (cases_Bool (has_record_links (length parts.records) r)) [
+        | inl e ↦ (and_parts _ _ (of_used (is_used r.state) _ used e)).1
+        | inr e ↦ absurd (both_ways _ (list_all_at (has_record_links (length parts.records)) parts.records slot blank within e) (and_parts _ _ linked).1)
+      ]
+
   -- the block behind a block of the table is of the table
   pub next_below : has_links parts ≡ true → (slot : ℕ) → slot < length parts.records → is_used (at parts slot).state ≡ true → IsBelow (length parts.records) (next_of slot)
-  next_below linked slot within used =
-      let r = at parts slot in
-      let all = (and_parts _ _ linked).1 in
-      elim (cases_Bool (has_record_links (length parts.records) r)) [
-        | inl e ↦ below (length parts.records) r.next (and_parts _ _ (and_parts _ _ (and_parts _ _ (of_used (is_used r.state) _ used e)).1).0).1
-        | inr e ↦ absurd (both_ways _ (list_all_at (has_record_links (length parts.records)) parts.records slot blank within e) all)
-      ]
+  next_below linked slot within used = below (length parts.records) (next_of slot) (and_parts _ _ (and_parts _ _ (record_links linked slot within used)).0).1
 
   -- ---- the chains of all pools
 

@@ -1,5 +1,6 @@
 -- What is found where chains and lists are followed.
-use Rattle.std.specs.Prelude.{ℕ, ◌+◌, ◌&&◌, ◌==◌, not, Bool, true, false, List, length, Option, Some, None, if◌then◌else◌, nat_eq}
+use Rattle.std.specs.Prelude.{ℕ, ◌+◌, ◌&&◌, ◌==◌, not, Bool, true, false, List, length, Option, Some, None, if◌then◌else◌, nat_eq, ◌≡◌, ◌<◌, ◌≤◌}
+use Rattle.tlsf_class.specs.Classes.{unit, greatest_size, class}
 use Rattle.std.specs.Option.{option_eq}
 use Rattle.std.specs.List.{list_all, flat_map}
 use Rattle.tlsf_store.specs.declared.pools.Pool.{Pool}
@@ -8,7 +9,7 @@ use Rattle.tlsf_image.specs.declared.chains.Tally.{Tally}
 use Rattle.tlsf_image.specs.declared.chains.Front.{Front}
 use Rattle.tlsf_image.specs.Image.{Parts}
 use Rattle.tlsf_image.specs.Links.{follow, is_linked}
-use Rattle.tlsf_image.specs.Rules.{present, at, is_used, is_free, is_chain, chain_of, covers, are_merged}
+use Rattle.tlsf_image.specs.Rules.{present, at, is_used, is_free, is_chain, chain_of, covers, are_merged, is_list, are_lists, list_of}
 
 -- a pool's chain: how many blocks it has, whether they cover the pool, and whether no two free ones are neighbours
 abbrev pub chain_found : Parts → Pool → Option Tally
@@ -59,3 +60,23 @@ with_block front block tally = record {
 -- whether a record is of a block that this stands in front of
 abbrev pub is_before : Front → Record → Bool
 is_before front block = is_used block.state && option_eq nat_eq block.prev front.block
+
+-- the list of a class: how many blocks it has, where it is one
+abbrev pub list_found : Parts → ℕ → Option ℕ → Option ℕ
+list_found parts number first = if is_list parts number first then Some (length (list_of parts first)) else None
+
+-- the lists of the classes from this number on, where each is one, with so many blocks before
+abbrev pub lists_with : Parts → ℕ → ℕ → List (Option ℕ) → Option ℕ
+lists_with parts blocks number heads = if are_lists parts number heads then Some (blocks + length (flat_map (list_of parts) heads)) else None
+
+-- all lists, where each is one
+abbrev pub lists_found : Parts → Option ℕ
+lists_found parts = lists_with parts 0 0 parts.heads
+
+-- each block has a size that a block can have
+abbrev pub HasSizes : Parts → Type 0
+HasSizes parts = (slot : ℕ) → slot < length parts.records → is_used (at parts slot).state ≡ true → (unit ≤ (at parts slot).size) × ((at parts slot).size ≤ greatest_size)
+
+-- whether a record is of a free block of the class, behind this one in its list
+abbrev pub is_behind : Option ℕ → ℕ → Record → Bool
+is_behind before number block = (is_free block.state && (class block.size == number)) && option_eq nat_eq block.prev_free before

@@ -1,8 +1,8 @@
 //! What the rules look at: records, heads and pools, in memory or in the bytes of an image.
 
-ghost use Rattle.std.specs.Prelude.{◌≡◌, ℕ, ◌<◌, ◌≤◌, length};
-ghost use Rattle.tlsf_class.specs.Classes.{classes};
-ghost use Rattle.tlsf_store.specs.Records.{record_at, most_records};
+ghost use Rattle.std.specs.Prelude.{◌≡◌, ℕ, ◌%◌, ◌<◌, ◌≤◌, length};
+ghost use Rattle.tlsf_class.specs.Classes.{unit, classes};
+ghost use Rattle.tlsf_store.specs.Records.{record_at, most_records, IsBelow};
 ghost use Rattle.tlsf_store.specs.Cells.{head_at, pool_at, most_pools, IsPoolBelow};
 ghost use Rattle.tlsf_image.specs.Image.{Parts};
 
@@ -27,12 +27,14 @@ pub trait Table {
     fn record(&mut self, slot: Slot) -> Record
         requires { slot < length (parts self.old).records }
         ensures value { result ≡ record_at (parts self.old).records slot }
+        ensures whole { result.size % unit ≡ 0 }
         ensures same { parts self.new ≡ parts self.old }
         ensures floor { touches self.old ≤ touches self.new };
 
     /// The first block of a class's list.
     fn head(&mut self, class: Class) -> Option<Slot>
         ensures value { result ≡ head_at (parts self.old).heads class }
+        ensures below { IsBelow (length (parts self.old).records) result }
         ensures whole { length (parts self.old).heads ≡ classes }
         ensures same { parts self.new ≡ parts self.old }
         ensures floor { touches self.old ≤ touches self.new };
