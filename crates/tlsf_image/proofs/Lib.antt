@@ -1,3 +1,4 @@
 pub mod ChainLemmas
 pub mod LinkLemmas
 pub mod ListLemmas
+pub mod RecordLemmas

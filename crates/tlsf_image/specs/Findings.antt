@@ -2,14 +2,15 @@
 use Rattle.std.specs.Prelude.{ℕ, ◌+◌, ◌&&◌, ◌==◌, not, Bool, true, false, List, length, Option, Some, None, if◌then◌else◌, nat_eq, ◌≡◌, ◌<◌, ◌≤◌}
 use Rattle.tlsf_class.specs.Classes.{unit, greatest_size, class}
 use Rattle.std.specs.Option.{option_eq}
-use Rattle.std.specs.List.{list_all, flat_map}
+use Rattle.std.specs.List.{list_all, flat_map, count_by}
 use Rattle.tlsf_store.specs.declared.pools.Pool.{Pool}
 use Rattle.tlsf_store.specs.declared.records.Record.{Record}
 use Rattle.tlsf_image.specs.declared.chains.Tally.{Tally}
 use Rattle.tlsf_image.specs.declared.chains.Front.{Front}
+use Rattle.tlsf_image.specs.declared.links.Blocks.{Blocks}
 use Rattle.tlsf_image.specs.Image.{Parts}
 use Rattle.tlsf_image.specs.Links.{follow, is_linked}
-use Rattle.tlsf_image.specs.Rules.{present, at, is_used, is_free, is_chain, chain_of, covers, are_merged, is_list, are_lists, list_of}
+use Rattle.tlsf_image.specs.Rules.{present, has_record_links, has_links, at, is_used, is_free, is_chain, chain_of, covers, are_merged, is_list, are_lists, list_of}
 
 -- a pool's chain: how many blocks it has, whether they cover the pool, and whether no two free ones are neighbours
 abbrev pub chain_found : Parts → Pool → Option Tally
@@ -80,3 +81,24 @@ HasSizes parts = (slot : ℕ) → slot < length parts.records → is_used (at pa
 -- whether a record is of a free block of the class, behind this one in its list
 abbrev pub is_behind : Option ℕ → ℕ → Record → Bool
 is_behind before number block = (is_free block.state && (class block.size == number)) && option_eq nat_eq block.prev_free before
+
+-- the records from here on, where each has such links, with these before
+abbrev pub blocks_with : ℕ → Blocks → List Record → Option Blocks
+blocks_with count blocks records =
+    if list_all (has_record_links count) records
+    then Some (record { all = blocks.all + count_by (λ r. is_used r.state) records; free = blocks.free + count_by (λ r. is_free r.state) records })
+    else None
+
+-- the blocks of all records, where these and the heads have such links
+abbrev pub links_found : Parts → Option Blocks
+links_found parts =
+    if has_links parts
+    then Some (record { all = count_by (λ r. is_used r.state) parts.records; free = count_by (λ r. is_free r.state) parts.records })
+    else None
+
+-- the blocks and one record more
+abbrev pub blocks_and : Record → Blocks → Blocks
+blocks_and r blocks = record {
+  all = (if is_used r.state then blocks.all + 1 else blocks.all);
+  free = (if is_free r.state then blocks.free + 1 else blocks.free);
+}

@@ -2,6 +2,7 @@
 #![tactic(auto)]
 
 mod chains;
+mod links;
 mod lists;
 mod rule;
 mod table;

@@ -2,7 +2,7 @@
 
 ghost use Rattle.std.specs.Prelude.{◌≡◌, ℕ, ◌%◌, ◌<◌, ◌≤◌, length};
 ghost use Rattle.tlsf_class.specs.Classes.{unit, classes};
-ghost use Rattle.tlsf_store.specs.Records.{record_at, most_records, IsBelow};
+ghost use Rattle.tlsf_store.specs.Records.{record_at, most_records};
 ghost use Rattle.tlsf_store.specs.Cells.{head_at, pool_at, most_pools, IsPoolBelow};
 ghost use Rattle.tlsf_image.specs.Image.{Parts};
 
@@ -34,7 +34,6 @@ pub trait Table {
     /// The first block of a class's list.
     fn head(&mut self, class: Class) -> Option<Slot>
         ensures value { result ≡ head_at (parts self.old).heads class }
-        ensures below { IsBelow (length (parts self.old).records) result }
         ensures whole { length (parts self.old).heads ≡ classes }
         ensures same { parts self.new ≡ parts self.old }
         ensures floor { touches self.old ≤ touches self.new };
