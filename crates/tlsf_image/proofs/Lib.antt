@@ -2,3 +2,4 @@ pub mod ChainLemmas
 pub mod LinkLemmas
 pub mod ListLemmas
 pub mod RecordLemmas
+pub mod SizeLemmas

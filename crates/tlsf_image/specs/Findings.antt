@@ -1,6 +1,6 @@
 -- What is found where chains and lists are followed.
 use Rattle.std.specs.Prelude.{ℕ, ◌+◌, ◌&&◌, ◌==◌, not, Bool, true, false, List, length, Option, Some, None, if◌then◌else◌, nat_eq, ◌≡◌, ◌<◌, ◌≤◌}
-use Rattle.tlsf_class.specs.Classes.{unit, greatest_size, class}
+use Rattle.tlsf_class.specs.Classes.{greatest_size, class}
 use Rattle.std.specs.Option.{option_eq}
 use Rattle.std.specs.List.{list_all, flat_map, count_by}
 use Rattle.tlsf_store.specs.declared.pools.Pool.{Pool}
@@ -74,9 +74,9 @@ lists_with parts blocks number heads = if are_lists parts number heads then Some
 abbrev pub lists_found : Parts → Option ℕ
 lists_found parts = lists_with parts 0 0 parts.heads
 
--- each block has a size that a block can have
+-- no block has more bytes than a block can have
 abbrev pub HasSizes : Parts → Type 0
-HasSizes parts = (slot : ℕ) → slot < length parts.records → is_used (at parts slot).state ≡ true → (unit ≤ (at parts slot).size) × ((at parts slot).size ≤ greatest_size)
+HasSizes parts = (slot : ℕ) → slot < length parts.records → is_used (at parts slot).state ≡ true → (at parts slot).size ≤ greatest_size
 
 -- whether a record is of a free block of the class, behind this one in its list
 abbrev pub is_behind : Option ℕ → ℕ → Record → Bool
