@@ -1,3 +1,4 @@
+pub mod ByteLemmas
 pub mod ChainLemmas
 pub mod LinkLemmas
 pub mod ListLemmas

@@ -1,6 +1,6 @@
 -- The rules of an image, in order, each a test; and the first that is broken.
-use Rattle.std.specs.Prelude.{ℕ, ◌+◌, ◌-◌, ◌*◌, ◌%◌, ◌==◌, nat_lt, nat_le, ◌&&◌, ◌||◌, not, Bool, true, false, List, [], ◌∷◌, length, take, map, Option, Some, None, is_none, if◌then◌else◌, bytes_eq}
-use Rattle.std.specs.List.{range_with_len, list_all, list_any, filter_map}
+use Rattle.std.specs.Prelude.{ℕ, ◌+◌, ◌-◌, ◌*◌, ◌%◌, ◌==◌, nat_lt, nat_le, ◌&&◌, ◌||◌, not, Bool, true, false, List, [], ◌∷◌, length, Option, Some, None, is_none, if◌then◌else◌, nat_eq}
+use Rattle.std.specs.List.{range_with_len, list_all, list_any, filter_map, starts_with}
 use Rattle.tlsf_class.specs.Classes.{unit, classes, class}
 use Rattle.tlsf_store.specs.declared.records.State.{State}
 use Rattle.tlsf_store.specs.declared.records.State.TheVariants.{Vacant, Free, Live}
@@ -18,7 +18,7 @@ use Rattle.tlsf_image.specs.Ranges.{can_be_pool}
 
 -- 1: nothing is missing in front of the records, and the magic stands first
 abbrev pub has_magic : List ℕ → Bool
-has_magic bytes = nat_le (record_at 0) (length bytes) && bytes_eq (take 8 bytes) magic
+has_magic bytes = nat_le (record_at 0) (length bytes) && starts_with nat_eq bytes magic
 
 -- 2: there is a record, there are at most as many pools as there can be, and the records end the image
 abbrev pub has_length : List ℕ → Bool
