@@ -6,8 +6,10 @@ mod chains;
 mod header;
 mod links;
 mod lists;
+mod ranges;
 mod rule;
 mod table;
 
+pub use ranges::{END_OF_PLACES, can_be_pool};
 pub use rule::Rule;
 pub use table::Table;
