@@ -1,7 +1,7 @@
-pub mod ByteLemmas
 pub mod ChainLemmas
 pub mod LinkLemmas
 pub mod ListLemmas
 pub mod PoolLemmas
+pub mod RangeLemmas
 pub mod RecordLemmas
 pub mod SizeLemmas

@@ -4,11 +4,11 @@ ghost use Rattle.std.specs.Prelude.{◌≡◌, ◌+◌, ◌*◌, ◌<◌, ◌≤
 ghost use Rattle.tlsf_class.specs.Classes.{classes};
 ghost use Rattle.tlsf_store.specs.Cells.{most_pools};
 ghost use Rattle.tlsf_image.specs.Image.{record_at, two_at as number_at, count_at, pools_at, pool_in};
-ghost use Rattle.tlsf_image.specs.Rules.{has_magic, has_length, has_unused_pools, is_pool, has_pools};
+ghost use Rattle.tlsf_image.specs.Rules.{has_magic, has_length, has_unused_pools, is_pool, has_pools, has_state, has_states};
 
 use crate::bytes::{are_zero, four_at, two_at};
 use crate::can_be_pool;
-use tlsf_class::CLASSES;
+use tlsf_class::{CLASSES, UNIT};
 use tlsf_store::{MOST_POOLS, Pool, Slot};
 
 /// What an image begins with.
@@ -105,6 +105,31 @@ pub(crate) fn has_pools(bytes: &[u8]) -> bool
             return false;
         }
         from = u64::from(pool.base) + u64::from(pool.bytes);
+    }
+    true
+}
+
+/// Whether the record's state is vacant, free or live, and a vacant record is zero.
+fn has_state(bytes: &[u8], slot: usize) -> bool
+    requires { record_at slot + 16 ≤ length bytes.now }
+    ensures { result ≡ has_state bytes.now slot }
+{
+    let at = RECORDS_AT + RECORD_BYTES * slot;
+    match four_at(bytes, at + 4) % UNIT {
+        0 => are_zero(bytes, at, RECORD_BYTES),
+        code => code < 3,
+    }
+}
+
+/// Whether each record is such.
+pub(crate) fn has_states(bytes: &[u8]) -> bool
+    requires { record_at (number_at count_at bytes.now) ≡ length bytes.now }
+    ensures { result ≡ has_states bytes.now }
+{
+    for slot in 0..usize::from(two_at(bytes, COUNT_AT)) {
+        if !has_state(bytes, slot) {
+            return false;
+        }
     }
     true
 }
