@@ -1,2 +1,5 @@
 pub mod ChainLemmas
 pub mod LinkLemmas
+pub mod Counting
+pub mod Distinct
+pub mod Totals
