@@ -6,7 +6,7 @@ use Rattle.std.proofs.lemmas.Bool.{cases_Bool, cases_lt, and_parts, eqb-true}
 use Rattle.tlsf_image.specs.Links.{are_linked_back}
 use Rattle.tlsf_image.proofs.Counting.{one_if, times, times-cons}
 
-same_link : (one other : Option ℕ) → option_eq nat_eq one other ≡ true → one ≡ other
+pub same_link : (one other : Option ℕ) → option_eq nat_eq one other ≡ true → one ≡ other
 same_link None None e = refl
 same_link None (Some b) e = absurd (cc)
 same_link (Some a) None e = absurd (cc)

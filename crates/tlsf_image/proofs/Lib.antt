@@ -3,3 +3,4 @@ pub mod LinkLemmas
 pub mod Counting
 pub mod Distinct
 pub mod Totals
+pub mod Once

@@ -70,7 +70,7 @@ module _ (records : List Record) (test : Record → Bool) (slots : List ℕ) whe
         | inr failed ↦ omega (arith, most slot below, ap one_if failed)
       ])) ∙ all))
 
-among_any : {X : Type 0} (slots : X → List ℕ) (xs : List X) (slot : ℕ) → is_among slot (flat_map slots xs) ≡ list_any (λ x. is_among slot (slots x)) xs
+pub among_any : {X : Type 0} (slots : X → List ℕ) (xs : List X) (slot : ℕ) → is_among slot (flat_map slots xs) ≡ list_any (λ x. is_among slot (slots x)) xs
 among_any slots [] slot = refl
 among_any slots (x ∷ xs) slot = list_any-append (λ other. eqb other slot) (slots x) (flat_map slots xs) ∙ ap (λ b. is_among slot (slots x) || b) (among_any slots xs slot)
 
@@ -89,7 +89,7 @@ all_among test (other ∷ slots) all slot some = elim (cases_Bool (eqb other slo
 ]
 
 module _ (parts : Parts) where
-  abbrev is_block : ℕ → Bool
+  abbrev pub is_block : ℕ → Bool
   is_block slot = is_used (at parts slot).state
 
   pub used_below : (slot : ℕ) → is_block slot ≡ true → slot < length parts.records
@@ -98,7 +98,7 @@ module _ (parts : Parts) where
     | inr past ↦ let P : Record → Type 0 = λ r. is_used r.state ≡ true in absurd (both_ways false refl (subst P (get_or_past parts.records slot blank past) used))
   ]
 
-  not_or : (a b : Bool) → (not a || b) ≡ true → a ≡ true → b ≡ true
+  pub not_or : (a b : Bool) → (not a || b) ≡ true → a ≡ true → b ≡ true
   not_or true b e is = e
   not_or false b e is = absurd (both_ways false refl is)
 
@@ -108,7 +108,7 @@ module _ (parts : Parts) where
       let all = AllPass-from_list_all (has_record_links (length parts.records)) parts.records (and_parts _ _ linked).1 slot blank (used_below slot used) in
       ltb-true 0 (at parts slot).size (and_parts _ _ (not_or (is_block slot) _ all used)).0
 
-  chain_used : (pool : Pool) → is_chain parts pool ≡ true → list_all is_block (chain_of parts pool) ≡ true
+  pub chain_used : (pool : Pool) → is_chain parts pool ≡ true → list_all is_block (chain_of parts pool) ≡ true
   chain_used pool chain = (and_parts _ _ (and_parts _ _ chain).1).0
 
   module _ (linked : has_links parts ≡ true) where
@@ -232,13 +232,13 @@ module _ (parts : Parts) where
 
   -- ---- lists
 
-  abbrev is_listed : ℕ → ℕ → Bool
+  abbrev pub is_listed : ℕ → ℕ → Bool
   is_listed number slot = is_free (at parts slot).state && (class (at parts slot).size == number)
 
-  list_free : (number : ℕ) (first : Option ℕ) → is_list parts number first ≡ true → list_all (is_listed number) (list_of parts first) ≡ true
+  pub list_free : (number : ℕ) (first : Option ℕ) → is_list parts number first ≡ true → list_all (is_listed number) (list_of parts first) ≡ true
   list_free number first list = (and_parts _ _ (and_parts _ _ list).1).0
 
-  list_once : (number : ℕ) (first : Option ℕ) → is_list parts number first ≡ true → (slot : ℕ) → times slot (list_of parts first) ≤ 1
+  pub list_once : (number : ℕ) (first : Option ℕ) → is_list parts number first ≡ true → (slot : ℕ) → times slot (list_of parts first) ≤ 1
   list_once number first list slot = stands_once (λ slot. (at parts slot).prev_free) (list_of parts first) (and_parts _ _ (and_parts _ _ list).1).1 slot
 
   -- a block in a list is free, and of its class
