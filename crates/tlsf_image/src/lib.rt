@@ -8,8 +8,10 @@ mod links;
 mod lists;
 mod ranges;
 mod rule;
+mod rules;
 mod table;
 
 pub use ranges::{END_OF_PLACES, can_be_pool};
 pub use rule::Rule;
+pub use rules::first_broken;
 pub use table::Table;
