@@ -1,6 +1,7 @@
 pub mod ChainLemmas
 pub mod Counting
 pub mod Distinct
+pub mod ImageLemmas
 pub mod LinkLemmas
 pub mod ListLemmas
 pub mod Once

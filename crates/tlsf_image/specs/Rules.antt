@@ -1,5 +1,5 @@
 -- The rules of an image, in order, each a test; and the first that is broken.
-use Rattle.std.specs.Prelude.{ℕ, ◌+◌, ◌-◌, ◌*◌, ◌%◌, ◌==◌, nat_lt, nat_le, ◌&&◌, ◌||◌, not, Bool, true, false, List, [], ◌∷◌, length, Option, Some, None, is_none, if◌then◌else◌, nat_eq}
+use Rattle.std.specs.Prelude.{◌≡◌, ℕ, ◌+◌, ◌-◌, ◌*◌, ◌%◌, ◌==◌, nat_lt, nat_le, ◌&&◌, ◌||◌, not, Bool, true, false, List, [], ◌∷◌, length, Option, Some, None, is_none, if◌then◌else◌, nat_eq}
 use Rattle.std.specs.List.{range_with_len, list_all, list_any, filter_map, starts_with}
 use Rattle.tlsf_class.specs.Classes.{unit, classes, class}
 use Rattle.tlsf_store.specs.declared.records.State.{State}
@@ -54,6 +54,14 @@ has_state bytes slot = nat_lt (size_word bytes slot % unit) 3 && (nat_lt 0 (size
 -- 5: each record is such
 abbrev pub has_states : List ℕ → Bool
 has_states bytes = list_all (has_state bytes) (range_with_len 0 (two_at count_at bytes))
+
+-- bytes of which these rules hold
+pub record IsReadable (bytes : List ℕ) : Type 0 where
+  pub magic : has_magic bytes ≡ true
+  pub length : has_length bytes ≡ true
+  pub pools : has_pools bytes ≡ true
+  pub unused : has_unused_pools bytes ≡ true
+  pub states : has_states bytes ≡ true
 
 -- ---- of what they describe
 

@@ -4,6 +4,7 @@
 mod bytes;
 mod chains;
 mod header;
+mod image;
 mod links;
 mod lists;
 mod ranges;

@@ -1,0 +1,108 @@
+//! An image of a heap.
+
+ghost use Rattle.std.specs.Prelude.{◌≡◌, ◌+◌, ◌%◌, ◌<◌, ◌≤◌, IfErr, IfOk, None, Some, length};
+ghost use Rattle.tlsf_class.specs.Classes.{unit, classes};
+ghost use Rattle.tlsf_store.specs.Cells.{most_pools};
+ghost use Rattle.tlsf_image.specs.Image.{parts_in, link_of, state_of, record_at, record_in, head_in};
+ghost use Rattle.tlsf_image.specs.Rules.{first_broken};
+
+use crate::bytes::{four_at, two_at};
+use crate::header::{COUNT_AT, HEAD_BYTES, HEADS_AT, POOLS_AT, RECORD_BYTES, RECORDS_AT, has_length, has_magic, has_pools, has_states, has_unused_pools, pool_in};
+use crate::{Rule, Table};
+use std::marker::Model;
+use tlsf_class::{Class, UNIT};
+use tlsf_store::{Pool, Record, Slot, State};
+
+/// The word of a missing link.
+const NIL: u16 = 65_535;
+
+/// Bytes of which the rules up to that of states hold: header, pools, heads and records can be read.
+pub struct Image<'a> {
+    bytes: &'a [u8],
+}
+
+impl<'a> Model for Image<'a> {
+    ghost use Rattle.std.specs.Prelude.{List, ℕ};
+    ghost use Rattle.tlsf_image.specs.Rules.{IsReadable};
+
+    ghost Value = { List ℕ };
+
+    ghost view = { λ image. image.bytes.now };
+
+    ghost invariant = { λ image. IsReadable image.bytes.now };
+}
+
+/// The link of a word.
+fn link_of(word: u16) -> Option<Slot>
+    ensures { result ≡ link_of word }
+{
+    if word == NIL { None } else { Some(Slot(word)) }
+}
+
+/// The state of a code below 3.
+fn state_of(code: u32) -> State
+    ensures { result ≡ state_of code }
+{
+    match code {
+        0 => State::Vacant,
+        1 => State::Free,
+        _ => State::Live,
+    }
+}
+
+/// The record of a slot.
+fn record_in(bytes: &[u8], slot: Slot) -> Record
+    requires { record_at slot + 16 ≤ length bytes.now }
+    ensures value { result ≡ record_in bytes.now slot }
+    ensures whole { result.size % unit ≡ 0 }
+{
+    let at = RECORDS_AT + RECORD_BYTES * usize::from(slot.0);
+    let word = four_at(bytes, at + 4);
+    Record {
+        place: four_at(bytes, at),
+        size: word - word % UNIT,
+        state: state_of(word % UNIT),
+        prev: link_of(two_at(bytes, at + 8)),
+        next: link_of(two_at(bytes, at + 10)),
+        prev_free: link_of(two_at(bytes, at + 12)),
+        next_free: link_of(two_at(bytes, at + 14)),
+    }
+}
+
+/// The first block of the list of a class.
+fn head_in(bytes: &[u8], class: Class) -> Option<Slot>
+    requires { record_at 0 ≤ length bytes.now }
+    ensures value { result ≡ head_in bytes.now class }
+    ensures within { class < classes }
+{
+    link_of(two_at(bytes, HEADS_AT + HEAD_BYTES * class.number() as usize))
+}
+
+impl<'a> Table for Image<'a> {
+    ghost use Rattle.std.specs.Prelude.{◌≡◌, ◌<◌, ◌≤◌, length};
+    ghost use Rattle.tlsf_image.specs.Image.{parts_in};
+
+    ghost parts = { λ image. parts_in image };
+
+    ghost touches = { λ image. 0 };
+
+    fn count(&self) -> u32 {
+        u32::from(two_at(self.bytes, COUNT_AT))
+    }
+
+    fn record(&mut self, slot: Slot) -> Record {
+        record_in(self.bytes, slot)
+    }
+
+    fn head(&mut self, class: Class) -> Option<Slot> {
+        head_in(self.bytes, class)
+    }
+
+    fn pool(&mut self, number: u32) -> Option<Pool> {
+        if number < u32::from(two_at(self.bytes, POOLS_AT)) {
+            Some(pool_in(self.bytes, number as usize))
+        } else {
+            None
+        }
+    }
+}
