@@ -11,9 +11,15 @@ use Rattle.tlsf_store.specs.Records.{blank, record_at as record_of}
 use Rattle.tlsf_store.specs.Cells.{head_at as head_of, pool_at, most_pools}
 use Rattle.tlsf_image.specs.Ranges.{can_be_pool}
 use Rattle.tlsf_image.specs.Image.{two_at, count_at, pools_at, zeros_at, are_zero, record_at, record_in, head_in, pool_in, parts_in}
-use Rattle.tlsf_image.specs.Rules.{present, is_pool, are_pools, has_length, has_pools, IsReadable}
+use Rattle.tlsf_image.specs.Rules.{present, is_pool, are_pools, has_magic, has_length, has_pools, has_unused_pools, has_states, IsReadable, first_of, rules_of_parts, first_broken}
+use Rattle.tlsf_image.specs.declared.rule.Rule.{Rule}
+use Rattle.tlsf_image.specs.declared.rule.Rule.TheVariants.{Magic, Length, Pools, UnusedPools, States}
 use Rattle.tlsf_image.proofs.PoolLemmas.{pools_present}
 use Rattle.tlsf_image.proofs.SizeLemmas.{of_range}
+
+all_pass : (a b c d e : Bool) (more : List (Rule × Bool)) → a ≡ true → b ≡ true → c ≡ true → d ≡ true → e ≡ true
+    → first_of ((Magic, a) ∷ (Length, b) ∷ (Pools, c) ∷ (UnusedPools, d) ∷ (States, e) ∷ more) ≡ first_of more
+all_pass a b c d e more p q r s t = rw (p, q, r, s, t) refl
 
 module _ (bytes : List ℕ) where
   -- how many records and pools there are
@@ -68,3 +74,8 @@ module _ (bytes : List ℕ) where
       let there = firsts count 0 (map (pool_in bytes) (range_with_len 0 pools)) (subst (λ ps. are_pools count 0 ps ≡ true) (pools_present bytes (few_pools readable)) (pools_are readable)) in
       let by_number = sym (list_all-map (λ pool. nat_lt pool.first count) (pool_in bytes) (range_with_len 0 pools)) ∙ there in
       ltb-true (pool_in bytes number).first count (of_range (λ number. nat_lt (pool_in bytes number).first count) pools number within by_number)
+
+  -- of readable bytes the rules of what they describe are left
+  pub first_left : IsReadable bytes → first_broken bytes ≡ first_of (rules_of_parts (parts_in bytes))
+  first_left readable =
+      all_pass (has_magic bytes) (has_length bytes) (has_pools bytes) (has_unused_pools bytes) (has_states bytes) (rules_of_parts (parts_in bytes)) readable.magic readable.length readable.pools readable.unused readable.states

@@ -8,7 +8,7 @@ ghost use Rattle.tlsf_image.specs.Rules.{first_broken};
 
 use crate::bytes::{four_at, two_at};
 use crate::header::{COUNT_AT, HEAD_BYTES, HEADS_AT, POOLS_AT, RECORD_BYTES, RECORDS_AT, has_length, has_magic, has_pools, has_states, has_unused_pools, pool_in};
-use crate::{Rule, Table};
+use crate::{Rule, Table, first_broken};
 use std::marker::Model;
 use tlsf_class::{Class, UNIT};
 use tlsf_store::{Pool, Record, Slot, State};
@@ -17,6 +17,7 @@ use tlsf_store::{Pool, Record, Slot, State};
 const NIL: u16 = 65_535;
 
 /// Bytes of which the rules up to that of states hold: header, pools, heads and records can be read.
+#[derive(Drop)]
 pub struct Image<'a> {
     bytes: &'a [u8],
 }
@@ -30,6 +31,40 @@ impl<'a> Model for Image<'a> {
     ghost view = { λ image. image.bytes.now };
 
     ghost invariant = { λ image. IsReadable image.bytes.now };
+}
+
+impl<'a> Image<'a> {
+    /// The image that these bytes are.
+    ///
+    /// # Errors
+    ///
+    /// The first rule that the bytes break. It takes no memory; its time is linear in the bytes.
+    pub fn read(bytes: &'a [u8]) -> Result<Image<'a>, Rule>
+        ensures broken { IfErr result (λ rule. first_broken bytes.now ≡ Some rule) }
+        ensures whole { IfOk result (λ image. first_broken bytes.now ≡ None) }
+        ensures bytes { IfOk result (λ image. image ≡ bytes.now) }
+    {
+        if !has_magic(bytes) {
+            return Err(Rule::Magic);
+        }
+        if !has_length(bytes) {
+            return Err(Rule::Length);
+        }
+        if !has_pools(bytes) {
+            return Err(Rule::Pools);
+        }
+        if !has_unused_pools(bytes) {
+            return Err(Rule::UnusedPools);
+        }
+        if !has_states(bytes) {
+            return Err(Rule::States);
+        }
+        let mut image = Image { bytes };
+        match first_broken(&mut image) {
+            Some(rule) => Err(rule),
+            None => Ok(Image { bytes }),
+        }
+    }
 }
 
 /// The link of a word.

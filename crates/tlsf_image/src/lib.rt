@@ -12,6 +12,7 @@ mod rule;
 mod rules;
 mod table;
 
+pub use image::Image;
 pub use ranges::{END_OF_PLACES, can_be_pool};
 pub use rule::Rule;
 pub use rules::first_broken;
