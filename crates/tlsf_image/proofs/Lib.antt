@@ -4,3 +4,4 @@ pub mod Counting
 pub mod Distinct
 pub mod Totals
 pub mod Once
+pub mod Unbroken
