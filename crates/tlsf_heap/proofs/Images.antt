@@ -2,3 +2,6 @@
 pub mod ReadNodes
 pub mod Represented
 pub mod Standing
+pub mod FoundNodes
+pub mod Alike
+pub mod Unbroken
