@@ -13,3 +13,4 @@ pub mod Edits
 pub mod Entries
 pub mod States
 pub mod Checks
+pub mod Imaged

@@ -11,3 +11,5 @@ pub mod RecordLemmas
 pub mod RuleLemmas
 pub mod SizeLemmas
 pub mod Totals
+pub mod Unbroken
+mod Vectors

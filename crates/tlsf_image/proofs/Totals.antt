@@ -162,7 +162,7 @@ module _ (parts : Parts) where
           ]
         ]
 
-    abbrev covers_pool : Pool → Bool
+    abbrev pub covers_pool : Pool → Bool
     covers_pool pool = covers parts pool.base (pool.base + pool.bytes) (chain_of parts pool)
 
     abbrev slots_of : List Pool → List ℕ

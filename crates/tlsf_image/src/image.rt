@@ -74,16 +74,23 @@ fn link_of(word: u16) -> Option<Slot>
     if word == NIL { None } else { Some(Slot(word)) }
 }
 
-/// The state of a code below 3.
+/// The state of a block's code.
 fn state_of(code: u32) -> State
     ensures { result ≡ state_of code }
 {
-    match code {
-        0 => State::Vacant,
-        1 => State::Free,
-        _ => State::Live,
-    }
+    if code == 1 { State::Free } else { State::Live }
 }
+
+/// A vacant record.
+const VACANT: Record = Record {
+    place: 0,
+    size: 0,
+    state: State::Vacant,
+    prev: None,
+    next: None,
+    prev_free: None,
+    next_free: None,
+};
 
 /// The record of a slot.
 fn record_in(bytes: &[u8], slot: Slot) -> Record
@@ -93,6 +100,9 @@ fn record_in(bytes: &[u8], slot: Slot) -> Record
 {
     let at = RECORDS_AT + RECORD_BYTES * usize::from(slot.0);
     let word = four_at(bytes, at + 4);
+    if word % UNIT == 0 {
+        return VACANT;
+    }
     Record {
         place: four_at(bytes, at),
         size: word - word % UNIT,
