@@ -1,13 +1,11 @@
 -- What is known of a node of cells that stand: what its record says, and that its block is whole.
-use Rattle.std.proofs.Common.{◌≡◌, ℕ, ◌+◌, ◌<◌, ◌≤◌, Bool, true, false, not, ◌&&◌, eqb, List, [], ◌∷◌, length, map, refl, sym, ap, ◌∙◌, subst, arith, count_by, Option, Some, None, inl, inr}
+use Rattle.std.proofs.Common.{◌≡◌, ℕ, ◌<◌, ◌≤◌, Bool, true, false, ◌&&◌, eqb, List, [], ◌∷◌, length, map, refl, sym, ap, ◌∙◌, subst, arith, count_by, Option, inl, inr}
 use Rattle.std.proofs.lemmas.Bool.{cases_lt, and_parts, and_from, eqb-true, eq-eqb, both_ways}
 use Rattle.tlsf_class.specs.Classes.{class}
-use Rattle.tlsf_store.specs.declared.records.State.{State}
-use Rattle.tlsf_store.specs.declared.records.State.TheVariants.{Vacant, Free, Live}
+use Rattle.tlsf_store.specs.declared.records.State.TheVariants.{Free}
 use Rattle.tlsf_store.specs.declared.records.Record.{Record}
 use Rattle.tlsf_store.specs.Records.{record_at, IsBelow}
 use Rattle.tlsf_store.specs.Cells.{Cells}
-use Rattle.tlsf_image.specs.Rules.{is_used, is_free}
 use Rattle.tlsf_heap.specs.Good.{times}
 use Rattle.tlsf_heap.specs.Inner.Nodes.{Status, InUse, Listed, Loose, Node, Area, block_of, pool_of, nodes_of, list_of, has_slot, is_listed, is_listed_in}
 use Rattle.tlsf_heap.specs.Inner.Positions.{Position, filled}
@@ -19,7 +17,7 @@ use Rattle.tlsf_heap.proofs.Counts.{one_if, count-cons}
 use Rattle.tlsf_heap.proofs.Good.Calls.{IsWhole}
 use Rattle.tlsf_heap.proofs.Inner.Plugs.{count-filled}
 use Rattle.tlsf_heap.proofs.Inner.Links.{first_stands}
-use Rattle.tlsf_heap.proofs.Inner.Chains.{used_below, at_node, listed_within}
+use Rattle.tlsf_heap.proofs.Inner.Chains.{used_below, at_node}
 use Rattle.tlsf_heap.proofs.Inner.Located.{Located, located}
 use Rattle.tlsf_heap.proofs.Meaning.Covered.{covered_good, node_whole}
 
