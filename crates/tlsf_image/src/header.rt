@@ -101,7 +101,9 @@ pub(crate) fn has_pools(bytes: &[u8]) -> bool
     let mut from = 0;
     for number in 0..usize::from(two_at(bytes, POOLS_AT)) {
         let pool = pool_in(bytes, number);
-        if !is_pool(count, from, &pool) || !are_zero(bytes, ENTRIES_AT + ENTRY_BYTES * number + 10, 2) {
+        if !is_pool(count, from, &pool)
+            || !are_zero(bytes, ENTRIES_AT + ENTRY_BYTES * number + 10, 2)
+        {
             return false;
         }
         from = u64::from(pool.base) + u64::from(pool.bytes);

@@ -7,7 +7,10 @@ ghost use Rattle.tlsf_image.specs.Image.{parts_in, link_of, state_of, record_at,
 ghost use Rattle.tlsf_image.specs.Rules.{first_broken};
 
 use crate::bytes::{four_at, two_at};
-use crate::header::{COUNT_AT, HEAD_BYTES, HEADS_AT, POOLS_AT, RECORD_BYTES, RECORDS_AT, has_length, has_magic, has_pools, has_states, has_unused_pools, pool_in};
+use crate::header::{
+    COUNT_AT, HEAD_BYTES, HEADS_AT, POOLS_AT, RECORD_BYTES, RECORDS_AT, has_length, has_magic,
+    has_pools, has_states, has_unused_pools, pool_in,
+};
 use crate::{Rule, Table, first_broken};
 use std::marker::Model;
 use tlsf_class::{Class, UNIT};

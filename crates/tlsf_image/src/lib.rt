@@ -11,6 +11,8 @@ mod ranges;
 mod rule;
 mod rules;
 mod table;
+#[cfg(test)]
+mod tests;
 
 pub use image::Image;
 pub use ranges::{END_OF_PLACES, can_be_pool};
