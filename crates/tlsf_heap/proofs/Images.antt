@@ -5,3 +5,5 @@ pub mod Standing
 pub mod FoundNodes
 pub mod Alike
 pub mod Unbroken
+pub mod Saved
+pub mod Loaded

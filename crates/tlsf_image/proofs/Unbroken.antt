@@ -16,7 +16,7 @@ pub record IsUnbroken (parts : Parts) : Type 0 where
   pub lists : has_lists parts ≡ true
   pub on_lists : has_all_on_lists parts ≡ true
 
-holds_first : (holds : Bool) (rule : Rule) (rest : Option Rule) → (if holds then rest else Some rule) ≡ None → (holds ≡ true) × (rest ≡ None)
+pub holds_first : (holds : Bool) (rule : Rule) (rest : Option Rule) → (if holds then rest else Some rule) ≡ None → (holds ≡ true) × (rest ≡ None)
 holds_first true rule rest none = (refl, none)
 holds_first false rule rest none = absurd (cc)
 

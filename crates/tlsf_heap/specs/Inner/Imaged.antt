@@ -5,6 +5,7 @@ use Rattle.tlsf_store.specs.declared.records.State.TheVariants.{Live}
 use Rattle.tlsf_store.specs.declared.records.Record.{Record}
 use Rattle.tlsf_store.specs.Records.{record_at}
 use Rattle.tlsf_store.specs.Cells.{Cells, most_pools}
+use Rattle.tlsf_image.specs.Image.{parts_in}
 use Rattle.tlsf_image.specs.Rules.{present, is_used, is_free, are_pools, first_of, rules_of_parts}
 use Rattle.tlsf_heap.specs.Images.{parts_of}
 use Rattle.tlsf_heap.specs.Inner.Bitmaps.{AreBitmapsOf}
@@ -32,3 +33,11 @@ pub record AreAlike (records others : List Record) : Type 0 where
 -- no live record has a neighbour in a list
 abbrev pub LiveAlone : List Record → Type 0
 LiveAlone records = (slot : ℕ) → (record_at records slot).state ≡ Live → list_views records slot ≡ record { prev = None; next = None }
+
+-- the cells hold what the bytes of an image describe, with the bitmaps of the heads
+pub record AreLoaded (bytes : List ℕ) (cells : Cells) : Type 0 where
+  pub pools : cells.pools ≡ (parts_in bytes).pools
+  pub heads : cells.heads ≡ (parts_in bytes).heads
+  pub alike : AreAlike (parts_in bytes).records cells.records
+  pub words_count : length cells.step_words ≡ levels
+  pub bitmaps : AreBitmapsOf cells.heads cells.step_words cells.level_word
