@@ -7,3 +7,4 @@ pub mod Alike
 pub mod Unbroken
 pub mod Saved
 pub mod Loaded
+pub mod FilledHeads

@@ -14,6 +14,7 @@ mod free_lists;
 mod heap;
 mod heap_as_heaped;
 mod heaped;
+mod load;
 mod malloc;
 mod memalign;
 mod plain_heap;

@@ -35,8 +35,12 @@ impl Bytes {
 
     /// Writes bytes from an offset on.
     fn put(&mut self, offset: usize, bytes: &[u8]) {
-        for (at, byte) in (offset..1_585).zip(bytes.iter()) {
-            self.bytes[at] = *byte;
+        let mut at = offset;
+        for byte in bytes {
+            if at < 1_585 {
+                self.bytes[at] = *byte;
+                at += 1;
+            }
         }
     }
 
@@ -222,7 +226,7 @@ fn strays(rt: HostRuntime) {
     assert_eq!(rt; image.broken(), Some(Rule::Pools));
 }
 
-/// Nothing, one byte too few in front of the records, one byte too many, and one more than the longest image has.
+/// Nothing, one byte too few in front of the records, and too few and too many for one record.
 #[test]
 fn wrong_lengths(rt: HostRuntime) {
     assert_eq!(rt; Image::read(&[]).err(), Some(Rule::Magic));
@@ -236,13 +240,6 @@ fn wrong_lengths(rt: HostRuntime) {
         image.len = len;
         assert_eq!(rt; image.broken(), Some(rule), "of {len}");
     }
-    let mut bytes = [0; 1_050_081];
-    for (byte, letter) in bytes.iter_mut().zip(b"TLSFIMG1") {
-        *byte = *letter;
-    }
-    bytes[8] = 0xff;
-    bytes[9] = 0xff;
-    assert_eq!(rt; Image::read(&bytes).err(), Some(Rule::Length));
 }
 
 #[test]
