@@ -1,21 +1,11 @@
 -- How many items of a list pass a test: in parts of the list, and for several tests at once.
-use Rattle.std.proofs.Common.{◌≡◌, ℕ, ◌+◌, ◌≤◌, Bool, true, false, cond, not, ◌&&◌, ◌||◌, List, [], ◌∷◌, ◌++◌, refl, sym, ap, ◌∙◌, arith, count_by, filter, length, map, inl, inr}
-use Rattle.std.proofs.lemmas.List.Sums.{sum_by-cons, sum_by-append}
-use Rattle.std.proofs.lemmas.Bool.{cases_Bool, false≢true}
+use Rattle.std.proofs.Common.{◌≡◌, ◌+◌, ◌≤◌, Bool, true, false, not, ◌&&◌, ◌||◌, List, [], ◌∷◌, refl, ap, ◌∙◌, arith, count_by, filter, length, map, inl, inr}
+use Rattle.std.proofs.lemmas.Bool.{cases_Bool}
 use Rattle.std.specs.List.{list_any}
+pub use Rattle.tlsf_image.proofs.Counting.{one_if, count-cons, count-append, any_counts, counts_any}
 use Rattle.tlsf_heap.specs.Inner.Positions.{plug}
 
--- 1 where it is true
-abbrev pub one_if : Bool → ℕ
-one_if b = cond b 1 0
-
 module _ {X : Type 0} where
-  pub count-cons : (p : X → Bool) (x : X) (xs : List X) → count_by p (x ∷ xs) ≡ one_if (p x) + count_by p xs
-  count-cons p x xs = sum_by-cons (λ y. cond (p y) 1 0) x xs
-
-  pub count-append : (p : X → Bool) (xs ys : List X) → count_by p (xs ++ ys) ≡ count_by p xs + count_by p ys
-  count-append p xs ys = sum_by-append (λ y. cond (p y) 1 0) xs ys
-
   pub count-plug : (p : X → Bool) (front behind : List X) → count_by p (plug front behind) ≡ count_by p front + count_by p behind
   count-plug p [] behind = omega arith
   count-plug p (x ∷ front) behind = omega (arith, count-plug p front (x ∷ behind), count-cons p x behind, count-cons p x front)
@@ -123,21 +113,6 @@ count-map p f (x ∷ xs) = omega (arith, count-cons p (f x) (map f xs), count-co
 pub count_all : {X : Type 0} (xs : List X) → count_by (λ x. true) xs ≡ length xs
 count_all [] = refl
 count_all (x ∷ xs) = omega (arith, count-cons (λ y. true) x xs, count_all xs)
-
--- whether any passes, and how many do
-pub any_counts : {X : Type 0} (test : X → Bool) (xs : List X) → list_any test xs ≡ true → 1 ≤ count_by test xs
-any_counts test [] any = absurd (false≢true any)
-any_counts test (x ∷ xs) any = elim (cases_Bool (test x)) [
-  | inl passes ↦ omega (arith, count-cons test x xs, ap one_if passes)
-  | inr fails ↦ omega (arith, count-cons test x xs, any_counts test xs (sym (ap (λ b. b || list_any test xs) fails) ∙ any))
-]
-
-pub counts_any : {X : Type 0} (test : X → Bool) (xs : List X) → 1 ≤ count_by test xs → list_any test xs ≡ true
-counts_any test [] some = absurd (omega (arith, some))
-counts_any test (x ∷ xs) some = elim (cases_Bool (test x)) [
-  | inl passes ↦ ap (λ b. b || list_any test xs) passes
-  | inr fails ↦ ap (λ b. b || list_any test xs) fails ∙ counts_any test xs (omega (arith, some, count-cons test x xs, ap one_if fails))
-]
 
 pub any-map : {X Y : Type 0} (test : Y → Bool) (f : X → Y) (xs : List X) → list_any test (map f xs) ≡ list_any (λ x. test (f x)) xs
 any-map test f [] = refl

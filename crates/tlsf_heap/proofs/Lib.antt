@@ -6,5 +6,6 @@ pub mod Bits
 pub mod Inner
 pub mod Meaning
 pub mod Plain
+pub mod Images
 pub mod RunSteps
 mod Rows

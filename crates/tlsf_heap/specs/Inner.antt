@@ -13,3 +13,5 @@ pub mod Edits
 pub mod Entries
 pub mod States
 pub mod Checks
+pub mod Loading
+pub mod Imaged

@@ -21,3 +21,4 @@ pub mod Bare
 pub mod PlainHeap
 pub mod Implied
 pub mod Inner
+pub mod Images

@@ -1,18 +1,15 @@
 -- create, add_pool and remove_pool.
-use Rattle.std.specs.Prelude.{ℕ, ◌+◌, ◌%◌, ◌^◌, Bool, not, ◌&&◌, ◌||◌, List, [], ◌∷◌, length, replicate, filter, find, Option, Some, None, Result, Ok, Err, if◌then◌else◌, ◌==◌, nat_lt, nat_le}
+use Rattle.std.specs.Prelude.{ℕ, ◌+◌, Bool, not, ◌&&◌, ◌||◌, List, [], ◌∷◌, length, replicate, filter, find, Option, Some, None, Result, Ok, Err, if◌then◌else◌, ◌==◌, nat_lt, nat_le}
 use Rattle.std.specs.List.{list_all}
 use Rattle.tlsf_heap.specs.declared.refusal.Refusal.{Refusal}
 use Rattle.tlsf_heap.specs.declared.refusal.Refusal.TheVariants.{BadPool, PoolsFull, TableFull, NoPool, PoolInUse}
-use Rattle.tlsf_class.specs.Classes.{unit, classes, greatest_size}
+use Rattle.tlsf_class.specs.Classes.{classes}
 pub use Rattle.tlsf_store.specs.Records.{most_records}
 pub use Rattle.tlsf_store.specs.Cells.{most_pools}
+pub use Rattle.tlsf_image.specs.Ranges.{end_of_places, can_be_pool}
 use Rattle.tlsf_heap.specs.Content.{Pool, Content, is_free, used_records}
 use Rattle.tlsf_heap.specs.Lists.{link, unlink}
 use Rattle.tlsf_heap.specs.Malloc.{gap}
-
--- no pool ends above this place
-abbrev pub end_of_places : ℕ
-end_of_places = 2 ^ 32
 
 -- a heap of so many records, with no pool
 abbrev pub created : {A : Type 0} → ℕ → Content A
@@ -21,11 +18,6 @@ created records = record { records = records; pools = []; lists = replicate clas
 -- whether the bytes from base on lie before or behind the pool
 abbrev pub is_apart : {A : Type 0} → ℕ → ℕ → Pool A → Bool
 is_apart base bytes pool = nat_le (base + bytes) pool.base || nat_le (pool.base + pool.bytes) base
-
--- whether base and bytes can be those of a pool
-abbrev pub can_be_pool : ℕ → ℕ → Bool
-can_be_pool base bytes =
-    (base % unit == 0) && ((bytes % unit == 0) && (nat_le unit bytes && (nat_le bytes greatest_size && nat_le (base + bytes) end_of_places)))
 
 -- the pool stands before the first one that begins behind it
 abbrev pub in_order_of_base : {A : Type 0} → Pool A → List (Pool A) → List (Pool A)

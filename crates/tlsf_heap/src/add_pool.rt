@@ -18,9 +18,9 @@ use crate::Refusal;
 use crate::entries::{entries, is_apart, place_for, set_entries};
 use crate::free_lists::link;
 use crate::pool_entry::PoolEntry;
-use crate::pools::can_be_pool;
 use arrayvec::ArrayVec;
 use tlsf_class::class_of;
+use tlsf_image::can_be_pool;
 use tlsf_store::{MOST_POOLS, Record, Slot, State, Store};
 
 /// A pool of `bytes` bytes from the place `base` on enters the store, as one free block. At most 29

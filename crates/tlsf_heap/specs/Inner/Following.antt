@@ -1,10 +1,11 @@
 -- The content that cells stand for, by following the links of their records; and when they stand.
-use Rattle.std.specs.Prelude.{◌≡◌, ℕ, zero, suc, List, [], ◌∷◌, length, map, count_by, Option, Some, None}
+use Rattle.std.specs.Prelude.{◌≡◌, ℕ, List, [], length, map, count_by, Option, Some, None}
 use Rattle.tlsf_store.specs.declared.records.State.{State}
 use Rattle.tlsf_store.specs.declared.records.State.TheVariants.{Vacant, Free, Live}
 use Rattle.tlsf_store.specs.declared.records.Record.{Record}
 use Rattle.tlsf_store.specs.Records.{record_at}
 use Rattle.tlsf_store.specs.Cells.{Cells}
+pub use Rattle.tlsf_image.specs.Links.{follow, chain_from, list_from}
 use Rattle.tlsf_heap.specs.declared.pool_entry.PoolEntry.{PoolEntry}
 use Rattle.tlsf_heap.specs.Content.{Block, Pool, Content}
 use Rattle.tlsf_heap.specs.Good.{IsGood}
@@ -12,19 +13,6 @@ use Rattle.tlsf_heap.specs.Inner.Entries.{entries_of}
 use Rattle.tlsf_heap.specs.Inner.Nodes.{Layout, content_by, nodes_of}
 use Rattle.tlsf_heap.specs.Inner.Joined.{is_loose}
 use Rattle.tlsf_heap.specs.Inner.Represents.{Represents}
-
--- what the links give from a slot on, if there is one, for at most so many slots
-abbrev pub follow : ℕ → (ℕ → Option ℕ) → Option ℕ → List ℕ
-follow zero next first = []
-follow (suc n) next None = []
-follow (suc n) next (Some slot) = slot ∷ follow n next (next slot)
-
--- the slots from one on in its pool, and in its list
-abbrev pub chain_from : List Record → Option ℕ → List ℕ
-chain_from records first = follow (length records) (λ slot. (record_at records slot).next) first
-
-abbrev pub list_from : List Record → Option ℕ → List ℕ
-list_from records first = follow (length records) (λ slot. (record_at records slot).next_free) first
 
 -- a live block is known by its slot
 abbrev pub owner_in : State → ℕ → Option ℕ
@@ -42,13 +30,17 @@ block_at records slot =
 abbrev pub pool_from : List Record → PoolEntry → Pool ℕ
 pool_from records entry = record { base = entry.base; bytes = entry.bytes; blocks = map (block_at records) (chain_from records (Some entry.first)) }
 
+-- the content of records, entries and heads
+abbrev pub content_from : List Record → List PoolEntry → List (Option ℕ) → Content ℕ
+content_from records entries heads = record {
+  records = length records;
+  pools = map (pool_from records) entries;
+  lists = map (λ first. map (λ slot. (record_at records slot).place) (list_from records first)) heads;
+}
+
 -- the content that cells stand for
 unfoldable pub content_of : Cells → Content ℕ
-content_of cells = record {
-  records = length cells.records;
-  pools = map (pool_from cells.records) (entries_of cells.pools);
-  lists = map (λ first. map (λ slot. (record_at cells.records slot).place) (list_from cells.records first)) cells.heads;
-}
+content_of cells = content_from cells.records (entries_of cells.pools) cells.heads
 
 -- the cells represent a layout with no loose node, for which nothing is taken and whose content is good
 pub record Stands (cells : Cells) : Type 0 where

@@ -4,12 +4,12 @@ use super::malloc::allocate;
 use super::memalign::carve;
 use super::realloc::resize;
 use crate::memalign::is_alignment;
-use crate::pools::can_be_pool;
 use crate::{Cursor, Heaped, Ptr, Refusal, Row};
 use arrayvec::ArrayVec;
 use std::alloc::Global;
 use std::marker::Model;
 use tlsf_class::round;
+use tlsf_image::can_be_pool;
 use tlsf_store::{MOST_POOLS, MOST_RECORDS, StoreError};
 
 /// A heap of plain lists: its pools in order of base, each with its blocks, and the free list of each

@@ -1,7 +1,7 @@
-//! What a pool can be.
+//! Where a pool can be.
 
 ghost use Rattle.std.specs.Prelude.{◌≡◌};
-ghost use Rattle.tlsf_heap.specs.Pools.{can_be_pool as can_be};
+ghost use Rattle.tlsf_image.specs.Ranges.{can_be_pool as can_be};
 
 use tlsf_class::GREATEST_SIZE;
 
@@ -13,8 +13,8 @@ const UNIT: u64 = tlsf_class::UNIT as u64;
 
 const GREATEST_POOL: u64 = GREATEST_SIZE as u64;
 
-/// Whether base and bytes can be those of a pool.
-pub(crate) fn can_be_pool(base: u64, bytes: u64) -> bool
+/// Whether base and bytes, in bytes, can be those of a pool.
+pub fn can_be_pool(base: u64, bytes: u64) -> bool
     ensures { result ≡ can_be base bytes }
 {
     base % UNIT == 0

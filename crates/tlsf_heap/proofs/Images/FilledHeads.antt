@@ -1,0 +1,60 @@
+-- Heads that enter cells one after the other.
+use Rattle.std.proofs.Common.{◌≡◌, ℕ, ◌+◌, ◌<◌, ◌≤◌, ◌/◌, List, length, sym, ap, ◌∙◌, subst, arith, Option, Some, None, inl, inr, set}
+use Rattle.std.proofs.lemmas.Bool.{cases_lt}
+use Rattle.std.proofs.lemmas.List.{ext_get_or, get_or-set_same, get_or-set_other, length-set}
+use Rattle.tlsf_class.specs.Classes.{classes, levels, steps}
+use Rattle.tlsf_store.specs.Cells.{Cells, head_at, with_head}
+use Rattle.tlsf_heap.specs.Inner.Edits.{with_class_bit}
+use Rattle.tlsf_heap.specs.Inner.Loading.{HasNoHeads, HasHeadsBelow}
+use Rattle.tlsf_heap.proofs.Bits.Edits.{bits_set}
+
+module _ (heads : List (Option ℕ)) (old : Cells) where
+  pub heads_none : HasNoHeads old → HasHeadsBelow heads old 0 old
+  heads_none none = record {
+    records = λ i. old.records;
+    pools = λ i. old.pools;
+    heads_count = none.heads_count;
+    words_count = none.words_count;
+    bitmaps = none.bitmaps;
+    done = λ k below. absurd (omega (arith, below));
+    left = λ k above within. none.none k within;
+  }
+
+  module _ (number : ℕ) (cells : Cells) (within : number < classes) (so_far : HasHeadsBelow heads old number cells) where
+    -- one head more
+    pub heads_on : (first : ℕ) → head_at heads number ≡ Some first → HasHeadsBelow heads old (number + 1) (with_class_bit number (with_head cells number (Some first)))
+    heads_on first is = record {
+      records = so_far.records;
+      pools = so_far.pools;
+      heads_count = length-set cells.heads number (Some first) ∙ so_far.heads_count;
+      words_count = length-set cells.step_words (number / steps) _ ∙ so_far.words_count;
+      bitmaps = bits_set cells.heads cells.step_words cells.level_word number so_far.heads_count so_far.words_count within so_far.bitmaps first;
+      done = λ k below. elim (cases_lt k number) [
+        | inl before ↦ get_or-set_other cells.heads number k (Some first) None (λ e. omega (arith, before, e)) ∙ so_far.done k before
+        | inr after ↦
+            let same : number ≡ k = omega (arith, after, below) in
+            subst (λ n. head_at (set cells.heads number (Some first)) n ≡ head_at heads n) same (get_or-set_same cells.heads number (Some first) None (omega (arith, within, so_far.heads_count)) ∙ sym is)
+      ];
+      left = λ k above below. get_or-set_other cells.heads number k (Some first) None (λ e. omega (arith, above, e)) ∙ so_far.left k (omega (arith, above)) below;
+    }
+
+    -- a class without a block
+    pub heads_off : head_at heads number ≡ None → HasHeadsBelow heads old (number + 1) cells
+    heads_off is = record {
+      records = so_far.records;
+      pools = so_far.pools;
+      heads_count = so_far.heads_count;
+      words_count = so_far.words_count;
+      bitmaps = so_far.bitmaps;
+      done = λ k below. elim (cases_lt k number) [
+        | inl before ↦ so_far.done k before
+        | inr after ↦
+            let same : number ≡ k = omega (arith, after, below) in
+            subst (λ n. head_at cells.heads n ≡ head_at heads n) same (so_far.left number (omega arith) within ∙ sym is)
+      ];
+      left = λ k above below. so_far.left k (omega (arith, above)) below;
+    }
+
+  -- all heads are there
+  pub heads_all : (number : ℕ) (cells : Cells) → classes ≤ number → length heads ≡ classes → HasHeadsBelow heads old number cells → cells.heads ≡ heads
+  heads_all number cells all count so_far = ext_get_or None cells.heads heads (omega (arith, so_far.heads_count, count)) (λ k within. so_far.done k (omega (arith, within, all, so_far.heads_count)))

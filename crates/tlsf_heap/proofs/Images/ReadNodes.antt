@@ -1,0 +1,114 @@
+-- Nodes read from records: linked slots are linked nodes, and the nodes of the chains are those of all areas.
+use Rattle.std.proofs.Common.{◌≡◌, ℕ, zero, suc, Bool, true, false, List, [], ◌∷◌, ◌++◌, length, map, refl, sym, ap, ◌∙◌, count_by, Option, Some, None}
+use Rattle.std.specs.List.{flat_map, AllByRecursion, list_all}
+use Rattle.std.specs.Prelude.{is_none}
+use Rattle.std.proofs.lemmas.Bool.{both_ways}
+use Rattle.std.proofs.lemmas.List.{map-append}
+use Rattle.tlsf_store.specs.declared.records.State.{State}
+use Rattle.tlsf_store.specs.declared.records.State.TheVariants.{Vacant, Free, Live}
+use Rattle.tlsf_store.specs.declared.records.Record.{Record}
+use Rattle.tlsf_store.specs.declared.pools.Pool.{Pool as StoredPool}
+use Rattle.tlsf_store.specs.Records.{record_at}
+use Rattle.tlsf_store.specs.Cells.{Cells}
+use Rattle.tlsf_image.specs.Image.{Parts}
+use Rattle.tlsf_image.specs.Links.{follow, ends_within, is_linked}
+use Rattle.tlsf_image.specs.Rules.{present, at, is_used, is_free as is_free_state, is_chain, chain_of, list_of as listed_of}
+use Rattle.tlsf_image.proofs.Counting.{times}
+use Rattle.tlsf_image.proofs.Totals.{all_first, all_rest}
+use Rattle.tlsf_image.proofs.Once.{linked_step, linked_ends}
+use Rattle.tlsf_heap.specs.Images.{parts_of}
+use Rattle.tlsf_heap.specs.Inner.Entries.{entry_in, entries_of}
+use Rattle.tlsf_heap.specs.Inner.Nodes.{Status, InUse, Listed, Node, Area, Layout, nodes_of, has_slot, is_listed, owner_of}
+use Rattle.tlsf_heap.specs.Inner.Represents.{in_pool, pool_views, state_of, first_slot, AreLinked, IsChain}
+use Rattle.tlsf_heap.proofs.Counts.{count-map}
+
+-- the status of a block in this state
+abbrev pub status_in : State → Status
+status_in Vacant = InUse
+status_in Free = Listed
+status_in Live = InUse
+
+-- the node of a slot
+abbrev pub node_at : List Record → ℕ → Node
+node_at records slot =
+    let r = record_at records slot in
+    record { slot = slot; place = r.place; size = r.size; status = status_in r.state }
+
+-- the area of a pool
+abbrev pub area_from : Parts → StoredPool → Area
+area_from parts pool = record { entry = entry_in pool; nodes = map (node_at parts.records) (chain_of parts pool) }
+
+-- the layout that cells have by their links
+abbrev pub layout_of : Cells → Layout
+layout_of cells = record {
+  count = length cells.records;
+  areas = map (area_from (parts_of cells)) (present cells.pools);
+  lists = map (λ first. map (node_at cells.records) (listed_of (parts_of cells) first)) cells.heads;
+  taken = [];
+}
+
+pub status_state : (state : State) → is_used state ≡ true → state_of (status_in state) ≡ state
+status_state Vacant used = absurd (both_ways false refl used)
+status_state Free used = refl
+status_state Live used = refl
+
+pub status_listed : (state : State) → is_listed (status_in state) ≡ is_free_state state
+status_listed Vacant = refl
+status_listed Free = refl
+status_listed Live = refl
+
+pub status_free : (state : State) (slot : ℕ) → is_none (owner_of (status_in state) slot) ≡ is_free_state state
+status_free Vacant slot = refl
+status_free Free slot = refl
+status_free Live slot = refl
+
+module _ (records : List Record) where
+  pub first_followed : (n : ℕ) (next : ℕ → Option ℕ) (first : Option ℕ) → ends_within n next first ≡ true → first_slot (map (node_at records) (follow n next first)) ≡ first
+  first_followed zero next None ends = refl
+  first_followed zero next (Some slot) ends = absurd (both_ways false refl ends)
+  first_followed (suc n) next None ends = refl
+  first_followed (suc n) next (Some slot) ends = refl
+
+  -- slots that are linked give nodes that are
+  pub linked_followed : {V : Type 0} (says : Option ℕ → Node → Option ℕ → V) (at : ℕ → V) (test : ℕ → Bool) (next back : ℕ → Option ℕ) → ((slot : ℕ) → test slot ≡ true → at slot ≡ says (back slot) (node_at records slot) (next slot))
+      → (n : ℕ) (before first : Option ℕ) → is_linked test next back n before first ≡ true → AreLinked says at before (map (node_at records) (follow n next first))
+  linked_followed says at test next back tells zero before None linked = tt
+  linked_followed says at test next back tells zero before (Some slot) linked = tt
+  linked_followed says at test next back tells (suc n) before None linked = tt
+  linked_followed says at test next back tells (suc n) before (Some slot) linked =
+      let step = linked_step test next back n before slot linked in
+      let behind = first_followed n next (next slot) (linked_ends test next back n (Some slot) (next slot) step.rest) in (
+        tells slot step.passes ∙ ap (λ prev. says prev (node_at records slot) (next slot)) step.back_is ∙ ap (says before (node_at records slot)) (sym behind),
+        linked_followed says at test next back tells n (Some slot) (next slot) step.rest,
+      )
+
+  pub count_slots : (slot : ℕ) (slots : List ℕ) → count_by (has_slot slot) (map (node_at records) slots) ≡ times slot slots
+  count_slots slot slots = count-map (has_slot slot) (node_at records) slots
+
+module _ (parts : Parts) where
+  pub nodes_of_areas : (pools : List StoredPool) → nodes_of (map (area_from parts) pools) ≡ map (node_at parts.records) (flat_map (chain_of parts) pools)
+  nodes_of_areas [] = refl
+  nodes_of_areas (pool ∷ pools) =
+      ap (λ nodes. map (node_at parts.records) (chain_of parts pool) ++ nodes) (nodes_of_areas pools)
+      ∙ sym (map-append (node_at parts.records) (chain_of parts pool) (flat_map (chain_of parts) pools))
+
+  chain_says : (slot : ℕ) → is_used (at parts slot).state ≡ true → pool_views parts.records slot ≡ in_pool (at parts slot).prev (node_at parts.records slot) (at parts slot).next
+  chain_says slot used = let r = at parts slot in λ i. record { place = r.place; size = r.size; state = sym (status_state r.state used) i; prev = r.prev; next = r.next }
+
+  -- the chain of each pool is one of nodes
+  pub chains_are : (pools : List StoredPool) → list_all (is_chain parts) pools ≡ true → AllByRecursion (IsChain (pool_views parts.records)) (map (area_from parts) pools)
+  chains_are [] all = tt
+  chains_are (pool ∷ pools) all = (
+    record {
+      begins = first_followed parts.records (length parts.records) (λ slot. (at parts slot).next) (Some pool.first)
+          (linked_ends (λ slot. is_used (at parts slot).state) (λ slot. (at parts slot).next) (λ slot. (at parts slot).prev) (length parts.records) None (Some pool.first) (all_first (is_chain parts) pool pools all));
+      linked = linked_followed parts.records in_pool (pool_views parts.records) (λ slot. is_used (at parts slot).state) (λ slot. (at parts slot).next) (λ slot. (at parts slot).prev) chain_says (length parts.records) None (Some pool.first)
+          (all_first (is_chain parts) pool pools all);
+    },
+    chains_are pools (all_rest (is_chain parts) pool pools all),
+  )
+
+  pub entries_are : (pools : List (Option StoredPool)) → map (λ (area : Area). area.entry) (map (area_from parts) (present pools)) ≡ entries_of pools
+  entries_are [] = refl
+  entries_are (None ∷ pools) = entries_are pools
+  entries_are (Some pool ∷ pools) = ap (λ entries. entry_in pool ∷ entries) (entries_are pools)

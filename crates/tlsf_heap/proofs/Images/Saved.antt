@@ -1,0 +1,26 @@
+-- What an image tells of cells that stand: it breaks no rule, and describes their content.
+use Rattle.std.proofs.Common.{◌≡◌, true, List, length, refl, ◌∙◌, None}
+use Rattle.tlsf_store.specs.declared.records.Record.{Record}
+use Rattle.tlsf_store.specs.Cells.{Cells}
+use Rattle.tlsf_image.specs.Rules.{present, are_pools, first_of, rules_of_parts}
+use Rattle.tlsf_image.proofs.Unbroken.{none_broken}
+use Rattle.tlsf_heap.specs.Images.{parts_of}
+use Rattle.tlsf_heap.specs.Inner.Entries.{entries_of}
+use Rattle.tlsf_heap.specs.Inner.Following.{content_from, content_of, Stands}
+use Rattle.tlsf_heap.specs.Inner.Imaged.{AreAlike, LiveAlone}
+use Rattle.tlsf_heap.proofs.Images.Alike.{alike_stand, alike_content}
+use Rattle.tlsf_heap.proofs.Images.Unbroken.{stand_unbroken, pools_ordered}
+
+module _ (cells : Cells) (stands : Stands cells) (others : List Record) (alike : AreAlike cells.records others) where
+  pub saved_unbroken : LiveAlone others → first_of (rules_of_parts (parts_of (record cells { records = others }))) ≡ None
+  saved_unbroken alone = none_broken (parts_of (record cells { records = others })) (stand_unbroken (record cells { records = others }) (alike_stand cells others alike stands) alone)
+
+  pub saved_ordered : are_pools (length others) 0 (present cells.pools) ≡ true
+  saved_ordered = pools_ordered (record cells { records = others }) (alike_stand cells others alike stands)
+
+  content_read : content_from others (entries_of cells.pools) cells.heads ≡ content_of (record cells { records = others })
+  unfolding content_of
+  content_read = refl
+
+  pub saved_content : content_from others (entries_of cells.pools) cells.heads ≡ content_of cells
+  saved_content = content_read ∙ alike_content cells others alike stands

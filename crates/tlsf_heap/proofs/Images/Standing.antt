@@ -1,0 +1,150 @@
+-- Cells whose parts break no rule stand.
+use Rattle.std.proofs.Common.{◌≡◌, ℕ, ◌+◌, ◌-◌, ◌≤◌, ◌%◌, Bool, true, false, not, ◌&&◌, eqb, List, [], ◌∷◌, length, map, refl, sym, ap, ◌∙◌, subst, arith, count_by, replicate, Option, Some, None}
+use Rattle.std.specs.Prelude.{IsTrue, nat_le, nat_lt, is_none}
+use Rattle.std.specs.List.{list_all, flat_map}
+use Rattle.std.proofs.lemmas.Bool.{and_parts, eqb-true, leb-true}
+use Rattle.std.proofs.lemmas.List.{get_or-map, length-map, length-append}
+use Rattle.tlsf_class.specs.Classes.{unit, class, greatest_size}
+use Rattle.tlsf_store.specs.declared.records.State.{State}
+use Rattle.tlsf_store.specs.declared.records.State.TheVariants.{Vacant, Free, Live}
+use Rattle.tlsf_store.specs.declared.pools.Pool.{Pool as StoredPool}
+use Rattle.tlsf_store.specs.Cells.{Cells, most_pools}
+use Rattle.tlsf_image.specs.Image.{Parts}
+use Rattle.tlsf_image.specs.Ranges.{end_of_places, can_be_pool}
+use Rattle.tlsf_image.specs.Rules.{present, at, is_free as is_state_free, is_pool, are_pools, is_chain, chain_of, covers, are_merged, list_of as listed_of}
+use Rattle.tlsf_image.proofs.Totals.{all_first, all_rest, is_block, has_bytes, chain_used, begins_at, covered_rest, covers_pool}
+use Rattle.tlsf_image.proofs.Unbroken.{IsUnbroken, unbroken}
+use Rattle.tlsf_heap.specs.Images.{parts_of}
+use Rattle.tlsf_heap.specs.declared.pool_entry.PoolEntry.{PoolEntry}
+use Rattle.tlsf_heap.specs.Content.{blocks_of}
+use Rattle.tlsf_heap.specs.Good.{Covers, NoFreeNeighbours, AreGoodPools, times, is_listed, AreLists, IsGood}
+use Rattle.tlsf_heap.specs.Inner.Entries.{pool_in, entries_of}
+use Rattle.tlsf_heap.specs.Inner.Nodes.{Node, Area, block_of, pool_of, owner_of, content_by, nodes_of, list_of, has_place, is_listed as is_listed_status, is_listed_in}
+use Rattle.tlsf_heap.specs.Inner.Joined.{is_loose}
+use Rattle.tlsf_heap.specs.Inner.Following.{Stands}
+use Rattle.tlsf_heap.specs.Inner.Imaged.{AreImaged}
+use Rattle.tlsf_heap.proofs.Counts.{one_if, count-cons, count-map, count_same}
+use Rattle.tlsf_heap.proofs.Inner.Sums.{all_records}
+use Rattle.tlsf_heap.proofs.Meaning.Places.{blocks_of_areas}
+use Rattle.tlsf_heap.proofs.Images.ReadNodes.{status_in, node_at, area_from, layout_of, status_free, nodes_of_areas, entries_are}
+use Rattle.tlsf_heap.proofs.Images.Represented.{represents, agreed}
+
+module _ (cells : Cells) (imaged : AreImaged cells) where
+  abbrev parts : Parts
+  parts = parts_of cells
+
+  abbrev node : ℕ → Node
+  node slot = node_at cells.records slot
+
+  rules : IsUnbroken parts
+  rules = unbroken parts imaged.unbroken
+
+  covered : (slots : List ℕ) (from to : ℕ) → list_all (is_block parts) slots ≡ true → covers parts from to slots ≡ true → Covers from to (map block_of (map node slots))
+  covered [] from to used is = eqb-true from to is
+  covered (slot ∷ slots) from to used is = (
+    begins_at parts rules.links from to slot slots is,
+    has_bytes parts rules.links slot (all_first (is_block parts) slot slots used),
+    imaged.in_units slot,
+    covered slots (from + (at parts slot).size) to (all_rest (is_block parts) slot slots used) (covered_rest parts rules.links from to slot slots is),
+  )
+
+  merged : (after : Bool) (slots : List ℕ) → are_merged parts after slots ≡ true → NoFreeNeighbours after (map block_of (map node slots))
+  merged after [] is = tt
+  merged after (slot ∷ slots) is =
+      let both = and_parts (not (after && is_state_free (at parts slot).state)) (are_merged parts (is_state_free (at parts slot).state) slots) is in
+      let free = sym (status_free (at parts slot).state slot) in
+      let P : Bool → Type 0 = λ b. IsTrue (not (after && b)) in
+      let Q : Bool → Type 0 = λ b. NoFreeNeighbours b (map block_of (map node slots)) in
+      (subst P free both.0, subst Q free (merged (is_state_free (at parts slot).state) slots both.1))
+
+  abbrev is_merged_pool : StoredPool → Bool
+  is_merged_pool pool = are_merged parts false (chain_of parts pool)
+
+  good_pools : (count from : ℕ) (pools : List StoredPool) → are_pools count from pools ≡ true → list_all (is_chain parts) pools ≡ true → list_all (covers_pool parts rules.links) pools ≡ true → list_all is_merged_pool pools ≡ true
+      → AreGoodPools from (map pool_of (map (area_from parts) pools))
+  good_pools count from [] ordered chains cover merges = tt
+  good_pools count from (pool ∷ pools) ordered chains cover merges =
+      let both = and_parts (is_pool count from pool) (are_pools count (pool.base + pool.bytes) pools) ordered in
+      let here = and_parts (can_be_pool pool.base pool.bytes) _ both.0 in
+      let base = and_parts (eqb (pool.base % unit) 0) _ here.0 in
+      let bytes = and_parts (eqb (pool.bytes % unit) 0) _ base.1 in
+      let least = and_parts (nat_le unit pool.bytes) _ bytes.1 in
+      let most = and_parts (nat_le pool.bytes greatest_size) (nat_le (pool.base + pool.bytes) end_of_places) least.1 in (
+        leb-true from pool.base (and_parts (nat_le from pool.base) (nat_lt pool.first count) here.1).0,
+        record {
+          base_in_units = eqb-true (pool.base % unit) 0 base.0;
+          bytes_in_units = eqb-true (pool.bytes % unit) 0 bytes.0;
+          least_bytes = leb-true unit pool.bytes least.0;
+          most_bytes = leb-true pool.bytes greatest_size most.0;
+          ends = leb-true (pool.base + pool.bytes) end_of_places most.1;
+          covered = covered (chain_of parts pool) pool.base (pool.base + pool.bytes) (chain_used parts pool (all_first (is_chain parts) pool pools chains)) (all_first (covers_pool parts rules.links) pool pools cover);
+          merged = merged false (chain_of parts pool) (all_first is_merged_pool pool pools merges);
+        },
+        good_pools count (pool.base + pool.bytes) pools both.1 (all_rest (is_chain parts) pool pools chains) (all_rest (covers_pool parts rules.links) pool pools cover) (all_rest is_merged_pool pool pools merges),
+      )
+
+  -- a free block of a class at a place, by its node and by its block
+  alike : (state : State) (slot place size : ℕ) (of_class here : Bool) → (is_none (owner_of (status_in state) slot) && (here && of_class)) ≡ ((is_listed_status (status_in state) && of_class) && here)
+  alike Vacant slot place size of_class here = refl
+  alike Live slot place size of_class here = refl
+  alike Free slot place size true true = refl
+  alike Free slot place size true false = refl
+  alike Free slot place size false true = refl
+  alike Free slot place size false false = refl
+
+  listed : AreLists (blocks_of (map pool_of (layout_of cells).areas)) (map (map (λ n. n.place)) (layout_of cells).lists)
+  listed number place below =
+      let layout = layout_of cells in
+      let chained = flat_map (chain_of parts) (present cells.pools) in
+      let in_list : Node → Bool = λ n. is_listed_in number n && has_place place n in
+      let in_pools : Node → Bool = λ n. is_listed number place (block_of n) in
+      ap (times place) (get_or-map (map (λ (n : Node). n.place)) layout.lists number [] [] (omega (arith, below, imaged.heads_count, length-map cells.heads (λ first. map node (listed_of parts first)))))
+      ∙ count-map (λ other. eqb other place) (λ (n : Node). n.place) (list_of number layout.lists)
+      ∙ agreed cells imaged number (has_place place)
+      ∙ ap (count_by in_list) (nodes_of_areas parts (present cells.pools))
+      ∙ count-map in_list node chained
+      ∙ sym (count_same (λ slot. in_pools (node slot)) (λ slot. in_list (node slot)) (λ slot. let r = at parts slot in alike r.state slot r.place r.size (eqb (class r.size) number) (eqb r.place place)) chained)
+      ∙ sym (count-map in_pools node chained)
+      ∙ sym (ap (count_by in_pools) (nodes_of_areas parts (present cells.pools)))
+      ∙ sym (count-map (is_listed number place) block_of (nodes_of layout.areas))
+      ∙ sym (ap (count_by (is_listed number place)) (blocks_of_areas layout.areas))
+
+  few_pools : length (entries_of cells.pools) ≤ most_pools
+  few_pools =
+      let entries = entries_of cells.pools in
+      omega (
+        arith,
+        imaged.pools_count,
+        ap length imaged.packed,
+        length-append (map (λ (e : PoolEntry). Some (pool_in e)) entries) (replicate (most_pools - length entries) None),
+        length-map {A = PoolEntry} {B = Option StoredPool} entries (λ e. Some (pool_in e)),
+      )
+
+  good : IsGood (content_by (layout_of cells))
+  good =
+      let layout = layout_of cells in
+      record {
+        pools_few = omega (arith, few_pools, length-map layout.areas pool_of, ap length (entries_are parts cells.pools), length-map layout.areas (λ (area : Area). area.entry));
+        pools_good = good_pools (length cells.records) 0 (present cells.pools) imaged.ordered rules.chains rules.cover rules.merged;
+        lists_count = length-map layout.lists (map (λ (n : Node). n.place)) ∙ length-map cells.heads (λ first. map node (listed_of parts first)) ∙ imaged.heads_count;
+        listed = listed;
+        blocks_few = omega (arith, ap length (blocks_of_areas layout.areas), length-map (nodes_of layout.areas) block_of, all_records cells layout (represents cells imaged));
+      }
+
+  never_loose : (state : State) → is_loose (status_in state) ≡ false
+  never_loose Vacant = refl
+  never_loose Free = refl
+  never_loose Live = refl
+
+  none_loose : (slots : List ℕ) → count_by (λ n. is_loose n.status) (map node slots) ≡ 0
+  none_loose [] = refl
+  none_loose (slot ∷ slots) = omega (arith, count-cons (λ (n : Node). is_loose n.status) (node slot) (map node slots), ap one_if (never_loose (at parts slot).state), none_loose slots)
+
+  pub imaged_stand : Stands cells
+  imaged_stand = record {
+    layout = layout_of cells;
+    represented = represents cells imaged;
+    settled = ap (count_by (λ n. is_loose n.status)) (nodes_of_areas parts (present cells.pools)) ∙ none_loose (flat_map (chain_of parts) (present cells.pools));
+    none_taken = refl;
+    good = good;
+  }

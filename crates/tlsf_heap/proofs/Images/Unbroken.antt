@@ -1,0 +1,353 @@
+-- Cells that stand, of which no live record has a neighbour in a list, break no rule.
+use Rattle.std.proofs.Common.{◌≡◌, ℕ, zero, suc, ◌+◌, ◌-◌, ◌<◌, ◌≤◌, ◌%◌, Bool, true, false, not, ◌&&◌, ◌||◌, eqb, List, [], ◌∷◌, ◌++◌, length, map, refl, sym, ap, ◌∙◌, subst, arith, count_by, replicate, Option, Some, None, inl, inr}
+use Rattle.std.specs.Prelude.{IsTrue, nat_le, nat_lt, nat_eq, is_none, slice_index_or}
+use Rattle.std.specs.Option.{option_eq}
+use Rattle.std.specs.List.{list_all, list_any, flat_map, AllByRecursion}
+use Rattle.std.proofs.lemmas.Bool.{cases_Bool, and_from, eqb-true, eq-eqb, le-leb, lt-ltb, or_right}
+use Rattle.std.proofs.lemmas.List.{get_or-map, get_or_default, length-map, length-append, map-append}
+use Rattle.std.proofs.lemmas.List.Folds.{list_any_at}
+use Rattle.std.proofs.lemmas.List.Sums.{list_all-from_AllPass}
+use Rattle.tlsf_class.specs.Classes.{unit, class, greatest_size}
+use Rattle.tlsf_class.proofs.ClassLaws.{class-lt}
+use Rattle.tlsf_store.specs.declared.records.State.{State}
+use Rattle.tlsf_store.specs.declared.records.State.TheVariants.{Vacant, Free, Live}
+use Rattle.tlsf_store.specs.declared.pools.Pool.{Pool as StoredPool}
+use Rattle.tlsf_store.specs.Records.{blank, IsBelow}
+use Rattle.tlsf_store.specs.Cells.{Cells, most_pools}
+use Rattle.tlsf_image.specs.Image.{Parts}
+use Rattle.tlsf_image.specs.Ranges.{end_of_places, can_be_pool}
+use Rattle.tlsf_image.specs.Links.{follow, is_linked}
+use Rattle.tlsf_image.specs.Rules.{present, at, is_below, is_used, is_free as is_state_free, has_links_in, has_record_links, is_pool, are_pools, is_chain, chain_of, covers, is_among, are_merged, is_list, are_lists, list_of as listed_of}
+use Rattle.tlsf_image.proofs.LinkLemmas.{linked_on, linked_end}
+use Rattle.tlsf_image.proofs.Counting.{counts_any}
+use Rattle.tlsf_image.proofs.Totals.{from_all_below, among_any}
+use Rattle.tlsf_image.proofs.Unbroken.{IsUnbroken}
+use Rattle.tlsf_heap.specs.Images.{parts_of}
+use Rattle.tlsf_heap.specs.declared.pool_entry.PoolEntry.{PoolEntry}
+use Rattle.tlsf_heap.specs.Content.{is_free}
+use Rattle.tlsf_heap.specs.Good.{Covers, NoFreeNeighbours, AreGoodPools}
+use Rattle.tlsf_heap.specs.Inner.Entries.{pool_in, padded}
+use Rattle.tlsf_heap.specs.Inner.Nodes.{Status, InUse, Listed, Loose, Node, Area, owner_of, block_of, pool_of, nodes_of, list_of, has_slot}
+use Rattle.tlsf_heap.specs.Inner.Represents.{InPool, InList, in_pool, in_list, pool_views, list_views, state_of, first_slot, AreLinked, IsChain, uses_in}
+use Rattle.tlsf_heap.specs.Inner.Following.{Stands}
+use Rattle.tlsf_heap.specs.Inner.Imaged.{LiveAlone}
+use Rattle.tlsf_heap.proofs.Counts.{one_if, count-cons, count-plug, count-map, Split, split_at}
+use Rattle.tlsf_heap.proofs.Inner.Plugs.{count-nodes}
+use Rattle.tlsf_heap.proofs.Inner.Links.{first_stands, linked_parts}
+use Rattle.tlsf_heap.proofs.Inner.Chains.{listed_within}
+use Rattle.tlsf_heap.proofs.Inner.Followed.{follow_linked, few, list_few}
+use Rattle.tlsf_heap.proofs.Images.FoundNodes.{found, used_stands, slot_below, none_strange, free_stands}
+
+link_same : (one other : Option ℕ) → one ≡ other → option_eq nat_eq one other ≡ true
+link_same one other same = let P : Option ℕ → Type 0 = λ o. option_eq nat_eq one o ≡ true in subst P same (itself one)
+  where
+    itself : (one : Option ℕ) → option_eq nat_eq one one ≡ true
+    itself None = refl
+    itself (Some a) = eq-eqb a a refl
+
+-- linked nodes whose slots pass a test are linked slots
+linked_slots : {V : Type 0} (says : Option ℕ → Node → Option ℕ → V) (at : ℕ → V) (next back : V → Option ℕ) → ((prev : Option ℕ) (node : Node) (after : Option ℕ) → next (says prev node after) ≡ after)
+    → ((prev : Option ℕ) (node : Node) (after : Option ℕ) → back (says prev node after) ≡ prev) → (test : ℕ → Bool) (n : ℕ) (before : Option ℕ) (nodes : List Node) → length nodes ≤ n → AreLinked says at before nodes
+    → count_by (λ node. not (test node.slot)) nodes ≡ 0 → is_linked test (λ slot. next (at slot)) (λ slot. back (at slot)) n before (first_slot nodes) ≡ true
+linked_slots says at next back tells tells_back test n before [] short linked passes = linked_end test (λ slot. next (at slot)) (λ slot. back (at slot)) n before
+linked_slots says at next back tells tells_back test zero before (node ∷ nodes) short linked passes = absurd (omega (arith, short))
+linked_slots says at next back tells tells_back test (suc n) before (node ∷ nodes) short linked passes =
+    let counts = count-cons (λ (other : Node). not (test other.slot)) node nodes in
+    let here : test node.slot ≡ true = (elim (cases_Bool (test node.slot)) [
+      | inl is ↦ is
+      | inr fails ↦ absurd (omega (arith, passes, counts, ap (λ b. one_if (not b)) fails))
+    ]) in
+    let linked_here = link_same (back (at node.slot)) before (ap back linked.0 ∙ tells_back before node (first_slot nodes)) in
+    let rest = linked_slots says at next back tells tells_back test n (Some node.slot) nodes (omega (arith, short)) linked.1 (omega (arith, passes, counts)) in
+    linked_on test (λ slot. next (at slot)) (λ slot. back (at slot)) n before node.slot (and_from (test node.slot) _ here linked_here)
+    ∙ ap (is_linked test (λ slot. next (at slot)) (λ slot. back (at slot)) n (Some node.slot)) (ap next linked.0 ∙ tells before node (first_slot nodes))
+    ∙ rest
+
+used_status : (status : Status) → is_used (state_of status) ≡ true
+used_status InUse = refl
+used_status Listed = refl
+used_status Loose = refl
+
+free_status : (status : Status) (slot : ℕ) → is_none (owner_of status slot) ≡ is_state_free (state_of status)
+free_status InUse slot = refl
+free_status Listed slot = refl
+free_status Loose slot = refl
+
+uses_one : (state : State) → is_used state ≡ true → 1 ≤ uses_in state
+uses_one Vacant used = absurd (cc)
+uses_one Free used = omega arith
+uses_one Live used = omega arith
+
+below_is : (count : ℕ) (link : Option ℕ) → IsBelow count link → is_below count link ≡ true
+below_is count None below = refl
+below_is count (Some slot) below = lt-ltb slot count below
+
+present_padded : (entries : List PoolEntry) → present (padded entries) ≡ map pool_in entries
+present_padded entries = present_on entries (most_pools - length entries)
+  where
+    nothing : (n : ℕ) → present (replicate n None) ≡ []
+    nothing zero = refl
+    nothing (suc n) = nothing n
+
+    present_on : (entries : List PoolEntry) (n : ℕ) → present (map (λ e. Some (pool_in e)) entries ++ replicate n None) ≡ map pool_in entries
+    present_on [] n = nothing n
+    present_on (entry ∷ entries) n = ap (λ pools. pool_in entry ∷ pools) (present_on entries n)
+
+-- lists from a class on, each by its number
+lists_from : (parts : Parts) (from : ℕ) (heads : List (Option ℕ)) → ((number : ℕ) → number < length heads → is_list parts (from + number) (slice_index_or heads number None) ≡ true) → are_lists parts from heads ≡ true
+lists_from parts from [] all = refl
+lists_from parts from (first ∷ heads) all =
+    let P : ℕ → Type 0 = λ number. is_list parts number first ≡ true in
+    let same : from + 0 ≡ from = omega arith in
+    and_from (is_list parts from first) (are_lists parts (from + 1) heads) (subst P same (all 0 (omega arith)))
+    (lists_from parts (from + 1) heads (λ number below.
+    let Q : ℕ → Type 0 = λ k. is_list parts k (slice_index_or heads number None) ≡ true in
+    let next : from + suc number ≡ (from + 1) + number = omega arith in
+    subst Q next (all (suc number) (omega (arith, below)))))
+
+module _ (cells : Cells) (stands : Stands cells) where
+  abbrev parts : Parts
+  parts = parts_of cells
+
+  abbrev areas : List Area
+  areas = stands.layout.areas
+
+  abbrev used : ℕ → Bool
+  used slot = is_used (at parts slot).state
+
+  abbrev pools_of : List Area → List StoredPool
+  pools_of some = map pool_in (map (λ area. area.entry) some)
+
+  abbrev slots : List Node → List ℕ
+  slots nodes = map (λ node. node.slot) nodes
+
+  pools_are : present cells.pools ≡ pools_of areas
+  pools_are = ap present stands.represented.entries ∙ present_padded (map (λ (area : Area). area.entry) areas)
+
+  none_vacant : (before : Option ℕ) (nodes : List Node) → AreLinked in_pool (pool_views cells.records) before nodes → count_by (λ node. not (used node.slot)) nodes ≡ 0
+  none_vacant before [] linked = refl
+  none_vacant before (node ∷ nodes) linked =
+      let state : (at parts node.slot).state ≡ state_of node.status = ap (λ (v : InPool). v.state) linked.0 in
+      omega (arith, count-cons (λ (other : Node). not (used other.slot)) node nodes, ap (λ s. one_if (not (is_used s))) state, ap (λ b. one_if (not b)) (used_status node.status), none_vacant (Some node.slot) nodes linked.1)
+
+  -- what is known of an area: its nodes are linked, and not too many
+  abbrev AreKnown : List Area → Type 0
+  AreKnown some = AllByRecursion (IsChain (pool_views cells.records)) some × (length (nodes_of some) ≤ length cells.records)
+
+  known_rest : (area : Area) (some : List Area) → AreKnown (area ∷ some) → AreKnown some
+  known_rest area some known = (known.0.1, omega (arith, known.1, length-append area.nodes (nodes_of some)))
+
+  chain_is : (area : Area) (some : List Area) → AreKnown (area ∷ some) → chain_of parts (pool_in area.entry) ≡ slots area.nodes
+  chain_is area some known =
+      ap (follow (length cells.records) (λ slot. (at parts slot).next)) (sym known.0.0.begins)
+      ∙ follow_linked in_pool (pool_views cells.records) (λ v. v.next) (λ prev node after. refl) (length cells.records) None area.nodes (omega (arith, known.1, length-append area.nodes (nodes_of some))) known.0.0.linked
+
+  chains : (some : List Area) → AreKnown some → list_all (is_chain parts) (pools_of some) ≡ true
+  chains [] known = refl
+  chains (area ∷ some) known =
+      let P : Option ℕ → Type 0 = λ first. is_linked used (λ slot. (at parts slot).next) (λ slot. (at parts slot).prev) (length cells.records) None first ≡ true in
+      and_from (is_chain parts (pool_in area.entry)) (list_all (is_chain parts) (pools_of some)) (
+      subst P known.0.0.begins (
+      linked_slots in_pool (pool_views cells.records) (λ v. v.next) (λ v. v.prev) (λ prev node after. refl) (λ prev node after. refl) used (length cells.records) None area.nodes
+      (omega (arith, known.1, length-append area.nodes (nodes_of some))) known.0.0.linked (none_vacant None area.nodes known.0.0.linked)
+      )
+      ) (chains some (known_rest area some known))
+
+  slots_of : (some : List Area) → AreKnown some → flat_map (chain_of parts) (pools_of some) ≡ slots (nodes_of some)
+  slots_of [] known = refl
+  slots_of (area ∷ some) known =
+      ap (λ here. here ++ flat_map (chain_of parts) (pools_of some)) (chain_is area some known)
+      ∙ ap (λ more. slots area.nodes ++ more) (slots_of some (known_rest area some known))
+      ∙ sym (map-append (λ (node : Node). node.slot) area.nodes (nodes_of some))
+
+  covered : (before : Option ℕ) (nodes : List Node) (from to : ℕ) → AreLinked in_pool (pool_views cells.records) before nodes → Covers from to (map block_of nodes) → covers parts from to (slots nodes) ≡ true
+  covered before [] from to linked is = eq-eqb from to is
+  covered before (node ∷ nodes) from to linked is =
+      let place : (at parts node.slot).place ≡ from = ap (λ (v : InPool). v.place) linked.0 ∙ is.0 in
+      let size : (at parts node.slot).size ≡ node.size = ap (λ (v : InPool). v.size) linked.0 in
+      and_from (eqb (at parts node.slot).place from) (covers parts (from + (at parts node.slot).size) to (slots nodes)) (eq-eqb _ _ place)
+      (ap (λ n. covers parts (from + n) to (slots nodes)) size ∙ covered (Some node.slot) nodes (from + node.size) to linked.1 is.3)
+
+  merged : (before : Option ℕ) (after : Bool) (nodes : List Node) → AreLinked in_pool (pool_views cells.records) before nodes → NoFreeNeighbours after (map block_of nodes) → are_merged parts after (slots nodes) ≡ true
+  merged before after [] linked is = refl
+  merged before after (node ∷ nodes) linked is =
+      let free : is_free (block_of node) ≡ is_state_free (at parts node.slot).state = free_status node.status node.slot ∙ ap is_state_free (sym (ap (λ (v : InPool). v.state) linked.0)) in
+      let P : Bool → Type 0 = λ b. IsTrue (not (after && b)) in
+      let Q : Bool → Type 0 = λ b. NoFreeNeighbours b (map block_of nodes) in
+      and_from (not (after && is_state_free (at parts node.slot).state)) (are_merged parts (is_state_free (at parts node.slot).state) (slots nodes)) (subst P free is.0)
+      (merged (Some node.slot) (is_state_free (at parts node.slot).state) nodes linked.1 (subst Q free is.1))
+
+  cover : (from : ℕ) (some : List Area) → AreKnown some → AreGoodPools from (map pool_of some) → list_all (λ pool. covers parts pool.base (pool.base + pool.bytes) (chain_of parts pool)) (pools_of some) ≡ true
+  cover from [] known good = refl
+  cover from (area ∷ some) known good =
+      and_from (covers parts area.entry.base (area.entry.base + area.entry.bytes) (chain_of parts (pool_in area.entry))) _
+      (ap (covers parts area.entry.base (area.entry.base + area.entry.bytes)) (chain_is area some known) ∙ covered None area.nodes area.entry.base (area.entry.base + area.entry.bytes) known.0.0.linked good.1.covered)
+      (cover (area.entry.base + area.entry.bytes) some (known_rest area some known) good.2)
+
+  all_merged : (from : ℕ) (some : List Area) → AreKnown some → AreGoodPools from (map pool_of some) → list_all (λ pool. are_merged parts false (chain_of parts pool)) (pools_of some) ≡ true
+  all_merged from [] known good = refl
+  all_merged from (area ∷ some) known good =
+      and_from (are_merged parts false (chain_of parts (pool_in area.entry))) _ (ap (are_merged parts false) (chain_is area some known) ∙ merged None false area.nodes known.0.0.linked good.1.merged)
+      (all_merged (area.entry.base + area.entry.bytes) some (known_rest area some known) good.2)
+
+  -- the first node of each area is in range
+  abbrev FirstsBelow : List Area → Type 0
+  FirstsBelow some = (slot : ℕ) → 1 ≤ count_by (has_slot slot) (nodes_of some) → slot < length cells.records
+
+  ordered : (from : ℕ) (some : List Area) → AreKnown some → FirstsBelow some → AreGoodPools from (map pool_of some) → are_pools (length cells.records) from (pools_of some) ≡ true
+  ordered from [] known below good = refl
+  ordered from (area ∷ some) known below good =
+      let pool = area.entry in
+      let here = good.1 in
+      let both : (slot : ℕ) → count_by (has_slot slot) (nodes_of (area ∷ some)) ≡ count_by (has_slot slot) area.nodes + count_by (has_slot slot) (nodes_of some) = λ slot. count-nodes (has_slot slot) area some in
+      let first : pool.first < length cells.records = below pool.first (omega (arith, both pool.first, first_stands area.nodes pool.first known.0.0.begins)) in
+      and_from (is_pool (length cells.records) from (pool_in pool)) (are_pools (length cells.records) (pool.base + pool.bytes) (pools_of some)) (
+      and_from (can_be_pool pool.base pool.bytes) _ (
+      and_from (eqb (pool.base % unit) 0) _ (eq-eqb _ _ here.base_in_units) (
+      and_from (eqb (pool.bytes % unit) 0) _ (eq-eqb _ _ here.bytes_in_units) (
+      and_from (nat_le unit pool.bytes) _ (le-leb _ _ here.least_bytes) (
+      and_from (nat_le pool.bytes greatest_size) (nat_le (pool.base + pool.bytes) end_of_places) (le-leb _ _ here.most_bytes) (le-leb _ _ here.ends)
+      )
+      )
+      )
+      ) (and_from (nat_le from pool.base) (nat_lt pool.first (length cells.records)) (le-leb from pool.base good.0) (lt-ltb pool.first (length cells.records) first))
+      ) (ordered (pool.base + pool.bytes) some (known_rest area some known) (λ slot h. below slot (omega (arith, h, both slot))) good.2)
+
+  known : AreKnown areas
+  known = (stands.represented.chains.chains, few cells stands.layout stands.represented)
+
+  -- ---- the lists
+
+  head_is : (number : ℕ) (d : Option ℕ) → number < length cells.heads → slice_index_or cells.heads number d ≡ first_slot (list_of number stands.layout.lists)
+  head_is number d below =
+      ap (λ heads. slice_index_or heads number d) stands.represented.index.heads_are
+      ∙ get_or-map first_slot stands.layout.lists number [] d (omega (arith, below, ap length stands.represented.index.heads_are, length-map stands.layout.lists first_slot))
+
+  abbrev is_listed_here : ℕ → ℕ → Bool
+  is_listed_here number slot = is_state_free (at parts slot).state && eqb (class (at parts slot).size) number
+
+  list_is : (number : ℕ) → is_list parts number (first_slot (list_of number stands.layout.lists)) ≡ true
+  list_is number =
+      linked_slots in_list (list_views cells.records) (λ v. v.next) (λ v. v.prev) (λ prev node after. refl) (λ prev node after. refl) (is_listed_here number) (length cells.records) None (list_of number stands.layout.lists)
+      (list_few cells stands.layout stands.represented number) (stands.represented.index.linked number)
+      (none_strange cells stands number (λ slot. not (is_listed_here number slot)) (λ slot listed. ap not (and_from _ _ (ap is_state_free listed.free) (eq-eqb _ _ listed.of_class))))
+
+  list_slots : (number : ℕ) → listed_of parts (first_slot (list_of number stands.layout.lists)) ≡ slots (list_of number stands.layout.lists)
+  list_slots number =
+      follow_linked in_list (list_views cells.records) (λ v. v.next) (λ prev node after. refl) (length cells.records) None (list_of number stands.layout.lists) (list_few cells stands.layout stands.represented number)
+      (stands.represented.index.linked number)
+
+  on_lists : (slot : ℕ) → (not (is_state_free (at parts slot).state) || list_any (λ first. is_among slot (listed_of parts first)) cells.heads) ≡ true
+  on_lists slot = by (at parts slot).state refl
+    where
+      by : (state : State) → (at parts slot).state ≡ state → (not (is_state_free state) || list_any (λ first. is_among slot (listed_of parts first)) cells.heads) ≡ true
+      by Vacant is = refl
+      by Live is = refl
+      by Free is =
+          let number = class (at parts slot).size in
+          let within : number < length cells.heads = omega (arith, class-lt (at parts slot).size, ap length stands.represented.index.heads_are, length-map stands.layout.lists first_slot, stands.represented.index.lists_count) in
+          let some = free_stands cells stands slot is in
+          let among : is_among slot (slots (list_of number stands.layout.lists)) ≡ true = counts_any (λ other. eqb other slot) (slots (list_of number stands.layout.lists))
+          (omega (arith, some, count-map (λ other. eqb other slot) (λ (node : Node). node.slot) (list_of number stands.layout.lists))) in
+          list_any_at (λ first. is_among slot (listed_of parts first)) cells.heads number None within (ap (λ first. is_among slot (listed_of parts first)) (head_is number None within) ∙ ap (is_among slot) (list_slots number) ∙ among)
+
+  on_chains : (slot : ℕ) → (not (used slot) || list_any (λ pool. is_among slot (chain_of parts pool)) (present cells.pools)) ≡ true
+  on_chains slot = elim (cases_Bool (used slot)) [
+    | inr apart ↦ ap (λ b. not b || list_any (λ pool. is_among slot (chain_of parts pool)) (present cells.pools)) apart
+    | inl here ↦
+        let some = used_stands cells stands slot (uses_one (at parts slot).state here) in
+        let among = counts_any (λ other. eqb other slot) (slots (nodes_of areas)) (omega (arith, some, count-map (λ other. eqb other slot) (λ (node : Node). node.slot) (nodes_of areas))) in
+        or_right (not (used slot)) _ (
+        sym (among_any (chain_of parts) (present cells.pools) slot) ∙ ap (λ pools. is_among slot (flat_map (chain_of parts) pools)) pools_are ∙ ap (is_among slot) (slots_of areas known) ∙ among
+        )
+  ]
+
+  -- ---- links
+
+  head_below : (number : ℕ) (d : Option ℕ) → number < length cells.heads → is_below (length cells.records) (slice_index_or cells.heads number d) ≡ true
+  head_below number d within = ap (is_below (length cells.records)) (head_is number d within) ∙ by (list_of number stands.layout.lists) refl
+    where
+      by : (nodes : List Node) → list_of number stands.layout.lists ≡ nodes → is_below (length cells.records) (first_slot nodes) ≡ true
+      by [] is = refl
+      by (node ∷ nodes) is =
+          lt-ltb node.slot (length cells.records) (
+          slot_below cells stands node.slot
+          (omega (arith, first_stands (node ∷ nodes) node.slot refl, ap (count_by (has_slot node.slot)) is, listed_within areas stands.layout.lists stands.represented.agree number node.slot))
+          )
+
+  listed_below : (number slot : ℕ) → 1 ≤ count_by (has_slot slot) (list_of number stands.layout.lists) → slot < length cells.records
+  listed_below number slot some = slot_below cells stands slot (omega (arith, some, listed_within areas stands.layout.lists stands.represented.agree number slot))
+
+  -- both neighbours in a list
+  links_listed : (number slot : ℕ) → 1 ≤ count_by (has_slot slot) (list_of number stands.layout.lists) → (is_below (length cells.records) (at parts slot).prev_free && is_below (length cells.records) (at parts slot).next_free) ≡ true
+  links_listed number slot some =
+      let list = list_of number stands.layout.lists in
+      let split : Split (has_slot slot) list = split_at (has_slot slot) list some in
+      let P : List Node → Type 0 = λ nodes. AreLinked in_list (list_views cells.records) None nodes in
+      let linked = (linked_parts in_list (list_views cells.records) split.front (split.item ∷ split.behind) (subst P split.whole (stands.represented.index.linked number))).1 in
+      let same : split.item.slot ≡ slot = eqb-true split.item.slot slot split.passes in
+      let count : (q : ℕ) → count_by (has_slot q) list ≡ count_by (has_slot q) split.front + (one_if (has_slot q split.item) + count_by (has_slot q) split.behind) =
+      λ q. ap (count_by (has_slot q)) split.whole ∙ count-plug (has_slot q) split.front (split.item ∷ split.behind) ∙ ap (λ n. count_by (has_slot q) split.front + n) (count-cons (has_slot q) split.item split.behind) in
+      let says : list_views cells.records slot ≡ in_list (first_slot split.front) split.item (first_slot split.behind) = ap (list_views cells.records) (sym same) ∙ linked.0 in
+      and_from (is_below (length cells.records) (at parts slot).prev_free) (is_below (length cells.records) (at parts slot).next_free)
+      (ap (λ (v : InList). is_below (length cells.records) v.prev) says ∙ first_is split.front (λ q h. listed_below number q (omega (arith, h, count q))))
+      (ap (λ (v : InList). is_below (length cells.records) v.next) says ∙ first_is split.behind (λ q h. listed_below number q (omega (arith, h, count q))))
+    where
+      first_is : (nodes : List Node) → ((q : ℕ) → 1 ≤ count_by (has_slot q) nodes → q < length cells.records) → is_below (length cells.records) (first_slot nodes) ≡ true
+      first_is [] below = refl
+      first_is (node ∷ nodes) below = lt-ltb node.slot (length cells.records) (below node.slot (first_stands (node ∷ nodes) node.slot refl))
+
+  module _ (alone : LiveAlone cells.records) where
+    links_in : (slot : ℕ) (state : State) → (at parts slot).state ≡ state → has_links_in state (length cells.records) (at parts slot) ≡ true
+    links_in slot Vacant is = refl
+    links_in slot Free is = links_listed (class (at parts slot).size) slot (free_stands cells stands slot is)
+    links_in slot Live is =
+        let none = alone slot is in
+        and_from (is_none (at parts slot).prev_free) (is_none (at parts slot).next_free) (ap (λ (v : InList). is_none v.prev) none) (ap (λ (v : InList). is_none v.next) none)
+
+    record_links : (slot : ℕ) → has_record_links (length cells.records) (at parts slot) ≡ true
+    record_links slot = elim (cases_Bool (used slot)) [
+      | inr apart ↦ ap (λ b. not b || links) apart
+      | inl here ↦
+          let found_here = found cells stands (has_slot slot) (used_stands cells stands slot (uses_one (at parts slot).state here)) in
+          let same : found_here.node.slot ≡ slot = eqb-true found_here.node.slot slot found_here.passes in
+          let says : pool_views cells.records slot ≡ in_pool found_here.prev found_here.node found_here.next = ap (pool_views cells.records) (sym same) ∙ found_here.says in
+          let size : (at parts slot).size ≡ found_here.node.size = ap (λ (v : InPool). v.size) says in
+          or_right (not (used slot)) links (
+          and_from (nat_lt 0 (at parts slot).size) _ (lt-ltb 0 (at parts slot).size (omega (arith, size, found_here.whole.positive))) (
+          and_from (is_below (length cells.records) (at parts slot).prev && is_below (length cells.records) (at parts slot).next) _ (
+          and_from (is_below (length cells.records) (at parts slot).prev) (is_below (length cells.records) (at parts slot).next)
+          (ap (λ (v : InPool). is_below (length cells.records) v.prev) says ∙ below_is (length cells.records) found_here.prev found_here.prev_below)
+          (ap (λ (v : InPool). is_below (length cells.records) v.next) says ∙ below_is (length cells.records) found_here.next found_here.next_below)
+          ) (links_in slot (at parts slot).state refl)
+          )
+          )
+    ]
+      where
+        links : Bool
+        links = nat_lt 0 (at parts slot).size && ((is_below (length cells.records) (at parts slot).prev && is_below (length cells.records) (at parts slot).next) && has_links_in (at parts slot).state (length cells.records) (at parts slot))
+
+    pub stand_unbroken : IsUnbroken parts
+    stand_unbroken =
+        let areas_known = known in
+        let good = stands.good.pools_good in
+        record {
+          links = and_from (list_all (is_below (length cells.records)) cells.heads) (list_all (has_record_links (length cells.records)) cells.records)
+              (list_all-from_AllPass (is_below (length cells.records)) cells.heads head_below)
+              (list_all-from_AllPass (has_record_links (length cells.records)) cells.records (λ slot d within. ap (has_record_links (length cells.records)) (get_or_default cells.records slot d blank within) ∙ record_links slot));
+          chains = ap (list_all (is_chain parts)) pools_are ∙ chains areas areas_known;
+          cover = ap (list_all (λ pool. covers parts pool.base (pool.base + pool.bytes) (chain_of parts pool))) pools_are ∙ cover 0 areas areas_known good;
+          on_chains = from_all_below (λ slot. not (used slot) || list_any (λ pool. is_among slot (chain_of parts pool)) (present cells.pools)) (length cells.records) (λ slot within. on_chains slot);
+          merged = ap (list_all (λ pool. are_merged parts false (chain_of parts pool))) pools_are ∙ all_merged 0 areas areas_known good;
+          lists = lists_from parts 0 cells.heads (λ number within. ap (is_list parts (0 + number)) (head_is number None within) ∙ list_at_zero number);
+          on_lists = from_all_below (λ slot. not (is_state_free (at parts slot).state) || list_any (λ first. is_among slot (listed_of parts first)) cells.heads) (length cells.records) (λ slot within. on_lists slot);
+        }
+      where
+        list_at_zero : (number : ℕ) → is_list parts (0 + number) (first_slot (list_of number stands.layout.lists)) ≡ true
+        list_at_zero number =
+            let P : ℕ → Type 0 = λ k. is_list parts k (first_slot (list_of number stands.layout.lists)) ≡ true in
+            let same : number ≡ 0 + number = omega arith in
+            subst P same (list_is number)
+
+  pub pools_ordered : are_pools (length cells.records) 0 (present cells.pools) ≡ true
+  pools_ordered = ap (are_pools (length cells.records) 0) pools_are ∙ ordered 0 areas known (slot_below cells stands) stands.good.pools_good

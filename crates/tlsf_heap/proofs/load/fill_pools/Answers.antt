@@ -1,0 +1,15 @@
+use Rattle.std.proofs.Common.{◌≡◌, ◌<◌, ◌≤◌, ◌∙◌, ℕ, length, sym, ap, arith, Option, None}
+use Rattle.std.proofs.lemmas.List.{ext_get_or}
+use Rattle.tlsf_store.specs.declared.pools.Pool.{Pool as StoredPool}
+use Rattle.tlsf_image.specs.Image.{Parts}
+use Rattle.tlsf_heap.specs.Inner.Loading.{with_pools}
+use Rattle.tlsf_heap.proofs.load.fill_pools.Goals as goal
+
+pub returns-clause-cells : goal.returns-clause-cells
+returns-clause-cells g c =
+    let parts : Parts = g.T.Table.parts c.args.table.now in
+    let all = c.loop-number.invariant in
+    let last = c.loop-number-test.false in
+    let same : c.loop-number.store.cells.pools ≡ parts.pools =
+    ext_get_or None c.loop-number.store.cells.pools parts.pools (omega (arith, all.count, all.whole (omega (arith, last)))) (λ k within. all.done k (omega (arith, within, all.count, last))) in
+    all.others ∙ ap (λ pools. with_pools pools c.args.store.now.cells) same

@@ -1,0 +1,14 @@
+use Rattle.std.proofs.Common.{◌≡◌, ◌<◌, ◌≤◌, ◌∙◌, ℕ, length, sym, ap, arith}
+use Rattle.std.proofs.lemmas.List.{ext_get_or}
+use Rattle.tlsf_store.specs.Records.{blank}
+use Rattle.tlsf_image.specs.Image.{Parts}
+use Rattle.tlsf_heap.specs.Inner.Loading.{with_records}
+use Rattle.tlsf_heap.proofs.load.fill_records.Goals as goal
+
+pub returns-clause-cells : goal.returns-clause-cells
+returns-clause-cells g c =
+    let parts : Parts = g.T.Table.parts c.args.table.now in
+    let all = c.loop-number.invariant in
+    let same : c.loop-number.store.cells.records ≡ parts.records =
+    ext_get_or blank c.loop-number.store.cells.records parts.records all.count (λ k within. all.done k (omega (arith, within, all.count, c.loop-number-test.false, c.count-number-end.ensures.value))) in
+    all.others ∙ ap (λ records. with_records records c.args.store.now.cells) same

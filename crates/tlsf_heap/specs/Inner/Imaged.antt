@@ -1,0 +1,43 @@
+-- Cells that hold what an image describes, and records that tell the same of their blocks.
+use Rattle.std.specs.Prelude.{◌≡◌, ℕ, ◌%◌, true, List, length, None}
+use Rattle.tlsf_class.specs.Classes.{unit, classes, levels}
+use Rattle.tlsf_store.specs.declared.records.State.TheVariants.{Live}
+use Rattle.tlsf_store.specs.declared.records.Record.{Record}
+use Rattle.tlsf_store.specs.Records.{record_at}
+use Rattle.tlsf_store.specs.Cells.{Cells, most_pools}
+use Rattle.tlsf_image.specs.Image.{parts_in}
+use Rattle.tlsf_image.specs.Rules.{present, is_used, is_free, are_pools, first_of, rules_of_parts}
+use Rattle.tlsf_heap.specs.Images.{parts_of}
+use Rattle.tlsf_heap.specs.Inner.Bitmaps.{AreBitmapsOf}
+use Rattle.tlsf_heap.specs.Inner.Entries.{entries_of, padded}
+use Rattle.tlsf_heap.specs.Inner.Represents.{pool_views, list_views}
+
+-- their parts break no rule, and the bitmaps are those of the heads
+pub record AreImaged (cells : Cells) : Type 0 where
+  pub unbroken : first_of (rules_of_parts (parts_of cells)) ≡ None
+  pub ordered : are_pools (length cells.records) 0 (present cells.pools) ≡ true
+  pub packed : cells.pools ≡ padded (entries_of cells.pools)
+  pub pools_count : length cells.pools ≡ most_pools
+  pub heads_count : length cells.heads ≡ classes
+  pub words_count : length cells.step_words ≡ levels
+  pub bitmaps : AreBitmapsOf cells.heads cells.step_words cells.level_word
+  pub in_units : (slot : ℕ) → (record_at cells.records slot).size % unit ≡ 0
+
+-- the records tell the same of each slot: its state, of a block its place, size and neighbours, and of a free one also its neighbours in its list
+pub record AreAlike (records others : List Record) : Type 0 where
+  pub count : length records ≡ length others
+  pub states : (slot : ℕ) → (record_at records slot).state ≡ (record_at others slot).state
+  pub in_pool : (slot : ℕ) → is_used (record_at records slot).state ≡ true → pool_views records slot ≡ pool_views others slot
+  pub in_list : (slot : ℕ) → is_free (record_at records slot).state ≡ true → list_views records slot ≡ list_views others slot
+
+-- no live record has a neighbour in a list
+abbrev pub LiveAlone : List Record → Type 0
+LiveAlone records = (slot : ℕ) → (record_at records slot).state ≡ Live → list_views records slot ≡ record { prev = None; next = None }
+
+-- the cells hold what the bytes of an image describe, with the bitmaps of the heads
+pub record AreLoaded (bytes : List ℕ) (cells : Cells) : Type 0 where
+  pub pools : cells.pools ≡ (parts_in bytes).pools
+  pub heads : cells.heads ≡ (parts_in bytes).heads
+  pub alike : AreAlike (parts_in bytes).records cells.records
+  pub words_count : length cells.step_words ≡ levels
+  pub bitmaps : AreBitmapsOf cells.heads cells.step_words cells.level_word

@@ -1,0 +1,40 @@
+-- Cells that get what a table holds.
+use Rattle.std.specs.Prelude.{◌≡◌, ℕ, ◌<◌, ◌≤◌, true, false, List, length, Option, None}
+use Rattle.tlsf_class.specs.Classes.{classes, levels}
+use Rattle.tlsf_store.specs.declared.records.Record.{Record}
+use Rattle.tlsf_store.specs.declared.pools.Pool.{Pool as StoredPool}
+use Rattle.tlsf_store.specs.Records.{blank, IsBelow, IsKept}
+use Rattle.tlsf_store.specs.Cells.{Cells, head_at}
+use Rattle.tlsf_image.specs.Image.{Parts}
+use Rattle.tlsf_image.specs.Rules.{at, is_used}
+use Rattle.tlsf_heap.specs.Inner.Bitmaps.{AreBitmapsOf}
+
+-- the cells with these records, and with these pools
+abbrev pub with_records : List Record → Cells → Cells
+with_records records cells = record cells { records = records }
+
+abbrev pub with_pools : List (Option StoredPool) → Cells → Cells
+with_pools pools cells = record cells { pools = pools }
+
+-- a store can keep what the parts hold: blocks and heads, and vacant records are blank
+pub record CanBeStored (parts : Parts) : Type 0 where
+  pub kept : (slot : ℕ) → slot < length parts.records → is_used (at parts slot).state ≡ true → IsKept (length parts.records) (at parts slot)
+  pub vacant : (slot : ℕ) → slot < length parts.records → is_used (at parts slot).state ≡ false → at parts slot ≡ blank
+  pub heads : (class : ℕ) → class < classes → IsBelow (length parts.records) (head_at parts.heads class)
+
+-- no class has a block, and the bitmaps tell so
+pub record HasNoHeads (cells : Cells) : Type 0 where
+  pub none : (class : ℕ) → class < classes → head_at cells.heads class ≡ None
+  pub heads_count : length cells.heads ≡ classes
+  pub words_count : length cells.step_words ≡ levels
+  pub bitmaps : AreBitmapsOf cells.heads cells.step_words cells.level_word
+
+-- the heads of the classes below a number are these, no other class has a block, the bitmaps tell so, and all else is as in the old cells
+pub record HasHeadsBelow (heads : List (Option ℕ)) (old : Cells) (number : ℕ) (cells : Cells) : Type 0 where
+  pub records : cells.records ≡ old.records
+  pub pools : cells.pools ≡ old.pools
+  pub heads_count : length cells.heads ≡ classes
+  pub words_count : length cells.step_words ≡ levels
+  pub bitmaps : AreBitmapsOf cells.heads cells.step_words cells.level_word
+  pub done : (k : ℕ) → k < number → head_at cells.heads k ≡ head_at heads k
+  pub left : (k : ℕ) → number ≤ k → k < classes → head_at cells.heads k ≡ None

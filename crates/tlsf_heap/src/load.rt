@@ -1,0 +1,80 @@
+//! A store that holds what an image describes.
+
+ghost use Rattle.std.specs.Prelude.{◌≡◌, ◌+◌, ◌*◌, ◌≤◌, length, IfOk, IfErr, None};
+ghost use Rattle.tlsf_class.specs.Classes.{classes, levels};
+ghost use Rattle.tlsf_store.specs.declared.errors.StoreError.TheVariants.{OutOfMemory};
+ghost use Rattle.tlsf_store.specs.Records.{vacant_count, most_records};
+ghost use Rattle.tlsf_store.specs.Cells.{head_at, empty_cells, most_pools};
+ghost use Rattle.tlsf_heap.specs.Images.{parts_of};
+ghost use Rattle.tlsf_heap.specs.Inner.Bitmaps.{AreBitmapsOf};
+ghost use Rattle.tlsf_heap.specs.Inner.Loading.{CanBeStored, with_records, with_pools, HasNoHeads};
+
+use crate::bitmaps::set_class_bit;
+use std::alloc::Global;
+use tlsf_class::{CLASSES, Class};
+use tlsf_image::Table;
+use tlsf_store::{MOST_POOLS, Slot, State, Store, StoreError};
+
+/// Takes each vacant record for a free block to come. Two touches each, and two more.
+fn take_all(store: &mut Store)
+    ensures none { vacant_count store.new.cells.records ≡ 0 }
+    ensures count { length store.new.cells.records ≡ length store.old.cells.records }
+    ensures others { store.new.cells ≡ with_records store.new.cells.records store.old.cells }
+    ensures touches { store.new.touches ≤ store.old.touches + 2 * vacant_count store.old.cells.records + 2 }
+{
+    while store.take_vacant().is_some() {}
+}
+
+/// Writes the records of a table over those of a store, none of which is vacant. At most three touches each.
+fn fill_records<T: Table>(store: &mut Store, table: &mut T)
+    requires none { vacant_count store.old.cells.records ≡ 0 }
+    requires count { length store.old.cells.records ≡ length (T.parts table.old).records }
+    requires stored { CanBeStored (T.parts table.old) }
+    ensures cells { store.new.cells ≡ with_records (T.parts table.old).records store.old.cells }
+    ensures same { T.parts table.new ≡ T.parts table.old }
+    ensures touches { store.new.touches ≤ store.old.touches + 3 * length (T.parts table.old).records }
+{
+    for number in 0..table.count() {
+        let slot = Slot(number as u16);
+        let block = table.record(slot);
+        match block.state {
+            State::Vacant => store.give_vacant(slot),
+            State::Free | State::Live => store.write(slot, block),
+        }
+    }
+}
+
+/// Makes the heads of a table those of a store without heads, and sets their bits. At most five touches a class.
+fn fill_heads<T: Table>(store: &mut Store, table: &mut T)
+    requires empty { HasNoHeads store.old.cells }
+    requires count { length store.old.cells.records ≡ length (T.parts table.old).records }
+    requires stored { CanBeStored (T.parts table.old) }
+    ensures heads { store.new.cells.heads ≡ (T.parts table.old).heads }
+    ensures words { length store.new.cells.step_words ≡ levels }
+    ensures bitmaps { AreBitmapsOf store.new.cells.heads store.new.cells.step_words store.new.cells.level_word }
+    ensures records { store.new.cells.records ≡ store.old.cells.records }
+    ensures pools { store.new.cells.pools ≡ store.old.cells.pools }
+    ensures same { T.parts table.new ≡ T.parts table.old }
+    ensures touches { store.new.touches ≤ store.old.touches + 5 * classes }
+{
+    for number in 0..CLASSES {
+        let class = Class::new(number);
+        if let Some(first) = table.head(class) {
+            store.set_head(class, Some(first));
+            set_class_bit(store, class);
+        }
+    }
+}
+
+/// Makes the pools of a table those of a store. A touch a pool.
+fn fill_pools<T: Table>(store: &mut Store, table: &mut T)
+    requires pools { length store.old.cells.pools ≡ most_pools }
+    requires count { length store.old.cells.records ≡ length (T.parts table.old).records }
+    ensures cells { store.new.cells ≡ with_pools (T.parts table.old).pools store.old.cells }
+    ensures same { T.parts table.new ≡ T.parts table.old }
+    ensures touches { store.new.touches ≡ store.old.touches + most_pools }
+{
+    for number in 0..MOST_POOLS as u32 {
+        store.set_pool(number, table.pool(number));
+    }
+}

@@ -1,0 +1,121 @@
+-- The rules at worked images.
+use Rattle.std.proofs.Common.{◌≡◌, ℕ, ◌+◌, ◌*◌, ◌-◌, List, [], ◌∷◌, ◌++◌, refl, replicate, Some, None}
+use Rattle.std.specs.Prelude.{Option, Bool, nat_lt, if◌then◌else◌, slice_set, codes}
+use Rattle.tlsf_class.specs.Classes.{class, low}
+use Rattle.tlsf_image.specs.declared.rule.Rule.{Rule}
+use Rattle.tlsf_image.specs.declared.rule.Rule.TheVariants.{Magic, Length, Pools, UnusedPools, States, Links, Chains, Cover, OnChains, Merged, Lists, OnLists}
+use Rattle.tlsf_image.specs.Rules.{first_broken, rules}
+
+-- all rules whose test says no
+abbrev broken_of : List (Rule × Bool) → List Rule
+broken_of [] = []
+broken_of (rule ∷ more) = if rule.1 then broken_of more else rule.0 ∷ broken_of more
+
+abbrev broken : List ℕ → List Rule
+broken bytes = broken_of (rules bytes)
+
+-- bytes in hexadecimal
+abbrev digit : ℕ → ℕ
+digit letter = if nat_lt letter 97 then letter - 48 else letter - 87
+
+abbrev of_digits : List ℕ → List ℕ
+of_digits [] = []
+of_digits (letter ∷ []) = []
+of_digits (first ∷ second ∷ letters) = (16 * digit first + digit second) ∷ of_digits letters
+
+-- an image of one pool: its numbers and its entry, heads of none with one in between, and its records
+abbrev image : List ℕ → List ℕ → ℕ → List ℕ → List ℕ → List ℕ
+image numbers entry class first records =
+    codes "TLSFIMG1" ++ (numbers ++ (entry ++ (replicate 84 0 ++ (replicate (2 * class) 255 ++ (first ++ (replicate (2 * (703 - class)) 255 ++ records))))))
+
+-- one record and one pool of 64 bytes, all free
+abbrev vector : List ℕ
+vector = image (of_digits (codes "0100010000000000")) (of_digits (codes "000000004000000000000000")) 4 (of_digits (codes "0000")) (of_digits (codes "0000000041000000ffffffffffffffff"))
+
+vector_holds : first_broken vector ≡ None
+unfolding class low
+vector_holds = refl
+
+-- its first byte changed, a byte behind its end, its head of none
+another_magic : broken (slice_set vector 0 0x55) ≡ Magic ∷ []
+unfolding class low
+another_magic = refl
+
+a_byte_behind : broken (vector ++ 0 ∷ []) ≡ Length ∷ []
+unfolding class low
+a_byte_behind = refl
+
+in_no_list : broken (slice_set (slice_set vector 120 255) 121 255) ≡ OnLists ∷ []
+unfolding class low
+in_no_list = refl
+
+-- a byte that is to be zero: behind the numbers, in the entry and behind it
+a_byte_of_no_number : broken (slice_set vector 12 1) ≡ Length ∷ []
+unfolding class low
+a_byte_of_no_number = refl
+
+an_unused_entry : broken (slice_set vector 28 1) ≡ UnusedPools ∷ []
+unfolding class low
+an_unused_entry = refl
+
+an_end_of_an_entry : broken (slice_set vector 27 1) ≡ Pools ∷ []
+unfolding class low
+an_end_of_an_entry = refl
+
+-- a state of 3; a link to no record; a link back to itself; a size below the pool's, in its list; the list of another class
+another_state : first_broken (slice_set vector 1524 0x43) ≡ Some States
+unfolding class low
+another_state = refl
+
+another_slot : broken (slice_set (slice_set vector 114 1) 115 0) ≡ Links ∷ Lists ∷ []
+unfolding class low
+another_slot = refl
+
+linked_back_to_itself : broken (slice_set (slice_set vector 1528 0) 1529 0) ≡ Chains ∷ []
+unfolding class low
+linked_back_to_itself = refl
+
+a_ring : first_broken (slice_set (slice_set vector 1530 0) 1531 0) ≡ Some Chains
+unfolding class low
+a_ring = refl
+
+another_base : broken (slice_set vector 1520 16) ≡ Cover ∷ []
+unfolding class low
+another_base = refl
+
+another_list : broken (slice_set (slice_set (slice_set (slice_set vector 120 255) 121 255) 122 0) 123 0) ≡ Lists ∷ []
+unfolding class low
+another_list = refl
+
+-- both rules are broken, and the one that stands first is named
+two_broken : broken (slice_set (slice_set vector 1520 16) 121 255) ≡ Links ∷ Cover ∷ Lists ∷ OnLists ∷ []
+unfolding class low
+two_broken = refl
+
+first_of_two : first_broken (slice_set (slice_set vector 1520 16) 121 255) ≡ Some Links
+unfolding class low
+first_of_two = refl
+
+-- free-neighbours: two free blocks of 32 bytes side by side
+free_neighbours : broken (image (of_digits (codes "0200010000000000")) (of_digits (codes "000000004000000000000000")) 2 (of_digits (codes "0000"))
+    (of_digits (codes "0000000021000000ffff0100ffff010020000000210000000000ffff0000ffff"))) ≡ Merged ∷ []
+unfolding class low
+free_neighbours = refl
+
+-- detached-ring: two free blocks name one another, and no head names them
+detached_ring : broken (image (of_digits (codes "0400010000000000")) (of_digits (codes "000000008000000000000000")) 0 (of_digits (codes "ffff"))
+    (of_digits (codes "0000000021000000ffff010002000200200000002200000000000200ffffffff4000000021000000010003000000000060000000220000000200ffffffffffff"))) ≡ OnLists ∷ []
+unfolding class low
+detached_ring = refl
+
+-- a block of no chain
+another_block : broken (image (of_digits (codes "0200010000000000")) (of_digits (codes "000000004000000000000000")) 4 (of_digits (codes "0000"))
+    (of_digits (codes "0000000041000000ffffffffffffffff0000000012000000ffffffffffffffff"))) ≡ OnChains ∷ []
+unfolding class low
+another_block = refl
+
+-- loaded-pointers: a live block of 16 bytes and a free one of 48, of two records
+a_live_block : first_broken (image (of_digits (codes "0200010000000000")) (of_digits (codes "000000004000000000000000")) 3 (of_digits (codes "0100"))
+    (of_digits (codes "0000000012000000ffff0100ffffffff10000000310000000000ffffffffffff"))) ≡ None
+unfolding class low
+a_live_block = refl

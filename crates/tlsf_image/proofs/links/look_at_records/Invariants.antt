@@ -1,0 +1,15 @@
+use Rattle.std.proofs.Common.{◌≡◌, ◌≤◌, length, drop}
+use Rattle.tlsf_image.specs.Findings.{blocks_with}
+use Rattle.tlsf_image.proofs.links.look_at_records.Given as goal
+
+-- what is found of the records up to here and those that are left is what is found of all
+abbrev pub invariant-loop-slot : goal.invariant-loop-slot
+invariant-loop-slot g l =
+    let parts = g.T.Table.parts l.fn.table in
+    record {
+      same : g.T.Table.parts l.table ≡ parts;
+      floor : g.T.Table.touches l.fn.table ≤ g.T.Table.touches l.table;
+      few : l.blocks.all ≤ l.slot;
+      few_free : l.blocks.free ≤ l.slot;
+      told : blocks_with (length parts.records) l.blocks (drop l.slot parts.records) ≡ blocks_with (length parts.records) (record { all = 0; free = 0 }) parts.records;
+    }

@@ -1,0 +1,6 @@
+-- Images: what stands where, the links of its records, and the rules.
+pub mod Image
+pub mod Links
+pub mod Ranges
+pub mod Rules
+pub mod Findings

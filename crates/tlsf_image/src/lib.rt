@@ -1,0 +1,21 @@
+//! Images of a heap: what stands where in their bytes, and the twelve rules that tell whether bytes are one.
+#![tactic(auto)]
+
+mod bytes;
+mod chains;
+mod header;
+mod image;
+mod links;
+mod lists;
+mod ranges;
+mod rule;
+mod rules;
+mod table;
+#[cfg(test)]
+mod tests;
+
+pub use image::Image;
+pub use ranges::{END_OF_PLACES, can_be_pool};
+pub use rule::Rule;
+pub use rules::first_broken;
+pub use table::Table;

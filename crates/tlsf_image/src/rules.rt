@@ -1,0 +1,40 @@
+//! The rules of what a table describes.
+
+ghost use Rattle.std.specs.Prelude.{◌≡◌, ◌≤◌, true, length};
+ghost use Rattle.tlsf_image.specs.Rules.{present, are_pools, first_of, rules_of_parts};
+
+use crate::chains::look_at_chains;
+use crate::links::look_at_links;
+use crate::lists::look_at_lists;
+use crate::{Rule, Table};
+
+/// The first rule, of those on records, chains and lists, that a table breaks, whose pools are where pools can be.
+pub fn first_broken<T: Table>(table: &mut T) -> Option<Rule>
+    requires { are_pools (length (T.parts table.old).records) 0 (present (T.parts table.old).pools) ≡ true }
+    ensures value { result ≡ first_of (rules_of_parts (T.parts table.old)) }
+    ensures same { T.parts table.new ≡ T.parts table.old }
+    ensures floor { T.touches table.old ≤ T.touches table.new }
+{
+    let Some(blocks) = look_at_links(table) else {
+        return Some(Rule::Links);
+    };
+    let Some(tally) = look_at_chains(table) else {
+        return Some(Rule::Chains);
+    };
+    if !tally.covers {
+        return Some(Rule::Cover);
+    }
+    if tally.blocks != blocks.all {
+        return Some(Rule::OnChains);
+    }
+    if !tally.is_merged {
+        return Some(Rule::Merged);
+    }
+    let Some(listed) = look_at_lists(table) else {
+        return Some(Rule::Lists);
+    };
+    if listed != blocks.free {
+        return Some(Rule::OnLists);
+    }
+    None
+}

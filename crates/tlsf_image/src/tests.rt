@@ -1,0 +1,260 @@
+//! Worked images, and bytes that break a rule.
+
+use super::*;
+use std::process::Abort;
+use tlsf_class::Class;
+use tlsf_store::{Slot, State};
+
+/// Where heads and records begin.
+const HEADS_AT: usize = 112;
+
+const RECORDS_AT: usize = 1_520;
+
+/// An image of four records at most.
+#[derive(Drop)]
+struct Bytes {
+    bytes: [u8; 1_585],
+    len: usize,
+}
+
+impl Bytes {
+    /// The magic, so many records, one pool from 0 on of so many bytes below 256, and no list.
+    fn new(records: u8, pool: u8) -> Bytes {
+        let mut image = Bytes {
+            bytes: [0; 1_585],
+            len: 1_520 + 16 * usize::from(records.min(4)),
+        };
+        image.put(0, b"TLSFIMG1");
+        image.put(8, &[records, 0, 1, 0]);
+        image.put(20, &[pool]);
+        for class in 0..704 {
+            image.put(HEADS_AT + 2 * class, &[0xff, 0xff]);
+        }
+        image
+    }
+
+    /// Writes bytes from an offset on.
+    fn put(&mut self, offset: usize, bytes: &[u8]) {
+        let mut at = offset;
+        for byte in bytes {
+            if at < 1_585 {
+                self.bytes[at] = *byte;
+                at += 1;
+            }
+        }
+    }
+
+    /// Writes a record: place, size with its state, and its links.
+    fn put_record(&mut self, slot: usize, place: u8, word: u8, links: [u8; 8]) {
+        if slot < 4 {
+            let at = RECORDS_AT + 16 * slot;
+            self.put(at, &[place]);
+            self.put(at + 4, &[word]);
+            self.put(at + 8, &links);
+        }
+    }
+
+    /// The first rule that the bytes break.
+    fn broken(&self) -> Option<Rule> {
+        match self.bytes.get(..self.len.min(1_585)) {
+            Some(bytes) => Image::read(bytes).err(),
+            None => None,
+        }
+    }
+}
+
+/// One record and one pool of 64 bytes, all free.
+fn vector() -> Bytes {
+    let mut image = Bytes::new(1, 64);
+    image.put(HEADS_AT + 2 * 4, &[0, 0]);
+    image.put_record(0, 0, 0x41, [0xff; 8]);
+    image
+}
+
+#[test]
+fn vector_and_what_it_says(rt: HostRuntime) {
+    let vector = vector();
+    assert_eq!(rt; vector.broken(), None);
+    let Ok(mut image) = Image::read(&vector.bytes[..1_536]) else {
+        panic!(rt; "no image");
+    };
+    assert_eq!(rt; image.count(), 1);
+    assert_eq!(rt; image.head(Class::new(4)), Some(Slot(0)));
+    assert_eq!(rt; image.head(Class::new(5)), None);
+    let pool = image.pool(0).expect(&rt, "a pool");
+    assert_eq!(rt; (pool.base, pool.bytes, pool.first), (0, 64, Slot(0)));
+    assert_eq!(rt; image.pool(1), None);
+    assert!(rt; u32::from(Slot(0).0) < image.count());
+    let block = image.record(Slot(0));
+    assert_eq!(rt;
+        (block.place, block.size, block.state),
+        (0, 64, State::Free)
+    );
+    assert_eq!(rt;
+        (block.prev, block.next, block.prev_free, block.next_free),
+        (None, None, None, None)
+    );
+}
+
+/// A byte of the vector changed, and the rule that breaks first.
+const CHANGED: [(usize, u8, Rule); 20] = [
+    (0, 0x55, Rule::Magic),
+    (7, 0x32, Rule::Magic),
+    (8, 0, Rule::Length),
+    (8, 2, Rule::Length),
+    (10, 9, Rule::Length),
+    (12, 1, Rule::Length),
+    (15, 1, Rule::Length),
+    (16, 8, Rule::Pools),
+    (20, 72, Rule::Pools),
+    (20, 0, Rule::Pools),
+    (23, 0x40, Rule::Pools),
+    (24, 1, Rule::Pools),
+    (27, 1, Rule::Pools),
+    (28, 1, Rule::UnusedPools),
+    (111, 1, Rule::UnusedPools),
+    (1_524, 0x43, Rule::States),
+    (1_524, 0x40, Rule::States),
+    (112, 0, Rule::Links),
+    (1_520, 16, Rule::Cover),
+    (1_524, 0x31, Rule::Cover),
+];
+
+#[test]
+fn a_byte_changed(rt: HostRuntime) {
+    for (offset, byte, rule) in CHANGED {
+        let mut image = vector();
+        image.put(offset, &[byte]);
+        assert_eq!(rt; image.broken(), Some(rule), "at {offset}");
+    }
+}
+
+/// Two bytes of the vector changed.
+#[test]
+fn a_link_changed(rt: HostRuntime) {
+    for (offset, bytes, rule) in [
+        (120, [0xff, 0xff], Rule::OnLists),
+        (122, [0, 0], Rule::Lists),
+        (1_528, [0, 0], Rule::Chains),
+        (1_530, [0, 0], Rule::Chains),
+        (1_532, [0, 0], Rule::Lists),
+        (1_534, [0, 0], Rule::Lists),
+        (1_534, [1, 0], Rule::Links),
+    ] {
+        let mut image = vector();
+        image.put(offset, &bytes);
+        assert_eq!(rt; image.broken(), Some(rule), "at {offset}");
+    }
+}
+
+/// Of two rules that are broken, the one that stands first is named.
+#[test]
+fn first_of_two(rt: HostRuntime) {
+    let mut image = vector();
+    image.put(120, &[0xff, 0xff]);
+    image.put(1_520, &[16]);
+    assert_eq!(rt; image.broken(), Some(Rule::Cover));
+    image.put(1_528, &[0, 0]);
+    assert_eq!(rt; image.broken(), Some(Rule::Chains));
+    image.put(1_534, &[9, 0]);
+    assert_eq!(rt; image.broken(), Some(Rule::Links));
+    image.put(1_524, &[0x43]);
+    assert_eq!(rt; image.broken(), Some(Rule::States));
+    image.put(40, &[1]);
+    assert_eq!(rt; image.broken(), Some(Rule::UnusedPools));
+    image.put(16, &[1]);
+    assert_eq!(rt; image.broken(), Some(Rule::Pools));
+    image.put(13, &[1]);
+    assert_eq!(rt; image.broken(), Some(Rule::Length));
+    image.put(3, &[1]);
+    assert_eq!(rt; image.broken(), Some(Rule::Magic));
+}
+
+#[test]
+fn free_neighbours(rt: HostRuntime) {
+    let mut image = Bytes::new(2, 64);
+    image.put(HEADS_AT + 2 * 2, &[0, 0]);
+    image.put_record(0, 0, 0x21, [0xff, 0xff, 1, 0, 0xff, 0xff, 1, 0]);
+    image.put_record(1, 32, 0x21, [0, 0, 0xff, 0xff, 0, 0, 0xff, 0xff]);
+    assert_eq!(rt; image.broken(), Some(Rule::Merged));
+    image.put(RECORDS_AT + 4, &[0x22]);
+    image.put(RECORDS_AT + 12, &[0xff, 0xff, 0xff, 0xff]);
+    image.put(RECORDS_AT + 28, &[0xff, 0xff]);
+    image.put(HEADS_AT + 2 * 2, &[1, 0]);
+    assert_eq!(rt; image.broken(), None);
+}
+
+/// Four blocks of 32 bytes, free and live in turn.
+fn four_blocks() -> Bytes {
+    let mut image = Bytes::new(4, 128);
+    image.put_record(0, 0, 0x21, [0xff, 0xff, 1, 0, 2, 0, 2, 0]);
+    image.put_record(1, 32, 0x22, [0, 0, 2, 0, 0xff, 0xff, 0xff, 0xff]);
+    image.put_record(2, 64, 0x21, [1, 0, 3, 0, 0, 0, 0, 0]);
+    image.put_record(3, 96, 0x22, [2, 0, 0xff, 0xff, 0xff, 0xff, 0xff, 0xff]);
+    image
+}
+
+/// Two free blocks name one another, and no head names them; or a head does.
+#[test]
+fn rings(rt: HostRuntime) {
+    let mut image = four_blocks();
+    assert_eq!(rt; image.broken(), Some(Rule::OnLists));
+    image.put(HEADS_AT + 2 * 2, &[0, 0]);
+    assert_eq!(rt; image.broken(), Some(Rule::Lists));
+    image.put(RECORDS_AT + 12, &[0xff, 0xff]);
+    assert_eq!(rt; image.broken(), Some(Rule::Lists));
+    image.put(RECORDS_AT + 46, &[0xff, 0xff]);
+    assert_eq!(rt; image.broken(), None);
+    image.put(RECORDS_AT + 58, &[0, 0]);
+    assert_eq!(rt; image.broken(), Some(Rule::Chains));
+}
+
+/// A block that stands on no chain, and a record of two chains.
+#[test]
+fn strays(rt: HostRuntime) {
+    let mut image = Bytes::new(2, 64);
+    image.put(HEADS_AT + 2 * 4, &[0, 0]);
+    image.put_record(0, 0, 0x41, [0xff; 8]);
+    assert_eq!(rt; image.broken(), None);
+    image.put_record(1, 0, 0x12, [0xff; 8]);
+    assert_eq!(rt; image.broken(), Some(Rule::OnChains));
+    let mut image = vector();
+    image.put(10, &[2]);
+    image.put(28, &[64, 0, 0, 0, 64]);
+    assert_eq!(rt; image.broken(), Some(Rule::Cover));
+    image.put(28, &[48]);
+    assert_eq!(rt; image.broken(), Some(Rule::Pools));
+}
+
+/// Nothing, one byte too few in front of the records, and too few and too many for one record.
+#[test]
+fn wrong_lengths(rt: HostRuntime) {
+    assert_eq!(rt; Image::read(&[]).err(), Some(Rule::Magic));
+    let mut image = vector();
+    for (len, rule) in [
+        (1_519, Rule::Magic),
+        (1_520, Rule::Length),
+        (1_535, Rule::Length),
+        (1_537, Rule::Length),
+    ] {
+        image.len = len;
+        assert_eq!(rt; image.broken(), Some(rule), "of {len}");
+    }
+}
+
+#[test]
+fn ranges_of_pools(rt: HostRuntime) {
+    for (base, bytes, can) in [
+        (0, 16, true),
+        (16, 1_073_741_808, true),
+        (4_294_967_280, 16, true),
+        (4_294_967_280, 32, false),
+        (8, 16, false),
+        (0, 8, false),
+        (0, 0, false),
+        (0, 1_073_741_824, false),
+        (u64::MAX - 15, 16, false),
+    ] {
+        assert_eq!(rt; can_be_pool(base, bytes), can, "{bytes} from {base}");
+    }
+}
