@@ -3,9 +3,10 @@ use Rattle.std.specs.Prelude.{ℕ, ◌+◌, ◌-◌, ◌*◌, ◌%◌, ◌==◌,
 use Rattle.std.specs.List.{range_with_len, list_all}
 use Rattle.tlsf_class.specs.Classes.{unit, classes}
 use Rattle.tlsf_store.specs.declared.records.State.{State}
-use Rattle.tlsf_store.specs.declared.records.State.TheVariants.{Vacant, Free, Live}
+use Rattle.tlsf_store.specs.declared.records.State.TheVariants.{Free, Live}
 use Rattle.tlsf_store.specs.declared.records.Record.{Record}
 use Rattle.tlsf_store.specs.declared.pools.Pool.{Pool}
+use Rattle.tlsf_store.specs.Records.{blank}
 use Rattle.tlsf_store.specs.Cells.{most_pools}
 
 -- the number of two bytes from an offset on, the lowest first, and of four
@@ -54,9 +55,9 @@ nil = 65535
 abbrev pub link_of : ℕ → Option ℕ
 link_of word = if word == nil then None else Some word
 
--- the state of a code below 3
+-- the state of a block's code
 abbrev pub state_of : ℕ → State
-state_of code = if code == 0 then Vacant else (if code == 1 then Free else Live)
+state_of code = if code == 1 then Free else Live
 
 abbrev pub pool_in : List ℕ → ℕ → Pool
 pool_in bytes number = record {
@@ -72,16 +73,19 @@ head_in bytes class = link_of (two_at (head_at class) bytes)
 abbrev pub size_word : List ℕ → ℕ → ℕ
 size_word bytes slot = four_at (record_at slot + 4) bytes
 
+-- a vacant record has no block and no links
 abbrev pub record_in : List ℕ → ℕ → Record
-record_in bytes slot = record {
-  place = four_at (record_at slot) bytes;
-  size = size_word bytes slot - size_word bytes slot % unit;
-  state = state_of (size_word bytes slot % unit);
-  prev = link_of (two_at (record_at slot + 8) bytes);
-  next = link_of (two_at (record_at slot + 10) bytes);
-  prev_free = link_of (two_at (record_at slot + 12) bytes);
-  next_free = link_of (two_at (record_at slot + 14) bytes);
-}
+record_in bytes slot =
+    if size_word bytes slot % unit == 0 then blank
+    else record {
+      place = four_at (record_at slot) bytes;
+      size = size_word bytes slot - size_word bytes slot % unit;
+      state = state_of (size_word bytes slot % unit);
+      prev = link_of (two_at (record_at slot + 8) bytes);
+      next = link_of (two_at (record_at slot + 10) bytes);
+      prev_free = link_of (two_at (record_at slot + 12) bytes);
+      next_free = link_of (two_at (record_at slot + 14) bytes);
+    }
 
 -- what an image describes: the pools by number, the head of each class, and the records by slot
 pub record Parts : Type 0 where
