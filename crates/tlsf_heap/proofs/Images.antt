@@ -5,5 +5,6 @@ pub mod Standing
 pub mod FoundNodes
 pub mod Alike
 pub mod Unbroken
+pub mod Told
 pub mod Saved
 pub mod Loaded
