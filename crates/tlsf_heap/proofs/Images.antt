@@ -9,3 +9,4 @@ pub mod Told
 pub mod Saved
 pub mod Loaded
 pub mod FilledHeads
+pub mod Storable
