@@ -66,7 +66,7 @@ module _ (bytes : List ℕ) where
   count_is : length (parts_in bytes).records ≡ two_at count_at bytes
   count_is = length-map-range_with_len (record_in bytes) 0 (two_at count_at bytes)
 
-  in_units : (slot : ℕ) → (record_at (parts_in bytes).records slot).size % unit ≡ 0
+  pub in_units : (slot : ℕ) → (record_at (parts_in bytes).records slot).size % unit ≡ 0
   in_units slot = elim (cases_lt slot (two_at count_at bytes)) [
     | inl below ↦
         let same : 0 + slot ≡ slot = omega arith in
@@ -84,10 +84,10 @@ module _ (bytes : List ℕ) where
     pools_hold : (has_pools bytes ≡ true) × (first_of ((UnusedPools, has_unused_pools bytes) ∷ (States, has_states bytes) ∷ rules_of_parts (parts_in bytes)) ≡ None)
     pools_hold = holds_first (has_pools bytes) Pools _ length_holds.1
 
-    parts_hold : first_of (rules_of_parts (parts_in bytes)) ≡ None
+    pub parts_hold : first_of (rules_of_parts (parts_in bytes)) ≡ None
     parts_hold = (holds_first (has_states bytes) States _ (holds_first (has_unused_pools bytes) UnusedPools _ pools_hold.1).1).1
 
-    ordered : are_pools (length (parts_in bytes).records) 0 (present (parts_in bytes).pools) ≡ true
+    pub ordered : are_pools (length (parts_in bytes).records) 0 (present (parts_in bytes).pools) ≡ true
     ordered = ap (λ count. are_pools count 0 (present (parts_in bytes).pools)) count_is ∙ (and_parts (are_pools (two_at count_at bytes) 0 (present (parts_in bytes).pools)) _ pools_hold.0).0
 
     module _ (cells : Cells) (loaded : AreLoaded bytes cells) where

@@ -1,6 +1,6 @@
 -- A store can keep what an image describes that breaks no rule.
 use Rattle.std.proofs.Common.{◌≡◌, ℕ, ◌+◌, ◌%◌, ◌<◌, ◌≤◌, eqb, Bool, true, false, not, ◌&&◌, ◌||◌, List, [], ◌∷◌, length, refl, sym, ap, ◌∙◌, subst, arith, inl, inr, Option, Some, None}
-use Rattle.std.specs.Prelude.{nat_lt, nat_le, ◌==◌, is_none}
+use Rattle.std.specs.Prelude.{nat_lt, nat_le, ◌==◌, is_none, if◌then◌else◌}
 use Rattle.std.specs.List.{list_all, list_any, range_with_len}
 use Rattle.std.proofs.lemmas.Bool.{and_parts, and_from, or_cases, cases_Bool, eqb-true, both_ways}
 use Rattle.std.proofs.lemmas.List.Folds.{Any-from_list_any}
@@ -13,12 +13,15 @@ use Rattle.tlsf_store.specs.declared.pools.Pool.{Pool as StoredPool}
 use Rattle.tlsf_store.specs.Records.{blank, IsBelow, IsKept}
 use Rattle.tlsf_store.specs.Cells.{head_at}
 use Rattle.tlsf_image.specs.Ranges.{can_be_pool}
-use Rattle.tlsf_image.specs.Image.{Parts}
-use Rattle.tlsf_image.specs.Rules.{present, is_pool, are_pools, at, is_used, is_below, has_links_in, covers, is_among, chain_of, has_links, has_cover, has_all_on_chains}
+use Rattle.tlsf_image.specs.Image.{Parts, parts_in, record_in, size_word}
+use Rattle.tlsf_image.specs.Rules.{present, is_pool, are_pools, at, is_used, is_below, has_links_in, covers, is_among, chain_of, has_links, has_cover, has_all_on_chains, first_broken}
 use Rattle.tlsf_image.proofs.ChainLemmas.{below, record_links}
 use Rattle.tlsf_image.proofs.RecordLemmas.{head_below}
 use Rattle.tlsf_image.proofs.SizeLemmas.{of_range}
+use Rattle.tlsf_image.proofs.ImageLemmas.{record_read, records_count, heads_count}
+use Rattle.tlsf_image.proofs.Unbroken.{unbroken}
 use Rattle.tlsf_heap.specs.Inner.Loading.{CanBeStored}
+use Rattle.tlsf_heap.proofs.Images.Loaded.{in_units, parts_hold, ordered}
 
 pool_bases : (count from : ℕ) (pools : List StoredPool) → are_pools count from pools ≡ true → list_all (λ pool. pool.base % unit == 0) pools ≡ true
 pool_bases count from [] e = refl
@@ -84,3 +87,25 @@ module _ (parts : Parts) (in_units : (slot : ℕ) → (at parts slot).size % uni
       vacant = vacant;
       heads = λ class within. head_below parts linked class (omega (arith, within, heads_count));
     }
+
+-- a record that is of no block is blank
+blank_or_used : (bytes : List ℕ) (slot : ℕ) → is_used (record_in bytes slot).state ≡ false → record_in bytes slot ≡ blank
+blank_or_used bytes slot unused = elim (cases_Bool (eqb (size_word bytes slot % unit) 0)) [
+  | inl zeros ↦ rw zeros refl
+  | inr some ↦ absurd (never (eqb (size_word bytes slot % unit) 1) (rw some at unused))
+]
+  where
+    never : (b : Bool) → is_used (if b then Free else Live) ≡ false → ⊥
+    never true e = absurd (cc)
+    never false e = absurd (cc)
+
+-- the parts of an image that breaks no rule can be stored
+pub image_storable : (bytes : List ℕ) → first_broken bytes ≡ None → CanBeStored (parts_in bytes)
+image_storable bytes sound =
+    let parts = parts_in bytes in
+    let whole = unbroken parts (parts_hold bytes sound) in
+    storable parts (in_units bytes) (length parts.records) whole.links (ordered bytes sound) whole.cover whole.on_chains
+    (λ slot within unused.
+        let read = record_read bytes slot (subst (λ (n : ℕ). slot < n) (records_count bytes) within) in
+        read ∙ blank_or_used bytes slot (ap (λ (r : Record). is_used r.state) (sym read) ∙ unused))
+    (heads_count bytes)
