@@ -106,6 +106,6 @@ image_storable bytes sound =
     let whole = unbroken parts (parts_hold bytes sound) in
     storable parts (in_units bytes) (length parts.records) whole.links (ordered bytes sound) whole.cover whole.on_chains
     (λ slot within unused.
-        let read = record_read bytes slot (subst (λ (n : ℕ). slot < n) (records_count bytes) within) in
-        read ∙ blank_or_used bytes slot (ap (λ (r : Record). is_used r.state) (sym read) ∙ unused))
+    let read = record_read bytes slot (subst (λ (n : ℕ). slot < n) (records_count bytes) within) in
+    read ∙ blank_or_used bytes slot (ap (λ (r : Record). is_used r.state) (sym read) ∙ unused))
     (heads_count bytes)
