@@ -5,6 +5,8 @@ pub mod Standing
 pub mod FoundNodes
 pub mod Alike
 pub mod Unbroken
+pub mod Told
 pub mod Saved
 pub mod Loaded
 pub mod FilledHeads
+pub mod Storable

@@ -4,16 +4,18 @@ use crate::add_pool::add_pool;
 use crate::check::check;
 use crate::entries::{entries, pool_ranges};
 use crate::free::free;
+use crate::load::stored;
 use crate::malloc::malloc;
 use crate::memalign::memalign;
 use crate::readings::{block_size, first, row};
 use crate::realloc::realloc;
 use crate::remove_pool::remove_pool;
 use crate::walk::walk;
-use crate::{Cursor, Heaped, Ptr, Refusal, Row};
+use crate::{Cursor, Heaped, ImageFault, Ptr, Refusal, Row};
 use arrayvec::ArrayVec;
 use std::alloc::Global;
 use std::marker::Model;
+use tlsf_image::Image;
 use tlsf_store::{MOST_POOLS, Store, StoreError};
 
 /// A heap over a table of records: pools of blocks, and a free list for each size class, found by
@@ -38,7 +40,7 @@ impl Model for Heap {
 }
 
 impl Heap {
-    ghost use Rattle.std.specs.Prelude.{◌≡◌, ◌≢◌, true, ℕ, ◌+◌, ◌%◌, ◌<◌, ◌≤◌, ◌==◌, ◌⊎◌, ◌↔◌, [], ◌∷◌, map, Ok, Err, IfOk, IfErr, IfSome, IfNone, OnOk, OnErr};
+    ghost use Rattle.std.specs.Prelude.{◌≡◌, ◌≢◌, true, ℕ, ◌+◌, ◌*◌, ◌%◌, ◌<◌, ◌≤◌, ◌==◌, ◌⊎◌, ◌↔◌, [], ◌∷◌, map, Some, None, Ok, Err, IfOk, IfErr, IfSome, IfNone, OnOk, OnErr};
     ghost use Rattle.tlsf_store.specs.declared.errors.StoreError.TheVariants.{BadCount};
     ghost use Rattle.tlsf_store.specs.Records.{most_records};
     ghost use Rattle.tlsf_heap.specs.Touches.{AtMost};
@@ -58,6 +60,11 @@ impl Heap {
     ghost use Rattle.tlsf_heap.specs.Counted.{range_of, IsUnchanged};
     ghost use Rattle.tlsf_heap.specs.Implied.{NoneFits, NoneFitsAligned, HasFewRecords, HasFewRecordsAndOne, HasAlignedBlocks, HasDisjointBlocks, ListsFreeBlocks, ListsNothingElse};
     ghost use Rattle.tlsf_heap.specs.declared.refusal.Refusal.TheVariants.{NoFit, TableFull};
+    ghost use Rattle.tlsf_class.specs.Classes.{classes};
+    ghost use Rattle.tlsf_image.specs.declared.rule.Rule.{Rule};
+    ghost use Rattle.tlsf_image.specs.Rules.{first_broken};
+    ghost use Rattle.tlsf_heap.specs.declared.image_fault.ImageFault.TheVariants.{Broken};
+    ghost use Rattle.tlsf_heap.specs.Images.{described};
 
     /// A heap of this many records, from 1 to 65,535, with no pool. It takes memory once, for its
     /// table.
@@ -73,6 +80,28 @@ impl Heap {
         match Store::create(alloc, records) {
             Ok(store) => Ok(Heap { store }),
             Err(error) => Err(error),
+        }
+    }
+
+    /// The heap that an image describes, slots included: pointers of the heap saved are live. It takes memory once, for
+    /// its table, and none where a rule is broken. At most 16 touches a record and 8 a class.
+    ///
+    /// # Errors
+    ///
+    /// `Broken` with the first rule that the bytes break; `OutOfMemory` where memory is refused.
+    pub fn load_image(alloc: Global, bytes: &[u8]) -> Result<Heap, ImageFault>
+        ensures broken { (rule : Rule) → first_broken bytes.now ≡ Some rule → result ≡ Err (Broken rule) }
+        ensures memory { IfErr result (λ fault. first_broken bytes.now ≡ None → fault ≡ ImageFault.OutOfMemory) }
+        ensures content { IfOk result (λ heap. heap.content ≡ described bytes.now) }
+        ensures bound { IfOk result (λ heap. heap.touches ≤ 16 * heap.content.records + 8 * classes) }
+    {
+        let mut image = match Image::read(bytes) {
+            Ok(image) => image,
+            Err(rule) => return Err(ImageFault::Broken(rule)),
+        };
+        match stored(alloc, &mut image) {
+            Ok(store) => Ok(Heap { store }),
+            Err(_) => Err(ImageFault::OutOfMemory),
         }
     }
 

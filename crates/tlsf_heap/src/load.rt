@@ -78,3 +78,22 @@ fn fill_pools<T: Table>(store: &mut Store, table: &mut T)
         store.set_pool(number, table.pool(number));
     }
 }
+
+/// A store that holds what a table does. It takes memory once, for its own table. At most five touches a record and a class, and
+/// ten more.
+pub(crate) fn stored<T: Table>(alloc: Global, table: &mut T) -> Result<Store, StoreError>
+    requires stored { CanBeStored (T.parts table.old) }
+    ensures parts { IfOk result (λ store. parts_of store.cells ≡ T.parts table.old) }
+    ensures words { IfOk result (λ store. length store.cells.step_words ≡ levels) }
+    ensures bitmaps { IfOk result (λ store. AreBitmapsOf store.cells.heads store.cells.step_words store.cells.level_word) }
+    ensures bound { IfOk result (λ store. store.touches ≤ 5 * length (T.parts table.old).records + 5 * classes + 10) }
+    ensures same { T.parts table.new ≡ T.parts table.old }
+    ensures memory { IfErr result (λ error. error ≡ OutOfMemory) }
+{
+    let mut store = Store::create(alloc, table.count())?;
+    take_all(&mut store);
+    fill_records(&mut store, table);
+    fill_heads(&mut store, table);
+    fill_pools(&mut store, table);
+    Ok(store)
+}

@@ -1,6 +1,7 @@
 //! Rows of the heap.
 
 mod hostile;
+mod images;
 mod long_runs;
 mod random;
 mod rows;

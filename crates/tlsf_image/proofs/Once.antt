@@ -57,7 +57,7 @@ module _ (parts : Parts) where
       as_often (times slot slots) (is_block parts slot) (chains_once parts linked (length parts.records) 0 pools ordered chains covered slot) (on_chain_used parts pools chains slot)
       (λ used.
       let here = all_below (λ slot. not (is_block parts slot) || list_any (λ pool. is_among slot (chain_of parts pool)) pools) (length parts.records) all slot (used_below parts slot used) in
-      any_counts (λ other. eqb other slot) slots (among_any (chain_of parts) pools slot ∙ not_or parts (is_block parts slot) _ here used))
+      any_counts (λ other. eqb other slot) slots (among_any (chain_of parts) pools slot ∙ not_or (is_block parts slot) _ here used))
 
   -- the list of each class is one, also of those that there aren't
   pub list_at : (from number : ℕ) (heads : List (Option ℕ)) → are_lists parts from heads ≡ true → is_list parts (from + number) (slice_index_or heads number None) ≡ true
@@ -103,5 +103,5 @@ module _ (parts : Parts) where
         (λ listed.
         let both = and_parts (is_free (at parts slot).state) (eqb (class (at parts slot).size) number) listed in
         let here = all_below (λ slot. not (is_free (at parts slot).state) || list_any (λ first. is_among slot (list_of parts first)) parts.heads) (length parts.records) all slot (used_below parts slot (free_used (at parts slot).state both.0)) in
-        let some = any_counts (λ other. eqb other slot) (flat_map (list_of parts) parts.heads) (among_any (list_of parts) parts.heads slot ∙ not_or parts (is_free (at parts slot).state) _ here both.0) in
+        let some = any_counts (λ other. eqb other slot) (flat_map (list_of parts) parts.heads) (among_any (list_of parts) parts.heads slot ∙ not_or (is_free (at parts slot).state) _ here both.0) in
         in_own_list 0 number slot parts.heads lists (omega (arith, eqb-true (class (at parts slot).size) number both.1)) some)

@@ -31,6 +31,10 @@ from_all_below test n all =
     let is : 0 + k ≡ k = omega arith in
     subst P (sym (get_or-range_with_len 0 n k d below ∙ is)) (all k below))
 
+pub not_or : (a b : Bool) → (not a || b) ≡ true → a ≡ true → b ≡ true
+not_or true b e is = e
+not_or false b e is = absurd (both_ways false refl is)
+
 -- two answers that are yes together
 same_answer : (a b : Bool) → (a ≡ true → b ≡ true) → (b ≡ true → a ≡ true) → a ≡ b
 same_answer true true f g = refl
@@ -98,10 +102,6 @@ module _ (parts : Parts) where
     | inr past ↦ let P : Record → Type 0 = λ r. is_used r.state ≡ true in absurd (both_ways false refl (subst P (get_or_past parts.records slot blank past) used))
   ]
 
-  pub not_or : (a b : Bool) → (not a || b) ≡ true → a ≡ true → b ≡ true
-  not_or true b e is = e
-  not_or false b e is = absurd (both_ways false refl is)
-
   -- a block has bytes
   pub has_bytes : has_links parts ≡ true → (slot : ℕ) → is_block slot ≡ true → 0 < (at parts slot).size
   has_bytes linked slot used =
@@ -111,18 +111,27 @@ module _ (parts : Parts) where
   pub chain_used : (pool : Pool) → is_chain parts pool ≡ true → list_all is_block (chain_of parts pool) ≡ true
   chain_used pool chain = (and_parts _ _ (and_parts _ _ chain).1).0
 
+  module _ (from to slot : ℕ) (slots : List ℕ) (covered : covers parts from to (slot ∷ slots) ≡ true) where
+    pub begins_at : (at parts slot).place ≡ from
+    begins_at = eqb-true (at parts slot).place from (and_parts (eqb (at parts slot).place from) (covers parts (from + (at parts slot).size) to slots) covered).0
+
+    pub covered_rest : covers parts (from + (at parts slot).size) to slots ≡ true
+    covered_rest = (and_parts (eqb (at parts slot).place from) (covers parts (from + (at parts slot).size) to slots) covered).1
+
+  covered_up : (slots : List ℕ) (from to : ℕ) → covers parts from to slots ≡ true → from ≤ to
+  covered_up [] from to covered = omega (arith, eqb-true from to covered)
+  covered_up (slot ∷ slots) from to covered = omega (arith, covered_up slots (from + (at parts slot).size) to (covered_rest from to slot slots covered))
+
+  abbrev pub covers_pool : Pool → Bool
+  covers_pool pool = covers parts pool.base (pool.base + pool.bytes) (chain_of parts pool)
+
+  abbrev slots_of : List Pool → List ℕ
+  slots_of pools = flat_map (chain_of parts) pools
+
+  begins_above : (count from : ℕ) (pool : Pool) (pools : List Pool) → are_pools count from (pool ∷ pools) ≡ true → from ≤ pool.base
+  begins_above count from pool pools ordered = leb-true from pool.base (and_parts _ _ (and_parts _ _ (and_parts (is_pool count from pool) (are_pools count (pool.base + pool.bytes) pools) ordered).0).1).0
+
   module _ (linked : has_links parts ≡ true) where
-    module _ (from to slot : ℕ) (slots : List ℕ) (covered : covers parts from to (slot ∷ slots) ≡ true) where
-      pub begins_at : (at parts slot).place ≡ from
-      begins_at = eqb-true (at parts slot).place from (and_parts (eqb (at parts slot).place from) (covers parts (from + (at parts slot).size) to slots) covered).0
-
-      pub covered_rest : covers parts (from + (at parts slot).size) to slots ≡ true
-      covered_rest = (and_parts (eqb (at parts slot).place from) (covers parts (from + (at parts slot).size) to slots) covered).1
-
-    covered_up : (slots : List ℕ) (from to : ℕ) → covers parts from to slots ≡ true → from ≤ to
-    covered_up [] from to covered = omega (arith, eqb-true from to covered)
-    covered_up (slot ∷ slots) from to covered = omega (arith, covered_up slots (from + (at parts slot).size) to (covered_rest from to slot slots covered))
-
     -- the blocks that cover a range stand in it
     pub stands_within : (slots : List ℕ) (from to : ℕ) → list_all is_block slots ≡ true → covers parts from to slots ≡ true → (slot : ℕ) → 1 ≤ times slot slots → (from ≤ (at parts slot).place) × ((at parts slot).place < to)
     stands_within [] from to used covered slot some = absurd (omega (arith, some))
@@ -161,15 +170,6 @@ module _ (parts : Parts) where
                 absurd (omega (arith, behind, place, begins_at from to first slots covered, has_bytes linked first (all_first is_block first slots used)))
           ]
         ]
-
-    abbrev pub covers_pool : Pool → Bool
-    covers_pool pool = covers parts pool.base (pool.base + pool.bytes) (chain_of parts pool)
-
-    abbrev slots_of : List Pool → List ℕ
-    slots_of pools = flat_map (chain_of parts) pools
-
-    begins_above : (count from : ℕ) (pool : Pool) (pools : List Pool) → are_pools count from (pool ∷ pools) ≡ true → from ≤ pool.base
-    begins_above count from pool pools ordered = leb-true from pool.base (and_parts _ _ (and_parts _ _ (and_parts (is_pool count from pool) (are_pools count (pool.base + pool.bytes) pools) ordered).0).1).0
 
     -- the blocks on the chains of pools in order stand above where these begin
     pub stands_above : (count from : ℕ) (pools : List Pool) → are_pools count from pools ≡ true → list_all (is_chain parts) pools ≡ true → list_all covers_pool pools ≡ true → (slot : ℕ) → 1 ≤ times slot (slots_of pools) → from ≤ (at parts slot).place

@@ -1,12 +1,14 @@
 -- Heads that enter cells one after the other.
 use Rattle.std.proofs.Common.{◌≡◌, ℕ, ◌+◌, ◌<◌, ◌≤◌, ◌/◌, List, length, sym, ap, ◌∙◌, subst, arith, Option, Some, None, inl, inr, set}
 use Rattle.std.proofs.lemmas.Bool.{cases_lt}
-use Rattle.std.proofs.lemmas.List.{ext_get_or, get_or-set_same, get_or-set_other, length-set}
+use Rattle.std.proofs.lemmas.List.{ext_get_or, get_or-set_same, get_or-set_other, length-set, get_or-replicate, length-replicate}
 use Rattle.tlsf_class.specs.Classes.{classes, levels, steps}
-use Rattle.tlsf_store.specs.Cells.{Cells, head_at, with_head}
+use Rattle.tlsf_store.specs.Cells.{Cells, head_at, with_head, empty_cells}
+use Rattle.tlsf_store.specs.declared.records.Record.{Record}
 use Rattle.tlsf_heap.specs.Inner.Edits.{with_class_bit}
-use Rattle.tlsf_heap.specs.Inner.Loading.{HasNoHeads, HasHeadsBelow}
+use Rattle.tlsf_heap.specs.Inner.Loading.{HasNoHeads, HasHeadsBelow, with_records}
 use Rattle.tlsf_heap.proofs.Bits.Edits.{bits_set}
+use Rattle.tlsf_heap.proofs.Inner.Empty.{empty_stands}
 
 module _ (heads : List (Option ℕ)) (old : Cells) where
   pub heads_none : HasNoHeads old → HasHeadsBelow heads old 0 old
@@ -58,3 +60,15 @@ module _ (heads : List (Option ℕ)) (old : Cells) where
   -- all heads are there
   pub heads_all : (number : ℕ) (cells : Cells) → classes ≤ number → length heads ≡ classes → HasHeadsBelow heads old number cells → cells.heads ≡ heads
   heads_all number cells all count so_far = ext_get_or None cells.heads heads (omega (arith, so_far.heads_count, count)) (λ k within. so_far.done k (omega (arith, within, all, so_far.heads_count)))
+
+-- an empty store has none
+pub none_at_first : (count : ℕ) (records others : List Record) → HasNoHeads (with_records records (with_records others (empty_cells count)))
+none_at_first count records others =
+    let index = (empty_stands count).represented.index in
+    let no_head : Option ℕ = None in
+    record {
+      none = λ class within. get_or-replicate classes class None None within;
+      heads_count = length-replicate classes no_head;
+      words_count = index.words_count;
+      bitmaps = index.bitmaps;
+    }

@@ -1,8 +1,8 @@
 -- Cells that hold what an image describes, of which no rule is broken, stand for the content that it describes.
-use Rattle.std.proofs.Common.{◌≡◌, ℕ, zero, suc, ◌+◌, ◌-◌, ◌≤◌, ◌%◌, eqb, true, List, [], ◌∷◌, ◌++◌, length, map, replicate, refl, sym, ap, ◌∙◌, subst, arith, Option, Some, None, inl, inr}
+use Rattle.std.proofs.Common.{◌≡◌, ℕ, zero, suc, ◌+◌, ◌-◌, ◌≤◌, ◌%◌, true, eqb, List, [], ◌∷◌, ◌++◌, length, map, replicate, refl, sym, ap, ◌∙◌, subst, arith, Option, Some, None, inl, inr}
 use Rattle.std.specs.Prelude.{if◌then◌else◌, nat_lt}
 use Rattle.std.specs.List.{range_with_len}
-use Rattle.std.proofs.lemmas.Bool.{and_parts, cases_lt, cases_Bool, lt-ltb, le-ltb}
+use Rattle.std.proofs.lemmas.Bool.{and_parts, cases_Bool, cases_lt, lt-ltb, le-ltb}
 use Rattle.std.proofs.lemmas.List.{get_or_past}
 use Rattle.std.proofs.lemmas.List.FromFn.{length-map-range_with_len, get_or-map-range_with_len}
 use Rattle.tlsf_class.specs.Classes.{unit, classes}
@@ -56,21 +56,21 @@ module _ (pool : ℕ → StoredPool) (count : ℕ) where
 whole_units : (n : ℕ) → (n - n % unit) % unit ≡ 0
 whole_units n = omega arith
 
+record_units : (bytes : List ℕ) (slot : ℕ) → (record_in bytes slot).size % unit ≡ 0
+record_units bytes slot = elim (cases_Bool (eqb (size_word bytes slot % unit) 0)) [
+  | inl vacant ↦ rw vacant refl
+  | inr used ↦ rw used (whole_units (size_word bytes slot))
+]
+
 module _ (bytes : List ℕ) where
   count_is : length (parts_in bytes).records ≡ two_at count_at bytes
   count_is = length-map-range_with_len (record_in bytes) 0 (two_at count_at bytes)
 
-  read_in_units : (slot : ℕ) → (record_in bytes slot).size % unit ≡ 0
-  read_in_units slot = elim (cases_Bool (eqb (size_word bytes slot % unit) 0)) [
-    | inl zeros ↦ rw zeros refl
-    | inr some ↦ rw some (whole_units (size_word bytes slot))
-  ]
-
-  in_units : (slot : ℕ) → (record_at (parts_in bytes).records slot).size % unit ≡ 0
+  pub in_units : (slot : ℕ) → (record_at (parts_in bytes).records slot).size % unit ≡ 0
   in_units slot = elim (cases_lt slot (two_at count_at bytes)) [
     | inl below ↦
         let same : 0 + slot ≡ slot = omega arith in
-        ap (λ (r : Record). r.size % unit) (get_or-map-range_with_len (record_in bytes) 0 (two_at count_at bytes) slot slot blank below same) ∙ read_in_units slot
+        ap (λ (r : Record). r.size % unit) (get_or-map-range_with_len (record_in bytes) 0 (two_at count_at bytes) slot slot blank below same) ∙ record_units bytes slot
     | inr past ↦ ap (λ (r : Record). r.size % unit) (get_or_past (parts_in bytes).records slot blank (omega (arith, past, count_is)))
   ]
 
@@ -84,10 +84,10 @@ module _ (bytes : List ℕ) where
     pools_hold : (has_pools bytes ≡ true) × (first_of ((UnusedPools, has_unused_pools bytes) ∷ (States, has_states bytes) ∷ rules_of_parts (parts_in bytes)) ≡ None)
     pools_hold = holds_first (has_pools bytes) Pools _ length_holds.1
 
-    parts_hold : first_of (rules_of_parts (parts_in bytes)) ≡ None
+    pub parts_hold : first_of (rules_of_parts (parts_in bytes)) ≡ None
     parts_hold = (holds_first (has_states bytes) States _ (holds_first (has_unused_pools bytes) UnusedPools _ pools_hold.1).1).1
 
-    ordered : are_pools (length (parts_in bytes).records) 0 (present (parts_in bytes).pools) ≡ true
+    pub ordered : are_pools (length (parts_in bytes).records) 0 (present (parts_in bytes).pools) ≡ true
     ordered = ap (λ count. are_pools count 0 (present (parts_in bytes).pools)) count_is ∙ (and_parts (are_pools (two_at count_at bytes) 0 (present (parts_in bytes).pools)) _ pools_hold.0).0
 
     module _ (cells : Cells) (loaded : AreLoaded bytes cells) where

@@ -1,14 +1,15 @@
 -- What an image tells of cells that stand: it breaks no rule, and describes their content.
-use Rattle.std.proofs.Common.{◌≡◌, true, List, length, refl, ◌∙◌, None}
+use Rattle.std.proofs.Common.{◌≡◌, true, List, length, map, refl, ◌∙◌, None}
 use Rattle.tlsf_store.specs.declared.records.Record.{Record}
 use Rattle.tlsf_store.specs.Cells.{Cells}
 use Rattle.tlsf_image.specs.Rules.{present, are_pools, first_of, rules_of_parts}
 use Rattle.tlsf_image.proofs.Unbroken.{none_broken}
-use Rattle.tlsf_heap.specs.Images.{parts_of}
+use Rattle.tlsf_heap.specs.Images.{parts_of, told, told_parts}
 use Rattle.tlsf_heap.specs.Inner.Entries.{entries_of}
 use Rattle.tlsf_heap.specs.Inner.Following.{content_from, content_of, Stands}
 use Rattle.tlsf_heap.specs.Inner.Imaged.{AreAlike, LiveAlone}
 use Rattle.tlsf_heap.proofs.Images.Alike.{alike_stand, alike_content}
+use Rattle.tlsf_heap.proofs.Images.Told.{told_alike, told_alone}
 use Rattle.tlsf_heap.proofs.Images.Unbroken.{stand_unbroken, pools_ordered}
 
 module _ (cells : Cells) (stands : Stands cells) (others : List Record) (alike : AreAlike cells.records others) where
@@ -24,3 +25,14 @@ module _ (cells : Cells) (stands : Stands cells) (others : List Record) (alike :
 
   pub saved_content : content_from others (entries_of cells.pools) cells.heads ≡ content_of cells
   saved_content = content_read ∙ alike_content cells others alike stands
+
+-- the same of what an image tells of their records
+module _ (cells : Cells) (stands : Stands cells) where
+  pub told_unbroken : first_of (rules_of_parts (told_parts cells)) ≡ None
+  told_unbroken = saved_unbroken cells stands (map told cells.records) (told_alike cells.records) (told_alone cells.records)
+
+  pub told_ordered : are_pools (length (told_parts cells).records) 0 (present (told_parts cells).pools) ≡ true
+  told_ordered = saved_ordered cells stands (map told cells.records) (told_alike cells.records)
+
+  pub told_content : content_from (told_parts cells).records (entries_of (told_parts cells).pools) (told_parts cells).heads ≡ content_of cells
+  told_content = saved_content cells stands (map told cells.records) (told_alike cells.records)

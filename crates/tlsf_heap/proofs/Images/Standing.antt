@@ -42,10 +42,10 @@ module _ (cells : Cells) (imaged : AreImaged cells) where
   covered : (slots : List ℕ) (from to : ℕ) → list_all (is_block parts) slots ≡ true → covers parts from to slots ≡ true → Covers from to (map block_of (map node slots))
   covered [] from to used is = eqb-true from to is
   covered (slot ∷ slots) from to used is = (
-    begins_at parts rules.links from to slot slots is,
+    begins_at parts from to slot slots is,
     has_bytes parts rules.links slot (all_first (is_block parts) slot slots used),
     imaged.in_units slot,
-    covered slots (from + (at parts slot).size) to (all_rest (is_block parts) slot slots used) (covered_rest parts rules.links from to slot slots is),
+    covered slots (from + (at parts slot).size) to (all_rest (is_block parts) slot slots used) (covered_rest parts from to slot slots is),
   )
 
   merged : (after : Bool) (slots : List ℕ) → are_merged parts after slots ≡ true → NoFreeNeighbours after (map block_of (map node slots))
@@ -60,7 +60,7 @@ module _ (cells : Cells) (imaged : AreImaged cells) where
   abbrev is_merged_pool : StoredPool → Bool
   is_merged_pool pool = are_merged parts false (chain_of parts pool)
 
-  good_pools : (count from : ℕ) (pools : List StoredPool) → are_pools count from pools ≡ true → list_all (is_chain parts) pools ≡ true → list_all (covers_pool parts rules.links) pools ≡ true → list_all is_merged_pool pools ≡ true
+  good_pools : (count from : ℕ) (pools : List StoredPool) → are_pools count from pools ≡ true → list_all (is_chain parts) pools ≡ true → list_all (covers_pool parts) pools ≡ true → list_all is_merged_pool pools ≡ true
       → AreGoodPools from (map pool_of (map (area_from parts) pools))
   good_pools count from [] ordered chains cover merges = tt
   good_pools count from (pool ∷ pools) ordered chains cover merges =
@@ -77,10 +77,10 @@ module _ (cells : Cells) (imaged : AreImaged cells) where
           least_bytes = leb-true unit pool.bytes least.0;
           most_bytes = leb-true pool.bytes greatest_size most.0;
           ends = leb-true (pool.base + pool.bytes) end_of_places most.1;
-          covered = covered (chain_of parts pool) pool.base (pool.base + pool.bytes) (chain_used parts pool (all_first (is_chain parts) pool pools chains)) (all_first (covers_pool parts rules.links) pool pools cover);
+          covered = covered (chain_of parts pool) pool.base (pool.base + pool.bytes) (chain_used parts pool (all_first (is_chain parts) pool pools chains)) (all_first (covers_pool parts) pool pools cover);
           merged = merged false (chain_of parts pool) (all_first is_merged_pool pool pools merges);
         },
-        good_pools count (pool.base + pool.bytes) pools both.1 (all_rest (is_chain parts) pool pools chains) (all_rest (covers_pool parts rules.links) pool pools cover) (all_rest is_merged_pool pool pools merges),
+        good_pools count (pool.base + pool.bytes) pools both.1 (all_rest (is_chain parts) pool pools chains) (all_rest (covers_pool parts) pool pools cover) (all_rest is_merged_pool pool pools merges),
       )
 
   -- a free block of a class at a place, by its node and by its block

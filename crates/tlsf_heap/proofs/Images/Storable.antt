@@ -1,0 +1,111 @@
+-- A store can keep what an image describes that breaks no rule.
+use Rattle.std.proofs.Common.{◌≡◌, ℕ, ◌+◌, ◌%◌, ◌<◌, ◌≤◌, eqb, Bool, true, false, not, ◌&&◌, ◌||◌, List, [], ◌∷◌, length, refl, sym, ap, ◌∙◌, subst, arith, inl, inr, Option, Some, None}
+use Rattle.std.specs.Prelude.{nat_lt, nat_le, ◌==◌, is_none, if◌then◌else◌}
+use Rattle.std.specs.List.{list_all, list_any, range_with_len}
+use Rattle.std.proofs.lemmas.Bool.{and_parts, and_from, or_cases, cases_Bool, eqb-true, both_ways}
+use Rattle.std.proofs.lemmas.List.Folds.{Any-from_list_any}
+use Rattle.std.proofs.lemmas.List.Sums.{AllPass-from_list_all}
+use Rattle.tlsf_class.specs.Classes.{unit, classes}
+use Rattle.tlsf_store.specs.declared.records.State.{State}
+use Rattle.tlsf_store.specs.declared.records.State.TheVariants.{Vacant, Free, Live}
+use Rattle.tlsf_store.specs.declared.records.Record.{Record}
+use Rattle.tlsf_store.specs.declared.pools.Pool.{Pool as StoredPool}
+use Rattle.tlsf_store.specs.Records.{blank, IsBelow, IsKept}
+use Rattle.tlsf_store.specs.Cells.{head_at}
+use Rattle.tlsf_image.specs.Ranges.{can_be_pool}
+use Rattle.tlsf_image.specs.Image.{Parts, parts_in, record_in, size_word}
+use Rattle.tlsf_image.specs.Rules.{present, is_pool, are_pools, at, is_used, is_below, has_links_in, covers, is_among, chain_of, has_links, has_cover, has_all_on_chains, first_broken}
+use Rattle.tlsf_image.proofs.ChainLemmas.{below, record_links}
+use Rattle.tlsf_image.proofs.RecordLemmas.{head_below}
+use Rattle.tlsf_image.proofs.SizeLemmas.{of_range}
+use Rattle.tlsf_image.proofs.ImageLemmas.{record_read, records_count, heads_count}
+use Rattle.tlsf_image.proofs.Unbroken.{unbroken}
+use Rattle.tlsf_heap.specs.Inner.Loading.{CanBeStored}
+use Rattle.tlsf_heap.proofs.Images.Loaded.{in_units, parts_hold, ordered}
+
+pool_bases : (count from : ℕ) (pools : List StoredPool) → are_pools count from pools ≡ true → list_all (λ pool. pool.base % unit == 0) pools ≡ true
+pool_bases count from [] e = refl
+pool_bases count from (pool ∷ pools) e =
+    let both = and_parts (is_pool count from pool) (are_pools count (pool.base + pool.bytes) pools) e in
+    let range : can_be_pool pool.base pool.bytes ≡ true = (and_parts (can_be_pool pool.base pool.bytes) (nat_le from pool.base && nat_lt pool.first count) both.0).0 in
+    and_from (pool.base % unit == 0) (list_all (λ pool. pool.base % unit == 0) pools) (and_parts (pool.base % unit == 0) _ range).0 (pool_bases count (pool.base + pool.bytes) pools both.1)
+
+no_link : (count : ℕ) (link : Option ℕ) → is_none link ≡ true → IsBelow count link
+no_link count None e = tt
+no_link count (Some slot) e = absurd (cc)
+
+free_links : (state : State) (count : ℕ) (r : Record) → is_used state ≡ true → has_links_in state count r ≡ true → IsBelow count r.prev_free × IsBelow count r.next_free
+free_links Vacant count r used linked = absurd (cc)
+free_links Free count r used linked =
+    let both = and_parts (is_below count r.prev_free) (is_below count r.next_free) linked in
+    (below count r.prev_free both.0, below count r.next_free both.1)
+free_links Live count r used linked =
+    let both = and_parts (is_none r.prev_free) (is_none r.next_free) linked in
+    (no_link count r.prev_free both.0, no_link count r.next_free both.1)
+
+other_one : (used rest : Bool) → used ≡ true → (not used || rest) ≡ true → rest ≡ true
+other_one true rest is e = e
+other_one false rest is e = absurd (cc)
+
+module _ (parts : Parts) (in_units : (slot : ℕ) → (at parts slot).size % unit ≡ 0) where
+  places_in_units : (from to : ℕ) (slots : List ℕ) (slot : ℕ) → covers parts from to slots ≡ true → is_among slot slots ≡ true → from % unit ≡ 0 → (at parts slot).place % unit ≡ 0
+  places_in_units from to [] slot e among whole = absurd (cc)
+  places_in_units from to (first ∷ slots) slot e among whole =
+      let both = and_parts ((at parts first).place == from) (covers parts (from + (at parts first).size) to slots) e in
+      let place : (at parts first).place ≡ from = eqb-true (at parts first).place from both.0 in
+      elim (or_cases _ _ among) [
+        | inl same ↦ subst (λ s. (at parts s).place % unit ≡ 0) (eqb-true first slot same) (ap (λ p. p % unit) place ∙ whole)
+        | inr later ↦ places_in_units (from + (at parts first).size) to slots slot both.1 later (omega (arith, whole, in_units first))
+      ]
+
+  module _ (count : ℕ) (linked : has_links parts ≡ true) (pools : are_pools count 0 (present parts.pools) ≡ true) (covered : has_cover parts ≡ true) (on_chains : has_all_on_chains parts ≡ true) where
+    place_in_units : (slot : ℕ) → slot < length parts.records → is_used (at parts slot).state ≡ true → (at parts slot).place % unit ≡ 0
+    place_in_units slot within used =
+        let on = of_range (λ slot. not (is_used (at parts slot).state) || list_any (λ pool. is_among slot (chain_of parts pool)) (present parts.pools)) (length parts.records) slot within on_chains in
+        let some : list_any (λ pool. is_among slot (chain_of parts pool)) (present parts.pools) ≡ true = other_one (is_used (at parts slot).state) _ used on in
+        let there = Any-from_list_any (λ pool. is_among slot (chain_of parts pool)) (present parts.pools) some in
+        let pool = there.1 in
+        let covers_it = subst (λ p. covers parts p.base (p.base + p.bytes) (chain_of parts p) ≡ true) there.3 (AllPass-from_list_all (λ pool. covers parts pool.base (pool.base + pool.bytes) (chain_of parts pool)) (present parts.pools) covered there.0 pool there.2) in
+        let base = subst (λ p. (p.base % unit == 0) ≡ true) there.3 (AllPass-from_list_all (λ pool. pool.base % unit == 0) (present parts.pools) (pool_bases count 0 (present parts.pools) pools) there.0 pool there.2) in
+        places_in_units pool.base (pool.base + pool.bytes) (chain_of parts pool) slot covers_it there.4 (eqb-true (pool.base % unit) 0 base)
+
+    pub storable : ((slot : ℕ) → slot < length parts.records → is_used (at parts slot).state ≡ false → at parts slot ≡ blank) → length parts.heads ≡ classes → CanBeStored parts
+    storable vacant heads_count = record {
+      kept = λ slot within used.
+          let links = record_links parts linked slot within used in
+          let both = and_parts (is_below (length parts.records) (at parts slot).prev && is_below (length parts.records) (at parts slot).next) (has_links_in (at parts slot).state (length parts.records) (at parts slot)) links in
+          let in_pool = and_parts (is_below (length parts.records) (at parts slot).prev) (is_below (length parts.records) (at parts slot).next) both.0 in
+          let in_list = free_links (at parts slot).state (length parts.records) (at parts slot) used both.1 in
+          record {
+            place = place_in_units slot within used;
+            size = in_units slot;
+            prev = below (length parts.records) (at parts slot).prev in_pool.0;
+            next = below (length parts.records) (at parts slot).next in_pool.1;
+            prev_free = in_list.0;
+            next_free = in_list.1;
+          };
+      vacant = vacant;
+      heads = λ class within. head_below parts linked class (omega (arith, within, heads_count));
+    }
+
+-- a record that is of no block is blank
+blank_or_used : (bytes : List ℕ) (slot : ℕ) → is_used (record_in bytes slot).state ≡ false → record_in bytes slot ≡ blank
+blank_or_used bytes slot unused = elim (cases_Bool (eqb (size_word bytes slot % unit) 0)) [
+  | inl zeros ↦ rw zeros refl
+  | inr some ↦ absurd (never (eqb (size_word bytes slot % unit) 1) (rw some at unused))
+]
+  where
+    never : (b : Bool) → is_used (if b then Free else Live) ≡ false → ⊥
+    never true e = absurd (cc)
+    never false e = absurd (cc)
+
+-- the parts of an image that breaks no rule can be stored
+pub image_storable : (bytes : List ℕ) → first_broken bytes ≡ None → CanBeStored (parts_in bytes)
+image_storable bytes sound =
+    let parts = parts_in bytes in
+    let whole = unbroken parts (parts_hold bytes sound) in
+    storable parts (in_units bytes) (length parts.records) whole.links (ordered bytes sound) whole.cover whole.on_chains
+    (λ slot within unused.
+    let read = record_read bytes slot (subst (λ (n : ℕ). slot < n) (records_count bytes) within) in
+    read ∙ blank_or_used bytes slot (ap (λ (r : Record). is_used r.state) (sym read) ∙ unused))
+    (heads_count bytes)

@@ -1,0 +1,62 @@
+-- What an image tells of records is alike to them, and of a live one no neighbours in a list.
+use Rattle.std.proofs.Common.{◌≡◌, ℕ, true, List, length, map, refl, sym, ap, ◌∙◌, arith, None, inl, inr}
+use Rattle.std.proofs.lemmas.Bool.{cases_lt}
+use Rattle.std.proofs.lemmas.List.{get_or-map, get_or_past, length-map}
+use Rattle.tlsf_store.specs.declared.records.State.{State}
+use Rattle.tlsf_store.specs.declared.records.State.TheVariants.{Vacant, Free, Live}
+use Rattle.tlsf_store.specs.declared.records.Record.{Record}
+use Rattle.tlsf_store.specs.Records.{blank, record_at}
+use Rattle.tlsf_image.specs.Rules.{is_used, is_free}
+use Rattle.tlsf_heap.specs.Images.{told_in, told}
+use Rattle.tlsf_heap.specs.Inner.Represents.{pool_view, list_view, pool_views, list_views}
+use Rattle.tlsf_heap.specs.Inner.Imaged.{AreAlike, LiveAlone}
+
+-- equal records are alike
+pub alike_same : (records others : List Record) → records ≡ others → AreAlike records others
+alike_same records others same = record {
+  count = ap length same;
+  states = λ slot. ap (λ rs. (record_at rs slot).state) same;
+  in_pool = λ slot used. ap (λ rs. pool_views rs slot) same;
+  in_list = λ slot free. ap (λ rs. list_views rs slot) same;
+}
+
+told_state : (state : State) (r : Record) → r.state ≡ state → (told_in state r).state ≡ state
+told_state Vacant r is = refl
+told_state Free r is = is
+told_state Live r is = is
+
+told_in_pool : (state : State) (r : Record) → is_used state ≡ true → pool_view (told_in state r) ≡ pool_view r
+told_in_pool Vacant r used = absurd (cc)
+told_in_pool Free r used = refl
+told_in_pool Live r used = refl
+
+told_in_list : (state : State) (r : Record) → is_free state ≡ true → list_view (told_in state r) ≡ list_view r
+told_in_list Vacant r free = absurd (cc)
+told_in_list Free r free = refl
+told_in_list Live r free = absurd (cc)
+
+told_live : (state : State) (r : Record) → state ≡ Live → list_view (told_in state r) ≡ record { prev = None; next = None }
+told_live Vacant r live = absurd (cc)
+told_live Free r live = absurd (cc)
+told_live Live r live = refl
+
+module _ (records : List Record) where
+  told_at : (slot : ℕ) → record_at (map told records) slot ≡ told (record_at records slot)
+  told_at slot = elim (cases_lt slot (length records)) [
+    | inl below ↦ get_or-map told records slot blank blank below
+    | inr past ↦ get_or_past (map told records) slot blank (omega (arith, past, length-map records told)) ∙ sym (ap told (get_or_past records slot blank past))
+  ]
+
+  told_states : (slot : ℕ) → (record_at records slot).state ≡ (record_at (map told records) slot).state
+  told_states slot = let r = record_at records slot in sym (ap (λ (q : Record). q.state) (told_at slot) ∙ told_state r.state r refl)
+
+  pub told_alike : AreAlike records (map told records)
+  told_alike = record {
+    count = sym (length-map records told);
+    states = told_states;
+    in_pool = λ slot used. let r = record_at records slot in sym (ap pool_view (told_at slot) ∙ told_in_pool r.state r used);
+    in_list = λ slot free. let r = record_at records slot in sym (ap list_view (told_at slot) ∙ told_in_list r.state r free);
+  }
+
+  pub told_alone : LiveAlone (map told records)
+  told_alone slot live = let r = record_at records slot in ap list_view (told_at slot) ∙ told_live r.state r (told_states slot ∙ live)
