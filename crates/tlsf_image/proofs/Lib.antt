@@ -1,15 +1,19 @@
 pub mod ChainLemmas
 pub mod Counting
 pub mod Distinct
+pub mod ImageBack
 pub mod ImageLemmas
 pub mod LinkLemmas
 pub mod ListLemmas
 pub mod Once
 pub mod PoolLemmas
 pub mod RangeLemmas
+pub mod ReadBack
 pub mod RecordLemmas
 pub mod RuleLemmas
+pub mod RulesBack
 pub mod SizeLemmas
 pub mod Totals
 pub mod Unbroken
+pub mod WritingLemmas
 mod Vectors

@@ -4,7 +4,12 @@ use Rattle.std.specs.Prelude.{Option, Bool, nat_lt, if◌then◌else◌, slice_s
 use Rattle.tlsf_class.specs.Classes.{class, low}
 use Rattle.tlsf_image.specs.declared.rule.Rule.{Rule}
 use Rattle.tlsf_image.specs.declared.rule.Rule.TheVariants.{Magic, Length, Pools, UnusedPools, States, Links, Chains, Cover, OnChains, Merged, Lists, OnLists}
+use Rattle.std.specs.List.{flat_map}
+use Rattle.tlsf_store.specs.declared.records.State.TheVariants.{Free, Live}
+use Rattle.tlsf_store.specs.Records.{blank}
+use Rattle.tlsf_image.specs.Image.{Parts}
 use Rattle.tlsf_image.specs.Rules.{first_broken, rules}
+use Rattle.tlsf_image.specs.Writing.{record_bytes, image_of}
 
 -- all rules whose test says no
 abbrev broken_of : List (Rule × Bool) → List Rule
@@ -119,3 +124,19 @@ a_live_block : first_broken (image (of_digits (codes "0200010000000000")) (of_di
     (of_digits (codes "0000000012000000ffff0100ffffffff10000000310000000000ffffffffffff"))) ≡ None
 unfolding class low
 a_live_block = refl
+
+-- the vector's parts, and their bytes
+abbrev its_parts : Parts
+its_parts = record {
+  pools = Some (record { base = 0; bytes = 64; first = 0 }) ∷ replicate 7 None;
+  heads = replicate 4 None ++ (Some 0 ∷ replicate 699 None);
+  records = record { place = 0; size = 64; state = Free; prev = None; next = None; prev_free = None; next_free = None } ∷ [];
+}
+
+written : image_of its_parts ≡ vector
+written = refl
+
+-- a vacant record, and a live one with links
+written_records : flat_map record_bytes (blank ∷ record { place = 0x12345670; size = 48; state = Live; prev = Some 1; next = Some 515; prev_free = None; next_free = None } ∷ [])
+    ≡ replicate 16 0 ++ of_digits (codes "705634123200000001000302ffffffff")
+written_records = refl

@@ -3,4 +3,5 @@ pub mod Image
 pub mod Links
 pub mod Ranges
 pub mod Rules
+pub mod Writing
 pub mod Findings
