@@ -120,3 +120,10 @@ pub putting_ends : {W : Type 0} (taken : W → Option (List ℕ)) (trace : W →
 putting_ends taken trace old new text rest so_far none =
     let P : List ℕ → Type 0 = λ t. PutsAll taken trace t old new in
     subst P (sym (so_far.whole ∙ ap (λ t. so_far.part ++ t) none ∙ append-nil so_far.part)) so_far.put
+
+-- a call puts what is left
+pub putting_last : {W T E : Type 0} (taken : W → Option (List ℕ)) (trace : W → List Call) (result : Result T E) (old middle new : W) (text rest : List ℕ)
+    → IsPutting taken trace text rest old middle → Puts taken trace result rest middle new → Puts taken trace result text old new
+putting_last taken trace result old middle new text rest so_far put =
+    let P : List ℕ → Type 0 = λ t. Puts taken trace result t old new in
+    subst P (sym so_far.whole) (puts_then taken trace result old middle new so_far.part rest so_far.put put)

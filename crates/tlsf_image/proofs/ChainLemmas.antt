@@ -1,5 +1,5 @@
 -- What is found in a chain, block after block.
-use Rattle.std.proofs.Common.{◌≡◌, ℕ, zero, suc, ◌+◌, ◌-◌, ◌<◌, ◌≤◌, Bool, true, false, not, ◌&&◌, ◌||◌, List, [], ◌∷◌, ◌++◌, length, drop, Option, Some, None, refl, sym, ap, ◌∙◌, subst, arith, cond, inl, inr}
+use Rattle.std.proofs.Common.{◌≡◌, ℕ, zero, suc, ◌+◌, ◌-◌, ◌<◌, ◌≤◌, Bool, true, false, not, ◌&&◌, ◌||◌, List, ◌∷◌, ◌++◌, length, drop, Option, Some, None, refl, sym, ap, ◌∙◌, subst, arith, inl, inr}
 use Rattle.std.specs.Prelude.{if◌then◌else◌, ◌==◌, nat_eq}
 use Rattle.std.proofs.lemmas.Bool.{cases_Bool, eqb-true, and_left, and_parts, both_ways, ltb-true}
 use Rattle.std.specs.List.{list_all, flat_map}
@@ -9,9 +9,6 @@ use Rattle.std.proofs.lemmas.List.{length-append, at_drop_more, at_drop_all}
 use Rattle.tlsf_store.specs.Cells.{pool_at}
 use Rattle.tlsf_store.specs.declared.pools.Pool.{Pool}
 use Rattle.tlsf_store.specs.Records.{IsBelow, blank}
-use Rattle.tlsf_store.specs.declared.records.Record.{Record}
-use Rattle.tlsf_store.specs.declared.records.State.{State}
-use Rattle.tlsf_store.specs.declared.records.State.TheVariants.{Vacant, Free, Live}
 use Rattle.tlsf_image.specs.declared.chains.Tally.{Tally}
 use Rattle.tlsf_image.specs.declared.chains.Front.{Front}
 use Rattle.tlsf_image.specs.Image.{Parts}

@@ -1,20 +1,19 @@
 -- The parts of the bytes that were written of parts are these parts.
-use Rattle.std.proofs.Common.{◌≡◌, ◌≢◌, ℕ, ◌+◌, ◌-◌, ◌*◌, ◌/◌, ◌%◌, ◌<◌, ◌≤◌, eqb, Bool, true, false, List, length, refl, sym, ap, ◌∙◌, subst, arith, Option, Some, None, inl, inr}
+use Rattle.std.proofs.Common.{◌≡◌, ℕ, ◌%◌, ◌<◌, true, false, List, length, refl, sym, ap, ◌∙◌, subst, arith, Option, Some, None, inl, inr}
 use Rattle.std.specs.Prelude.{nat_lt, is_some, if◌then◌else◌}
-use Rattle.std.proofs.lemmas.Bool.{cases_Bool, eq-eqb}
+use Rattle.std.proofs.lemmas.Bool.{cases_Bool}
 use Rattle.std.proofs.lemmas.List.{ext_get_or}
 use Rattle.std.proofs.lemmas.List.FromFn.{length-map-range_with_len}
 use Rattle.tlsf_class.specs.Classes.{unit, classes}
 use Rattle.tlsf_store.specs.declared.records.State.{State}
 use Rattle.tlsf_store.specs.declared.records.State.TheVariants.{Vacant, Free, Live}
-use Rattle.tlsf_store.specs.declared.records.Record.{Record}
 use Rattle.tlsf_store.specs.declared.pools.Pool.{Pool}
 use Rattle.tlsf_store.specs.Records.{blank, record_at as record_of}
 use Rattle.tlsf_store.specs.Cells.{head_at as head_of, pool_at, most_pools}
-use Rattle.tlsf_image.specs.Image.{two_at, count_at, pools_at, record_at, size_word, pool_in, head_in, record_in, parts_in, Parts}
+use Rattle.tlsf_image.specs.Image.{two_at, count_at, pools_at, pool_in, head_in, record_in, parts_in, Parts}
 use Rattle.tlsf_image.specs.Rules.{present, is_used}
-use Rattle.tlsf_image.specs.Writing.{bytes_in, record_bytes, image_of}
-use Rattle.tlsf_image.proofs.WritingLemmas.{two_back, record_byte}
+use Rattle.tlsf_image.specs.Writing.{bytes_in, image_of}
+use Rattle.tlsf_image.proofs.WritingLemmas.{two_back}
 use Rattle.tlsf_image.proofs.ReadBack.{IsWritten, LinksFit, head_back, pool_back, block_back, vacant_back}
 use Rattle.tlsf_image.proofs.ImageLemmas.{records_count, record_read, head_read, pool_read}
 

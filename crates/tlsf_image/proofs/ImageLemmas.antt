@@ -1,5 +1,5 @@
 -- What stands in readable bytes, by number.
-use Rattle.std.proofs.Common.{◌≡◌, ℕ, ◌+◌, ◌*◌, ◌<◌, ◌≤◌, Bool, true, false, ◌&&◌, List, [], ◌∷◌, map, length, Option, Some, None, refl, sym, ap, ◌∙◌, subst, arith, inl, inr}
+use Rattle.std.proofs.Common.{false, ◌≡◌, ℕ, ◌+◌, ◌<◌, ◌≤◌, Bool, true, ◌&&◌, List, [], ◌∷◌, map, length, Some, None, refl, sym, ◌∙◌, subst, arith}
 use Rattle.std.specs.Prelude.{nat_lt, nat_le, if◌then◌else◌, ◌==◌}
 use Rattle.std.specs.List.{list_all, range_with_len}
 use Rattle.std.proofs.lemmas.Bool.{and_parts, and_from, eqb-true, leb-true, ltb-true}
@@ -20,6 +20,24 @@ use Rattle.tlsf_image.proofs.SizeLemmas.{of_range}
 all_pass : (a b c d e : Bool) (more : List (Rule × Bool)) → a ≡ true → b ≡ true → c ≡ true → d ≡ true → e ≡ true
     → first_of ((Magic, a) ∷ (Length, b) ∷ (Pools, c) ∷ (UnusedPools, d) ∷ (States, e) ∷ more) ≡ first_of more
 all_pass a b c d e more p q r s t = rw (p, q, r, s, t) refl
+
+-- a rule whose test says no is the first that is broken, where those in front of it hold
+at_first : (a : Bool) (more : List (Rule × Bool)) → a ≡ false → first_of ((Magic, a) ∷ more) ≡ Some Magic
+at_first a more off = rw off refl
+
+at_second : (a b : Bool) (more : List (Rule × Bool)) → a ≡ true → b ≡ false → first_of ((Magic, a) ∷ (Length, b) ∷ more) ≡ Some Length
+at_second a b more p off = rw (p, off) refl
+
+at_third : (a b c : Bool) (more : List (Rule × Bool)) → a ≡ true → b ≡ true → c ≡ false → first_of ((Magic, a) ∷ (Length, b) ∷ (Pools, c) ∷ more) ≡ Some Pools
+at_third a b c more p q off = rw (p, q, off) refl
+
+at_fourth : (a b c d : Bool) (more : List (Rule × Bool)) → a ≡ true → b ≡ true → c ≡ true → d ≡ false
+    → first_of ((Magic, a) ∷ (Length, b) ∷ (Pools, c) ∷ (UnusedPools, d) ∷ more) ≡ Some UnusedPools
+at_fourth a b c d more p q r off = rw (p, q, r, off) refl
+
+at_fifth : (a b c d e : Bool) (more : List (Rule × Bool)) → a ≡ true → b ≡ true → c ≡ true → d ≡ true → e ≡ false
+    → first_of ((Magic, a) ∷ (Length, b) ∷ (Pools, c) ∷ (UnusedPools, d) ∷ (States, e) ∷ more) ≡ Some States
+at_fifth a b c d e more p q r s off = rw (p, q, r, s, off) refl
 
 module _ (bytes : List ℕ) where
   -- how many records and pools there are
@@ -79,3 +97,24 @@ module _ (bytes : List ℕ) where
   pub first_left : IsReadable bytes → first_broken bytes ≡ first_of (rules_of_parts (parts_in bytes))
   first_left readable =
       all_pass (has_magic bytes) (has_length bytes) (has_pools bytes) (has_unused_pools bytes) (has_states bytes) (rules_of_parts (parts_in bytes)) readable.magic readable.length readable.pools readable.unused readable.states
+
+  -- the first rule that is broken, up to that of states
+  pub not_magic : has_magic bytes ≡ false → first_broken bytes ≡ Some Magic
+  not_magic off =
+      at_first (has_magic bytes) ((Length, has_length bytes) ∷ (Pools, has_pools bytes) ∷ (UnusedPools, has_unused_pools bytes) ∷ (States, has_states bytes) ∷ rules_of_parts (parts_in bytes)) off
+
+  pub not_length : has_magic bytes ≡ true → has_length bytes ≡ false → first_broken bytes ≡ Some Length
+  not_length magic off =
+      at_second (has_magic bytes) (has_length bytes) ((Pools, has_pools bytes) ∷ (UnusedPools, has_unused_pools bytes) ∷ (States, has_states bytes) ∷ rules_of_parts (parts_in bytes)) magic off
+
+  pub not_pools : has_magic bytes ≡ true → has_length bytes ≡ true → has_pools bytes ≡ false → first_broken bytes ≡ Some Pools
+  not_pools magic whole off =
+      at_third (has_magic bytes) (has_length bytes) (has_pools bytes) ((UnusedPools, has_unused_pools bytes) ∷ (States, has_states bytes) ∷ rules_of_parts (parts_in bytes)) magic whole off
+
+  pub not_unused : has_magic bytes ≡ true → has_length bytes ≡ true → has_pools bytes ≡ true → has_unused_pools bytes ≡ false → first_broken bytes ≡ Some UnusedPools
+  not_unused magic whole pools off =
+      at_fourth (has_magic bytes) (has_length bytes) (has_pools bytes) (has_unused_pools bytes) ((States, has_states bytes) ∷ rules_of_parts (parts_in bytes)) magic whole pools off
+
+  pub not_states : has_magic bytes ≡ true → has_length bytes ≡ true → has_pools bytes ≡ true → has_unused_pools bytes ≡ true → has_states bytes ≡ false → first_broken bytes ≡ Some States
+  not_states magic whole pools unused off =
+      at_fifth (has_magic bytes) (has_length bytes) (has_pools bytes) (has_unused_pools bytes) (has_states bytes) (rules_of_parts (parts_in bytes)) magic whole pools unused off

@@ -1,3 +1,4 @@
+pub mod Appending
 pub mod ChainLemmas
 pub mod Counting
 pub mod Distinct
@@ -15,5 +16,6 @@ pub mod RulesBack
 pub mod SizeLemmas
 pub mod Totals
 pub mod Unbroken
+pub mod Writable
 pub mod WritingLemmas
 mod Vectors

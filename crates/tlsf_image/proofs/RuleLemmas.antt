@@ -1,9 +1,8 @@
 -- What was found tells which rule is the first broken one.
-use Rattle.std.proofs.Common.{◌≡◌, ℕ, ◌+◌, Bool, true, false, List, [], ◌∷◌, length, Option, Some, None, refl, sym, ap, ◌∙◌, arith}
+use Rattle.std.proofs.Common.{◌≡◌, ℕ, ◌+◌, Bool, true, false, length, Some, None, refl, sym, ap, ◌∙◌, arith}
 use Rattle.std.specs.Prelude.{if◌then◌else◌, nat_eq}
 use Rattle.std.specs.List.{flat_map, count_by}
-use Rattle.tlsf_image.specs.declared.rule.Rule.{Rule}
-use Rattle.tlsf_image.specs.declared.rule.Rule.TheVariants.{Links, Chains, Cover, OnChains, Merged, Lists, OnLists}
+use Rattle.tlsf_image.specs.declared.rule.Rule.TheVariants.{OnChains, Merged, Lists, OnLists}
 use Rattle.tlsf_image.specs.declared.chains.Tally.{Tally}
 use Rattle.tlsf_image.specs.declared.links.Blocks.{Blocks}
 use Rattle.tlsf_image.specs.Image.{Parts}

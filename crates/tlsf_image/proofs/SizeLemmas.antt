@@ -1,15 +1,15 @@
 -- Blocks that are on chains which cover their pools are no larger than these.
-use Rattle.std.proofs.Common.{◌≡◌, ℕ, ◌+◌, ◌<◌, ◌≤◌, Bool, true, false, not, ◌&&◌, ◌||◌, List, [], ◌∷◌, length, Option, Some, None, refl, sym, ap, ◌∙◌, subst, arith, inl, inr}
+use Rattle.std.proofs.Common.{◌≡◌, ℕ, ◌+◌, ◌<◌, ◌≤◌, Bool, true, false, not, ◌&&◌, ◌||◌, List, [], ◌∷◌, length, refl, ◌∙◌, subst, arith, inl, inr}
 use Rattle.std.specs.Prelude.{◌==◌, nat_le, nat_lt, ◌%◌}
-use Rattle.std.specs.List.{list_all, list_any, range_with_len, Any, All}
-use Rattle.std.proofs.lemmas.Bool.{and_parts, and_from, or_cases, not_from_true, cases_Bool, both_ways, eqb-true, leb-true, not-true}
-use Rattle.std.proofs.lemmas.List.Folds.{list_all_at, Any-from_list_any}
+use Rattle.std.specs.List.{list_all, list_any, range_with_len}
+use Rattle.std.proofs.lemmas.Bool.{and_parts, and_from, or_cases, eqb-true, leb-true}
+use Rattle.std.proofs.lemmas.List.Folds.{Any-from_list_any}
 use Rattle.std.proofs.lemmas.List.FromFn.{length-range_with_len, get_or-range_with_len}
 use Rattle.std.proofs.lemmas.List.Sums.{AllPass-from_list_all}
 use Rattle.tlsf_class.specs.Classes.{unit, greatest_size}
 use Rattle.tlsf_store.specs.declared.pools.Pool.{Pool}
 use Rattle.tlsf_image.specs.Image.{Parts}
-use Rattle.tlsf_image.specs.Ranges.{can_be_pool, end_of_places}
+use Rattle.tlsf_image.specs.Ranges.{end_of_places}
 use Rattle.tlsf_image.specs.Rules.{present, is_pool, are_pools, at, is_used, covers, is_among, chain_of, has_cover, has_all_on_chains}
 use Rattle.tlsf_image.specs.Findings.{HasSizes}
 

@@ -1,6 +1,6 @@
 -- The rules at worked images.
 use Rattle.std.proofs.Common.{◌≡◌, ℕ, ◌+◌, ◌*◌, ◌-◌, List, [], ◌∷◌, ◌++◌, refl, replicate, Some, None}
-use Rattle.std.specs.Prelude.{Option, Bool, nat_lt, if◌then◌else◌, slice_set, codes}
+use Rattle.std.specs.Prelude.{Bool, nat_lt, if◌then◌else◌, slice_set, codes}
 use Rattle.tlsf_class.specs.Classes.{class, low}
 use Rattle.tlsf_image.specs.declared.rule.Rule.{Rule}
 use Rattle.tlsf_image.specs.declared.rule.Rule.TheVariants.{Magic, Length, Pools, UnusedPools, States, Links, Chains, Cover, OnChains, Merged, Lists, OnLists}

@@ -9,7 +9,6 @@ use Rattle.tlsf_image.specs.declared.chains.Tally.{Tally}
 use Rattle.tlsf_image.specs.declared.chains.Front.{Front}
 use Rattle.tlsf_image.specs.declared.links.Blocks.{Blocks}
 use Rattle.tlsf_image.specs.Image.{Parts}
-use Rattle.tlsf_image.specs.Links.{follow, is_linked}
 use Rattle.tlsf_image.specs.Rules.{present, has_record_links, has_links, at, is_used, is_free, is_chain, chain_of, covers, are_merged, is_list, are_lists, list_of}
 
 -- a pool's chain: how many blocks it has, whether they cover the pool, and whether no two free ones are neighbours

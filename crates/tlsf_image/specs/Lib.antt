@@ -5,3 +5,4 @@ pub mod Ranges
 pub mod Rules
 pub mod Writing
 pub mod Findings
+pub mod Told

@@ -1,7 +1,7 @@
 -- The rules of an image, in order, each a test; and the first that is broken.
 use Rattle.std.specs.Prelude.{◌≡◌, ℕ, ◌+◌, ◌-◌, ◌*◌, ◌%◌, ◌==◌, nat_lt, nat_le, ◌&&◌, ◌||◌, not, Bool, true, false, List, [], ◌∷◌, length, Option, Some, None, is_none, if◌then◌else◌, nat_eq}
 use Rattle.std.specs.List.{range_with_len, list_all, list_any, filter_map, starts_with}
-use Rattle.tlsf_class.specs.Classes.{unit, classes, class}
+use Rattle.tlsf_class.specs.Classes.{unit, class}
 use Rattle.tlsf_store.specs.declared.records.State.{State}
 use Rattle.tlsf_store.specs.declared.records.State.TheVariants.{Vacant, Free, Live}
 use Rattle.tlsf_store.specs.declared.records.Record.{Record}
@@ -10,7 +10,7 @@ use Rattle.tlsf_store.specs.Records.{record_at as record_of}
 use Rattle.tlsf_store.specs.Cells.{most_pools}
 use Rattle.tlsf_image.specs.declared.rule.Rule.{Rule}
 use Rattle.tlsf_image.specs.declared.rule.Rule.TheVariants.{Magic, Length, Pools, UnusedPools, States, Links, Chains, Cover, OnChains, Merged, Lists, OnLists}
-use Rattle.tlsf_image.specs.Image.{two_at, four_at, are_zero, magic, count_at, pools_at, zeros_at, entry_at, record_at, size_word, pool_in, Parts, parts_in}
+use Rattle.tlsf_image.specs.Image.{two_at, are_zero, magic, count_at, pools_at, zeros_at, entry_at, record_at, size_word, Parts, parts_in}
 use Rattle.tlsf_image.specs.Links.{chain_from, list_from, is_linked}
 use Rattle.tlsf_image.specs.Ranges.{can_be_pool}
 

@@ -92,6 +92,7 @@ fn look_at_chain<T: Table>(table: &mut T, pool: Pool) -> Option<Tally>
     ensures value { result ≡ chain_found (T.parts table.old) pool }
     ensures few { IfSome result (λ tally. tally.blocks ≤ most_records) }
     ensures same { T.parts table.new ≡ T.parts table.old }
+    ensures kept { T.cells table.new ≡ T.cells table.old }
     ensures floor { T.touches table.old ≤ T.touches table.new }
 {
     let count = table.count();
@@ -121,6 +122,7 @@ pub(crate) fn look_at_chains<T: Table>(table: &mut T) -> Option<Tally>
     requires links { IsTrue (has_links (T.parts table.old)) }
     ensures value { result ≡ chains_found (T.parts table.old) }
     ensures same { T.parts table.new ≡ T.parts table.old }
+    ensures kept { T.cells table.new ≡ T.cells table.old }
     ensures floor { T.touches table.old ≤ T.touches table.new }
 {
     let mut tally = Tally::new();

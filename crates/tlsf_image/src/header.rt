@@ -12,7 +12,7 @@ use tlsf_class::{CLASSES, UNIT};
 use tlsf_store::{MOST_POOLS, Pool, Slot};
 
 /// What an image begins with.
-const MAGIC: &[u8; 8] = b"TLSFIMG1";
+pub(crate) const MAGIC: &[u8; 8] = b"TLSFIMG1";
 
 /// Where the number of records, the number of pools, and the zero bytes behind them stand.
 pub(crate) const COUNT_AT: usize = 8;

@@ -1,10 +1,10 @@
 //! An image of a heap.
 
-ghost use Rattle.std.specs.Prelude.{◌≡◌, ◌+◌, ◌%◌, ◌<◌, ◌≤◌, IfErr, IfOk, None, Some, length};
+ghost use Rattle.std.specs.Prelude.{◌≡◌, ◌+◌, ◌%◌, ◌<◌, ◌≤◌, IfErr, IfOk, IfSome, None, Some, length};
 ghost use Rattle.tlsf_class.specs.Classes.{unit, classes};
 ghost use Rattle.tlsf_store.specs.Cells.{most_pools};
 ghost use Rattle.tlsf_image.specs.Image.{parts_in, link_of, state_of, record_at, record_in, head_in};
-ghost use Rattle.tlsf_image.specs.Rules.{first_broken};
+ghost use Rattle.tlsf_image.specs.Rules.{first_broken, IsReadable};
 
 use crate::bytes::{four_at, two_at};
 use crate::header::{
@@ -17,7 +17,7 @@ use tlsf_class::{Class, UNIT};
 use tlsf_store::{Pool, Record, Slot, State};
 
 /// The word of a missing link.
-const NIL: u16 = 65_535;
+pub(crate) const NIL: u16 = 65_535;
 
 /// Bytes of which the rules up to that of states hold: header, pools, heads and records can be read.
 #[derive(Drop)]
@@ -47,20 +47,8 @@ impl<'a> Image<'a> {
         ensures whole { IfOk result (λ image. first_broken bytes.now ≡ None) }
         ensures bytes { IfOk result (λ image. image ≡ bytes.now) }
     {
-        if !has_magic(bytes) {
-            return Err(Rule::Magic);
-        }
-        if !has_length(bytes) {
-            return Err(Rule::Length);
-        }
-        if !has_pools(bytes) {
-            return Err(Rule::Pools);
-        }
-        if !has_unused_pools(bytes) {
-            return Err(Rule::UnusedPools);
-        }
-        if !has_states(bytes) {
-            return Err(Rule::States);
+        if let Some(rule) = unreadable(bytes) {
+            return Err(rule);
         }
         let mut image = Image { bytes };
         match first_broken(&mut image) {
@@ -68,6 +56,29 @@ impl<'a> Image<'a> {
             None => Ok(Image { bytes }),
         }
     }
+}
+
+/// The first rule, of those up to that of states, that the bytes break.
+fn unreadable(bytes: &[u8]) -> Option<Rule>
+    ensures broken { IfSome result (λ rule. first_broken bytes.now ≡ Some rule) }
+    ensures readable { result ≡ None → IsReadable bytes.now }
+{
+    if !has_magic(bytes) {
+        return Some(Rule::Magic);
+    }
+    if !has_length(bytes) {
+        return Some(Rule::Length);
+    }
+    if !has_pools(bytes) {
+        return Some(Rule::Pools);
+    }
+    if !has_unused_pools(bytes) {
+        return Some(Rule::UnusedPools);
+    }
+    if !has_states(bytes) {
+        return Some(Rule::States);
+    }
+    None
 }
 
 /// The link of a word.
@@ -85,7 +96,7 @@ fn state_of(code: u32) -> State
 }
 
 /// A vacant record.
-const VACANT: Record = Record {
+pub(crate) const VACANT: Record = Record {
     place: 0,
     size: 0,
     state: State::Vacant,
@@ -128,9 +139,12 @@ fn head_in(bytes: &[u8], class: Class) -> Option<Slot>
 
 impl<'a> Table for Image<'a> {
     ghost use Rattle.std.specs.Prelude.{◌≡◌, ◌<◌, ◌≤◌, length};
+    ghost use Rattle.tlsf_store.specs.Cells.{empty_cells};
     ghost use Rattle.tlsf_image.specs.Image.{parts_in};
 
     ghost parts = { λ image. parts_in image };
+
+    ghost cells = { λ image. empty_cells 0 };
 
     ghost touches = { λ image. 0 };
 

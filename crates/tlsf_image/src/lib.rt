@@ -1,4 +1,4 @@
-//! Images of a heap: what stands where in their bytes, and the twelve rules that tell whether bytes are one.
+//! Images of a heap: what stands where in their bytes, the twelve rules that tell whether bytes are one, and how one is written.
 #![tactic(auto)]
 
 mod bytes;
@@ -13,9 +13,12 @@ mod rules;
 mod table;
 #[cfg(test)]
 mod tests;
+mod told;
+mod writing;
 
 pub use image::Image;
 pub use ranges::{END_OF_PLACES, can_be_pool};
 pub use rule::Rule;
 pub use rules::first_broken;
 pub use table::Table;
+pub use writing::put_image;

@@ -64,6 +64,7 @@ fn has_links(block: &Record, count: u32) -> bool
 fn has_head_links<T: Table>(table: &mut T) -> bool
     ensures value { result ≡ list_all (is_below (length (T.parts table.old).records)) (T.parts table.old).heads }
     ensures same { T.parts table.new ≡ T.parts table.old }
+    ensures kept { T.cells table.new ≡ T.cells table.old }
     ensures floor { T.touches table.old ≤ T.touches table.new }
 {
     let count = table.count();
@@ -79,6 +80,7 @@ fn has_head_links<T: Table>(table: &mut T) -> bool
 fn look_at_records<T: Table>(table: &mut T) -> Option<Blocks>
     ensures value { result ≡ blocks_with (length (T.parts table.old).records) (record { all = 0; free = 0 }) (T.parts table.old).records }
     ensures same { T.parts table.new ≡ T.parts table.old }
+    ensures kept { T.cells table.new ≡ T.cells table.old }
     ensures floor { T.touches table.old ≤ T.touches table.new }
 {
     let count = table.count();
@@ -97,6 +99,7 @@ fn look_at_records<T: Table>(table: &mut T) -> Option<Blocks>
 pub(crate) fn look_at_links<T: Table>(table: &mut T) -> Option<Blocks>
     ensures value { result ≡ links_found (T.parts table.old) }
     ensures same { T.parts table.new ≡ T.parts table.old }
+    ensures kept { T.cells table.new ≡ T.cells table.old }
     ensures floor { T.touches table.old ≤ T.touches table.new }
 {
     if !has_head_links(table) {

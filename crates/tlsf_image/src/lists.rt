@@ -32,6 +32,7 @@ fn look_at_list<T: Table>(table: &mut T, class: Class) -> Option<u32>
     ensures few { IfSome result (λ blocks. blocks ≤ most_records) }
     ensures whole { length (T.parts table.old).heads ≡ classes }
     ensures same { T.parts table.new ≡ T.parts table.old }
+    ensures kept { T.cells table.new ≡ T.cells table.old }
     ensures floor { T.touches table.old ≤ T.touches table.new }
 {
     let count = table.count();
@@ -57,6 +58,7 @@ pub(crate) fn look_at_lists<T: Table>(table: &mut T) -> Option<u32>
     requires sizes { HasSizes (T.parts table.old) }
     ensures value { result ≡ lists_found (T.parts table.old) }
     ensures same { T.parts table.new ≡ T.parts table.old }
+    ensures kept { T.cells table.new ≡ T.cells table.old }
     ensures floor { T.touches table.old ≤ T.touches table.new }
 {
     let mut blocks = 0;

@@ -13,6 +13,7 @@ pub fn first_broken<T: Table>(table: &mut T) -> Option<Rule>
     requires { are_pools (length (T.parts table.old).records) 0 (present (T.parts table.old).pools) ≡ true }
     ensures value { result ≡ first_of (rules_of_parts (T.parts table.old)) }
     ensures same { T.parts table.new ≡ T.parts table.old }
+    ensures kept { T.cells table.new ≡ T.cells table.old }
     ensures floor { T.touches table.old ≤ T.touches table.new }
 {
     let Some(blocks) = look_at_links(table) else {

@@ -3,7 +3,7 @@
 ghost use Rattle.std.specs.Prelude.{◌≡◌, ℕ, ◌%◌, ◌<◌, ◌≤◌, length};
 ghost use Rattle.tlsf_class.specs.Classes.{unit, classes};
 ghost use Rattle.tlsf_store.specs.Records.{record_at, most_records};
-ghost use Rattle.tlsf_store.specs.Cells.{head_at, pool_at, most_pools, IsPoolBelow};
+ghost use Rattle.tlsf_store.specs.Cells.{Cells, head_at, pool_at, most_pools, IsPoolBelow};
 ghost use Rattle.tlsf_image.specs.Image.{Parts};
 
 use tlsf_class::Class;
@@ -13,6 +13,9 @@ use tlsf_store::{Pool, Record, Slot};
 pub trait Table {
     // What stands in it.
     ghost parts: { Self → Parts };
+
+    // The cells behind it, where it is a store, bitmaps and all.
+    ghost cells: { Self → Cells };
 
     // How often it was touched, where touches are counted.
     ghost touches: { Self → ℕ };
@@ -29,6 +32,7 @@ pub trait Table {
         ensures value { result ≡ record_at (parts self.old).records slot }
         ensures whole { result.size % unit ≡ 0 }
         ensures same { parts self.new ≡ parts self.old }
+        ensures kept { cells self.new ≡ cells self.old }
         ensures floor { touches self.old ≤ touches self.new };
 
     /// The first block of a class's list.
@@ -36,6 +40,7 @@ pub trait Table {
         ensures value { result ≡ head_at (parts self.old).heads class }
         ensures whole { length (parts self.old).heads ≡ classes }
         ensures same { parts self.new ≡ parts self.old }
+        ensures kept { cells self.new ≡ cells self.old }
         ensures floor { touches self.old ≤ touches self.new };
 
     /// The pool of a number below `MOST_POOLS`.
@@ -45,5 +50,6 @@ pub trait Table {
         ensures below { IsPoolBelow (length (parts self.old).records) result }
         ensures whole { length (parts self.old).pools ≡ most_pools }
         ensures same { parts self.new ≡ parts self.old }
+        ensures kept { cells self.new ≡ cells self.old }
         ensures floor { touches self.old ≤ touches self.new };
 }

@@ -1,7 +1,7 @@
 //! The store.
 
 ghost use Rattle.std.specs.Prelude.{◌≡◌, ◌≢◌, ◌+◌, ◌<◌, ◌≤◌, ◌^◌, ◌⊎◌, ◌↔◌, IfOk, IfSome, IfNone, length, slice_index, Err};
-ghost use Rattle.tlsf_class.specs.Classes.{levels};
+ghost use Rattle.tlsf_class.specs.Classes.{levels, classes};
 ghost use Rattle.tlsf_store.specs.declared.errors.StoreError.TheVariants.{BadCount};
 ghost use Rattle.tlsf_store.specs.declared.records.State.TheVariants.{Vacant};
 ghost use Rattle.tlsf_store.specs.Records.{most_records, blank, record_at, vacant_count, IsBelow, IsKept};
@@ -121,6 +121,7 @@ impl Store {
     /// The first block of a class's list. One touch.
     pub fn head(&mut self, class: Class) -> Option<Slot>
         ensures within { class < length self.old.cells.heads }
+        ensures count { length self.old.cells.heads ≡ classes }
         ensures value { result ≡ head_at self.old.cells.heads class }
         ensures below { IsBelow (length self.old.cells.records) result }
         ensures cells { self.new.cells ≡ self.old.cells }
@@ -189,6 +190,7 @@ impl Store {
     pub fn pool(&mut self, number: u32) -> Option<Pool>
         requires { number < most_pools }
         ensures within { number < length self.old.cells.pools }
+        ensures count { length self.old.cells.pools ≡ most_pools }
         ensures value { result ≡ pool_at self.old.cells.pools number }
         ensures below { IsPoolBelow (length self.old.cells.records) result }
         ensures cells { self.new.cells ≡ self.old.cells }

@@ -1,8 +1,8 @@
-use Rattle.std.proofs.Common.{rules, ◌≡◌, ◌+◌, ◌<◌, ◌∙◌, ℕ, length, sym, ap, subst, arith, Option, Some, None, Bool, true, false}
+use Rattle.std.proofs.Common.{◌≡◌, ◌<◌, ◌∙◌, length, sym, ap, arith, true}
 use Rattle.std.proofs.lemmas.Bool.{and_parts}
 use Rattle.tlsf_image.specs.Image.{Parts}
 use Rattle.tlsf_image.specs.Findings.{is_before}
-use Rattle.tlsf_image.specs.Rules.{at, is_used}
+use Rattle.tlsf_image.specs.Rules.{at}
 use Rattle.tlsf_image.proofs.ChainLemmas.{found_first, found_on, found_off, found_more, found_covered, found_uncovered, next_below}
 use Rattle.tlsf_image.proofs.chains.look_at_chain.Goals as goal
 use Rattle.tlsf_image.proofs.chains.look_at_chain.Goals.{then-tally-count-via-then-tally-count, then-tally-count-via-else-tally-count+then-not-is_before}
@@ -10,6 +10,7 @@ use Rattle.tlsf_image.proofs.chains.look_at_chain.Goals.{then-tally-count-via-th
 pub loop-next-init : goal.loop-next-init
 loop-next-init g c = record {
   same = λ i. g.T.Table.parts c.args.table.now;
+  kept = λ i. g.T.Table.cells c.args.table.now;
   floor = omega arith;
   below = c.requires.within;
   few = rw c.new-tally.ensures (omega arith);
@@ -39,6 +40,7 @@ loop-next-preserved g c =
     let told = rw c.in-Some.is at c.loop-next.invariant.told in
     record {
       same = c.record-block.ensures.same ∙ c.loop-next.invariant.same;
+      kept = c.record-block.ensures.kept ∙ c.loop-next.invariant.kept;
       floor = omega (arith, c.loop-next.invariant.floor, c.record-block.ensures.floor);
       below = rw read (next_below parts c.requires.links c.in-Some.slot within (and_parts _ _ before).0);
       few = rw c.with-tally.ensures (omega (arith, c.if-tally-count.false, c.count-count.ensures.value));

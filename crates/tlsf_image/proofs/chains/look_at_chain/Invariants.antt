@@ -10,6 +10,7 @@ invariant-loop-next g l =
     let parts = g.T.Table.parts l.fn.table in
     record {
       same : g.T.Table.parts l.table ≡ parts;
+      kept : g.T.Table.cells l.table ≡ g.T.Table.cells l.fn.table;
       floor : g.T.Table.touches l.fn.table ≤ g.T.Table.touches l.table;
       below : IsBelow (length parts.records) l.next;
       few : l.tally.blocks ≤ length parts.records;

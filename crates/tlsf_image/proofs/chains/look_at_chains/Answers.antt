@@ -1,10 +1,8 @@
-use Rattle.std.proofs.Common.{◌≡◌, ◌+◌, ◌<◌, ◌∙◌, ℕ, length, sym, ap, subst, arith, drop, Option, Some, None}
-use Rattle.tlsf_store.specs.declared.pools.Pool.{Pool}
+use Rattle.std.proofs.Common.{◌≡◌, ◌<◌, ◌∙◌, length, sym, ap, arith, Some}
 use Rattle.tlsf_store.specs.Cells.{pool_at, most_pools}
-use Rattle.tlsf_image.specs.declared.chains.Tally.{Tally}
 use Rattle.tlsf_image.specs.Image.{Parts}
-use Rattle.tlsf_image.specs.Findings.{tally_with, chains_found, chain_found}
-use Rattle.tlsf_image.proofs.ChainLemmas.{pool_on, pool_off, pool_none, pools_end}
+use Rattle.tlsf_image.specs.Findings.{chain_found}
+use Rattle.tlsf_image.proofs.ChainLemmas.{pool_on, pool_none, pools_end}
 use Rattle.tlsf_image.proofs.chains.look_at_chains.Goals as goal
 use Rattle.tlsf_image.proofs.chains.look_at_chains.Goals.{in-Some+in_ok-look_at_chain, in_default}
 
@@ -22,6 +20,7 @@ loop-number-preserved g c =
           sym (w.in_ok-look_at_chain.ensures.value ∙ ap (λ (p : Parts). chain_found p w.in-Some.pool) same) in
           rw (w.table-is, w.tally-is, w.and-tally.ensures) (record {
             same = w.look_at_chain.ensures.same ∙ same;
+            kept = w.look_at_chain.ensures.kept ∙ c.pool.ensures.kept ∙ c.loop-number.invariant.kept;
             floor = omega arith;
             whole = λ some. whole;
             few = omega (arith, c.loop-number.invariant.few, w.in_ok-look_at_chain.ensures.few);
@@ -30,6 +29,7 @@ loop-number-preserved g c =
       | in_default w ↦
           rw (w.table-is, w.tally-is) (record {
             same = c.pool.ensures.same ∙ c.loop-number.invariant.same;
+            kept = c.pool.ensures.kept ∙ c.loop-number.invariant.kept;
             floor = omega arith;
             whole = λ some. whole;
             few = omega (arith, c.loop-number.invariant.few);

@@ -10,6 +10,7 @@ invariant-loop-number g l =
     let parts = g.T.Table.parts l.fn.table in
     record {
       same : g.T.Table.parts l.table ≡ parts;
+      kept : g.T.Table.cells l.table ≡ g.T.Table.cells l.fn.table;
       floor : g.T.Table.touches l.fn.table ≤ g.T.Table.touches l.table;
       whole : 0 < l.number → length parts.pools ≡ most_pools;
       few : l.tally.blocks ≤ l.number * most_records;

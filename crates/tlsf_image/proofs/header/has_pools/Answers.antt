@@ -1,4 +1,4 @@
-use Rattle.std.proofs.Common.{◌≡◌, ◌+◌, ◌<◌, ◌∙◌, ℕ, sym, ap, arith, inl, inr}
+use Rattle.std.proofs.Common.{◌<◌, ◌∙◌, sym, arith, inl, inr}
 use Rattle.tlsf_image.specs.Image.{two_at, pools_at}
 use Rattle.tlsf_image.proofs.PoolLemmas.{pools_all, pools_on, pools_off, pools_end}
 use Rattle.tlsf_image.proofs.header.has_pools.Goals as goal

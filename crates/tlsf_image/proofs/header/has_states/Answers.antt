@@ -1,4 +1,4 @@
-use Rattle.std.proofs.Common.{◌≡◌, ◌+◌, ◌<◌, sym, ◌∙◌}
+use Rattle.std.proofs.Common.{◌<◌, sym, ◌∙◌}
 use Rattle.tlsf_image.specs.Image.{two_at, count_at}
 use Rattle.tlsf_image.specs.Rules.{has_state}
 use Rattle.tlsf_image.proofs.RangeLemmas.{range_on, range_off}

@@ -10,6 +10,7 @@ invariant-loop-number g l =
     let parts = g.T.Table.parts l.fn.table in
     record {
       same : g.T.Table.parts l.table ≡ parts;
+      kept : g.T.Table.cells l.table ≡ g.T.Table.cells l.fn.table;
       floor : g.T.Table.touches l.fn.table ≤ g.T.Table.touches l.table;
       whole : 0 < l.number → length parts.heads ≡ classes;
       told : list_all (is_below (length parts.records)) (drop l.number parts.heads) ≡ list_all (is_below (length parts.records)) parts.heads;

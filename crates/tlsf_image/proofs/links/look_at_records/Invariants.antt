@@ -8,6 +8,7 @@ invariant-loop-slot g l =
     let parts = g.T.Table.parts l.fn.table in
     record {
       same : g.T.Table.parts l.table ≡ parts;
+      kept : g.T.Table.cells l.table ≡ g.T.Table.cells l.fn.table;
       floor : g.T.Table.touches l.fn.table ≤ g.T.Table.touches l.table;
       few : l.blocks.all ≤ l.slot;
       few_free : l.blocks.free ≤ l.slot;

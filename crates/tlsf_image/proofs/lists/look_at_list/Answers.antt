@@ -1,4 +1,4 @@
-use Rattle.std.proofs.Common.{◌≡◌, ◌+◌, ◌<◌, ◌∙◌, ℕ, length, sym, ap, arith, Option, Some, None, true}
+use Rattle.std.proofs.Common.{◌≡◌, ◌<◌, ◌∙◌, length, sym, ap, arith, true}
 use Rattle.tlsf_image.specs.Image.{Parts}
 use Rattle.tlsf_image.specs.Rules.{at}
 use Rattle.tlsf_image.specs.Findings.{is_behind}
@@ -15,6 +15,7 @@ loop-next-preserved g c =
     let told = rw c.in-Some.is at c.loop-next.invariant.told in
     record {
       same = c.record-block.ensures.same ∙ c.loop-next.invariant.same;
+      kept = c.record-block.ensures.kept ∙ c.loop-next.invariant.kept;
       floor = omega (arith, c.loop-next.invariant.floor, c.record-block.ensures.floor);
       below = rw read (next_below parts c.args.class c.loop-next.blocks c.loop-next.before c.in-Some.slot c.requires.links within behind);
       few = omega (arith, c.if-blocks-count.false, c.count-count.ensures.value);

@@ -1,8 +1,8 @@
-use Rattle.std.proofs.Common.{◌≡◌, ◌+◌, ◌<◌, ◌∙◌, ℕ, length, sym, ap, subst, arith, drop, Option, Some, None}
+use Rattle.std.proofs.Common.{◌≡◌, ◌∙◌, length, sym, ap, subst, arith, Some, None}
 use Rattle.tlsf_class.specs.Classes.{classes}
 use Rattle.tlsf_store.specs.Cells.{head_at}
 use Rattle.tlsf_image.specs.Image.{Parts}
-use Rattle.tlsf_image.specs.Findings.{lists_with, lists_found, list_found}
+use Rattle.tlsf_image.specs.Findings.{list_found}
 use Rattle.tlsf_image.proofs.ListLemmas.{list_on, list_off, lists_end}
 use Rattle.tlsf_image.proofs.lists.look_at_lists.Goals as goal
 
@@ -22,6 +22,7 @@ loop-number-preserved g c =
     sym (subst (λ n. Some c.in_ok-blocks.field-0 ≡ list_found parts n (head_at parts.heads n)) c.new.ensures (c.in_ok-blocks.ensures.value ∙ ap (λ (p : Parts). list_found p c.new.result (head_at p.heads c.new.result)) c.loop-number.invariant.same)) in
     record {
       same = c.look_at_list.ensures.same ∙ c.loop-number.invariant.same;
+      kept = c.look_at_list.ensures.kept ∙ c.loop-number.invariant.kept;
       floor = omega arith;
       whole = λ some. whole;
       few = omega (arith, c.loop-number.invariant.few, c.in_ok-blocks.ensures.few);

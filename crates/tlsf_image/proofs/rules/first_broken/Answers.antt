@@ -1,7 +1,7 @@
-use Rattle.std.proofs.Common.{◌≡◌, ℕ, ◌∙◌, sym, ap, subst, Option, Some, None, true}
+use Rattle.std.proofs.Common.{◌∙◌, sym, ap, subst}
 use Rattle.std.proofs.lemmas.Bool.{ne_eqb, eq-eqb, not-true, not-false}
 use Rattle.tlsf_image.specs.Image.{Parts}
-use Rattle.tlsf_image.specs.Findings.{links_found, chains_found, lists_found, HasSizes}
+use Rattle.tlsf_image.specs.Findings.{chains_found, lists_found, HasSizes}
 use Rattle.tlsf_image.proofs.RuleLemmas.{not_on_chains, not_merged, their_sizes, not_lists, not_on_lists, none_broken}
 use Rattle.tlsf_image.proofs.rules.first_broken.Goals as goal
 

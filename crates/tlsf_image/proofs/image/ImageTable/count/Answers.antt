@@ -1,4 +1,4 @@
-use Rattle.std.proofs.Common.{◌≡◌, sym, ◌∙◌, ap, subst, ℕ, List, length}
+use Rattle.std.proofs.Common.{sym, ◌∙◌, ap}
 use Rattle.tlsf_image.specs.Image.{two_at, count_at}
 use Rattle.tlsf_image.proofs.ImageLemmas.{records_count}
 use Rattle.tlsf_image.proofs.image.ImageTable.count.Goals as goal

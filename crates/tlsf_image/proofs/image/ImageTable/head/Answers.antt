@@ -1,4 +1,4 @@
-use Rattle.std.proofs.Common.{◌≡◌, sym, ◌∙◌, ap, List, ℕ}
+use Rattle.std.proofs.Common.{sym, ◌∙◌, ap, List, ℕ}
 use Rattle.tlsf_image.specs.Image.{head_in}
 use Rattle.tlsf_image.proofs.ImageLemmas.{head_read}
 use Rattle.tlsf_image.proofs.image.ImageTable.head.Goals as goal

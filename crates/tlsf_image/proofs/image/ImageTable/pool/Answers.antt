@@ -1,8 +1,6 @@
-use Rattle.std.proofs.Common.{◌≡◌, ◌<◌, ℕ, List, sym, ◌∙◌, ap, subst, Option, Some, None, refl}
+use Rattle.std.proofs.Common.{◌≡◌, ◌<◌, ℕ, List, sym, ◌∙◌, ap, subst, Some, None, refl}
 use Rattle.std.specs.Prelude.{nat_lt, if◌then◌else◌}
 use Rattle.std.proofs.lemmas.Bool.{lt-ltb, le-ltb}
-use Rattle.tlsf_store.specs.Cells.{IsPoolBelow}
-use Rattle.tlsf_store.specs.declared.pools.Pool.{Pool}
 use Rattle.tlsf_image.specs.Image.{two_at, count_at, pools_at, pool_in}
 use Rattle.tlsf_image.proofs.ImageLemmas.{pool_read, first_below, records_count}
 use Rattle.tlsf_image.proofs.image.ImageTable.pool.Goals as goal

@@ -1,4 +1,4 @@
-use Rattle.std.proofs.Common.{◌≡◌, ◌<◌, ◌+◌, ◌*◌, ◌≤◌, List, ℕ, sym, subst, ap, arith, ◌∙◌}
+use Rattle.std.proofs.Common.{◌<◌, List, ℕ, sym, subst, ap, arith, ◌∙◌}
 use Rattle.tlsf_image.specs.Image.{two_at, count_at, record_in}
 use Rattle.tlsf_image.proofs.ImageLemmas.{record_read, records_count, whole_length}
 use Rattle.tlsf_image.proofs.image.ImageTable.record.Goals as goal
