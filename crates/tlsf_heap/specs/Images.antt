@@ -1,11 +1,10 @@
--- What an image of a heap describes, and the parts that cells have for one.
-use Rattle.std.specs.Prelude.{ℕ, List, map, None}
-use Rattle.tlsf_store.specs.declared.records.State.{State}
-use Rattle.tlsf_store.specs.declared.records.State.TheVariants.{Vacant, Free, Live}
-use Rattle.tlsf_store.specs.declared.records.Record.{Record}
-use Rattle.tlsf_store.specs.Records.{blank}
+-- What an image of a heap describes, the parts that cells have for one, and what saving a heap writes.
+use Rattle.std.specs.Prelude.{◌≡◌, ℕ, List, Option, None, Result}
+use Rattle.mtrace_log.specs.declared.call.Call.{Call}
+use Rattle.mtrace_log.specs.Output.{Puts}
 use Rattle.tlsf_store.specs.Cells.{Cells}
 use Rattle.tlsf_image.specs.Image.{Parts, parts_in}
+use Rattle.tlsf_image.specs.Rules.{first_broken}
 use Rattle.tlsf_heap.specs.Content.{Content}
 use Rattle.tlsf_heap.specs.Inner.Entries.{entries_of}
 use Rattle.tlsf_heap.specs.Inner.Following.{content_from}
@@ -18,15 +17,13 @@ described bytes = content_from (parts_in bytes).records (entries_of (parts_in by
 abbrev pub parts_of : Cells → Parts
 parts_of cells = record { pools = cells.pools; heads = cells.heads; records = cells.records }
 
--- what an image tells of a record in this state: nothing of a vacant one, and of a live one no neighbours in a list
-abbrev pub told_in : State → Record → Record
-told_in Vacant r = blank
-told_in Free r = r
-told_in Live r = record r { prev_free = None; next_free = None }
+-- an image of a content: it breaks no rule, and describes it
+pub record IsImageOf (content : Content ℕ) (image : List ℕ) : Type 0 where
+  pub unbroken : first_broken image ≡ None
+  pub describes : described image ≡ content
 
-abbrev pub told : Record → Record
-told r = told_in r.state r
-
--- the parts that the image of a store's cells is to have
-abbrev pub told_parts : Cells → Parts
-told_parts cells = record { pools = cells.pools; heads = cells.heads; records = map told cells.records }
+-- what a call leaves that saves a heap of this content: an image of it is put, all of it, or, where the call fails, a beginning
+pub record Saves {W T E : Type 0} (taken : W → Option (List ℕ)) (trace : W → List Call) (result : Result T E) (content : Content ℕ) (old new : W) : Type 0 where
+  pub image : List ℕ
+  pub is_image : IsImageOf content image
+  pub put : Puts taken trace result image old new

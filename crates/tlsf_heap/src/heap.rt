@@ -13,9 +13,10 @@ use crate::remove_pool::remove_pool;
 use crate::walk::walk;
 use crate::{Cursor, Heaped, ImageFault, Ptr, Refusal, Row};
 use arrayvec::ArrayVec;
+use mtrace_log::{Failed, Sink};
 use std::alloc::Global;
 use std::marker::Model;
-use tlsf_image::Image;
+use tlsf_image::{Image, put_image};
 use tlsf_store::{MOST_POOLS, Store, StoreError};
 
 /// A heap over a table of records: pools of blocks, and a free list for each size class, found by
@@ -63,8 +64,8 @@ impl Heap {
     ghost use Rattle.tlsf_class.specs.Classes.{classes};
     ghost use Rattle.tlsf_image.specs.declared.rule.Rule.{Rule};
     ghost use Rattle.tlsf_image.specs.Rules.{first_broken};
-    ghost use Rattle.tlsf_heap.specs.declared.image_fault.ImageFault.TheVariants.{Broken};
-    ghost use Rattle.tlsf_heap.specs.Images.{described};
+    ghost use Rattle.tlsf_heap.specs.declared.image_fault.ImageFault.TheVariants.{Broken, Write};
+    ghost use Rattle.tlsf_heap.specs.Images.{described, Saves};
 
     /// A heap of this many records, from 1 to 65,535, with no pool. It takes memory once, for its
     /// table.
@@ -102,6 +103,23 @@ impl Heap {
         match stored(alloc, &mut image) {
             Ok(store) => Ok(Heap { store }),
             Err(_) => Err(ImageFault::OutOfMemory),
+        }
+    }
+
+    /// Puts an image of the heap, in pieces of 4,096 bytes and a last one: `load_image` makes the heap of it again. It takes
+    /// no memory.
+    ///
+    /// # Errors
+    ///
+    /// `Write` where the writer failed, or took no byte of some: then a beginning of the image is put.
+    pub fn save_image<W: Sink>(&mut self, writer: &mut W) -> Result<(), ImageFault>
+        ensures saved { Saves W.taken W.trace result self.old.content writer.old writer.new }
+        ensures fault { IfErr result (λ fault. fault ≡ Write) }
+        ensures unchanged { IsUnchanged self.old self.new }
+    {
+        match put_image(&mut self.store, writer) {
+            Ok(()) => Ok(()),
+            Err(Failed) => Err(ImageFault::Write),
         }
     }
 

@@ -1,12 +1,14 @@
-//! Why an image isn't loaded.
+//! Why an image isn't loaded or saved.
 
 use tlsf_image::Rule;
 
-/// Why an image isn't loaded.
+/// Why an image isn't loaded or saved.
 #[derive(Clone, Copy, Debug, PartialEq, Eq)]
 pub enum ImageFault {
     /// The bytes break this rule, and none that stands before it.
     Broken(Rule),
     /// Memory was refused.
     OutOfMemory,
+    /// The writer of the image failed.
+    Write,
 }

@@ -7,7 +7,7 @@ use Rattle.tlsf_store.specs.declared.records.State.TheVariants.{Vacant, Free, Li
 use Rattle.tlsf_store.specs.declared.records.Record.{Record}
 use Rattle.tlsf_store.specs.Records.{blank, record_at}
 use Rattle.tlsf_image.specs.Rules.{is_used, is_free}
-use Rattle.tlsf_heap.specs.Images.{told_in, told}
+use Rattle.tlsf_image.specs.Told.{told_in, told}
 use Rattle.tlsf_heap.specs.Inner.Represents.{pool_view, list_view, pool_views, list_views}
 use Rattle.tlsf_heap.specs.Inner.Imaged.{AreAlike, LiveAlone}
 
@@ -41,13 +41,13 @@ told_live Free r live = absurd (cc)
 told_live Live r live = refl
 
 module _ (records : List Record) where
-  told_at : (slot : ℕ) → record_at (map told records) slot ≡ told (record_at records slot)
+  pub told_at : (slot : ℕ) → record_at (map told records) slot ≡ told (record_at records slot)
   told_at slot = elim (cases_lt slot (length records)) [
     | inl below ↦ get_or-map told records slot blank blank below
     | inr past ↦ get_or_past (map told records) slot blank (omega (arith, past, length-map records told)) ∙ sym (ap told (get_or_past records slot blank past))
   ]
 
-  told_states : (slot : ℕ) → (record_at records slot).state ≡ (record_at (map told records) slot).state
+  pub told_states : (slot : ℕ) → (record_at records slot).state ≡ (record_at (map told records) slot).state
   told_states slot = let r = record_at records slot in sym (ap (λ (q : Record). q.state) (told_at slot) ∙ told_state r.state r refl)
 
   pub told_alike : AreAlike records (map told records)

@@ -73,7 +73,7 @@ free_status InUse slot = refl
 free_status Listed slot = refl
 free_status Loose slot = refl
 
-uses_one : (state : State) → is_used state ≡ true → 1 ≤ uses_in state
+pub uses_one : (state : State) → is_used state ≡ true → 1 ≤ uses_in state
 uses_one Vacant used = absurd (cc)
 uses_one Free used = omega arith
 uses_one Live used = omega arith
@@ -82,7 +82,7 @@ below_is : (count : ℕ) (link : Option ℕ) → IsBelow count link → is_below
 below_is count None below = refl
 below_is count (Some slot) below = lt-ltb slot count below
 
-present_padded : (entries : List PoolEntry) → present (padded entries) ≡ map pool_in entries
+pub present_padded : (entries : List PoolEntry) → present (padded entries) ≡ map pool_in entries
 present_padded entries = present_on entries (most_pools - length entries)
   where
     nothing : (n : ℕ) → present (replicate n None) ≡ []

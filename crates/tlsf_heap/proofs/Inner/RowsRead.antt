@@ -131,13 +131,13 @@ module _ (cells : Cells) (stands : Stands cells) where
   ascending : Rises 0 entries
   ascending = rises 0 0 stands.layout.areas (omega arith) stands.good.pools_good
 
-  few_entries : length entries ≤ most_pools
+  pub few_entries : length entries ≤ most_pools
   few_entries = omega (arith, length-map {A = Area} {B = PoolEntry} stands.layout.areas (λ a. a.entry), length-map {A = Area} {B = Pool ℕ} stands.layout.areas pool_of, stands.good.pools_few)
 
   pub entries_are : entries_of cells.pools ≡ entries
   entries_are = ap entries_of stands.represented.entries ∙ entries_of-padded entries
 
-  entry_at : (k : ℕ) → k < most_pools → pool_at cells.pools k ≡ padded_at entries k
+  pub entry_at : (k : ℕ) → k < most_pools → pool_at cells.pools k ≡ padded_at entries k
   entry_at k within = ap (λ ps. pool_at ps k) stands.represented.entries ∙ sym (padded_at_is entries k within)
 
   none_past : (k : ℕ) → most_pools ≤ k → pool_at cells.pools k ≡ None

@@ -50,31 +50,6 @@ fn has_rows(heap: &mut PlainHeap, live: u32, size: u32, free: u32, left: u32) ->
     heap.row(end).is_none()
 }
 
-#[test]
-fn first_split(rt: HostRuntime) {
-    let mut heap = PlainHeap::create(rt.alloc(), 4).expect(&rt, "a heap");
-    assert_eq!(rt; heap.add_pool(0, 1024), Ok(()));
-    assert!(rt; heap.malloc(100).ok().map(|ptr| ptr.place()) == Some(0));
-    assert!(rt; has_rows(&mut heap, 0, 112, 112, 912));
-    assert!(rt; has_pools(&mut heap, &[(0, 1024)]));
-    assert!(rt; heap.first(16).err() == Some(Refusal::NoPool));
-}
-
-#[test]
-fn slots_of_live_blocks(rt: HostRuntime) {
-    let mut heap = PlainHeap::create(rt.alloc(), 4).expect(&rt, "a heap");
-    assert_eq!(rt; heap.add_pool(0, 1024), Ok(()));
-    let first = heap.malloc(8).expect(&rt, "a block");
-    let second = heap.malloc(8).expect(&rt, "a block");
-    assert_eq!(rt; (first.place(), second.place()), (0, 16));
-    assert_ne!(rt; first.slot(), second.slot());
-    let stale = Ptr::new(first.place(), second.slot());
-    assert_eq!(rt; heap.free(stale), Err(Refusal::BadPointer));
-    assert_eq!(rt; heap.free(first), Ok(()));
-    assert_eq!(rt; heap.free(first), Err(Refusal::BadPointer));
-    assert_eq!(rt; heap.malloc(8).map(|ptr| ptr.place()), Ok(0));
-}
-
 /// A heap of four records with a pool of 1,024 bytes. What was refused is asked again.
 fn made_at_last(rt: &impl Abort, alloc: Global) -> PlainHeap {
     let mut heap = match PlainHeap::create(alloc, 4) {

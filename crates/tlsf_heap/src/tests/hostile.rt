@@ -1,24 +1,38 @@
-//! Pointers that no block has, arguments at the ends of their ranges, and memory refused to the plain heap.
+//! Pointers that no block has, many blocks, and memory refused to the plain heap.
 
+use super::rows::has_rows;
 use super::*;
-use std::test::Fail;
+use std::alloc::AllocError;
 
+/// Whether a free of each of these is refused.
+fn refuses<H: Heaped>(heap: &mut H, wrong: &[Ptr]) -> bool {
+    for ptr in wrong {
+        if heap.free(*ptr) != Err(Refusal::BadPointer) {
+            return false;
+        }
+    }
+    true
+}
+
+/// Pointers with another slot, with another place, and with the slot that no record has.
+fn none_of(ptr: Ptr) -> [Ptr; 3] {
+    let other = if ptr.slot() == 0 { 1 } else { 0 };
+    [
+        Ptr::new(ptr.place(), other),
+        Ptr::new(16, ptr.slot()),
+        Ptr::new(ptr.place(), 65_535),
+    ]
+}
+
+/// The block of a pool is freed and given again. Its pointer is the only one that frees it.
 fn refuses_pointers<H: Heaped>(rt: &impl Abort, alloc: Global) {
     let mut heap: H = made(rt, alloc, 2);
     assert_eq!(rt; heap.add_pool(0, 64), Ok(()));
     let first = heap.malloc(64).expect(rt, "a block");
     assert_eq!(rt; heap.free(first), Ok(()));
-    let q = heap.malloc(64).expect(rt, "a block");
-    let other_slot = if q.slot() == 0 { 1 } else { 0 };
-    for wrong in [
-        Ptr::new(0, other_slot),
-        Ptr::new(16, q.slot()),
-        Ptr::new(0, 65_535),
-    ] {
-        assert_eq!(rt; heap.free(wrong), Err(Refusal::BadPointer), "{wrong:?}");
-    }
-    assert_eq!(rt; heap.realloc(Some(q), u64::MAX), Err(Refusal::NoFit));
-    assert_eq!(rt; heap.free(q), Ok(()));
+    let ptr = heap.malloc(64).expect(rt, "a block");
+    assert!(rt; refuses(&mut heap, &none_of(ptr)));
+    assert_eq!(rt; heap.free(ptr), Ok(()));
 }
 
 #[test]
@@ -27,51 +41,51 @@ fn wrong_pointers(rt: HostRuntime) {
     refuses_pointers::<PlainHeap>(&rt, rt.alloc());
 }
 
-fn refuses_greatest<H: Heaped>(rt: &impl Abort, heap: &mut H) {
-    assert_eq!(rt; heap.malloc(u64::MAX), Err(Refusal::NoFit));
-    assert_eq!(rt; heap.memalign(1 << 29, u64::MAX), Err(Refusal::NoFit));
-    assert_eq!(rt; heap.memalign(1 << 29, (1 << 30) - 16), Err(Refusal::NoFit));
-    assert_eq!(rt; heap.memalign(1 << 63, 1), Err(Refusal::BadAlign));
-    assert_eq!(rt; heap.add_pool(u64::MAX - 63, 64), Err(Refusal::BadPool));
-    assert_eq!(rt; heap.remove_pool(u64::MAX), Err(Refusal::NoPool));
-}
-
-/// With no pool, and with four of the greatest.
-fn refuses_greatest_on_any<H: Heaped>(rt: &impl Abort, alloc: Global) {
-    let mut heap: H = made(rt, alloc, 65_535);
-    refuses_greatest(rt, &mut heap);
-    for number in 0..4 {
-        assert_eq!(rt;
-            heap.add_pool(number * 1_073_741_808, 1_073_741_808),
-            Ok(())
-        );
+/// Blocks of 16 bytes, as many as are asked for.
+fn given(
+    rt: &impl Abort,
+    alloc: Global,
+    heap: &mut Heap,
+    blocks: u32,
+) -> Result<Vec<Ptr>, AllocError> {
+    let mut given = Vec::new(alloc);
+    for _ in 0..blocks {
+        given.push(heap.malloc(16).expect(rt, "a block"))?;
     }
-    refuses_greatest(rt, &mut heap);
+    Ok(given)
 }
 
-#[test]
-fn greatest_arguments(rt: HostRuntime) {
-    refuses_greatest_on_any::<Heap>(&rt, rt.alloc());
-    refuses_greatest_on_any::<PlainHeap>(&rt, rt.alloc());
-}
-
-/// Of 20,000 blocks each second is freed, and the last of these is given again.
-#[test]
-fn every_second_freed(rt: HostRuntime) -> Result<(), Fail> {
-    let mut heap: Heap = made(&rt, rt.alloc(), 20_000);
-    assert_eq!(rt; heap.add_pool(0, 320_000), Ok(()));
-    let mut given = Vec::new(rt.alloc());
-    for _ in 0..20_000 {
-        given.push(heap.malloc(16).expect(&rt, "a block"))?;
-    }
-    for ptr in &given {
+/// Each second of these blocks becomes free.
+fn free_each_second(rt: &impl Abort, heap: &mut Heap, given: &[Ptr]) {
+    for ptr in given {
         if ptr.place() % 32 == 0 {
             assert_eq!(rt; heap.free(*ptr), Ok(()), "{ptr:?}");
         }
     }
+}
+
+/// Of 20,000 blocks each second is freed, and the last of these is given again.
+#[test]
+fn every_second_freed(rt: HostRuntime) {
+    let mut heap: Heap = made(&rt, rt.alloc(), 20_000);
+    assert_eq!(rt; heap.add_pool(0, 320_000), Ok(()));
+    let blocks = given(&rt, rt.alloc(), &mut heap, 20_000).expect(&rt, "memory");
+    free_each_second(&rt, &mut heap, blocks.as_slice());
     assert_eq!(rt; heap.malloc(16).map(|ptr| ptr.place()), Ok(319_968));
     assert_eq!(rt; heap.malloc(32), Err(Refusal::NoFit));
-    Ok(())
+}
+
+/// The requests of one run.
+fn requests() -> [Request; 7] {
+    [
+        Request::AddPool(0, 1024),
+        Request::Malloc(100),
+        Request::Malloc(0),
+        Request::Malloc(1),
+        Request::Free(Ptr::new(0, 9)),
+        Request::Malloc(2000),
+        Request::Malloc(896),
+    ]
 }
 
 /// What an answer to a request that gives no size says: the place of the block given, if any, or the refusal.
@@ -139,18 +153,23 @@ fn say(answers: &[Answer], wanted: &[Said; 7]) -> bool {
         })
 }
 
+/// Whether one run of the requests is answered as it has to be with ample memory, and has these rows then.
+fn runs_at_once<H: Heaped>(alloc: Global) -> Result<bool, StoreError> {
+    let mut heap = H::create(alloc, 4)?;
+    let answers = run(alloc, &mut heap, &requests())?;
+    let rows = [(0, 112, true), (112, 16, true), (128, 896, true)];
+    Ok(say(answers.as_slice(), &SERVED) && has_rows(&mut heap, 0, &rows))
+}
+
+#[test]
+fn run_of_requests(rt: HostRuntime) {
+    assert_eq!(rt; runs_at_once::<Heap>(rt.alloc()), Ok(true));
+    assert_eq!(rt; runs_at_once::<PlainHeap>(rt.alloc()), Ok(true));
+}
+
 /// It passes whichever allocation is refused, and where none is.
 #[test]
 fn plain_heap_refusals(rt: HostRuntime) {
-    let requests = [
-        Request::AddPool(0, 1024),
-        Request::Malloc(100),
-        Request::Malloc(0),
-        Request::Malloc(1),
-        Request::Free(Ptr::new(0, 9)),
-        Request::Malloc(2000),
-        Request::Malloc(896),
-    ];
     let mut heap = match PlainHeap::create(rt.alloc(), 4) {
         Ok(heap) => heap,
         Err(error) => {
@@ -158,7 +177,7 @@ fn plain_heap_refusals(rt: HostRuntime) {
             return;
         }
     };
-    match run(rt.alloc(), &mut heap, &requests) {
+    match run(rt.alloc(), &mut heap, &requests()) {
         Ok(answers) => assert!(rt;
             say(answers.as_slice(), &SERVED)
                 || LACKING.iter().any(|wanted| say(answers.as_slice(), wanted)),
@@ -167,7 +186,7 @@ fn plain_heap_refusals(rt: HostRuntime) {
         Err(error) => {
             assert_eq!(rt; error, StoreError::OutOfMemory);
             assert!(rt; has_pools(&mut heap, &[]));
-            let again = run(rt.alloc(), &mut heap, &requests).expect(&rt, "answers");
+            let again = run(rt.alloc(), &mut heap, &requests()).expect(&rt, "answers");
             assert!(rt; say(again.as_slice(), &SERVED));
         }
     }

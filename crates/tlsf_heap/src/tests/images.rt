@@ -9,10 +9,10 @@ use std::process::Abort;
 /// Where the heads and the records begin.
 const HEADS_AT: usize = 112;
 
-const RECORDS_AT: usize = 1_520;
+pub const RECORDS_AT: usize = 1_520;
 
 /// How many bytes an image of two records has.
-const LEN: usize = RECORDS_AT + 32;
+pub const LEN: usize = RECORDS_AT + 32;
 
 /// Writes bytes from an offset on.
 fn put(image: &mut [u8; LEN], offset: usize, bytes: &[u8]) {
@@ -23,6 +23,20 @@ fn put(image: &mut [u8; LEN], offset: usize, bytes: &[u8]) {
             at += 1;
         }
     }
+}
+
+/// The image of a heap of one record, with a pool of 64 bytes, all free, and bytes behind it.
+pub fn vector() -> [u8; LEN] {
+    let mut image = [0; LEN];
+    put(&mut image, 0, b"TLSFIMG1\x01\x00\x01\x00");
+    put(&mut image, 20, &[64]);
+    for class in 0..704 {
+        put(&mut image, HEADS_AT + 2 * class, &[0xff, 0xff]);
+    }
+    put(&mut image, HEADS_AT + 2 * 4, &[0, 0]);
+    put(&mut image, RECORDS_AT + 4, &[0x41]);
+    put(&mut image, RECORDS_AT + 8, &[0xff; 8]);
+    image
 }
 
 /// The image of a heap of two records, with a pool of 64 bytes: a live block of 16 and a free one of 48.

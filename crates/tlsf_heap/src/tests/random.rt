@@ -30,7 +30,7 @@ const LARGE: Setup = Setup {
 const REQUESTS: u32 = 16;
 
 /// The next number of a sequence that looks random (xorshift, Marsaglia 2003).
-fn shifted(number: u64) -> u64 {
+pub fn shifted(number: u64) -> u64 {
     let once = number ^ number << 13;
     let twice = once ^ once >> 7;
     twice ^ twice << 17

@@ -16,8 +16,6 @@ enum Ask {
     Memalign(u64, u64),
     /// The block that was given last at this place becomes free, live or not.
     Free(u32),
-    /// A pointer that was never given becomes free.
-    FreeOf(Ptr),
     /// The block that was given last at this place gets so many bytes.
     Realloc(u32, u64),
     /// A new block of so many bytes, by realloc.
@@ -71,13 +69,14 @@ impl Seen {
 /// A block of a pool: its place, its size, and whether it is live.
 pub(crate) type Block = (u32, u32, bool);
 
-/// A heap of so many records, what is asked of it with what it answers, and the rows of its pools in the
-/// end, each under its base.
+/// A heap of so many records, what is asked of it with what it answers, and its pools in the end, in order of base,
+/// each with its rows.
 #[derive(Clone, Copy)]
-struct Case<'a> {
+struct Case {
+    name: &'static str,
     records: u32,
-    steps: &'a [(Ask, Seen)],
-    pools: &'a [(u64, &'a [Block])],
+    steps: &'static [(Ask, Seen)],
+    pools: &'static [(u64, &'static [Block])],
 }
 
 /// The pointer that was given last at a place.
@@ -99,7 +98,6 @@ fn request(ask: &Ask, given: &Vec<Ptr>) -> Request {
         Ask::Malloc(n) => Request::Malloc(*n),
         Ask::Memalign(align, n) => Request::Memalign(*align, *n),
         Ask::Free(place) => Request::Free(given_at(given, *place)),
-        Ask::FreeOf(ptr) => Request::Free(*ptr),
         Ask::Realloc(place, n) => Request::Realloc(Some(given_at(given, *place)), *n),
         Ask::ReallocNone(n) => Request::Realloc(None, *n),
         Ask::Size(place) => Request::BlockSize(given_at(given, *place)),
@@ -155,6 +153,32 @@ fn pointer_in(answer: Option<&Answer>) -> Option<Ptr> {
     }
 }
 
+/// Whether this is the pool from a base on that ends with the last of these rows.
+fn is_pool(pool: (u64, u64), base: u64, rows: &[Block]) -> bool {
+    let (from, bytes) = pool;
+    match rows.last() {
+        Some((place, size, _used)) => {
+            from == base && from.checked_add(bytes) == Some(u64::from(*place) + u64::from(*size))
+        }
+        None => false,
+    }
+}
+
+/// Whether these are the pools of a heap, in order, with their rows.
+fn has_pools<H: Heaped>(heap: &mut H, wanted: &[(u64, &[Block])]) -> bool {
+    let pools = heap.pools();
+    for (base, rows) in wanted {
+        if !has_rows(heap, *base, rows) {
+            return false;
+        }
+    }
+    pools.len() == wanted.len()
+        && pools
+            .iter()
+            .zip(wanted.iter())
+            .all(|(pool, (base, rows))| is_pool(*pool, *base, rows))
+}
+
 /// Whether a heap answers as the case says, and has its rows then.
 fn holds<H: Heaped>(alloc: Global, case: &Case) -> Result<bool, StoreError> {
     let mut heap = H::create(alloc, case.records)?;
@@ -164,12 +188,7 @@ fn holds<H: Heaped>(alloc: Global, case: &Case) -> Result<bool, StoreError> {
             return Ok(false);
         }
     }
-    for (base, rows) in case.pools {
-        if !has_rows(&mut heap, *base, rows) {
-            return Ok(false);
-        }
-    }
-    Ok(heap.pools().len() == case.pools.len())
+    Ok(has_pools(&mut heap, case.pools))
 }
 
 /// Whether both heaps do.
@@ -177,17 +196,19 @@ fn both_hold(alloc: Global, case: &Case) -> bool {
     holds::<Heap>(alloc, case) == Ok(true) && holds::<PlainHeap>(alloc, case) == Ok(true)
 }
 
-#[test]
-fn first_split_and_reuse(rt: HostRuntime) {
-    let first_split = Case {
+/// The rows, over both heaps.
+const ROWS: [Case; 25] = [
+    Case {
+        name: "first split",
         records: 4,
         steps: &[
             (Ask::Pool(0, 1024), Seen::Done),
             (Ask::Malloc(100), Seen::At(0)),
         ],
         pools: &[(0, &[(0, 112, true), (112, 912, false)])],
-    };
-    let reuse_without_split = Case {
+    },
+    Case {
+        name: "reuse without split",
         records: 4,
         steps: &[
             (Ask::Pool(0, 1024), Seen::Done),
@@ -197,8 +218,9 @@ fn first_split_and_reuse(rt: HostRuntime) {
             (Ask::Malloc(100), Seen::At(0)),
         ],
         pools: &[(0, &[(0, 112, true), (112, 16, true), (128, 896, false)])],
-    };
-    let merge_both_sides = Case {
+    },
+    Case {
+        name: "merge both sides",
         records: 4,
         steps: &[
             (Ask::Pool(0, 1024), Seen::Done),
@@ -208,8 +230,9 @@ fn first_split_and_reuse(rt: HostRuntime) {
             (Ask::Free(112), Seen::Done),
         ],
         pools: &[(0, &[(0, 1024, false)])],
-    };
-    let double_free = Case {
+    },
+    Case {
+        name: "double free",
         records: 4,
         steps: &[
             (Ask::Pool(0, 1024), Seen::Done),
@@ -218,16 +241,9 @@ fn first_split_and_reuse(rt: HostRuntime) {
             (Ask::Free(0), Seen::Refused(Refusal::BadPointer)),
         ],
         pools: &[(0, &[(0, 1024, false)])],
-    };
-    assert!(rt; both_hold(rt.alloc(), &first_split));
-    assert!(rt; both_hold(rt.alloc(), &reuse_without_split));
-    assert!(rt; both_hold(rt.alloc(), &merge_both_sides));
-    assert!(rt; both_hold(rt.alloc(), &double_free));
-}
-
-#[test]
-fn blocks_chosen(rt: HostRuntime) {
-    let lower_class_not_taken = Case {
+    },
+    Case {
+        name: "lower class not taken",
         records: 2,
         steps: &[
             (Ask::Pool(0, 1040), Seen::Done),
@@ -235,8 +251,9 @@ fn blocks_chosen(rt: HostRuntime) {
             (Ask::Malloc(1024), Seen::At(0)),
         ],
         pools: &[(0, &[(0, 1024, true), (1024, 16, false)])],
-    };
-    let greatest_class = Case {
+    },
+    Case {
+        name: "greatest class",
         records: 2,
         steps: &[
             (Ask::Pool(0, 1_073_741_808), Seen::Done),
@@ -247,15 +264,9 @@ fn blocks_chosen(rt: HostRuntime) {
             0,
             &[(0, 1_056_964_608, true), (1_056_964_608, 16_777_200, false)],
         )],
-    };
-    assert!(rt; both_hold(rt.alloc(), &lower_class_not_taken));
-    assert!(rt; both_hold(rt.alloc(), &greatest_class));
-}
-
-/// Above the greatest size nothing fits, however much memory there is.
-#[test]
-fn sizes_above_the_greatest(rt: HostRuntime) {
-    let above = Case {
+    },
+    Case {
+        name: "sizes above the greatest",
         records: 4,
         steps: &[
             (Ask::Pool(0, 1_073_741_808), Seen::Done),
@@ -272,13 +283,9 @@ fn sizes_above_the_greatest(rt: HostRuntime) {
             (Ask::Memalign(536_870_912, 8), Seen::At(0)),
         ],
         pools: &[(0, &[(0, 16, true), (16, 1_073_741_792, false)])],
-    };
-    assert!(rt; both_hold(rt.alloc(), &above));
-}
-
-#[test]
-fn newest_freed_first(rt: HostRuntime) {
-    let newest_freed_first = Case {
+    },
+    Case {
+        name: "newest freed first",
         records: 8,
         steps: &[
             (Ask::Pool(0, 128), Seen::Done),
@@ -309,21 +316,18 @@ fn newest_freed_first(rt: HostRuntime) {
                 (112, 16, true),
             ],
         )],
-    };
-    assert!(rt; both_hold(rt.alloc(), &newest_freed_first));
-}
-
-#[test]
-fn full_table(rt: HostRuntime) {
-    let full = Case {
+    },
+    Case {
+        name: "full table",
         records: 1,
         steps: &[
             (Ask::Pool(0, 64), Seen::Done),
             (Ask::Malloc(8), Seen::Refused(Refusal::TableFull)),
         ],
         pools: &[(0, &[(0, 64, false)])],
-    };
-    let whole = Case {
+    },
+    Case {
+        name: "whole block of a full table",
         records: 1,
         steps: &[
             (Ask::Pool(0, 64), Seen::Done),
@@ -333,14 +337,9 @@ fn full_table(rt: HostRuntime) {
             (Ask::Size(0), Seen::Bytes(64)),
         ],
         pools: &[(0, &[(0, 64, true)])],
-    };
-    assert!(rt; both_hold(rt.alloc(), &full));
-    assert!(rt; both_hold(rt.alloc(), &whole));
-}
-
-#[test]
-fn pool_limits(rt: HostRuntime) {
-    let pool_limits = Case {
+    },
+    Case {
+        name: "pool limits",
         records: 4,
         steps: &[
             (Ask::Pool(4_294_967_232, 64), Seen::Done),
@@ -363,6 +362,10 @@ fn pool_limits(rt: HostRuntime) {
                 Ask::Pool(4_294_967_168, 80),
                 Seen::Refused(Refusal::BadPool),
             ),
+            (
+                Ask::Pool(18_446_744_073_709_551_552, 64),
+                Seen::Refused(Refusal::BadPool),
+            ),
             (Ask::RemovePool(8), Seen::Refused(Refusal::NoPool)),
             (Ask::Malloc(8), Seen::At(4_294_967_232)),
             (
@@ -374,13 +377,9 @@ fn pool_limits(rt: HostRuntime) {
             (Ask::Malloc(8), Seen::Refused(Refusal::NoFit)),
         ],
         pools: &[],
-    };
-    assert!(rt; both_hold(rt.alloc(), &pool_limits));
-}
-
-#[test]
-fn memalign_rows(rt: HostRuntime) {
-    let gap_and_rest = Case {
+    },
+    Case {
+        name: "memalign: gap and rest",
         records: 4,
         steps: &[
             (Ask::Pool(16, 256), Seen::Done),
@@ -393,8 +392,9 @@ fn memalign_rows(rt: HostRuntime) {
             (Ask::Memalign(8, 0), Seen::Refused(Refusal::ZeroSize)),
         ],
         pools: &[(16, &[(16, 48, false), (64, 32, true), (96, 176, false)])],
-    };
-    let needs_records = Case {
+    },
+    Case {
+        name: "memalign needs records",
         records: 2,
         steps: &[
             (Ask::Pool(16, 256), Seen::Done),
@@ -402,14 +402,9 @@ fn memalign_rows(rt: HostRuntime) {
             (Ask::Memalign(64, 200), Seen::At(64)),
         ],
         pools: &[(16, &[(16, 48, false), (64, 208, true)])],
-    };
-    assert!(rt; both_hold(rt.alloc(), &gap_and_rest));
-    assert!(rt; both_hold(rt.alloc(), &needs_records));
-}
-
-#[test]
-fn realloc_in_place(rt: HostRuntime) {
-    let grow = Case {
+    },
+    Case {
+        name: "grow in place",
         records: 4,
         steps: &[
             (Ask::Pool(0, 1024), Seen::Done),
@@ -417,8 +412,9 @@ fn realloc_in_place(rt: HostRuntime) {
             (Ask::Realloc(0, 200), Seen::Kept),
         ],
         pools: &[(0, &[(0, 208, true), (208, 816, false)])],
-    };
-    let and_shrink = Case {
+    },
+    Case {
+        name: "and shrink in place",
         records: 4,
         steps: &[
             (Ask::Pool(0, 1024), Seen::Done),
@@ -429,8 +425,9 @@ fn realloc_in_place(rt: HostRuntime) {
             (Ask::Size(0), Seen::Bytes(16)),
         ],
         pools: &[(0, &[(0, 16, true), (16, 1008, false)])],
-    };
-    let grows_over_freed = Case {
+    },
+    Case {
+        name: "grow over a freed block",
         records: 3,
         steps: &[
             (Ask::Pool(0, 64), Seen::Done),
@@ -440,9 +437,9 @@ fn realloc_in_place(rt: HostRuntime) {
             (Ask::Realloc(0, 64), Seen::Kept),
         ],
         pools: &[(0, &[(0, 64, true)])],
-    };
-    // Before a live block, and then with no record left.
-    let shrinks = Case {
+    },
+    Case {
+        name: "shrink before a live block, and with no record left",
         records: 3,
         steps: &[
             (Ask::Pool(0, 80), Seen::Done),
@@ -453,16 +450,9 @@ fn realloc_in_place(rt: HostRuntime) {
             (Ask::Size(32), Seen::Bytes(48)),
         ],
         pools: &[(0, &[(0, 16, true), (16, 16, false), (32, 48, true)])],
-    };
-    assert!(rt; both_hold(rt.alloc(), &grow));
-    assert!(rt; both_hold(rt.alloc(), &and_shrink));
-    assert!(rt; both_hold(rt.alloc(), &grows_over_freed));
-    assert!(rt; both_hold(rt.alloc(), &shrinks));
-}
-
-#[test]
-fn realloc_elsewhere(rt: HostRuntime) {
-    let moves = Case {
+    },
+    Case {
+        name: "realloc moves",
         records: 4,
         steps: &[
             (Ask::Pool(0, 1024), Seen::Done),
@@ -481,8 +471,9 @@ fn realloc_elsewhere(rt: HostRuntime) {
                 (336, 688, false),
             ],
         )],
-    };
-    let to_zero = Case {
+    },
+    Case {
+        name: "realloc to zero",
         records: 4,
         steps: &[
             (Ask::Pool(0, 1024), Seen::Done),
@@ -492,8 +483,9 @@ fn realloc_elsewhere(rt: HostRuntime) {
             (Ask::Realloc(0, 0), Seen::Refused(Refusal::BadPointer)),
         ],
         pools: &[(0, &[(0, 1024, false)])],
-    };
-    let refused = Case {
+    },
+    Case {
+        name: "realloc refused",
         records: 4,
         steps: &[
             (Ask::Pool(0, 64), Seen::Done),
@@ -508,15 +500,9 @@ fn realloc_elsewhere(rt: HostRuntime) {
             (Ask::Size(0), Seen::Bytes(16)),
         ],
         pools: &[(0, &[(0, 16, true), (16, 16, true), (32, 32, false)])],
-    };
-    assert!(rt; both_hold(rt.alloc(), &moves));
-    assert!(rt; both_hold(rt.alloc(), &to_zero));
-    assert!(rt; both_hold(rt.alloc(), &refused));
-}
-
-#[test]
-fn pools_never_merged(rt: HostRuntime) {
-    let pools_never_merged = Case {
+    },
+    Case {
+        name: "pools never merged",
         records: 4,
         steps: &[
             (Ask::Pool(0, 64), Seen::Done),
@@ -527,66 +513,143 @@ fn pools_never_merged(rt: HostRuntime) {
             (Ask::Malloc(0), Seen::Refused(Refusal::ZeroSize)),
         ],
         pools: &[(0, &[(0, 64, false)]), (64, &[(64, 64, false)])],
-    };
-    assert!(rt; both_hold(rt.alloc(), &pools_never_merged));
-}
-
-#[test]
-fn run_of_requests(rt: HostRuntime) {
-    let run_of_requests = Case {
-        records: 4,
+    },
+    // With pools that touch, in whatever order they come.
+    Case {
+        name: "pools in order",
+        records: 3,
         steps: &[
-            (Ask::Pool(0, 1024), Seen::Done),
-            (Ask::Malloc(100), Seen::At(0)),
-            (Ask::Malloc(0), Seen::Refused(Refusal::ZeroSize)),
-            (Ask::Malloc(1), Seen::At(112)),
+            (Ask::Pool(128, 64), Seen::Done),
+            (Ask::Pool(0, 64), Seen::Done),
+            (Ask::Pool(64, 64), Seen::Done),
+            (Ask::Pool(192, 64), Seen::Refused(Refusal::TableFull)),
+            (Ask::Pool(32, 64), Seen::Refused(Refusal::BadPool)),
+        ],
+        pools: &[
+            (0, &[(0, 64, false)]),
+            (64, &[(64, 64, false)]),
+            (128, &[(128, 64, false)]),
+        ],
+    },
+    Case {
+        name: "at most eight pools",
+        records: 8,
+        steps: &[
+            (Ask::Pool(0, 64), Seen::Done),
+            (Ask::Pool(64, 64), Seen::Done),
+            (Ask::Pool(128, 64), Seen::Done),
+            (Ask::Pool(192, 64), Seen::Done),
+            (Ask::Pool(256, 64), Seen::Done),
+            (Ask::Pool(320, 64), Seen::Done),
+            (Ask::Pool(384, 64), Seen::Done),
+            (Ask::Pool(448, 64), Seen::Done),
+            (Ask::Pool(512, 64), Seen::Refused(Refusal::PoolsFull)),
+            (Ask::Pool(480, 64), Seen::Refused(Refusal::BadPool)),
+        ],
+        pools: &[
+            (0, &[(0, 64, false)]),
+            (64, &[(64, 64, false)]),
+            (128, &[(128, 64, false)]),
+            (192, &[(192, 64, false)]),
+            (256, &[(256, 64, false)]),
+            (320, &[(320, 64, false)]),
+            (384, &[(384, 64, false)]),
+            (448, &[(448, 64, false)]),
+        ],
+    },
+    Case {
+        name: "greatest arguments without a pool",
+        records: 65_535,
+        steps: &[
+            (Ask::Malloc(u64::MAX), Seen::Refused(Refusal::NoFit)),
             (
-                Ask::FreeOf(Ptr::new(0, 9)),
-                Seen::Refused(Refusal::BadPointer),
+                Ask::Memalign(1 << 29, u64::MAX),
+                Seen::Refused(Refusal::NoFit),
             ),
-            (Ask::Malloc(2000), Seen::Refused(Refusal::NoFit)),
-            (Ask::Malloc(896), Seen::At(128)),
+            (
+                Ask::Memalign(1 << 29, 1_073_741_808),
+                Seen::Refused(Refusal::NoFit),
+            ),
+            (Ask::Memalign(1 << 63, 1), Seen::Refused(Refusal::BadAlign)),
+            (
+                Ask::Pool(u64::MAX - 63, 64),
+                Seen::Refused(Refusal::BadPool),
+            ),
+            (Ask::RemovePool(u64::MAX), Seen::Refused(Refusal::NoPool)),
         ],
-        pools: &[(0, &[(0, 112, true), (112, 16, true), (128, 896, true)])],
-    };
-    assert!(rt; both_hold(rt.alloc(), &run_of_requests));
-}
-
-/// Whether one run of these requests, in place of one run each, is answered as they say.
-fn runs_at_once<H: Heaped>(alloc: Global) -> Result<bool, StoreError> {
-    let mut heap = H::create(alloc, 4)?;
-    let answers = run(
-        alloc,
-        &mut heap,
-        &[
-            Request::AddPool(0, 1024),
-            Request::Malloc(100),
-            Request::Malloc(0),
-            Request::Malloc(1),
-            Request::Free(Ptr::new(0, 9)),
-            Request::Malloc(2000),
-            Request::Malloc(896),
+        pools: &[],
+    },
+    Case {
+        name: "greatest arguments with four of the greatest pools",
+        records: 65_535,
+        steps: &[
+            (Ask::Pool(0, 1_073_741_808), Seen::Done),
+            (Ask::Pool(1_073_741_808, 1_073_741_808), Seen::Done),
+            (Ask::Pool(2_147_483_616, 1_073_741_808), Seen::Done),
+            (Ask::Pool(3_221_225_424, 1_073_741_808), Seen::Done),
+            (Ask::Malloc(u64::MAX), Seen::Refused(Refusal::NoFit)),
+            (
+                Ask::Memalign(1 << 29, u64::MAX),
+                Seen::Refused(Refusal::NoFit),
+            ),
+            (
+                Ask::Memalign(1 << 29, 1_073_741_808),
+                Seen::Refused(Refusal::NoFit),
+            ),
+            (Ask::Memalign(1 << 63, 1), Seen::Refused(Refusal::BadAlign)),
+            (
+                Ask::Pool(u64::MAX - 63, 64),
+                Seen::Refused(Refusal::BadPool),
+            ),
+            (Ask::RemovePool(u64::MAX), Seen::Refused(Refusal::NoPool)),
         ],
-    )?;
-    let wanted = [
-        Seen::Done,
-        Seen::At(0),
-        Seen::Refused(Refusal::ZeroSize),
-        Seen::At(112),
-        Seen::Refused(Refusal::BadPointer),
-        Seen::Refused(Refusal::NoFit),
-        Seen::At(128),
-    ];
-    let same = answers.iter().zip(wanted.iter()).all(|(answer, wanted)| Seen::of(
-        Request::Malloc(0),
-        Some(answer),
-    ) == *wanted);
-    let rows = [(0, 112, true), (112, 16, true), (128, 896, true)];
-    Ok(same && answers.len() == 7 && has_rows(&mut heap, 0, &rows))
-}
+        pools: &[
+            (0, &[(0, 1_073_741_808, false)]),
+            (1_073_741_808, &[(1_073_741_808, 1_073_741_808, false)]),
+            (2_147_483_616, &[(2_147_483_616, 1_073_741_808, false)]),
+            (3_221_225_424, &[(3_221_225_424, 1_073_741_808, false)]),
+        ],
+    },
+];
 
 #[test]
-fn run_of_requests_at_once(rt: HostRuntime) {
-    assert_eq!(rt; runs_at_once::<Heap>(rt.alloc()), Ok(true));
-    assert_eq!(rt; runs_at_once::<PlainHeap>(rt.alloc()), Ok(true));
+fn rows_of_both_heaps(rt: HostRuntime) {
+    for case in ROWS {
+        let name = case.name;
+        assert!(rt; both_hold(rt.alloc(), &case), "{name}");
+    }
 }
+
+/// A heap of any number of records has a pool and its blocks; of one record a pool is one block.
+#[test]
+fn counts_of_records(rt: HostRuntime) {
+    for records in [1, 2, 3, 10, 999, 1_000, 1_001, 4_096, 8_192, 65_534, 65_535] {
+        let whole = Case { records, ..WHOLE };
+        assert!(rt; both_hold(rt.alloc(), &whole), "{records}");
+        if records > 1 {
+            let split = Case { records, ..SPLIT };
+            assert!(rt; both_hold(rt.alloc(), &split), "{records}");
+        }
+    }
+}
+
+/// A pool that is one live block, and one that is split.
+const WHOLE: Case = Case {
+    name: "whole",
+    records: 1,
+    steps: &[
+        (Ask::Pool(0, 64), Seen::Done),
+        (Ask::Malloc(64), Seen::At(0)),
+    ],
+    pools: &[(0, &[(0, 64, true)])],
+};
+
+const SPLIT: Case = Case {
+    name: "split",
+    records: 2,
+    steps: &[
+        (Ask::Pool(0, 64), Seen::Done),
+        (Ask::Malloc(8), Seen::At(0)),
+    ],
+    pools: &[(0, &[(0, 16, true), (16, 48, false)])],
+};
