@@ -13,6 +13,7 @@ mod Moments
 mod NoteLemmas
 mod RowLemmas
 mod RunLemmas
+pub mod SaveLemmas
 mod SearchLemmas
 mod Served
 mod SortedLemmas

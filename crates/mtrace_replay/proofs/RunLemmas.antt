@@ -29,8 +29,9 @@ use Rattle.mtrace_replay.specs.Texts.{note_text, notes_text, report_text, status
 use Rattle.mtrace_log.specs.Output.{Wrote, Begins}
 use Rattle.mtrace_replay.specs.Replay.{Replayed, StandsFor, entries, added_notes}
 use Rattle.mtrace_replay.specs.declared.report.Report.{Report}
+use Rattle.mtrace_replay.specs.declared.report.Report.TheVariants.{Notes}
 use Rattle.mtrace_replay.specs.declared.totals.Totals.{Totals}
-use Rattle.mtrace_replay.specs.Run.{Bytes, text_of_notes, whole_text, end_text, StopsAtRead, FailedInPiece, IsPastLastNumber, StopsAtWrite, Reports, is_some_note, is_some_entry, LineGives, LineBegins, HasReplayed}
+use Rattle.mtrace_replay.specs.Run.{Bytes, text_of_notes, whole_text, end_text, StopsAtRead, FailedInPiece, IsPastLastNumber, StopsAtWrite, Reports, Replays, is_some_note, is_some_entry, LineGives, LineBegins, HasReplayed}
 use Rattle.mtrace_replay.proofs.Moments.{moments-none, moments-line}
 use Rattle.mtrace_log.proofs.Writing.{Wrote-nothing, Wrote-append, Begins-after, Begins-longer}
 
@@ -132,7 +133,7 @@ last_text report settings lines all totals =
     ++ report_text report (entries_of all) totals (content_after (started settings) (history settings lines))
 
 -- the whole text, of the diagnostics of the lines and what comes at the end
-whole_is : (report : Report) (settings : Settings) (lines : List (Result Event LineFault)) (all : List Given) (totals : Totals)
+pub whole_is : (report : Report) (settings : Settings) (lines : List (Result Event LineFault)) (all : List Given) (totals : Totals)
     → whole_text report settings lines all totals ≡ text_of_notes settings lines ++ last_text report settings lines all totals
 whole_is report settings lines all totals =
     let last = half (length lines) (pending (reverse lines)) in
@@ -141,13 +142,13 @@ whole_is report settings lines all totals =
     ∙ append_assoc (text_of_notes settings lines) (notes_text last) told
 
 -- the diagnostic at the end, of a replay that stands for the lines
-half-is : (settings : Settings) (replay : Replayed) (lines : List (Result Event LineFault)) → StandsFor replay settings (reverse lines)
+pub half-is : (settings : Settings) (replay : Replayed) (lines : List (Result Event LineFault)) → StandsFor replay settings (reverse lines)
     → half replay.totals.lines replay.pending ≡ half (length lines) (pending (reverse lines))
 half-is settings replay lines stands =
     ap (λ n. half n replay.pending) (stands.lines_are ∙ length-reverse lines) ∙ ap (half (length lines)) stands.pending_is
 
 -- what a replay that stands for the lines writes at the end
-end_is : (report : Report) (settings : Settings) (replay : Replayed) (lines : List (Result Event LineFault)) → StandsFor replay settings (reverse lines)
+pub end_is : (report : Report) (settings : Settings) (replay : Replayed) (lines : List (Result Event LineFault)) → StandsFor replay settings (reverse lines)
     → end_text report replay ≡ last_text report settings lines replay.given replay.totals
 end_is report settings replay lines stands =
     ap (λ last. notes_text last ++ report_text report (entries replay) replay.totals replay.content) (half-is settings replay lines stands)
@@ -279,7 +280,7 @@ report_write report settings replay noted left_old left_new taken_old taken_midd
     }
 
 -- the status, of the diagnostics of the lines, those at the end, and what is held
-status-is : (first last : List Diagnostic) (all : List Entry)
+pub status-is : (first last : List Diagnostic) (all : List Entry)
     → (if is_some_note first || (is_some_note last || is_some_entry all) then Found else Clean) ≡ status_of (first ++ last) all
 status-is (note ∷ first) last all = refl
 status-is [] (note ∷ last) all = refl
@@ -287,7 +288,7 @@ status-is [] [] (one ∷ all) = refl
 status-is [] [] [] = refl
 
 -- all was written
-report_all : (report : Report) (settings : Settings) (replay : Replayed) (noted : Bool) (status : RunStatus) (left_old left_new taken_old taken_middle taken_new : Bytes)
+abbrev pub report_all : (report : Report) (settings : Settings) (replay : Replayed) (noted : Bool) (status : RunStatus) (left_old left_new taken_old taken_middle taken_new : Bytes)
     → HasReplayed settings replay noted left_old left_new taken_old taken_middle
     → Wrote taken_middle taken_new (end_text report replay)
     → status ≡ (if noted || (is_some_note (half replay.totals.lines replay.pending) || is_some_entry (entries replay)) then Found else Clean)
@@ -312,11 +313,14 @@ report_all report settings replay noted status left_old left_new taken_old taken
           ∙ status-is (notes (history settings done.lines)) last (entries replay);
     }
 
-pub reports_by : (report : Report) (settings : Settings) (replay : Replayed) (noted : Bool) (result : Result RunStatus RunFault) (left_old left_new taken_old taken_middle taken_new : Bytes)
+-- the same of a run that makes no report, and of the replay in the end
+pub replays_by : (settings : Settings) (replay end : Replayed) (noted : Bool) (status : RunStatus) (left_old left_new taken_old taken_middle taken_new : Bytes)
     → HasReplayed settings replay noted left_old left_new taken_old taken_middle
-    → OnOk result (Wrote taken_middle taken_new (end_text report replay))
-    → IfOk result (λ status. status ≡ (if noted || (is_some_note (half replay.totals.lines replay.pending) || is_some_entry (entries replay)) then Found else Clean))
-    → IfOk result (λ status. Reports report settings status left_old left_new taken_old taken_new)
-reports_by report settings replay noted (Ok status) left_old left_new taken_old taken_middle taken_new done wrote is =
-    report_all report settings replay noted status left_old left_new taken_old taken_middle taken_new done wrote is
-reports_by report settings replay noted (Err fault) left_old left_new taken_old taken_middle taken_new done wrote is = tt
+    → Wrote taken_middle taken_new (end_text Notes replay)
+    → status ≡ (if noted || (is_some_note (half replay.totals.lines replay.pending) || is_some_entry (entries replay)) then Found else Clean)
+    → end ≡ replay
+    → Replays settings status end.content left_old left_new taken_old taken_new
+replays_by settings replay end noted status left_old left_new taken_old taken_middle taken_new done wrote is kept = record {
+  reports = report_all Notes settings replay noted status left_old left_new taken_old taken_middle taken_new done wrote is;
+  content_is = ap (λ (r : Replayed). r.content) kept ∙ done.stands.content_is;
+}

@@ -13,3 +13,4 @@ pub mod Texts
 pub mod Rows
 pub mod Totals
 pub mod Run
+pub mod Saving

@@ -1,5 +1,5 @@
 -- What a run read and wrote, by its answer.
-use Rattle.std.specs.Prelude.{◌≡◌, ◌≢◌, ◌⊎◌, ◌↔◌, ℕ, Bool, true, false, List, [], ◌∷◌, ◌++◌, length, reverse, Option, Result, Err, IsTrue, IfOk, OnOk, IsErrOf}
+use Rattle.std.specs.Prelude.{◌≡◌, ◌≢◌, ◌⊎◌, ◌↔◌, ℕ, Bool, true, false, List, [], ◌∷◌, ◌++◌, length, reverse, Option, Result, Ok, Err, IsTrue, IfOk, OnOk, IsErrOf}
 use Rattle.std.specs.Io.KnownBytes.{prepend_known}
 use Rattle.mtrace_log.specs.HasRead.{HasRead, HasReadAll, HasReadBefore}
 use Rattle.mtrace_log.specs.Progress.{HasMore, greatest_number}
@@ -7,13 +7,15 @@ use Rattle.mtrace_log.specs.Trace.{HasGiven, HasGivenAll, HasGivenAndFailed, Has
 use Rattle.mtrace_log.specs.declared.call.Call.{Call}
 use Rattle.mtrace_replay.specs.declared.entry.Entry.{Entry}
 use Rattle.mtrace_replay.specs.declared.report.Report.{Report}
+use Rattle.mtrace_replay.specs.declared.report.Report.TheVariants.{Notes}
+use Rattle.mtrace_replay.specs.declared.run.Ended.{Ended}
 use Rattle.mtrace_replay.specs.declared.totals.Totals.{Totals}
 use Rattle.mtrace_replay.specs.declared.settings.Settings.{Settings}
 use Rattle.mtrace_replay.specs.declared.status.Status.{Status}
 use Rattle.mtrace_replay.specs.declared.status.RunFault.{RunFault}
-use Rattle.mtrace_replay.specs.declared.status.RunFault.TheVariants.{Read, Write, OutOfMemory, BadSettings}
+use Rattle.mtrace_replay.specs.declared.status.RunFault.TheVariants.{Read, Write, OutOfMemory, BadSettings, Image}
 use Rattle.mtrace_replay.specs.Settings.{are_bad}
-use Rattle.mtrace_replay.specs.Started.{started}
+use Rattle.mtrace_replay.specs.Started.{Bare, started}
 use Rattle.mtrace_replay.specs.Totals.{AreTotals}
 use Rattle.mtrace_replay.specs.Moment.{Reading, Given, half}
 use Rattle.mtrace_replay.specs.History.{history, notes, diagnostics, AreHeld, entries_of, content_after}
@@ -45,6 +47,11 @@ pub record Reports (report : Report) (settings : Settings) (status : Status) (le
   pub summed : AreTotals (started settings) (history settings lines) totals
   pub wrote : Wrote taken_old taken_new (whole_text report settings lines all totals)
   pub status_is : status ≡ status_of (diagnostics settings lines) (entries_of all)
+
+-- the same of a run that makes no report, and what its heap holds in the end
+pub record Replays (settings : Settings) (status : Status) (content : Bare) (left_old left_new taken_old taken_new : Bytes) : Type 0 where
+  pub reports : Reports Notes settings status left_old left_new taken_old taken_new
+  pub content_is : content ≡ content_after (started settings) (history settings reports.lines)
 
 -- as many lines were read as there are numbers, more is to come, and the reader has not failed
 pub record IsPastLastNumber (left_old left_new : Bytes) (calls_old calls_new : List Call) (lines : List Reading) : Type 0 where
@@ -115,6 +122,7 @@ pub record Runs {R W : Type 0} (report : Report) (settings : Settings) (left : R
   pub reader_not_failed : result ≢ Err Read → HasNotFailed (pulls reader_old) (pulls reader_new)
   pub bad_settings : IsErrOf result BadSettings ↔ IsTrue (are_bad settings)
   pub nothing_done : IsErrOf result BadSettings → (reader_new ≡ reader_old) × (writer_new ≡ writer_old)
+  pub no_image_fault : result ≢ Err Image
 
 -- what a replay writes at the end: the diagnostic of the last line, and the report
 abbrev pub end_text : Report → Replayed → List ℕ
@@ -149,3 +157,8 @@ pub record HasReplayed (settings : Settings) (replay : Replayed) (noted : Bool) 
   pub stands : StandsFor replay settings (reverse lines)
   pub wrote : Wrote taken_old taken_new (text_of_notes settings lines)
   pub noted_is : noted ≡ is_some_note (notes (history settings lines))
+
+-- the status of a run with its replay
+abbrev pub status_in : Result Ended RunFault → Result Status RunFault
+status_in (Ok ended) = Ok ended.status
+status_in (Err fault) = Err fault

@@ -8,7 +8,7 @@ use Rattle.tlsf_heap.specs.Content.{Pool, blocks_of, is_free}
 use Rattle.tlsf_heap.specs.Rows.{row_of}
 use Rattle.mtrace_replay.specs.declared.entry.Entry.{Entry}
 use Rattle.mtrace_replay.specs.declared.report.Report.{Report}
-use Rattle.mtrace_replay.specs.declared.report.Report.TheVariants.{Leaks, Peak, Walk}
+use Rattle.mtrace_replay.specs.declared.report.Report.TheVariants.{Leaks, Peak, Walk, Notes}
 use Rattle.mtrace_replay.specs.declared.totals.Totals.{Totals}
 use Rattle.mtrace_replay.specs.Started.{Bare}
 use Rattle.mtrace_replay.specs.declared.diagnostic.Diagnostic.{Diagnostic}
@@ -153,6 +153,7 @@ abbrev pub report_text : Report → List Entry → Totals → Bare → List ℕ
 report_text Leaks entries totals content = leaks_report entries
 report_text Peak entries totals content = peak_report totals content
 report_text Walk entries totals content = walk_report content
+report_text Notes entries totals content = []
 
 -- Clean where nothing is held and there is no diagnostic
 abbrev pub status_of : List Diagnostic → List Entry → Status

@@ -16,7 +16,7 @@ use arrayvec::ArrayVec;
 use mtrace_log::{Addr, Event, Failed, Line, LineFault, Sink};
 use std::alloc::Global;
 use std::marker::Model;
-use tlsf_heap::Heaped;
+use tlsf_heap::{Heap, Heaped, ImageFault};
 
 /// Why a replay answers no diagnostics.
 #[derive(Clone, Copy, Debug, PartialEq, Eq)]
@@ -168,6 +168,7 @@ impl<H: Heaped> Replay<H> {
     ///
     /// `OutOfMemory` where memory is refused: then what is held and the totals are as before the line, and each later
     /// call answers the same.
+    #[inline(always)]
     pub fn feed(&mut self, line: Line) -> Result<Note, ReplayFault>
         requires next { self.old.out_of_memory ≡ false → line.number ≡ self.old.totals.lines + 1 }
         ensures stands { OnOk result ((settings : Settings) (past : List Reading) → StandsFor self.old settings past
@@ -269,5 +270,20 @@ impl<H: Heaped> Replay<H> {
         ensures { Puts W.taken W.trace result (walk_report self.old.content) writer.old writer.new }
     {
         put_walk(writer, &mut self.heap)
+    }
+}
+
+impl Replay<Heap> {
+    ghost use Rattle.mtrace_replay.specs.Saving.{PutsImage};
+
+    /// Puts an image of the heap.
+    ///
+    /// # Errors
+    ///
+    /// `Write` where the writer failed, or took no byte of some: then a beginning of the image is put.
+    pub(crate) fn put_image<W: Sink>(&mut self, writer: &mut W) -> Result<(), ImageFault>
+        ensures { PutsImage W.taken W.trace result self.old.content writer.old writer.new }
+    {
+        self.heap.save_image(writer)
     }
 }

@@ -2,6 +2,7 @@
 
 ghost use Rattle.std.specs.Prelude.{◌≡◌, ◌≢◌, false, ◌<◌, ◌^◌, [], length, flat_map, OnOk, OnErr};
 ghost use Rattle.mtrace_log.specs.Output.{Puts};
+ghost use Rattle.mtrace_replay.specs.declared.report.Report.TheVariants.{Notes};
 ghost use Rattle.mtrace_replay.specs.Replay.{entries};
 ghost use Rattle.mtrace_replay.specs.Texts.{entry_text as text_of_entry, total_size as size_of_all, leaks_report, peak_report, report_text};
 
@@ -21,6 +22,8 @@ pub enum Report {
     Peak,
     /// The heap's pools at the end, each with its blocks.
     Walk,
+    /// Nothing more.
+    Notes,
 }
 
 /// How many bytes an entry asked for.
@@ -101,11 +104,13 @@ pub(crate) fn put_report<W: Sink, H: Heaped>(
     report: Report,
 ) -> Result<(), Failed>
     requires works { replay.old.out_of_memory ≡ false }
-    ensures { Puts W.taken W.trace result (report_text report (entries replay.old) replay.old.totals replay.old.content) writer.old writer.new }
+    ensures put { Puts W.taken W.trace result (report_text report (entries replay.old) replay.old.totals replay.old.content) writer.old writer.new }
+    ensures kept { report ≡ Notes → replay.new ≡ replay.old }
 {
     match report {
         Report::Leaks => put_leaks(writer, replay),
         Report::Peak => put_peak(writer, replay),
         Report::Walk => replay.put_walk(writer),
+        Report::Notes => Ok(()),
     }
 }

@@ -8,7 +8,7 @@ ghost use Rattle.mtrace_log.specs.Output.{Wrote, Begins, Puts};
 ghost use Rattle.mtrace_replay.specs.Texts.{notes_text, report_text};
 ghost use Rattle.mtrace_replay.specs.Moment.{Reading, half};
 ghost use Rattle.mtrace_replay.specs.Replay.{StandsFor, entries};
-ghost use Rattle.mtrace_replay.specs.Run.{end_text, Runs, StopsAtRead, StopsAtWrite, HasReplayed, LineGives, LineBegins, is_some_note, is_some_entry};
+ghost use Rattle.mtrace_replay.specs.Run.{end_text, Runs, Replays, status_in, StopsAtRead, StopsAtWrite, HasReplayed, LineGives, LineBegins, is_some_note, is_some_entry};
 
 use crate::diagnostic::Note;
 use crate::line_text::note_text;
@@ -47,6 +47,7 @@ fn replay_line<H: Heaped, W: Sink>(
     ensures memory { IsErrOf result RunFault.OutOfMemory → MayLack H.lacks }
     ensures no_read { result ≢ Err RunFault.Read }
     ensures no_settings { result ≢ Err RunFault.BadSettings }
+    ensures no_image { result ≢ Err RunFault.Image }
 {
     let Ok(note) = replay.feed(line) else {
         return Err(RunFault::OutOfMemory);
@@ -80,6 +81,7 @@ fn replay_lines<H: Heaped, R: Source, W: Sink>(
         → (report : Report) → StopsAtWrite report settings (R.left reader.old) (R.left reader.new) (W.taken writer.old) (W.taken writer.new) }
     ensures memory { IsErrOf result RunFault.OutOfMemory → MayLack H.lacks }
     ensures no_settings { result ≢ Err RunFault.BadSettings }
+    ensures no_image { result ≢ Err RunFault.Image }
 {
     let mut lines = Lines::new();
     let mut noted = false;
@@ -104,7 +106,8 @@ fn put_end<H: Heaped, W: Sink>(
     report: Report,
 ) -> Result<(), Failed>
     requires works { replay.old.out_of_memory ≡ false }
-    ensures { Puts W.taken W.trace result (notes_text note.now.items ++ report_text report (entries replay.old) replay.old.totals replay.old.content) writer.old writer.new }
+    ensures put { Puts W.taken W.trace result (notes_text note.now.items ++ report_text report (entries replay.old) replay.old.totals replay.old.content) writer.old writer.new }
+    ensures kept { report ≡ Report.Notes → replay.new ≡ replay.old }
 {
     put_note(writer, note)?;
     put_report(writer, replay, report)
@@ -136,6 +139,7 @@ fn finish<H: Heaped, W: Sink>(
     ensures beginning { OnErr result (Begins (W.taken writer.old) (W.taken writer.new) (end_text report replay.old)) }
     ensures failed { OnErr result (HasFailedToWrite (W.trace writer.old) (W.trace writer.new)) }
     ensures only_write { IfErr result (λ fault. fault ≡ RunFault.Write) }
+    ensures kept { report ≡ Report.Notes → replay.new ≡ replay.old }
 {
     let Ok(note) = replay.finish() else {
         unreachable!();
@@ -158,6 +162,44 @@ fn ask_flush<W: Sink>(writer: &mut W)
     let _ = writer.flush();
 }
 
+/// How a run ended that read its log to the end, and the replay then.
+#[derive(Drop)]
+pub(crate) struct Ended {
+    pub(crate) status: Status,
+    pub(crate) replay: Replay<Heap>,
+}
+
+/// Reads and replays a log on a heap by the settings, and writes what is wrong with its lines, and then the report.
+pub(crate) fn replay_log<R: Source, W: Sink>(
+    alloc: Global,
+    reader: &mut R,
+    writer: &mut W,
+    settings: Settings,
+    report: Report,
+) -> Result<Ended, RunFault>
+    ensures ran { Runs report settings R.left R.trace W.taken W.trace (status_in result) reader.old reader.new writer.old writer.new }
+    ensures last { report ≡ Report.Notes → IfOk result (λ ended. Replays settings ended.status ended.replay.content
+        (R.left reader.old) (R.left reader.new) (W.taken writer.old) (W.taken writer.new)) }
+{
+    let mut replay = match Replay::<Heap>::create(alloc, settings) {
+        Ok(replay) => replay,
+        Err(ReplayFault::BadSettings) => return Err(RunFault::BadSettings),
+        Err(ReplayFault::OutOfMemory) => return Err(RunFault::OutOfMemory),
+    };
+    match replay_lines(reader, writer, &mut replay) {
+        Ok(noted) => match finish(writer, &mut replay, noted, report) {
+            Ok(status) => Ok(Ended { status, replay }),
+            Err(fault) => Err(fault),
+        },
+        Err(RunFault::Write) => Err(RunFault::Write),
+        Err(RunFault::Read) => {
+            ask_flush(writer);
+            Err(RunFault::Read)
+        }
+        Err(_) => unreachable!(),
+    }
+}
+
 /// Reads and replays a log on a heap by the settings, and writes what is wrong with its lines, and then the report.
 fn run_report<R: Source, W: Sink>(
     alloc: Global,
@@ -168,19 +210,9 @@ fn run_report<R: Source, W: Sink>(
 ) -> Result<Status, RunFault>
     ensures { Runs report settings R.left R.trace W.taken W.trace result reader.old reader.new writer.old writer.new }
 {
-    let mut replay = match Replay::<Heap>::create(alloc, settings) {
-        Ok(replay) => replay,
-        Err(ReplayFault::BadSettings) => return Err(RunFault::BadSettings),
-        Err(ReplayFault::OutOfMemory) => return Err(RunFault::OutOfMemory),
-    };
-    match replay_lines(reader, writer, &mut replay) {
-        Ok(noted) => finish(writer, &mut replay, noted, report),
-        Err(RunFault::Write) => Err(RunFault::Write),
-        Err(RunFault::Read) => {
-            ask_flush(writer);
-            Err(RunFault::Read)
-        }
-        Err(_) => unreachable!(),
+    match replay_log(alloc, reader, writer, settings, report) {
+        Ok(ended) => Ok(ended.status),
+        Err(fault) => Err(fault),
     }
 }
 

@@ -24,4 +24,7 @@ pub enum RunFault {
     /// No heap can be made by the settings.
     #[error("bad settings")]
     BadSettings = 4,
+    /// The writer of the image failed.
+    #[error("write failed")]
+    Image = 5,
 }

@@ -158,6 +158,7 @@ fn realloc_block<H: Heaped>(heap: &mut H, ptr: Ptr, n: u64) -> Result<Block, Ref
 }
 
 /// `+ address size`, or `* address align size`: asks the heap for a block for the entry, unless its address is held.
+#[inline(always)]
 fn allocate<H: Heaped>(
     heap: &mut H,
     held: &mut Index,
@@ -188,6 +189,7 @@ fn allocate<H: Heaped>(
 }
 
 /// Frees the block that an address is held under, and holds the address no more.
+#[inline(always)]
 fn take<H: Heaped>(
     heap: &mut H,
     held: &mut Index,
@@ -217,6 +219,7 @@ fn take<H: Heaped>(
 }
 
 /// `- address`: frees the block that the address is held under.
+#[inline(always)]
 fn release<H: Heaped>(
     heap: &mut H,
     held: &mut Index,
@@ -333,6 +336,7 @@ fn entry_of(number: u64, at: Option<Location>, addr: Addr, size: u64) -> Entry
 
 /// What the line of this number does, where `pending` is the address of the line before, if that is `<`. At most 356
 /// touches.
+#[inline(always)]
 pub(crate) fn outcome<H: Heaped>(
     heap: &mut H,
     held: &mut Index,

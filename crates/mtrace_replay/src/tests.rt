@@ -7,6 +7,7 @@ mod hostile;
 mod random_lines;
 mod refused_memory;
 mod rows;
+mod saving;
 mod sizes;
 mod starts;
 mod sums;

@@ -13,7 +13,7 @@ const SETTINGS: Settings = Settings {
 const LOG: &[u8] = b"- 0x10\n+ 0x10 0x1\n- 0x20\n+ 0x20 0x1\n= Stop\n+ 0x30 0x1\n";
 
 /// What each report of it says.
-const TEXTS: [(Report, &[u8]); 3] = [
+const TEXTS: [(Report, &[u8]); 4] = [
     (
         Report::Leaks,
         b"line 1: 0x10 is not held\nline 3: 0x20 is not held\nline 5: not a line\nMemory not freed:\n0x10 1 line 2\n0x20 1 line 4\n0x30 1 line 6\nTotal: 3 blocks, 3 bytes.\n",
@@ -25,6 +25,10 @@ const TEXTS: [(Report, &[u8]); 3] = [
     (
         Report::Walk,
         b"line 1: 0x10 is not held\nline 3: 0x20 is not held\nline 5: not a line\npool 0: 4096 bytes\n0 16 used\n16 16 used\n32 16 used\n48 4048 free\npool 4096: 4096 bytes\n4096 4096 free\n",
+    ),
+    (
+        Report::Notes,
+        b"line 1: 0x10 is not held\nline 3: 0x20 is not held\nline 5: not a line\n",
     ),
 ];
 
@@ -39,13 +43,18 @@ fn each_report_with_refused_memory(rt: HostRuntime) {
             Report::Leaks => run_leaks(alloc, &mut reader, &mut writer, SETTINGS),
             Report::Peak => run_peak(alloc, &mut reader, &mut writer, SETTINGS),
             Report::Walk => run_walk(alloc, &mut reader, &mut writer, SETTINGS),
+            Report::Notes => {
+                let mut image = MemorySink::in_pieces(alloc, 4096);
+                run_save(alloc, &mut reader, &mut writer, &mut image, SETTINGS)
+            }
         };
         match answer {
             Ok(status) => {
                 assert_eq!(rt; status, Status::Found, "{report:?}");
                 assert_eq!(rt; writer.bytes(), text, "{report:?}");
             }
-            // The writer was refused memory.
+            // A writer was refused memory.
+            Err(RunFault::Image) => assert_eq!(rt; writer.bytes(), text, "{report:?}"),
             Err(RunFault::Write) => assert!(rt; text.starts_with(writer.bytes()), "{report:?}"),
             Err(fault) => {
                 assert_eq!(rt; fault, RunFault::OutOfMemory, "{report:?}");

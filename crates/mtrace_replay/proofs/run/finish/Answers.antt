@@ -9,7 +9,7 @@ use Rattle.mtrace_replay.proofs.run.finish.Goals as goal
 pub returns-then-is_err-2-clause-beginning : goal.returns-then-is_err-2-clause-beginning
 returns-then-is_err-2-clause-beginning g c =
     let taken = g.W.Sink.taken in
-    let put = puts_done taken g.W.Sink.trace c.put_end.result _ c.args.writer.now c.put_end.new.writer c.if-is_err.ensures.value c.put_end.ensures in
+    let put = puts_done taken g.W.Sink.trace c.put_end.result _ c.args.writer.now c.put_end.new.writer c.if-is_err.ensures.value c.put_end.ensures.put in
     let P : List Diagnostic → Type 0 = λ notes. Begins (taken c.args.writer.now) (taken c.flush.new.self)
     (notes_text notes ++ report_text c.args.report (entries c.args.replay.now) c.args.replay.now.totals c.args.replay.now.content) in
     subst P c.in-Ok.ensures.note (Begins-all (taken c.args.writer.now) (taken c.flush.new.self) _ (c.flush.ensures.kept ∙ put.wrote))

@@ -1,0 +1,79 @@
+use Rattle.std.proofs.Common.{rules, subst}
+use Rattle.mtrace_log.specs.Output.{Wrote}
+use Rattle.mtrace_replay.specs.declared.report.Report.{Report}
+use Rattle.mtrace_replay.specs.Run.{end_text}
+use Rattle.mtrace_log.specs.declared.call.Call.TheVariants.{Took, Flushed}
+use Rattle.mtrace_log.proofs.TraceLemmas.{moved_then_append, flush_after, failed_after}
+use Rattle.mtrace_replay.proofs.RunLemmas.{report_all, replays_by, report_write}
+use Rattle.mtrace_replay.proofs.run.replay_log.Goals as goal
+
+-- the log has ended, and all was written
+pub returns-in-Ok-finish-clause-ran : goal.returns-in-Ok-finish-clause-ran
+returns-in-Ok-finish-clause-ran g c =
+    let left = g.R.Source.left in
+    let taken = g.W.Sink.taken in
+    let done = c.in-Ok-replay_lines.ensures.done c.args.settings c.in-Ok.ensures.made in
+    let took = c.in-Ok-replay_lines.ensures.writer_took (λ e. cc) in
+    record {
+      finished = report_all c.args.report c.args.settings c.replay_lines.new.replay c.in-Ok-replay_lines.noted c.in-Ok-finish.status (left c.args.reader.now) (left c.replay_lines.new.reader)
+          (taken c.args.writer.now) (taken c.replay_lines.new.writer) (taken c.finish.new.writer) done c.in-Ok-finish.ensures.all c.in-Ok-finish.ensures.status;
+      reader_ended = search rules;
+      writer_flushed = moved_then_append Took Flushed _ _ _ took c.in-Ok-finish.ensures.flushed;
+      read_fault = search rules;
+      flush_asked = search rules;
+      write_fault = search rules;
+      writer_failed = search rules;
+      no_memory = search rules;
+      reader_not_failed = search rules;
+      bad_settings = search rules;
+      nothing_done = search rules;
+      no_image_fault = search rules;
+    }
+
+pub returns-in-Ok-finish-clause-last : goal.returns-in-Ok-finish-clause-last
+returns-in-Ok-finish-clause-last g c =
+    let left = g.R.Source.left in
+    let taken = g.W.Sink.taken in
+    let done = c.in-Ok-replay_lines.ensures.done c.args.settings c.in-Ok.ensures.made in
+    λ only. let P : Report → Type 0 = λ report. Wrote (taken c.replay_lines.new.writer) (taken c.finish.new.writer) (end_text report c.replay_lines.new.replay) in
+    replays_by c.args.settings c.replay_lines.new.replay c.finish.new.replay c.in-Ok-replay_lines.noted c.in-Ok-finish.status (left c.args.reader.now) (left c.replay_lines.new.reader)
+    (taken c.args.writer.now) (taken c.replay_lines.new.writer) (taken c.finish.new.writer) done (subst P only c.in-Ok-finish.ensures.all) c.in-Ok-finish.ensures.status (c.in-Ok-finish.ensures.kept only)
+
+-- the writer failed at the end
+pub returns-in-Ok-replay_lines-clause-ran : goal.returns-in-Ok-replay_lines-clause-ran
+returns-in-Ok-replay_lines-clause-ran g c =
+    let left = g.R.Source.left in
+    let taken = g.W.Sink.taken in
+    let done = c.in-Ok-replay_lines.ensures.done c.args.settings c.in-Ok.ensures.made in
+    let took = c.in-Ok-replay_lines.ensures.writer_took (λ e. cc) in
+    record {
+      finished = search rules;
+      reader_ended = search rules;
+      writer_flushed = search rules;
+      read_fault = search rules;
+      flush_asked = search rules;
+      write_fault = λ e. report_write c.args.report c.args.settings c.replay_lines.new.replay c.in-Ok-replay_lines.noted (left c.args.reader.now) (left c.replay_lines.new.reader)
+          (taken c.args.writer.now) (taken c.replay_lines.new.writer) (taken c.finish.new.writer) done c.in-Err-finish.ensures.beginning;
+      writer_failed = λ e. failed_after _ _ _ took c.in-Err-finish.ensures.failed;
+      no_memory = search rules;
+      reader_not_failed = search rules;
+      bad_settings = search rules;
+      nothing_done = search rules;
+      no_image_fault = search rules;
+    }
+
+pub returns-in-Err-Read-clause-ran : goal.returns-in-Err-Read-clause-ran
+returns-in-Err-Read-clause-ran g c = record {
+  finished = search rules;
+  reader_ended = search rules;
+  writer_flushed = search rules;
+  read_fault = search rules;
+  flush_asked = λ e. flush_after _ _ _ (c.in-Err-Read.ensures.writer_took (λ is. cc)) c.ask_flush.ensures.asked;
+  write_fault = search rules;
+  writer_failed = search rules;
+  no_memory = search rules;
+  reader_not_failed = search rules;
+  bad_settings = search rules;
+  nothing_done = search rules;
+  no_image_fault = search rules;
+}

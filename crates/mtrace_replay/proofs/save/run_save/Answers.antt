@@ -1,0 +1,46 @@
+use Rattle.std.proofs.Common.{◌≡◌, refl, subst, inl, inr}
+use Rattle.std.specs.Prelude.{Result, Ok, Err}
+use Rattle.mtrace_log.specs.declared.failed.Failed.{Failed}
+use Rattle.mtrace_replay.specs.declared.status.Status.{Status}
+use Rattle.mtrace_replay.specs.declared.status.RunFault.{RunFault}
+use Rattle.mtrace_replay.specs.declared.status.RunFault.TheVariants.{Image}
+use Rattle.mtrace_replay.specs.Saving.{PutsAndFlushes, EndsWithImage}
+use Rattle.mtrace_replay.proofs.save.run_save.Goals as goal
+
+same_status : (one other : Status) → (let first : Result Status RunFault = Ok one in first ≡ Ok other) → one ≡ other
+same_status one other same = cc
+
+pub returns-in-Ok-save : goal.returns-in-Ok-save
+returns-in-Ok-save g c =
+    let taken = g.I.Sink.taken in
+    let trace = g.I.Sink.trace in
+    let ended = c.in-Ok.ended in
+    let answer : Result Status RunFault = Ok ended.status in
+    let P : Result (Unit {0}) Failed → Type 0 = λ result. PutsAndFlushes taken trace result c.save.ensures.image c.args.image.now c.save.new.image in
+    let E : Status → Type 0 = λ status. EndsWithImage c.args.settings status (g.R.Source.left c.args.reader.now) (g.R.Source.left c.replay_log.new.reader) (g.W.Sink.taken c.args.writer.now)
+    (g.W.Sink.taken c.replay_log.new.writer) taken trace answer c.args.image.now c.save.new.image in
+    let ends : E ended.status = record {
+      content = ended.replay.content;
+      replays = c.in-Ok.ensures.last refl;
+      saves = record { whole = c.save.ensures.whole; content_is = c.save.ensures.content_is; image = c.save.ensures.image; is_image = c.save.ensures.is_image; put = subst P c.in-Ok-save.is c.save.ensures.put };
+      answer = inl refl;
+    } in
+    record { run = answer; runs = c.in-Ok.ensures.ran; run_fault = λ fault is. absurd (cc); finished = λ status is. subst E (same_status ended.status status is) ends }
+
+pub returns : goal.returns
+returns g c =
+    let taken = g.I.Sink.taken in
+    let trace = g.I.Sink.trace in
+    let ended = c.in-Ok.ended in
+    let run : Result Status RunFault = Ok ended.status in
+    let answer : Result Status RunFault = Err Image in
+    let P : Result (Unit {0}) Failed → Type 0 = λ result. PutsAndFlushes taken trace result c.save.ensures.image c.args.image.now c.save.new.image in
+    let E : Status → Type 0 = λ status. EndsWithImage c.args.settings status (g.R.Source.left c.args.reader.now) (g.R.Source.left c.replay_log.new.reader) (g.W.Sink.taken c.args.writer.now)
+    (g.W.Sink.taken c.replay_log.new.writer) taken trace answer c.args.image.now c.save.new.image in
+    let ends : E ended.status = record {
+      content = ended.replay.content;
+      replays = c.in-Ok.ensures.last refl;
+      saves = record { whole = c.save.ensures.whole; content_is = c.save.ensures.content_is; image = c.save.ensures.image; is_image = c.save.ensures.is_image; put = subst P c.in-Err-save.is c.save.ensures.put };
+      answer = inr refl;
+    } in
+    record { run = run; runs = c.in-Ok.ensures.ran; run_fault = λ fault is. absurd (cc); finished = λ status is. subst E (same_status ended.status status is) ends }

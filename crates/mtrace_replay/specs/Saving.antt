@@ -1,0 +1,52 @@
+-- What a run leaves that saves its heap.
+use Rattle.std.specs.Prelude.{◌≡◌, ◌⊎◌, ℕ, List, Option, Result, Ok, Err}
+use Rattle.mtrace_log.specs.declared.call.Call.{Call}
+use Rattle.mtrace_log.specs.Output.{Wrote, Begins}
+use Rattle.mtrace_log.specs.Trace.{HasTakenAndFlushed, HasFailedToWrite}
+use Rattle.tlsf_heap.specs.Content.{Content}
+use Rattle.tlsf_heap.specs.Bare.{bare}
+use Rattle.tlsf_heap.specs.Images.{IsImageOf, Saves}
+use Rattle.mtrace_replay.specs.declared.report.Report.TheVariants.{Notes}
+use Rattle.mtrace_replay.specs.declared.settings.Settings.{Settings}
+use Rattle.mtrace_replay.specs.declared.status.Status.{Status}
+use Rattle.mtrace_replay.specs.declared.status.RunFault.{RunFault}
+use Rattle.mtrace_replay.specs.declared.status.RunFault.TheVariants.{Image}
+use Rattle.mtrace_replay.specs.Started.{Bare}
+use Rattle.mtrace_replay.specs.Run.{Bytes, Runs, Replays}
+
+-- what a call leaves that saves a heap of which this is the content, slots left out
+pub record PutsImage {W T E : Type 0} (taken : W → Bytes) (trace : W → List Call) (result : Result T E) (content : Bare) (old new : W) : Type 0 where
+  pub whole : Content ℕ
+  pub content_is : bare whole ≡ content
+  pub saves : Saves taken trace result whole old new
+
+-- what a call leaves that puts a text and flushes: both are done, or, where it fails, a beginning is put
+abbrev pub PutsAndFlushes : {W T E : Type 0} → (taken : W → Bytes) (trace : W → List Call) → Result T E → (text : List ℕ) (old new : W) → Type 0
+PutsAndFlushes taken trace (Ok done) text old new = Wrote (taken old) (taken new) text × HasTakenAndFlushed (trace old) (trace new)
+PutsAndFlushes taken trace (Err failure) text old new = Begins (taken old) (taken new) text × HasFailedToWrite (trace old) (trace new)
+
+-- the same of an image of a content that is this one, slots left out
+pub record SavesLast {W T E : Type 0} (taken : W → Bytes) (trace : W → List Call) (result : Result T E) (content : Bare) (old new : W) : Type 0 where
+  pub whole : Content ℕ
+  pub content_is : bare whole ≡ content
+  pub image : List ℕ
+  pub is_image : IsImageOf whole image
+  pub put : PutsAndFlushes taken trace result image old new
+
+-- the log was replayed to its end, and the last content was saved, or the image's writer failed
+pub record EndsWithImage {I : Type 0} (settings : Settings) (status : Status) (left_old left_new taken_old taken_new : Bytes) (taken : I → Bytes) (trace : I → List Call)
+    (result : Result Status RunFault) (image_old image_new : I) : Type 0 where
+  pub content : Bare
+  pub replays : Replays settings status content left_old left_new taken_old taken_new
+  pub saves : SavesLast taken trace result content image_old image_new
+  pub answer : (result ≡ Ok status) ⊎ (result ≡ Err Image)
+
+-- What a run that saves its heap leaves: first a run without a report. Where that fails, this is the answer, and nothing was asked of the
+-- image's writer; else the last content is saved.
+pub record RunsAndSaves {R W I : Type 0} (settings : Settings) (left : R → Bytes) (pulls : R → List Call) (taken : W → Bytes) (puts : W → List Call)
+    (image_taken : I → Bytes) (image_puts : I → List Call) (result : Result Status RunFault) (reader_old reader_new : R) (writer_old writer_new : W) (image_old image_new : I) : Type 0 where
+  pub run : Result Status RunFault
+  pub runs : Runs Notes settings left pulls taken puts run reader_old reader_new writer_old writer_new
+  pub run_fault : (fault : RunFault) → run ≡ Err fault → (result ≡ Err fault) × (image_new ≡ image_old)
+  pub finished : (status : Status) → run ≡ Ok status
+      → EndsWithImage settings status (left reader_old) (left reader_new) (taken writer_old) (taken writer_new) image_taken image_puts result image_old image_new

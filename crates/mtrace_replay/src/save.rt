@@ -1,0 +1,58 @@
+//! The run that saves the heap of a log.
+
+ghost use Rattle.std.specs.Prelude.{◌≡◌};
+ghost use Rattle.mtrace_replay.specs.Saving.{SavesLast, RunsAndSaves};
+
+use crate::replay::Replay;
+use crate::report::Report;
+use crate::run::{Ended, replay_log};
+use crate::settings::Settings;
+use crate::status::{RunFault, Status};
+use mtrace_log::{Failed, Sink, Source};
+use std::alloc::Global;
+use tlsf_heap::Heap;
+
+/// Puts an image of the heap, and flushes.
+fn save<I: Sink>(replay: &mut Replay<Heap>, image: &mut I) -> Result<(), Failed>
+    ensures { SavesLast I.taken I.trace result replay.old.content image.old image.new }
+{
+    if replay.put_image(image).is_err() {
+        return Err(Failed);
+    }
+    image.flush()
+}
+
+/// Reads a log of mtrace(3), replays it on a heap by the settings, and writes what is wrong with its lines, each as it
+/// comes; then the writer is flushed, and an image of the heap at the end of the log is written and flushed.
+///
+/// Memory is taken at the start alone, for the heap's records and for what is held.
+///
+/// # Errors
+///
+/// `Read`, `Write`, `OutOfMemory` and `BadSettings` come as in the runs that write a report; then nothing is asked of the
+/// image's writer. `Image` where the image's writer answered an error, took no byte of some, or failed its flush: then
+/// what is wrong with the lines is written, and a beginning of the image.
+pub fn run_save<R: Source, W: Sink, I: Sink>(
+    alloc: Global,
+    reader: &mut R,
+    writer: &mut W,
+    image: &mut I,
+    settings: Settings,
+) -> Result<Status, RunFault>
+    ensures { RunsAndSaves settings R.left R.trace W.taken W.trace I.taken I.trace result reader.old reader.new writer.old writer.new image.old image.new }
+{
+    let Ended { status, mut replay } = match replay_log(
+        alloc,
+        reader,
+        writer,
+        settings,
+        Report::Notes,
+    ) {
+        Ok(ended) => ended,
+        Err(fault) => return Err(fault),
+    };
+    match save(&mut replay, image) {
+        Ok(()) => Ok(status),
+        Err(_) => Err(RunFault::Image),
+    }
+}
