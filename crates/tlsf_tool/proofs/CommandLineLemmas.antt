@@ -1,6 +1,6 @@
 -- The command line's description, and what a parse by it gives.
-use Rattle.std.proofs.Common.{◌≡◌, ◌∙◌, ◌⊎◌, ◌<◌, ◌^◌, ℕ, List, [], Option, Some, None, Result, Ok, Err, inl, inr, refl, sym, ap, ap₂, subst, true, codes, unwrap_or, option_map}
-use Rattle.std.specs.Prelude.{Box, IfSome, IfNone, String, string_bytes}
+use Rattle.std.proofs.Common.{arith, ◌≡◌, ◌∙◌, ◌⊎◌, ◌<◌, ◌^◌, ℕ, List, [], Option, Some, None, Result, Ok, Err, inl, inr, refl, sym, ap, ap₂, subst, true, codes, unwrap_or, option_map}
+use Rattle.std.specs.Prelude.{Box, IfSome, IfNone, String, string_bytes, slice_index}
 use Rattle.std.specs.declared.alloc.Global.{Global}
 use Rattle.std.specs.Str.Parse.{ParsesUnsigned, digits_value, without_leading_plus}
 use Rattle.clap.specs.Words.{App, HasMatchesOf, HasKind, IsAmong, Kinds, ReadsOne, Row, Text, fault_of, first_of, is_simple, is_simple_and_free, kind_of, one_text, rows_of, subcommand_name_of, subcommand_of, subcommand_rows, subcommand_rows_of}
@@ -17,11 +17,12 @@ use Rattle.clap.proofs.WalkLemmas.{one_text-rows}
 use Rattle.mtrace_replay.specs.declared.settings.Settings.{Settings}
 use Rattle.mtrace_replay.specs.declared.status.RunFault.TheVariants.{OutOfMemory}
 use Rattle.tlsf_tool.specs.declared.asked.Command.{Command}
-use Rattle.tlsf_tool.specs.declared.asked.Command.TheVariants.{Report}
+use Rattle.tlsf_tool.specs.declared.asked.Command.TheVariants.{Report, Save, Check}
 use Rattle.tlsf_tool.specs.declared.asked.Name.{Name}
+use Rattle.tlsf_tool.specs.declared.asked.Name.TheVariants.{Leaks, Peak, Walk}
 use Rattle.tlsf_tool.specs.declared.asked.ToolFault.{ToolFault}
 use Rattle.tlsf_tool.specs.declared.asked.ToolFault.TheVariants.{Help, Usage, CannotOpen, Run}
-use Rattle.tlsf_tool.specs.CommandLine.{AskFor, HasNumber, HasSettings, MatchesAskFor, name_text, tlsf_line, wrong_with}
+use Rattle.tlsf_tool.specs.CommandLine.{AskFor, HasNumber, HasSettings, HasNoLog, MatchesAskFor, name_text, texts_of, tlsf_line, wrong_with}
 use Rattle.tlsf_tool.specs.Faults.{ExplainsKind, ExplainsWords, IsUsage}
 
 pub line_is_simple : is_simple tlsf_line ≡ true
@@ -91,22 +92,57 @@ pub none_asks_nothing : (found : Option (Text × List Row)) → option_map (λ p
 none_asks_nothing None is command asks = asks
 none_asks_nothing (Some p) is command asks = absurd (let e : Some p.1 ≡ None = is in cc)
 
-module _ (found : Option (Text × List Row)) (name : Text) (rows : List Row) (is : found ≡ Some (name, rows)) where
-  pub unnamed_asks_nothing : ((n : Name) → name ≡ name_text n → ⊥) → AsksNothing found
-  unnamed_asks_nothing never (Report n settings log) asks = never n (subst (λ f. MatchesAskFor f (Report n settings log)) is asks).0
+-- no command has another name
+pub unnamed_asks_nothing : (found : Option (Text × List Row)) (name : Text) (rows : List Row) → found ≡ Some (name, rows) → ((n : Name) → name ≡ name_text n → ⊥)
+    → (name ≡ codes "save" → ⊥) → (name ≡ codes "check" → ⊥) → AsksNothing found
+unnamed_asks_nothing found name rows is never no_save no_check (Report n settings log) asks = never n (subst (λ f. MatchesAskFor f (Report n settings log)) is asks).0
+unnamed_asks_nothing found name rows is never no_save no_check (Save settings log image) asks = no_save (subst (λ f. MatchesAskFor f (Save settings log image)) is asks).0
+unnamed_asks_nothing found name rows is never no_save no_check (Check image) asks = no_check (subst (λ f. MatchesAskFor f (Check image)) is asks).0
 
-  pub unset_asks_nothing : ((settings : Settings) → HasSettings rows settings → ⊥) → AsksNothing found
-  unset_asks_nothing never (Report n settings log) asks = never settings (subst (λ f. MatchesAskFor f (Report n settings log)) is asks).1
+no_such : (one : Option Text) (text : Text) → one ≡ None → one ≡ Some text → ⊥
+no_such one text none some = let e : None ≡ Some text = sym none ∙ some in cc
 
-  pub no_log_asks_nothing : first_of (codes "LOG") rows ≡ None → AsksNothing found
-  no_log_asks_nothing none (Report n settings log) asks =
-      let some = (subst (λ f. MatchesAskFor f (Report n settings log)) is asks).2 in
-      absurd (let e : None ≡ Some (string_bytes log) = sym none ∙ some in cc)
+-- the first byte of a text
+abbrev pub first_byte : Text → ℕ
+first_byte text = slice_index text 0
+
+-- what a name asks for where the log or the settings are missing, and where the image is
+module _ (rows : List Row) where
+  pub report_asks_nothing : (name : Name) → HasNoLog rows → AsksNothing (Some (name_text name, rows))
+  report_asks_nothing name (inl never) (Report n settings log) asks = never settings asks.1
+  report_asks_nothing name (inr none) (Report n settings log) asks = no_such (first_of (codes "LOG") rows) (string_bytes log) none asks.2
+  report_asks_nothing Leaks missing (Save settings log image) asks = let e : 108 ≡ 115 = ap first_byte asks.0 in omega (arith, e)
+  report_asks_nothing Peak missing (Save settings log image) asks = let e : 112 ≡ 115 = ap first_byte asks.0 in omega (arith, e)
+  report_asks_nothing Walk missing (Save settings log image) asks = let e : 119 ≡ 115 = ap first_byte asks.0 in omega (arith, e)
+  report_asks_nothing Leaks missing (Check image) asks = let e : 108 ≡ 99 = ap first_byte asks.0 in omega (arith, e)
+  report_asks_nothing Peak missing (Check image) asks = let e : 112 ≡ 99 = ap first_byte asks.0 in omega (arith, e)
+  report_asks_nothing Walk missing (Check image) asks = let e : 119 ≡ 99 = ap first_byte asks.0 in omega (arith, e)
+
+  pub save_asks_nothing : HasNoLog rows ⊎ (first_of (codes "IMAGE") rows ≡ None) → AsksNothing (Some (codes "save", rows))
+  save_asks_nothing (inl (inl never)) (Save settings log image) asks = never settings asks.1
+  save_asks_nothing (inl (inr none)) (Save settings log image) asks = no_such (first_of (codes "LOG") rows) (string_bytes log) none asks.2
+  save_asks_nothing (inr none) (Save settings log image) asks = no_such (first_of (codes "IMAGE") rows) (string_bytes image) none asks.3
+  save_asks_nothing missing (Report Leaks settings log) asks = let e : 115 ≡ 108 = ap first_byte asks.0 in omega (arith, e)
+  save_asks_nothing missing (Report Peak settings log) asks = let e : 115 ≡ 112 = ap first_byte asks.0 in omega (arith, e)
+  save_asks_nothing missing (Report Walk settings log) asks = let e : 115 ≡ 119 = ap first_byte asks.0 in omega (arith, e)
+  save_asks_nothing missing (Check image) asks = let e : 115 ≡ 99 = ap first_byte asks.0 in omega (arith, e)
+
+  pub check_asks_nothing : first_of (codes "IMAGE") rows ≡ None → AsksNothing (Some (codes "check", rows))
+  check_asks_nothing none (Check image) asks = no_such (first_of (codes "IMAGE") rows) (string_bytes image) none asks.1
+  check_asks_nothing none (Save settings log image) asks = let e : 99 ≡ 115 = ap first_byte asks.0 in omega (arith, e)
+  check_asks_nothing none (Report Leaks settings log) asks = let e : 99 ≡ 108 = ap first_byte asks.0 in omega (arith, e)
+  check_asks_nothing none (Report Peak settings log) asks = let e : 99 ≡ 112 = ap first_byte asks.0 in omega (arith, e)
+  check_asks_nothing none (Report Walk settings log) asks = let e : 99 ≡ 119 = ap first_byte asks.0 in omega (arith, e)
 
 pub refuses : {P : Type 0} (fault : ToolFault) → IsUsage fault ⊎ (fault ≡ Run OutOfMemory) → P
     → (fault ≡ Run OutOfMemory) ⊎ (IsUsage fault × P)
 refuses fault (inl usage) p = inr (usage, p)
 refuses fault (inr memory) p = inl memory
+
+-- a wrong use, for another reason that follows from the one
+pub refuses_too : {P Q : Type 0} (fault : ToolFault) → (P → Q) → (fault ≡ Run OutOfMemory) ⊎ (IsUsage fault × P) → (fault ≡ Run OutOfMemory) ⊎ (IsUsage fault × Q)
+refuses_too fault follows (inl memory) = inl memory
+refuses_too fault follows (inr usage) = inr (usage.0, follows usage.1)
 
 -- ---- the parse
 
@@ -155,3 +191,9 @@ module _ (words : List (String Global)) (fault : ToolFault) where
   pub no_report_explains : {P : Type 0} → wrong_with words ≡ [] → IsMemory ⊎ (IsUsage fault × P) → IsMemory ⊎ ExplainsWords words fault
   no_report_explains none (inl memory) = inl memory
   no_report_explains none (inr usage) = inr (inr (usage.0, none))
+
+  -- what its matches don't ask for, the words don't
+  pub never_asks : (found : Option (Text × List Row)) → found ≡ subcommand_of tlsf_line (texts_of words) → IsMemory ⊎ (IsUsage fault × AsksNothing found)
+      → IsMemory ⊎ ((command : Command) → AskFor words command → ⊥)
+  never_asks found is (inl memory) = inl memory
+  never_asks found is (inr usage) = inr (λ command asks. usage.1 command (subst (λ (f : Option (Text × List Row)). MatchesAskFor f command) (sym is) asks.1))

@@ -1,5 +1,5 @@
 -- The command line of the program, as clap reads it, and what its matches ask for.
-use Rattle.std.specs.Prelude.{◌≡◌, ◌<◌, ◌^◌, ℕ, List, [], ◌∷◌, Option, Some, None, true, map, codes, string_bytes, String}
+use Rattle.std.specs.Prelude.{◌≡◌, ◌⊎◌, ◌<◌, ◌^◌, ℕ, List, [], ◌∷◌, Option, Some, None, true, map, codes, string_bytes, String}
 use Rattle.std.specs.declared.alloc.Global.{Global}
 use Rattle.std.specs.Str.Parse.{IsNumeral, digits_value, without_leading_plus}
 use Rattle.clap.specs.Words.{App, Kinds, Row, Rule, Text, fault_of, first_of, new_app, new_rule, one_of, subcommand_of, with_rule, with_subcommand}
@@ -10,7 +10,7 @@ use Rattle.std.specs.Prelude.{pos}
 use Rattle.tlsf_class.specs.Classes.{unit, greatest_size}
 use Rattle.mtrace_replay.specs.declared.settings.Settings.{Settings}
 use Rattle.tlsf_tool.specs.declared.asked.Command.{Command}
-use Rattle.tlsf_tool.specs.declared.asked.Command.TheVariants.{Report}
+use Rattle.tlsf_tool.specs.declared.asked.Command.TheVariants.{Report, Save, Check}
 use Rattle.tlsf_tool.specs.declared.asked.Name.{Name}
 use Rattle.tlsf_tool.specs.declared.asked.Name.TheVariants.{Leaks, Peak, Walk}
 
@@ -38,17 +38,26 @@ records_rule = option_rule (codes "records") (codes "8192") (parser.Signed (pos 
 abbrev pub log_rule : Rule
 log_rule = record (new_rule (codes "LOG")) { required = true }
 
+abbrev pub image_rule : Rule
+image_rule = record (new_rule (codes "IMAGE")) { required = true }
+
 -- a report's subcommand
 abbrev pub report_line : Text → App
 report_line name = with_rule (with_rule (with_rule (with_rule (new_app name) pool_rule) pools_rule) records_rule) log_rule
+
+abbrev pub save_line : App
+save_line = with_rule (report_line (codes "save")) image_rule
+
+abbrev pub check_line : App
+check_line = with_rule (new_app (codes "check")) image_rule
 
 -- `tlsf`, which tells its version and wants one of its subcommands
 abbrev pub bare_line : App
 bare_line = on_top (λ s. record s { has_version = true; subcommand_required = true }) (new_app (codes "tlsf"))
 
 abbrev pub tlsf_line : App
-tlsf_line = with_subcommand (with_subcommand (with_subcommand bare_line (report_line (codes "leaks")).top)
-    (report_line (codes "peak")).top) (report_line (codes "walk")).top
+tlsf_line = with_subcommand (with_subcommand (with_subcommand (with_subcommand (with_subcommand bare_line (report_line (codes "leaks")).top)
+    (report_line (codes "peak")).top) (report_line (codes "walk")).top) save_line.top) check_line.top
 
 -- ---- what matches ask for
 
@@ -66,11 +75,18 @@ abbrev pub HasSettings : List Row → Settings → Type 0
 HasSettings rows settings = HasNumber rows (codes "pool") 64 settings.pool
     × HasNumber rows (codes "pools") 32 settings.pools × HasNumber rows (codes "records") 32 settings.records
 
+-- there are no settings, or there is no log
+abbrev pub HasNoLog : List Row → Type 0
+HasNoLog rows = ((settings : Settings) → HasSettings rows settings → ⊥) ⊎ (first_of (codes "LOG") rows ≡ None)
+
 -- the subcommand and its matches ask for the command
 abbrev pub MatchesAskFor : Option (Text × List Row) → Command → Type 0
 MatchesAskFor None command = ⊥
 MatchesAskFor (Some found) (Report name settings log) = (found.0 ≡ name_text name)
     × HasSettings found.1 settings × (first_of (codes "LOG") found.1 ≡ Some (string_bytes log))
+MatchesAskFor (Some found) (Save settings log image) = (found.0 ≡ codes "save")
+    × HasSettings found.1 settings × (first_of (codes "LOG") found.1 ≡ Some (string_bytes log)) × (first_of (codes "IMAGE") found.1 ≡ Some (string_bytes image))
+MatchesAskFor (Some found) (Check image) = (found.0 ≡ codes "check") × (first_of (codes "IMAGE") found.1 ≡ Some (string_bytes image))
 
 abbrev pub texts_of : List (String Global) → List Text
 texts_of = map string_bytes

@@ -1,3 +1,4 @@
+pub mod Checking
 pub mod CommandLine
 pub mod Faults
 pub mod Statuses

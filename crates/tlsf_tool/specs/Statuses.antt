@@ -1,5 +1,5 @@
 -- The statuses that the program ends with.
-use Rattle.std.specs.Prelude.{ℕ}
+use Rattle.std.specs.Prelude.{◌≡◌, ℕ, Result, Ok, Err}
 use Rattle.tlsf_tool.specs.declared.asked.Name.{Name}
 use Rattle.tlsf_tool.specs.declared.asked.Name.TheVariants.{Leaks, Peak, Walk}
 use Rattle.mtrace_replay.specs.declared.report.Report.{Report}
@@ -9,7 +9,7 @@ use Rattle.tlsf_tool.specs.declared.asked.ToolFault.TheVariants.{Help, Usage, Ca
 use Rattle.mtrace_replay.specs.declared.status.Status.{Status}
 use Rattle.mtrace_replay.specs.declared.status.Status.TheVariants.{Clean, Found}
 use Rattle.mtrace_replay.specs.declared.status.RunFault.{RunFault}
-use Rattle.mtrace_replay.specs.declared.status.RunFault.TheVariants.{Read, Write, OutOfMemory, BadSettings}
+use Rattle.mtrace_replay.specs.declared.status.RunFault.TheVariants.{Read, Write, OutOfMemory, BadSettings, Image}
 
 -- the report of a name
 abbrev pub report_of : Name → Report
@@ -26,6 +26,16 @@ status_of_run_fault Read = 3
 status_of_run_fault Write = 3
 status_of_run_fault OutOfMemory = 4
 status_of_run_fault BadSettings = 2
+status_of_run_fault Image = 3
+
+-- of what a run came to
+abbrev pub status_of_run : Result Status RunFault → ℕ
+status_of_run (Ok status) = status_of_end status
+status_of_run (Err fault) = status_of_run_fault fault
+
+-- the status is that of a run of which this is true
+abbrev pub EndsAs : (Result Status RunFault → Type 0) → ℕ → Type 0
+EndsAs IsSo status = (outcome : Result Status RunFault) × IsSo outcome × (status_of_run outcome ≡ status)
 
 abbrev pub status_of_fault : ToolFault → ℕ
 status_of_fault (Help text) = 0

@@ -30,9 +30,23 @@ pub enum Command {
         /// The log's name, `-` for standard input.
         log: String,
     },
+    /// An image of the heap at the end of a log.
+    Save {
+        /// The heap that the log is replayed on.
+        settings: Settings,
+        /// The log's name, `-` for standard input.
+        log: String,
+        /// The image's name.
+        image: String,
+    },
+    /// Whether an image can be loaded.
+    Check {
+        /// The image's name.
+        image: String,
+    },
 }
 
-/// Why the program doesn't end with a report.
+/// Why the program doesn't end with what was asked.
 #[derive(Debug, Drop, Error)]
 pub enum ToolFault {
     /// The words ask for help or for the version; this is it.
@@ -41,7 +55,7 @@ pub enum ToolFault {
     /// The words ask for nothing that there is; the text says why, and how to ask.
     #[error("{0}")]
     Usage(String),
-    /// The log of this name can't be opened.
+    /// The file of this name can't be opened or made.
     #[error("tlsf: cannot open {0}")]
     CannotOpen(String),
     /// The run ended early.

@@ -3,7 +3,7 @@
 ghost use Rattle.std.specs.Prelude.{◌≡◌, IfOk, false};
 ghost use Rattle.clap.specs.Words.{app_of, rule_of};
 ghost use Rattle.clap.specs.declared.builder.command.Command.TheViews.{out-Command};
-ghost use Rattle.tlsf_tool.specs.CommandLine.{log_rule, pool_rule, pools_rule, records_rule, report_line, tlsf_line};
+ghost use Rattle.tlsf_tool.specs.CommandLine.{log_rule, image_rule, pool_rule, pools_rule, records_rule, report_line, save_line, check_line, tlsf_line};
 
 use clap::{Arg, Command, value_parser};
 use std::alloc::{AllocError, Global};
@@ -24,6 +24,8 @@ const EXAMPLES: &str = "Examples:
   tlsf leaks a.log                          what is not freed at the end of a.log
   tlsf peak --pool 1048576 --pools 2 a.log  the peak of a.log on two pools of 1 MiB
   tlsf walk --records 65535 -               the heap at the end of the log on standard input
+  tlsf save a.log a.image                   that heap at the end of a.log, in a file
+  tlsf check a.image                        whether that file can be loaded
 
 The status is 0 where nothing was found, 1 where something was, 2 for wrong words or bad settings,
 3 where a file can't be read or written, and 4 where memory is refused.";
@@ -39,6 +41,13 @@ const PEAK: &str =
 /// What the report of the walk means.
 const WALK: &str =
     "Reports the heap's pools at the end of the log, row by row: each used and each free block.";
+
+/// What saving means.
+const SAVE: &str =
+    "Writes an image of the heap at the end of the log to a file, from which it can be loaded.";
+
+/// What checking means.
+const CHECK: &str = "Tells whether an image can be loaded, or the first rule that it breaks.";
 
 /// The option of a pool's size.
 fn pool_option<'a>(alloc: Global) -> Arg<'a>
@@ -92,7 +101,17 @@ fn log_word<'a>(alloc: Global) -> Arg<'a>
         .help("File of the log, or - for standard input")
 }
 
-/// The subcommand of one report.
+/// The image's name.
+fn image_word<'a>(alloc: Global) -> Arg<'a>
+    ensures rule { rule_of result ≡ image_rule }
+    ensures own { result.global ≡ false }
+{
+    Arg::new(alloc, "IMAGE")
+        .required(true)
+        .help("File of the image")
+}
+
+/// The subcommand of one report, or of what takes the same words.
 fn report_command<'a>(
     alloc: Global,
     name: &'a str,
@@ -110,6 +129,25 @@ fn report_command<'a>(
         .arg(log_word(alloc))
 }
 
+/// The subcommand that saves.
+fn save_command<'a>(alloc: Global) -> Result<Command<'a>, AllocError>
+    ensures line { IfOk result (λ command. app_of command ≡ save_line) }
+    ensures own { IfOk result (λ command. (out-Command command).has_globals ≡ false) }
+{
+    report_command(alloc, "save", SAVE)?.arg(image_word(alloc))
+}
+
+/// The subcommand that checks.
+fn check_command<'a>(alloc: Global) -> Result<Command<'a>, AllocError>
+    ensures line { IfOk result (λ command. app_of command ≡ check_line) }
+    ensures own { IfOk result (λ command. (out-Command command).has_globals ≡ false) }
+{
+    Command::new(alloc, "check")
+        .about(CHECK)
+        .after_help(EXAMPLES)
+        .arg(image_word(alloc))
+}
+
 /// The whole command line.
 pub fn tlsf_command<'a>(alloc: Global) -> Result<Command<'a>, AllocError>
     ensures { IfOk result (λ command. app_of command ≡ tlsf_line) }
@@ -117,6 +155,8 @@ pub fn tlsf_command<'a>(alloc: Global) -> Result<Command<'a>, AllocError>
     let leaks = report_command(alloc, "leaks", LEAKS)?;
     let peak = report_command(alloc, "peak", PEAK)?;
     let walk = report_command(alloc, "walk", WALK)?;
+    let save = save_command(alloc)?;
+    let check = check_command(alloc)?;
     Command::new(alloc, NAME)
         .bin_name(NAME)?
         .version(VERSION)
@@ -125,5 +165,7 @@ pub fn tlsf_command<'a>(alloc: Global) -> Result<Command<'a>, AllocError>
         .subcommand_required(true)
         .subcommand(leaks)?
         .subcommand(peak)?
-        .subcommand(walk)
+        .subcommand(walk)?
+        .subcommand(save)?
+        .subcommand(check)
 }

@@ -2,6 +2,7 @@
 #![tactic(auto)]
 
 mod asked;
+mod check;
 mod command_line;
 mod service;
 mod statuses;
@@ -10,7 +11,8 @@ mod tests;
 mod words;
 
 use crate::asked::{Command, Name, ToolFault};
-use crate::service::serve;
+use crate::check::check_image;
+use crate::service::{serve, serve_save};
 use crate::words::command;
 use mtrace_log::{FromRead, ToWrite};
 use mtrace_replay::{RunFault, Settings};
@@ -65,13 +67,12 @@ fn serve_log<R: Read + Drop>(
 }
 
 /// Opens the log and serves it.
-fn report_log(rt: &HostRuntime) -> Result<u8, ToolFault> {
-    let words = asked_words(rt)?;
-    let Command::Report {
-        name,
-        settings,
-        log,
-    } = command(rt.alloc(), words.as_slice())?;
+fn report_log(
+    rt: &HostRuntime,
+    name: Name,
+    settings: Settings,
+    log: String,
+) -> Result<u8, ToolFault> {
     if log.as_str() == "-" {
         return serve_log(rt, name, settings, rt.stdin());
     }
@@ -81,8 +82,78 @@ fn report_log(rt: &HostRuntime) -> Result<u8, ToolFault> {
     }
 }
 
+/// Makes the image and saves to it the heap at the end of a log that is open.
+fn save_open<R: Read + Drop>(
+    rt: &HostRuntime,
+    settings: Settings,
+    log: R,
+    image: String,
+) -> Result<u8, ToolFault> {
+    let Ok(file) = fs::create(rt, image.as_str()) else {
+        return Err(ToolFault::CannotOpen(image));
+    };
+    let Ok(writer) = BufWriter::new(rt.alloc(), rt.stdout()) else {
+        return Err(ToolFault::Run(RunFault::OutOfMemory));
+    };
+    Ok(serve_save(
+        rt.alloc(),
+        settings,
+        &mut FromRead::new(log),
+        &mut ToWrite::new(writer),
+        &mut ToWrite::new(file),
+        &mut ToWrite::new(rt.stderr()),
+    ))
+}
+
+/// Opens the log, makes the image, and saves.
+fn save_log(
+    rt: &HostRuntime,
+    settings: Settings,
+    log: String,
+    image: String,
+) -> Result<u8, ToolFault> {
+    if log.as_str() == "-" {
+        return save_open(rt, settings, rt.stdin(), image);
+    }
+    match fs::open(rt, log.as_str()) {
+        Ok(file) => save_open(rt, settings, file, image),
+        Err(_) => Err(ToolFault::CannotOpen(log)),
+    }
+}
+
+/// Opens an image and checks it.
+fn check_file(rt: &HostRuntime, image: String) -> Result<u8, ToolFault> {
+    match fs::open(rt, image.as_str()) {
+        Ok(file) => Ok(check_image(
+            rt.alloc(),
+            &mut FromRead::new(file),
+            &mut ToWrite::new(rt.stdout()),
+            &mut ToWrite::new(rt.stderr()),
+        )),
+        Err(_) => Err(ToolFault::CannotOpen(image)),
+    }
+}
+
+/// Does what the words ask for.
+fn serve_words(rt: &HostRuntime) -> Result<u8, ToolFault> {
+    let words = asked_words(rt)?;
+    match command(rt.alloc(), words.as_slice())? {
+        Command::Report {
+            name,
+            settings,
+            log,
+        } => report_log(rt, name, settings, log),
+        Command::Save {
+            settings,
+            log,
+            image,
+        } => save_log(rt, settings, log, image),
+        Command::Check { image } => check_file(rt, image),
+    }
+}
+
 fn main(rt: HostRuntime) -> ExitCode {
-    match report_log(&rt) {
+    match serve_words(&rt) {
         Ok(status) => ExitCode::from(status),
         Err(fault) => {
             let _ = match &fault {

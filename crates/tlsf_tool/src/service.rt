@@ -5,13 +5,14 @@ ghost use Rattle.mtrace_replay.specs.Settings.{are_bad};
 ghost use Rattle.mtrace_log.specs.Trace.{HasGivenAll, HasNotFailed, HasTakenAndFlushed, HasFailedToWrite, FlushWasAsked};
 ghost use Rattle.mtrace_replay.specs.Run.{Reports, Runs, FailsToRead, FailsToWrite};
 ghost use Rattle.mtrace_replay.specs.declared.status.Status.TheVariants.{Clean, Found};
-ghost use Rattle.tlsf_tool.specs.Statuses.{report_of};
+ghost use Rattle.mtrace_replay.specs.Saving.{RunsAndSaves};
+ghost use Rattle.tlsf_tool.specs.Statuses.{report_of, EndsAs};
 
 use crate::asked::{Name, ToolFault};
 use crate::statuses::{end_status, fault_status};
 use arrayvec::ArrayString;
 use mtrace_log::{Sink, Source, put_all};
-use mtrace_replay::{RunFault, Settings, Status, run_leaks, run_peak, run_walk};
+use mtrace_replay::{RunFault, Settings, Status, run_leaks, run_peak, run_save, run_walk};
 use std::alloc::Global;
 use std::fmt::Write;
 
@@ -19,7 +20,7 @@ use std::fmt::Write;
 const LONGEST_FAULT: usize = 64;
 
 /// Puts the line of a fault; it doesn't matter whether that succeeds.
-fn put_fault<E: Sink>(errors: &mut E, fault: &ToolFault) {
+pub(crate) fn put_fault<E: Sink>(errors: &mut E, fault: &ToolFault) {
     let mut text: ArrayString<LONGEST_FAULT> = ArrayString::new();
     if write!(text, "{fault}\n").is_ok() {
         let _ = put_all(errors, text.as_str().as_bytes());
@@ -70,6 +71,31 @@ pub fn serve<R: Source, W: Sink, E: Sink>(
     ensures known { result ≤ 4 }
 {
     match run_named(alloc, name, settings, reader, writer) {
+        Ok(status) => end_status(status),
+        Err(fault) => {
+            put_fault(errors, &ToolFault::Run(fault));
+            fault_status(fault)
+        }
+    }
+}
+
+/// Saves the heap at the end of the log that the reader has left, by `run_save`, and puts the line of a fault to
+/// `errors`, whose own fault doesn't matter. Answers the status that the program ends with: 0 where
+/// nothing was found, 1 where something was, 2 for bad settings, 3 where the reader or a writer failed,
+/// 4 where memory was refused.
+pub fn serve_save<R: Source, W: Sink, I: Sink, E: Sink>(
+    alloc: Global,
+    settings: Settings,
+    reader: &mut R,
+    writer: &mut W,
+    image: &mut I,
+    errors: &mut E,
+) -> u8
+    ensures saved { EndsAs (λ outcome. RunsAndSaves settings R.left R.trace W.taken W.trace I.taken I.trace outcome
+        reader.old reader.new writer.old writer.new image.old image.new) result }
+    ensures no_errors { result ≤ 1 → errors.new ≡ errors.old }
+{
+    match run_save(alloc, reader, writer, image, settings) {
         Ok(status) => end_status(status),
         Err(fault) => {
             put_fault(errors, &ToolFault::Run(fault));

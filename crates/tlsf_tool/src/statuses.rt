@@ -15,13 +15,13 @@ pub fn end_status(status: Status) -> u8
     }
 }
 
-/// The status of a run that ended early: 2 for bad settings, 3 for the reader or the writer, 4 for memory.
+/// The status of a run that ended early: 2 for bad settings, 3 for the reader or a writer, 4 for memory.
 pub fn fault_status(fault: RunFault) -> u8
     ensures { result ≡ status_of_run_fault fault }
 {
     match fault {
         RunFault::BadSettings => 2,
-        RunFault::Read | RunFault::Write => 3,
+        RunFault::Read | RunFault::Write | RunFault::Image => 3,
         RunFault::OutOfMemory => 4,
     }
 }

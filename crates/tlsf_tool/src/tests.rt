@@ -2,6 +2,7 @@
 
 mod glibc_log;
 mod hostile;
+mod images;
 mod program;
 mod reports;
 mod rows;

@@ -1,8 +1,8 @@
 //! The words of the command line.
 
-ghost use Rattle.std.specs.Prelude.{◌≡◌, ◌⊎◌, ℕ, codes, IfOk, IfErr, IfSome, IfNone};
-ghost use Rattle.clap.specs.Words.{found_of, kind_of, rows_of, subcommand_rows_of};
-ghost use Rattle.tlsf_tool.specs.CommandLine.{AskFor, HasNumber, HasSettings, MatchesAskFor, name_text};
+ghost use Rattle.std.specs.Prelude.{◌≡◌, ◌⊎◌, ℕ, codes, string_bytes, Some, None, IfOk, IfErr, IfSome, IfNone};
+ghost use Rattle.clap.specs.Words.{first_of, found_of, kind_of, rows_of, subcommand_rows_of};
+ghost use Rattle.tlsf_tool.specs.CommandLine.{AskFor, HasNumber, HasSettings, HasNoLog, MatchesAskFor, name_text};
 ghost use Rattle.tlsf_tool.specs.Faults.{ExplainsKind, ExplainsWords, IsUsage};
 
 use crate::asked::{Command, Name, ToolFault};
@@ -15,8 +15,8 @@ use std::alloc::Global;
 /// Memory was refused.
 const NO_MEMORY: ToolFault = ToolFault::Run(RunFault::OutOfMemory);
 
-/// The text where clap takes words that ask for no report.
-const NO_REPORT: &str = "tlsf: no report; for more, try 'tlsf --help'\n";
+/// The text where clap takes words that ask for nothing.
+const NO_COMMAND: &str = "tlsf: no command; for more, try 'tlsf --help'\n";
 
 /// The report of this name.
 fn named(text: &str) -> Option<Name>
@@ -68,6 +68,85 @@ fn settings_of(found: &ArgMatches<'_>) -> Option<Settings>
     })
 }
 
+/// The word of this id, which a subcommand's matches have.
+fn word_of(alloc: Global, found: &ArgMatches<'_>, id: &str) -> Result<String, ToolFault>
+    ensures given { IfOk result (λ word. first_of id.now (rows_of (found_of found.now)) ≡ Some (string_bytes word)) }
+    ensures faults { IfErr result (λ fault. (fault ≡ ToolFault.Run RunFault.OutOfMemory)
+        ⊎ (IsUsage fault × (first_of id.now (rows_of (found_of found.now)) ≡ None))) }
+{
+    let Some(word) = found.get_str(id) else {
+        return Err(ToolFault::usage(alloc, NO_COMMAND));
+    };
+    match String::from_str(alloc, word) {
+        Ok(word) => Ok(word),
+        Err(_) => Err(NO_MEMORY),
+    }
+}
+
+/// The settings and the log that a subcommand's matches have.
+fn log_of(alloc: Global, found: &ArgMatches<'_>) -> Result<(Settings, String), ToolFault>
+    ensures given { IfOk result (λ given. HasSettings (rows_of (found_of found.now)) given.0
+        × (first_of (codes "LOG") (rows_of (found_of found.now)) ≡ Some (string_bytes given.1))) }
+    ensures faults { IfErr result (λ fault. (fault ≡ ToolFault.Run RunFault.OutOfMemory)
+        ⊎ (IsUsage fault × HasNoLog (rows_of (found_of found.now)))) }
+{
+    let Some(settings) = settings_of(found) else {
+        return Err(ToolFault::usage(alloc, NO_COMMAND));
+    };
+    match word_of(alloc, found, "LOG") {
+        Ok(log) => Ok((settings, log)),
+        Err(fault) => Err(fault),
+    }
+}
+
+/// What the matches of the subcommand that saves ask for.
+fn asked_save(alloc: Global, found: &ArgMatches<'_>) -> Result<Command, ToolFault>
+    ensures asked { IfOk result (MatchesAskFor (Some (codes "save", rows_of (found_of found.now)))) }
+    ensures faults { IfErr result (λ fault. (fault ≡ ToolFault.Run RunFault.OutOfMemory)
+        ⊎ (IsUsage fault × ((command : _) → MatchesAskFor (Some (codes "save", rows_of (found_of found.now))) command → ⊥))) }
+{
+    let (settings, log) = match log_of(alloc, found) {
+        Ok(given) => given,
+        Err(fault) => return Err(fault),
+    };
+    match word_of(alloc, found, "IMAGE") {
+        Ok(image) => Ok(Command::Save {
+            settings,
+            log,
+            image,
+        }),
+        Err(fault) => Err(fault),
+    }
+}
+
+/// What the matches of the subcommand that checks ask for.
+fn asked_check(alloc: Global, found: &ArgMatches<'_>) -> Result<Command, ToolFault>
+    ensures asked { IfOk result (MatchesAskFor (Some (codes "check", rows_of (found_of found.now)))) }
+    ensures faults { IfErr result (λ fault. (fault ≡ ToolFault.Run RunFault.OutOfMemory)
+        ⊎ (IsUsage fault × ((command : _) → MatchesAskFor (Some (codes "check", rows_of (found_of found.now))) command → ⊥))) }
+{
+    match word_of(alloc, found, "IMAGE") {
+        Ok(image) => Ok(Command::Check { image }),
+        Err(fault) => Err(fault),
+    }
+}
+
+/// What the matches of a report's subcommand ask for.
+fn asked_report(alloc: Global, name: Name, found: &ArgMatches<'_>) -> Result<Command, ToolFault>
+    ensures asked { IfOk result (MatchesAskFor (Some (name_text name, rows_of (found_of found.now)))) }
+    ensures faults { IfErr result (λ fault. (fault ≡ ToolFault.Run RunFault.OutOfMemory)
+        ⊎ (IsUsage fault × ((command : _) → MatchesAskFor (Some (name_text name, rows_of (found_of found.now))) command → ⊥))) }
+{
+    match log_of(alloc, found) {
+        Ok((settings, log)) => Ok(Command::Report {
+            name,
+            settings,
+            log,
+        }),
+        Err(fault) => Err(fault),
+    }
+}
+
 /// What the matches ask for.
 fn asked(alloc: Global, matches: &ArgMatches<'_>) -> Result<Command, ToolFault>
     ensures asked { IfOk result (MatchesAskFor (subcommand_rows_of matches.now)) }
@@ -75,24 +154,15 @@ fn asked(alloc: Global, matches: &ArgMatches<'_>) -> Result<Command, ToolFault>
         ⊎ (IsUsage fault × ((command : _) → MatchesAskFor (subcommand_rows_of matches.now) command → ⊥))) }
 {
     let Some((text, found)) = matches.subcommand() else {
-        return Err(ToolFault::usage(alloc, NO_REPORT));
+        return Err(ToolFault::usage(alloc, NO_COMMAND));
     };
-    let Some(name) = named(text) else {
-        return Err(ToolFault::usage(alloc, NO_REPORT));
-    };
-    let Some(settings) = settings_of(found) else {
-        return Err(ToolFault::usage(alloc, NO_REPORT));
-    };
-    let Some(log) = found.get_str("LOG") else {
-        return Err(ToolFault::usage(alloc, NO_REPORT));
-    };
-    match String::from_str(alloc, log) {
-        Ok(log) => Ok(Command::Report {
-            name,
-            settings,
-            log,
-        }),
-        Err(_) => Err(NO_MEMORY),
+    match text {
+        "save" => asked_save(alloc, found),
+        "check" => asked_check(alloc, found),
+        _ => match named(text) {
+            Some(name) => asked_report(alloc, name, found),
+            None => Err(ToolFault::usage(alloc, NO_COMMAND)),
+        },
     }
 }
 

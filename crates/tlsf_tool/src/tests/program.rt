@@ -22,7 +22,9 @@ pub fn strings(alloc: Global, words: &[&str]) -> Result<Vec<String>, AllocError>
 fn first_leak_through_command_and_serve(rt: HostRuntime) -> Result<(), Fail> {
     let alloc = rt.alloc();
     let words = strings(alloc, &["tlsf", "leaks", "-"])?;
-    let Command::Report { name, settings, .. } = command(alloc, words.as_slice())?;
+    let Command::Report { name, settings, .. } = command(alloc, words.as_slice())? else {
+        panic!(rt; "no report");
+    };
     let mut reader = MemorySource::in_pieces(b"= Start\n@ a + 0x10 0x64\n= End\n", 4096);
     let mut writer = MemorySink::in_pieces(alloc, 4096);
     let mut errors = MemorySink::in_pieces(alloc, 4096);

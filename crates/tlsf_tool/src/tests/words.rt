@@ -180,7 +180,10 @@ fn words_that_are_taken(rt: HostRuntime) -> Result<(), Fail> {
             name,
             settings,
             log,
-        } = command(alloc, strings(alloc, row.words)?.as_slice())?;
+        } = command(alloc, strings(alloc, row.words)?.as_slice())?
+        else {
+            panic!(rt; "no report");
+        };
         assert_eq!(rt; name, row.name, "{:?}", row.words);
         assert_eq!(rt; settings, row.settings, "{:?}", row.words);
         assert_eq!(rt; log.as_str(), row.log, "{:?}", row.words);
@@ -188,8 +191,40 @@ fn words_that_are_taken(rt: HostRuntime) -> Result<(), Fail> {
     Ok(())
 }
 
+/// The words of images that are saved and checked.
+#[test]
+fn words_of_images(rt: HostRuntime) -> Result<(), Fail> {
+    let alloc = rt.alloc();
+    let words = strings(
+        alloc,
+        &["tlsf", "save", "--records", "2", "a.log", "an.image"],
+    )?;
+    let Command::Save {
+        settings,
+        log,
+        image,
+    } = command(alloc, words.as_slice())?
+    else {
+        panic!(rt; "not asked to save");
+    };
+    assert_eq!(rt;
+        settings,
+        Settings {
+            records: 2,
+            ..DEFAULT
+        }
+    );
+    assert_eq!(rt; (log.as_str(), image.as_str()), ("a.log", "an.image"));
+    let words = strings(alloc, &["tlsf", "check", "-"])?;
+    let Command::Check { image } = command(alloc, words.as_slice())? else {
+        panic!(rt; "not asked to check");
+    };
+    assert_eq!(rt; image.as_str(), "-");
+    Ok(())
+}
+
 /// Words that ask for nothing that there is.
-const WRONG: [&[&str]; 24] = [
+const WRONG: [&[&str]; 29] = [
     &[],
     &["tlsf"],
     &["tlsf", "leaks"],
@@ -214,6 +249,11 @@ const WRONG: [&[&str]; 24] = [
     &["tlsf", "peak", "--records", "65536", "-"],
     &["tlsf", "peak", "--records", "99999999999999999999999", "-"],
     &["tlsf", "leaks", "--version"],
+    &["tlsf", "save", "a.log"],
+    &["tlsf", "save", "a.log", "an.image", "b"],
+    &["tlsf", "check"],
+    &["tlsf", "check", "an.image", "b"],
+    &["tlsf", "check", "--pool", "64", "an.image"],
 ];
 
 #[test]

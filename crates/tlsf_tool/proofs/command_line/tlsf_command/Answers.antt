@@ -16,5 +16,9 @@ returns c =
     ∙ ap₂ with_subcommand bare (ap (λ (a : App). a.top) c.in_ok-leaks.ensures.line) in
     let two = c.in_ok-subcommand-2.ensures.shape c.in_ok-peak.ensures.own
     ∙ ap₂ with_subcommand one (ap (λ (a : App). a.top) c.in_ok-peak.ensures.line) in
-    IfOk-weaker c.subcommand-3.result _ _ (λ r h. h.shape c.in_ok-walk.ensures.own
-    ∙ ap₂ with_subcommand two (ap (λ (a : App). a.top) c.in_ok-walk.ensures.line)) c.subcommand-3.ensures
+    let three = c.in_ok-subcommand-3.ensures.shape c.in_ok-walk.ensures.own
+    ∙ ap₂ with_subcommand two (ap (λ (a : App). a.top) c.in_ok-walk.ensures.line) in
+    let four = c.in_ok-subcommand-4.ensures.shape c.in_ok-save.ensures.own
+    ∙ ap₂ with_subcommand three (ap (λ (a : App). a.top) c.in_ok-save.ensures.line) in
+    IfOk-weaker c.subcommand-5.result _ _ (λ r h. h.shape c.in_ok-check.ensures.own
+    ∙ ap₂ with_subcommand four (ap (λ (a : App). a.top) c.in_ok-check.ensures.line)) c.subcommand-5.ensures

@@ -1,8 +1,21 @@
-use Rattle.std.proofs.lemmas.Result.{IfErr-weaker}
-use Rattle.clap.specs.Words.{app_of}
+use Rattle.std.proofs.Common.{sym, subst, inl, inr, Option, List}
+use Rattle.std.proofs.lemmas.Result.{IfErr-weaker, IfOk-weaker}
+use Rattle.tlsf_tool.specs.CommandLine.{MatchesAskFor}
+use Rattle.clap.specs.Words.{app_of, Row, Text}
 use Rattle.tlsf_tool.specs.CommandLine.{texts_of, wrong_with}
-use Rattle.tlsf_tool.proofs.CommandLineLemmas.{asks_nothing, explained, explains_words, no_report_explains, nothing_wrong, some_wrong}
+use Rattle.tlsf_tool.proofs.CommandLineLemmas.{asks_nothing, explained, explains_words, finds, never_asks, no_report_explains, nothing_wrong, some_wrong}
 use Rattle.tlsf_tool.proofs.words.command.Goals as goal
+
+pub returns-in-Ok-try_get_matches_from-clause-asked : goal.returns-in-Ok-try_get_matches_from-clause-asked
+returns-in-Ok-try_get_matches_from-clause-asked c =
+    let none = nothing_wrong (app_of c.in-Ok.line) (texts_of c.args.words.now) c.in-Ok.ensures c.in-Ok-try_get_matches_from.ensures.kinds in
+    let found = finds (app_of c.in-Ok.line) (texts_of c.args.words.now) c.in-Ok.ensures c.in-Ok-try_get_matches_from.matches c.in-Ok-try_get_matches_from.ensures.matches in
+    IfOk-weaker c.asked.result _ _ (λ command asks. (none, subst (λ (f : Option (Text × List Row)). MatchesAskFor f command) found asks)) c.asked.ensures.asked
+
+pub returns-in-Ok-try_get_matches_from-clause-nothing_asked : goal.returns-in-Ok-try_get_matches_from-clause-nothing_asked
+returns-in-Ok-try_get_matches_from-clause-nothing_asked c =
+    let found = finds (app_of c.in-Ok.line) (texts_of c.args.words.now) c.in-Ok.ensures c.in-Ok-try_get_matches_from.matches c.in-Ok-try_get_matches_from.ensures.matches in
+    IfErr-weaker c.asked.result _ _ (λ fault h. never_asks c.args.words.now fault _ found h) c.asked.ensures.faults
 
 pub returns-in-Ok-try_get_matches_from-clause-faults : goal.returns-in-Ok-try_get_matches_from-clause-faults
 returns-in-Ok-try_get_matches_from-clause-faults c =

@@ -1,0 +1,21 @@
+-- What the answer of loading an image tells of its rules.
+use Rattle.std.proofs.Common.{◌≡◌, false, sym, ap, ◌∙◌, refl, Option, Some, None}
+use Rattle.std.specs.Prelude.{Result, Ok, Err, if◌then◌else◌}
+use Rattle.std.specs.Result.{is_ok, is_err}
+use Rattle.tlsf_image.specs.declared.rule.Rule.{Rule}
+use Rattle.tlsf_heap.specs.declared.image_fault.ImageFault.{ImageFault}
+use Rattle.tlsf_heap.specs.declared.image_fault.ImageFault.TheVariants.{Broken, OutOfMemory}
+
+pub none_where_loaded : {H : Type 0} (first : Option Rule) (result : Result H ImageFault) (heap : H) → ((rule : Rule) → first ≡ Some rule → result ≡ Err (Broken rule)) → result ≡ Ok heap → first ≡ None
+none_where_loaded None result heap broken is = refl
+none_where_loaded (Some rule) result heap broken is = absurd (let e : Ok heap ≡ Err (Broken rule) = sym is ∙ broken rule refl in cc)
+
+pub some_where_broken : {H : Type 0} (first : Option Rule) (result : Result H ImageFault) (rule : Rule) → ((other : Rule) → first ≡ Some other → result ≡ Err (Broken other))
+    → (first ≡ None → Broken rule ≡ OutOfMemory) → result ≡ Err (Broken rule) → first ≡ Some rule
+some_where_broken None result rule broken memory is = absurd (let e = memory refl in cc)
+some_where_broken (Some other) result rule broken memory is = let e : Err (Broken rule) ≡ Err (Broken other) = sym is ∙ broken other refl in cc
+
+-- what a call leaves that didn't fail
+pub where_ok : {T E X : Type 0} (result : Result T E) (new one other : X) → new ≡ (if is_ok result then one else other) → false ≡ is_err result → new ≡ one
+where_ok (Ok done) new one other is ok = is
+where_ok (Err failure) new one other is ok = absurd (cc)

@@ -1,0 +1,15 @@
+use Rattle.std.proofs.Common.{◌≡◌, ◌-◌, ◌≤◌, length}
+use Rattle.std.specs.Io.KnownBytes.{prepend_known}
+use Rattle.mtrace_log.specs.Trace.{HasGiven}
+use Rattle.tlsf_tool.proofs.check.read_image.Given as goal
+
+-- the bytes so far came first of those that the reader had
+abbrev pub invariant-loop-piece : goal.invariant-loop-piece
+invariant-loop-piece g l = record {
+  read : g.R.Source.left l.fn.reader ≡ prepend_known l.bytes.items (g.R.Source.left l.reader);
+  given : HasGiven (g.R.Source.trace l.fn.reader) (g.R.Source.trace l.reader);
+  few : length l.bytes.items ≤ 1050081;
+}
+
+abbrev pub decreases-loop-piece : goal.decreases-loop-piece
+decreases-loop-piece g l = 1050081 - length l.bytes.items

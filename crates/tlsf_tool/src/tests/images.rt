@@ -1,0 +1,215 @@
+//! Images that are saved and checked, through `serve_save` and `check_image`.
+
+use crate::check::check_image;
+use crate::service::serve_save;
+use mtrace_log::memory::{Full, MemorySink, MemorySource};
+use mtrace_replay::Settings;
+use std::alloc::Global;
+use std::test::Fail;
+
+/// One pool of 64 bytes and one record.
+const LEAST: Settings = Settings {
+    pool: 64,
+    pools: 1,
+    records: 1,
+};
+
+/// Where the heads begin, and the records.
+const HEADS_AT: usize = 112;
+
+const RECORDS_AT: usize = 1_520;
+
+/// How many bytes an image of four records has, and one byte more.
+const ROOM: usize = RECORDS_AT + 65;
+
+/// An image of four records at most, and a byte behind them.
+#[derive(Clone, Copy)]
+struct Bytes {
+    bytes: [u8; ROOM],
+    len: usize,
+}
+
+impl Bytes {
+    /// So many records below 5, one pool from 0 on of so many bytes below 256, and no list.
+    fn new(records: u8, pool: u8) -> Bytes {
+        let mut image = Bytes {
+            bytes: [0; ROOM],
+            len: RECORDS_AT + 16 * usize::from(records.min(4)),
+        };
+        image.put(0, b"TLSFIMG1");
+        image.put(8, &[records, 0, 1, 0]);
+        image.put(20, &[pool]);
+        for class in 0..704 {
+            image.put(HEADS_AT + 2 * class, &[0xff, 0xff]);
+        }
+        image
+    }
+
+    /// Writes bytes from an offset on.
+    fn put(&mut self, offset: usize, bytes: &[u8]) {
+        let mut at = offset;
+        for byte in bytes {
+            if at < ROOM {
+                self.bytes[at] = *byte;
+                at += 1;
+            }
+        }
+    }
+
+    /// The same with one byte changed.
+    fn with(mut self, offset: usize, byte: u8) -> Bytes {
+        self.put(offset, &[byte]);
+        self
+    }
+
+    fn as_slice(&self) -> &[u8] {
+        &self.bytes[..self.len.min(ROOM)]
+    }
+}
+
+/// One record and one pool of 64 bytes, all free.
+fn vector() -> Bytes {
+    let mut image = Bytes::new(1, 64);
+    image.put(HEADS_AT + 2 * 4, &[0, 0]);
+    image.put(
+        RECORDS_AT,
+        b"\x00\x00\x00\x00\x41\x00\x00\x00\xff\xff\xff\xff\xff\xff\xff\xff",
+    );
+    image
+}
+
+/// Two free blocks of 32 bytes side by side, both in one list.
+fn free_neighbours() -> Bytes {
+    let mut image = Bytes::new(2, 64);
+    image.put(HEADS_AT + 2 * 2, &[0, 0]);
+    image.put(
+        RECORDS_AT,
+        b"\x00\x00\x00\x00\x21\x00\x00\x00\xff\xff\x01\x00\xff\xff\x01\x00\x20\x00\x00\x00\x21\x00\x00\x00\x00\x00\xff\xff\x00\x00\xff\xff",
+    );
+    image
+}
+
+/// Four blocks of 32 bytes, two of them free, which name one another and stand in no list.
+fn detached_ring() -> Bytes {
+    let mut image = Bytes::new(4, 128);
+    image.put(
+        RECORDS_AT,
+        b"\x00\x00\x00\x00\x21\x00\x00\x00\xff\xff\x01\x00\x02\x00\x02\x00\x20\x00\x00\x00\x22\x00\x00\x00\x00\x00\x02\x00\xff\xff\xff\xff",
+    );
+    image.put(
+        RECORDS_AT + 32,
+        b"\x40\x00\x00\x00\x21\x00\x00\x00\x01\x00\x03\x00\x00\x00\x00\x00\x60\x00\x00\x00\x22\x00\x00\x00\x02\x00\xff\xff\xff\xff\xff\xff",
+    );
+    image
+}
+
+/// Whether an image is checked with this status and line.
+fn is_checked(alloc: Global, image: &[u8], status: u8, line: &[u8]) -> bool {
+    let mut reader = MemorySource::in_pieces(image, 5_000);
+    let mut writer = MemorySink::in_pieces(alloc, 3);
+    let mut errors = MemorySink::in_pieces(alloc, 4_096);
+    check_image(alloc, &mut reader, &mut writer, &mut errors) == status
+        && writer.bytes() == line
+        && errors.bytes().is_empty()
+}
+
+#[test]
+fn saved_vector(rt: HostRuntime) {
+    let alloc = rt.alloc();
+    let mut reader = MemorySource::in_pieces(b"", 4_096);
+    let mut writer = MemorySink::in_pieces(alloc, 4_096);
+    let mut image = MemorySink::in_pieces(alloc, 1_000);
+    let mut errors = MemorySink::in_pieces(alloc, 4_096);
+    let status = serve_save(
+        alloc,
+        LEAST,
+        &mut reader,
+        &mut writer,
+        &mut image,
+        &mut errors,
+    );
+    assert_eq!(rt; status, 0);
+    assert_eq!(rt; image.bytes(), vector().as_slice());
+    assert!(rt; writer.bytes().is_empty() && errors.bytes().is_empty());
+    assert!(rt; is_checked(alloc, image.bytes(), 0, b"ok\n"));
+}
+
+#[test]
+fn faults_of_saving(rt: HostRuntime) {
+    let alloc = rt.alloc();
+    let bad = Settings { pool: 24, ..LEAST };
+    for (settings, room, status, line) in [
+        (LEAST, 700, 3, b"tlsf: write failed\n".as_slice()),
+        (bad, 2_000, 2, b"tlsf: bad settings\n".as_slice()),
+    ] {
+        let mut reader = MemorySource::in_pieces(b"", 4_096);
+        let mut writer = MemorySink::in_pieces(alloc, 4_096);
+        let mut image = MemorySink::with_room(alloc, 1_000, room, Full::Fails);
+        let mut errors = MemorySink::in_pieces(alloc, 4_096);
+        let answer = serve_save(
+            alloc,
+            settings,
+            &mut reader,
+            &mut writer,
+            &mut image,
+            &mut errors,
+        );
+        assert_eq!(rt; answer, status);
+        assert_eq!(rt; errors.bytes(), line);
+        assert_eq!(rt; image.bytes().len(), if status == 3 { room } else { 0 });
+    }
+}
+
+#[test]
+fn checked_images(rt: HostRuntime) {
+    let longer = Bytes {
+        len: RECORDS_AT + 17,
+        ..vector()
+    };
+    let shorter = Bytes {
+        len: RECORDS_AT - 1,
+        ..vector()
+    };
+    let unlisted = vector().with(HEADS_AT + 8, 0xff).with(HEADS_AT + 9, 0xff);
+    for (image, status, line) in [
+        (vector(), 0, b"ok\n".as_slice()),
+        (vector().with(0, 0x55), 1, b"broken: V1\n"),
+        (shorter, 1, b"broken: V1\n"),
+        (longer, 1, b"broken: V2\n"),
+        (vector().with(12, 1), 1, b"broken: V2\n"),
+        (vector().with(24, 1), 1, b"broken: V3\n"),
+        (vector().with(28, 1), 1, b"broken: V4\n"),
+        (vector().with(RECORDS_AT + 4, 0x43), 1, b"broken: V5\n"),
+        (vector().with(HEADS_AT, 0), 1, b"broken: V6\n"),
+        (vector().with(RECORDS_AT, 16), 1, b"broken: V8\n"),
+        (free_neighbours(), 1, b"broken: V10\n"),
+        (detached_ring(), 1, b"broken: V12\n"),
+        (unlisted, 1, b"broken: V12\n"),
+    ] {
+        assert!(rt;
+            is_checked(rt.alloc(), image.as_slice(), status, line),
+            "{line:?}"
+        );
+    }
+    assert!(rt; is_checked(rt.alloc(), b"", 1, b"broken: V1\n"));
+}
+
+/// A file that is longer than any image, and begins as one.
+#[test]
+fn longest_file(rt: HostRuntime) -> Result<(), Fail> {
+    let mut bytes = Vec::new(rt.alloc());
+    bytes.extend_from_slice(b"TLSFIMG1")?;
+    for _index in 8..1_050_081 {
+        bytes.push(0)?;
+    }
+    assert!(rt; is_checked(rt.alloc(), bytes.as_slice(), 1, b"broken: V2\n"));
+    let mut reader = MemorySource::in_pieces(b"TLSFIMG1", 4_096);
+    let mut full = MemorySink::with_room(rt.alloc(), 4_096, 4, Full::TakesNone);
+    let mut errors = MemorySink::in_pieces(rt.alloc(), 4_096);
+    assert_eq!(rt;
+        check_image(rt.alloc(), &mut reader, &mut full, &mut errors),
+        3
+    );
+    assert_eq!(rt; errors.bytes(), b"tlsf: write failed\n".as_slice());
+    Ok(())
+}
