@@ -7,6 +7,7 @@ pub mod Alike
 pub mod Unbroken
 pub mod Told
 pub mod Saved
+pub mod Whole
 pub mod Written
 pub mod Loaded
 pub mod FilledHeads

@@ -27,8 +27,6 @@ pub mod Picked
 pub mod Empty
 pub mod Standing
 pub mod RowsRead
-pub mod CheckedChains
-pub mod CheckedLists
 pub mod Entered
 pub mod Added
 pub mod EntryLists

@@ -316,12 +316,12 @@ impl Heap {
         walk(&mut self.store, base, &mut visit)
     }
 
-    /// Whether the table of records is that of a heap: it always is, and the answer is `true`. The blocks of each
-    /// pool are linked both ways and cover it end to end, each of a positive number of units, with no two free
-    /// ones side by side; the list of each class is linked both ways and has free blocks of that class alone; the
-    /// bitmaps agree with the lists; there are as many free blocks in lists as in pools, and as many blocks and
-    /// vacant records as records. Each record in use is read, and each list, bitmap word and pool entry: how
-    /// many touches that takes isn't promised, but it is some.
+    /// Whether the table of records is that of a heap: it always is, and the answer is `true`. The pools are in order and
+    /// apart; each block's links are of records; the blocks of each pool are linked both ways and cover it end to end,
+    /// with no two free ones side by side; the list of each class is linked both ways and has free blocks of that class
+    /// alone; each block is of a pool, and each free one in a list; the bitmaps agree with the lists. Those are the rules
+    /// that an image is tested by, and the bitmaps. Each record, list, bitmap word and pool entry is read: how many
+    /// touches that takes isn't promised, but it is some.
     pub fn check(&mut self) -> bool
         ensures whole { result ≡ true }
         ensures unchanged { IsUnchanged self.old self.new }

@@ -38,6 +38,10 @@ abbrev pub are_pools : ℕ → ℕ → List Pool → Bool
 are_pools count from [] = true
 are_pools count from (pool ∷ pools) = is_pool count from pool && are_pools count (pool.base + pool.bytes) pools
 
+-- the pools of these parts are such, from the first place on
+abbrev pub has_ordered_pools : Parts → Bool
+has_ordered_pools parts = are_pools (length parts.records) 0 (present parts.pools)
+
 -- 3: the pools are such, and their entries end with zeros
 abbrev pub has_pools : List ℕ → Bool
 has_pools bytes =
@@ -172,6 +176,10 @@ abbrev pub rules_of_parts : Parts → List (Rule × Bool)
 rules_of_parts parts =
     (Links, has_links parts) ∷ (Chains, has_chains parts) ∷ (Cover, has_cover parts) ∷ (OnChains, has_all_on_chains parts)
     ∷ (Merged, has_merged parts) ∷ (Lists, has_lists parts) ∷ (OnLists, has_all_on_lists parts) ∷ []
+
+-- the same of parts that stand in no bytes: their pools come first
+abbrev pub rules_of_table : Parts → List (Rule × Bool)
+rules_of_table parts = (Pools, has_ordered_pools parts) ∷ rules_of_parts parts
 
 abbrev pub rules : List ℕ → List (Rule × Bool)
 rules bytes =

@@ -4,10 +4,10 @@ ghost use Rattle.std.specs.Prelude.{◌≡◌, ◌+◌, ◌*◌, ◌<◌, ◌≤
 ghost use Rattle.tlsf_class.specs.Classes.{classes};
 ghost use Rattle.tlsf_store.specs.Cells.{most_pools};
 ghost use Rattle.tlsf_image.specs.Image.{record_at, two_at as number_at, count_at, pools_at, pool_in};
-ghost use Rattle.tlsf_image.specs.Rules.{has_magic, has_length, has_unused_pools, is_pool, has_pools, has_state, has_states};
+ghost use Rattle.tlsf_image.specs.Rules.{has_magic, has_length, has_unused_pools, has_pools, has_state, has_states};
 
 use crate::bytes::{are_zero, four_at, two_at};
-use crate::can_be_pool;
+use crate::pools::is_pool;
 use tlsf_class::{CLASSES, UNIT};
 use tlsf_store::{MOST_POOLS, Pool, Slot};
 
@@ -83,21 +83,13 @@ pub(crate) fn pool_in(bytes: &[u8], number: usize) -> Pool
     }
 }
 
-/// Whether the pool can be at its range, from a place on, and its first record is one of so many.
-fn is_pool(count: u16, from: u64, pool: &Pool) -> bool
-    ensures { result ≡ is_pool count from pool.now }
-{
-    let base = u64::from(pool.base);
-    can_be_pool(base, u64::from(pool.bytes)) && from <= base && pool.first.0 < count
-}
-
 /// Whether each pool is such, at or above the end of the one before, and its entry ends with zeros.
 pub(crate) fn has_pools(bytes: &[u8]) -> bool
     requires whole { record_at 0 ≤ length bytes.now }
     requires few { number_at pools_at bytes.now ≤ most_pools }
     ensures { result ≡ has_pools bytes.now }
 {
-    let count = two_at(bytes, COUNT_AT);
+    let count = u32::from(two_at(bytes, COUNT_AT));
     let mut from = 0;
     for number in 0..usize::from(two_at(bytes, POOLS_AT)) {
         let pool = pool_in(bytes, number);

@@ -11,7 +11,8 @@ use crate::header::{
     COUNT_AT, HEAD_BYTES, HEADS_AT, POOLS_AT, RECORD_BYTES, RECORDS_AT, has_length, has_magic,
     has_pools, has_states, has_unused_pools, pool_in,
 };
-use crate::{Rule, Table, first_broken};
+use crate::rules::first_behind_pools;
+use crate::{Rule, Table};
 use std::marker::Model;
 use tlsf_class::{Class, UNIT};
 use tlsf_store::{Pool, Record, Slot, State};
@@ -51,7 +52,7 @@ impl<'a> Image<'a> {
             return Err(rule);
         }
         let mut image = Image { bytes };
-        match first_broken(&mut image) {
+        match first_behind_pools(&mut image) {
             Some(rule) => Err(rule),
             None => Ok(Image { bytes }),
         }

@@ -7,6 +7,7 @@ mod header;
 mod image;
 mod links;
 mod lists;
+mod pools;
 mod ranges;
 mod rule;
 mod rules;

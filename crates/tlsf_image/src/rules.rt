@@ -1,16 +1,32 @@
 //! The rules of what a table describes.
 
-ghost use Rattle.std.specs.Prelude.{◌≡◌, ◌≤◌, true, length};
-ghost use Rattle.tlsf_image.specs.Rules.{present, are_pools, first_of, rules_of_parts};
+ghost use Rattle.std.specs.Prelude.{◌≡◌, ◌≤◌, true};
+ghost use Rattle.tlsf_image.specs.Rules.{first_of, has_ordered_pools, rules_of_parts, rules_of_table};
 
 use crate::chains::look_at_chains;
 use crate::links::look_at_links;
 use crate::lists::look_at_lists;
+use crate::pools::has_ordered_pools;
 use crate::{Rule, Table};
 
-/// The first rule, of those on records, chains and lists, that a table breaks, whose pools are where pools can be.
+/// The first rule, of those on pools, records, chains and lists, that a table breaks: `None` where it is that of a heap.
+/// Its time is linear in the records.
 pub fn first_broken<T: Table>(table: &mut T) -> Option<Rule>
-    requires { are_pools (length (T.parts table.old).records) 0 (present (T.parts table.old).pools) ≡ true }
+    ensures value { result ≡ first_of (rules_of_table (T.parts table.old)) }
+    ensures same { T.parts table.new ≡ T.parts table.old }
+    ensures kept { T.cells table.new ≡ T.cells table.old }
+    ensures floor { T.touches table.old ≤ T.touches table.new }
+{
+    if has_ordered_pools(table) {
+        first_behind_pools(table)
+    } else {
+        Some(Rule::Pools)
+    }
+}
+
+/// The first rule, of those on records, chains and lists, that a table breaks, whose pools are where pools can be.
+pub(crate) fn first_behind_pools<T: Table>(table: &mut T) -> Option<Rule>
+    requires { has_ordered_pools (T.parts table.old) ≡ true }
     ensures value { result ≡ first_of (rules_of_parts (T.parts table.old)) }
     ensures same { T.parts table.new ≡ T.parts table.old }
     ensures kept { T.cells table.new ≡ T.cells table.old }

@@ -1,8 +1,8 @@
 -- Heads that enter cells one after the other.
-use Rattle.std.proofs.Common.{◌≡◌, ℕ, ◌+◌, ◌<◌, ◌≤◌, ◌/◌, List, length, sym, ap, ◌∙◌, subst, arith, Option, Some, None, inl, inr, set}
+use Rattle.std.proofs.Common.{◌≡◌, ℕ, ◌+◌, ◌<◌, ◌≤◌, ◌/◌, List, length, sym, ◌∙◌, subst, arith, Option, Some, None, inl, inr, set}
 use Rattle.std.proofs.lemmas.Bool.{cases_lt}
 use Rattle.std.proofs.lemmas.List.{ext_get_or, get_or-set_same, get_or-set_other, length-set, get_or-replicate, length-replicate}
-use Rattle.tlsf_class.specs.Classes.{classes, levels, steps}
+use Rattle.tlsf_class.specs.Classes.{classes, steps}
 use Rattle.tlsf_store.specs.Cells.{Cells, head_at, with_head, empty_cells}
 use Rattle.tlsf_store.specs.declared.records.Record.{Record}
 use Rattle.tlsf_heap.specs.Inner.Edits.{with_class_bit}

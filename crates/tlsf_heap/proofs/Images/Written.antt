@@ -1,5 +1,5 @@
 -- The bytes of what an image tells of cells that stand break no rule, and describe the cells' content.
-use Rattle.std.proofs.Common.{◌≡◌, ℕ, ◌<◌, ◌≤◌, ◌%◌, true, false, List, length, map, refl, sym, ap, ◌∙◌, arith, Option, Some, None, inl, inr}
+use Rattle.std.proofs.Common.{◌≡◌, ℕ, ◌<◌, ◌≤◌, ◌%◌, true, false, List, length, map, refl, sym, ap, ◌∙◌, arith, Some, None, inl, inr}
 use Rattle.std.specs.Prelude.{is_some, nat_lt}
 use Rattle.std.proofs.lemmas.Bool.{and_parts, cases_lt, lt-ltb, le-ltb, eqb-true}
 use Rattle.std.proofs.lemmas.List.{get_or-map, get_or_past, length-map}
@@ -21,7 +21,7 @@ use Rattle.tlsf_image.proofs.ImageBack.{AreWritable, parts_back}
 use Rattle.tlsf_image.proofs.RulesBack.{written_first}
 use Rattle.tlsf_heap.specs.declared.pool_entry.PoolEntry.{PoolEntry}
 use Rattle.tlsf_heap.specs.Images.{described}
-use Rattle.tlsf_heap.specs.Inner.Entries.{pool_in, padded_at, entries_of}
+use Rattle.tlsf_heap.specs.Inner.Entries.{pool_in, entries_of}
 use Rattle.tlsf_heap.specs.Inner.Nodes.{has_slot}
 use Rattle.tlsf_heap.specs.Inner.Represents.{InPool, pool_views, first_slot}
 use Rattle.tlsf_heap.specs.Inner.Following.{content_of, content_from, Stands}

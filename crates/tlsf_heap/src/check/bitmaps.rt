@@ -22,7 +22,7 @@ fn has_bit(word: u32, bit: u32) -> bool
 pub(super) fn has_true_bitmaps(store: &mut Store) -> bool
     ensures value { IsTrue result ↔ AreBitmapsOf store.old.cells.heads store.old.cells.step_words store.old.cells.level_word }
     ensures cells { store.new.cells ≡ store.old.cells }
-    ensures floor { store.old.touches ≤ store.new.touches }
+    ensures read { store.old.touches < store.new.touches }
 {
     has_class_bits(store) && has_level_bits(store)
 }
@@ -31,7 +31,7 @@ pub(super) fn has_true_bitmaps(store: &mut Store) -> bool
 fn has_class_bits(store: &mut Store) -> bool
     ensures value { IsTrue result ↔ ((class : ℕ) → class < classes → bit_at (slice_index store.old.cells.step_words (class / steps)) (class % steps) ≡ head_bit (head_at store.old.cells.heads class)) }
     ensures cells { store.new.cells ≡ store.old.cells }
-    ensures floor { store.old.touches ≤ store.new.touches }
+    ensures read { store.old.touches < store.new.touches }
 {
     for number in 0..CLASSES {
         let first = store.head(Class::new(number));

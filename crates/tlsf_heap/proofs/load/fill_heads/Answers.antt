@@ -1,4 +1,4 @@
-use Rattle.std.proofs.Common.{◌≡◌, ◌+◌, ◌<◌, ◌≤◌, ◌∙◌, ℕ, length, sym, ap, arith, subst, Option, None, Some}
+use Rattle.std.proofs.Common.{◌≡◌, ◌+◌, ◌∙◌, ℕ, length, sym, ap, arith, subst, Some}
 use Rattle.tlsf_class.specs.Classes.{classes}
 use Rattle.tlsf_store.specs.CountedCells.{CountedCells}
 use Rattle.tlsf_store.specs.Cells.{Cells, head_at, with_head}

@@ -1,4 +1,4 @@
-use Rattle.std.proofs.Common.{◌≡◌, ◌<◌, ◌≤◌, ◌∙◌, ℕ, length, sym, ap, arith}
+use Rattle.std.proofs.Common.{◌≡◌, ◌∙◌, ap, arith}
 use Rattle.std.proofs.lemmas.List.{ext_get_or}
 use Rattle.tlsf_store.specs.Records.{blank}
 use Rattle.tlsf_image.specs.Image.{Parts}

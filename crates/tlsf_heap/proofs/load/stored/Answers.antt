@@ -1,4 +1,4 @@
-use Rattle.std.proofs.Common.{◌≡◌, ◌∙◌, sym, ap, subst}
+use Rattle.std.proofs.Common.{◌∙◌, sym, ap, subst}
 use Rattle.tlsf_heap.specs.Inner.Loading.{HasNoHeads, with_records}
 use Rattle.tlsf_heap.proofs.Images.FilledHeads.{none_at_first}
 use Rattle.tlsf_heap.proofs.load.stored.Goals as goal

@@ -1,11 +1,7 @@
-use Rattle.std.proofs.Common.{◌≡◌, ℕ, ◌+◌, ◌*◌, ◌≤◌, ◌∙◌, List, length, sym, ap, subst, arith, Option, Some, None}
-use Rattle.tlsf_class.specs.Classes.{classes}
-use Rattle.tlsf_store.specs.Cells.{Cells}
+use Rattle.std.proofs.Common.{◌≡◌, ℕ, ◌∙◌, List, length, sym, ap, subst, arith, Some, None}
 use Rattle.tlsf_image.specs.declared.rule.Rule.{Rule}
 use Rattle.tlsf_image.specs.Image.{Parts, parts_in}
-use Rattle.tlsf_image.specs.Rules.{first_broken}
-use Rattle.tlsf_heap.specs.Inner.Following.{content_of, Stands}
-use Rattle.tlsf_heap.specs.Inner.Imaged.{AreLoaded, AreAlike}
+use Rattle.tlsf_heap.specs.Inner.Imaged.{AreLoaded}
 use Rattle.std.specs.Prelude.{Err}
 use Rattle.tlsf_heap.specs.declared.image_fault.ImageFault.TheVariants.{Broken}
 use Rattle.tlsf_heap.specs.Images.{parts_of}

@@ -7,14 +7,14 @@ use Rattle.tlsf_image.proofs.image.Image.read.Goals as goal
 pub invariant_of-result : goal.invariant_of-result
 invariant_of-result c = c.in_default.ensures.readable refl
 
-pub first_broken-requires : goal.first_broken-requires
-first_broken-requires c =
+pub first_behind_pools-requires : goal.first_behind_pools-requires
+first_behind_pools-requires c =
     subst (λ (n : ℕ). are_pools n 0 (present (parts_in c.args.bytes.now).pools) ≡ true) (sym (records_count c.args.bytes.now)) (pools_are c.args.bytes.now (c.in_default.ensures.readable refl))
 
-pub returns-in-Some-first_broken-clause-broken : goal.returns-in-Some-first_broken-clause-broken
-returns-in-Some-first_broken-clause-broken c =
-    first_left c.args.bytes.now (c.in_default.ensures.readable refl) ∙ sym c.first_broken.ensures.value ∙ c.in-Some-first_broken.is
+pub returns-in-Some-first_behind_pools-clause-broken : goal.returns-in-Some-first_behind_pools-clause-broken
+returns-in-Some-first_behind_pools-clause-broken c =
+    first_left c.args.bytes.now (c.in_default.ensures.readable refl) ∙ sym c.first_behind_pools.ensures.value ∙ c.in-Some-first_behind_pools.is
 
 pub returns-in-None-clause-whole : goal.returns-in-None-clause-whole
 returns-in-None-clause-whole c =
-    first_left c.args.bytes.now (c.in_default.ensures.readable refl) ∙ sym c.first_broken.ensures.value ∙ c.in-None.is
+    first_left c.args.bytes.now (c.in_default.ensures.readable refl) ∙ sym c.first_behind_pools.ensures.value ∙ c.in-None.is

@@ -1,0 +1,16 @@
+-- Cells that stand are what a check looks for.
+use Rattle.std.proofs.Common.{◌∙◌, ap, Bool, Some}
+use Rattle.std.specs.Prelude.{if◌then◌else◌}
+use Rattle.tlsf_store.specs.Cells.{Cells}
+use Rattle.tlsf_image.specs.declared.rule.Rule.TheVariants.{Pools}
+use Rattle.tlsf_image.specs.Rules.{first_of, rules_of_parts}
+use Rattle.tlsf_image.specs.Told.{told_parts}
+use Rattle.tlsf_heap.specs.Inner.Checks.{IsWhole}
+use Rattle.tlsf_heap.specs.Inner.Following.{Stands}
+use Rattle.tlsf_heap.proofs.Images.Saved.{told_unbroken, told_ordered}
+
+pub stand_whole : (cells : Cells) → Stands cells → IsWhole cells
+stand_whole cells stands = record {
+  rules = ap (λ (b : Bool). if b then first_of (rules_of_parts (told_parts cells)) else Some Pools) (told_ordered cells stands) ∙ told_unbroken cells stands;
+  bitmaps = stands.represented.index.bitmaps;
+}
