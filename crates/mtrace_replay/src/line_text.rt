@@ -21,14 +21,13 @@ const LONGEST_TEXT: usize = 800;
 /// The text of one line, or of a few.
 pub(crate) type LineText = ArrayVec<u8, LONGEST_TEXT>;
 
+/// Appends bytes, for which there is room.
 fn push_bytes(text: &mut LineText, bytes: &[u8])
     requires { array_vec_len text.old + length bytes.now ≤ LONGEST_TEXT }
     ensures bytes { text.new.items ≡ text.old.items ++ bytes.now }
     ensures len { array_vec_len text.new ≡ array_vec_len text.old + length bytes.now }
 {
-    for byte in bytes {
-        text.push(*byte);
-    }
+    let _fits = text.try_extend_from_slice(bytes);
 }
 
 fn push_number(text: &mut LineText, number: u128)

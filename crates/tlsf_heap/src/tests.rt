@@ -9,7 +9,9 @@ mod saving;
 mod walking;
 
 use super::*;
+use mtrace_log::ToWrite;
 use std::alloc::Global;
+use std::io;
 use std::process::Abort;
 use tlsf_store::StoreError;
 
@@ -142,6 +144,8 @@ fn memory_taken_once(rt: HostRuntime) {
     assert_eq!(rt; heap.add_pool(0, 1024), Ok(()));
     let (first, second) = two_blocks(&rt, &mut heap);
     assert!(rt; reads(&mut heap, first));
+    let mut writer = ToWrite::new(io::sink());
+    assert!(rt; heap.save_image(&mut writer).is_ok());
     assert_eq!(rt; heap.remove_pool(0), Err(Refusal::PoolInUse));
     assert_eq!(rt; heap.free(first), Ok(()));
     assert_eq!(rt; heap.free(second), Ok(()));

@@ -10,6 +10,12 @@ pub appended : {X : Type 0} (f : X → List ℕ) (xs : List X) (d : X) (k : ℕ)
 appended f xs d k now all within so_far =
     append_assoc now (f (slice_index_or xs k d)) (flat_map f (drop (k + 1) xs)) ∙ ap (λ text. now ++ text) (sym (at_drop_more (flat_map f) xs k d within)) ∙ so_far
 
+-- the same of a text to which that of the next member was pushed
+pub pushed : {X : Type 0} (f : X → List ℕ) (xs : List X) (d : X) (k : ℕ) (now next all : List ℕ) (x : X) → k < length xs → x ≡ slice_index_or xs k d → next ≡ now ++ f x → now ++ flat_map f (drop k xs) ≡ all
+    → next ++ flat_map f (drop (k + 1) xs) ≡ all
+pushed f xs d k now next all x within read is so_far =
+    ap (λ text. text ++ flat_map f (drop (k + 1) xs)) (is ∙ ap (λ r. now ++ f r) read) ∙ appended f xs d k now all within so_far
+
 -- no member is left
 pub appended_all : {X : Type 0} (f : X → List ℕ) (xs : List X) (k : ℕ) (now all : List ℕ) → length xs ≤ k → now ++ flat_map f (drop k xs) ≡ all → now ≡ all
 appended_all f xs k now all past so_far = sym (append-nil now) ∙ ap (λ text. now ++ text) (sym (at_drop_all (flat_map f) xs k past)) ∙ so_far

@@ -10,7 +10,7 @@ const HEADS_AT: usize = 112;
 
 const RECORDS_AT: usize = 1_520;
 
-/// An image of four records at most.
+/// An image of four records at most. Images of each rule are in the tests of tlsf_tool.
 #[derive(Drop)]
 struct Bytes {
     bytes: [u8; 1_585],
@@ -44,16 +44,6 @@ impl Bytes {
         }
     }
 
-    /// Writes a record: place, size with its state, and its links.
-    fn put_record(&mut self, slot: usize, place: u8, word: u8, links: [u8; 8]) {
-        if slot < 4 {
-            let at = RECORDS_AT + 16 * slot;
-            self.put(at, &[place]);
-            self.put(at + 4, &[word]);
-            self.put(at + 8, &links);
-        }
-    }
-
     /// The first rule that the bytes break.
     fn broken(&self) -> Option<Rule> {
         match self.bytes.get(..self.len.min(1_585)) {
@@ -67,7 +57,8 @@ impl Bytes {
 fn vector() -> Bytes {
     let mut image = Bytes::new(1, 64);
     image.put(HEADS_AT + 2 * 4, &[0, 0]);
-    image.put_record(0, 0, 0x41, [0xff; 8]);
+    image.put(RECORDS_AT + 4, &[0x41]);
+    image.put(RECORDS_AT + 8, &[0xff; 8]);
     image
 }
 
@@ -129,24 +120,6 @@ fn a_byte_changed(rt: HostRuntime) {
     }
 }
 
-/// Two bytes of the vector changed.
-#[test]
-fn a_link_changed(rt: HostRuntime) {
-    for (offset, bytes, rule) in [
-        (120, [0xff, 0xff], Rule::OnLists),
-        (122, [0, 0], Rule::Lists),
-        (1_528, [0, 0], Rule::Chains),
-        (1_530, [0, 0], Rule::Chains),
-        (1_532, [0, 0], Rule::Lists),
-        (1_534, [0, 0], Rule::Lists),
-        (1_534, [1, 0], Rule::Links),
-    ] {
-        let mut image = vector();
-        image.put(offset, &bytes);
-        assert_eq!(rt; image.broken(), Some(rule), "at {offset}");
-    }
-}
-
 /// Of two rules that are broken, the one that stands first is named.
 #[test]
 fn first_of_two(rt: HostRuntime) {
@@ -168,62 +141,6 @@ fn first_of_two(rt: HostRuntime) {
     assert_eq!(rt; image.broken(), Some(Rule::Length));
     image.put(3, &[1]);
     assert_eq!(rt; image.broken(), Some(Rule::Magic));
-}
-
-#[test]
-fn free_neighbours(rt: HostRuntime) {
-    let mut image = Bytes::new(2, 64);
-    image.put(HEADS_AT + 2 * 2, &[0, 0]);
-    image.put_record(0, 0, 0x21, [0xff, 0xff, 1, 0, 0xff, 0xff, 1, 0]);
-    image.put_record(1, 32, 0x21, [0, 0, 0xff, 0xff, 0, 0, 0xff, 0xff]);
-    assert_eq!(rt; image.broken(), Some(Rule::Merged));
-    image.put(RECORDS_AT + 4, &[0x22]);
-    image.put(RECORDS_AT + 12, &[0xff, 0xff, 0xff, 0xff]);
-    image.put(RECORDS_AT + 28, &[0xff, 0xff]);
-    image.put(HEADS_AT + 2 * 2, &[1, 0]);
-    assert_eq!(rt; image.broken(), None);
-}
-
-/// Four blocks of 32 bytes, free and live in turn.
-fn four_blocks() -> Bytes {
-    let mut image = Bytes::new(4, 128);
-    image.put_record(0, 0, 0x21, [0xff, 0xff, 1, 0, 2, 0, 2, 0]);
-    image.put_record(1, 32, 0x22, [0, 0, 2, 0, 0xff, 0xff, 0xff, 0xff]);
-    image.put_record(2, 64, 0x21, [1, 0, 3, 0, 0, 0, 0, 0]);
-    image.put_record(3, 96, 0x22, [2, 0, 0xff, 0xff, 0xff, 0xff, 0xff, 0xff]);
-    image
-}
-
-/// Two free blocks name one another, and no head names them; or a head does.
-#[test]
-fn rings(rt: HostRuntime) {
-    let mut image = four_blocks();
-    assert_eq!(rt; image.broken(), Some(Rule::OnLists));
-    image.put(HEADS_AT + 2 * 2, &[0, 0]);
-    assert_eq!(rt; image.broken(), Some(Rule::Lists));
-    image.put(RECORDS_AT + 12, &[0xff, 0xff]);
-    assert_eq!(rt; image.broken(), Some(Rule::Lists));
-    image.put(RECORDS_AT + 46, &[0xff, 0xff]);
-    assert_eq!(rt; image.broken(), None);
-    image.put(RECORDS_AT + 58, &[0, 0]);
-    assert_eq!(rt; image.broken(), Some(Rule::Chains));
-}
-
-/// A block that stands on no chain, and a record of two chains.
-#[test]
-fn strays(rt: HostRuntime) {
-    let mut image = Bytes::new(2, 64);
-    image.put(HEADS_AT + 2 * 4, &[0, 0]);
-    image.put_record(0, 0, 0x41, [0xff; 8]);
-    assert_eq!(rt; image.broken(), None);
-    image.put_record(1, 0, 0x12, [0xff; 8]);
-    assert_eq!(rt; image.broken(), Some(Rule::OnChains));
-    let mut image = vector();
-    image.put(10, &[2]);
-    image.put(28, &[64, 0, 0, 0, 64]);
-    assert_eq!(rt; image.broken(), Some(Rule::Cover));
-    image.put(28, &[48]);
-    assert_eq!(rt; image.broken(), Some(Rule::Pools));
 }
 
 /// Nothing, one byte too few in front of the records, and too few and too many for one record.

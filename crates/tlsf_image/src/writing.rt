@@ -23,14 +23,13 @@ const PIECE: usize = 4_096;
 
 type Piece = ArrayVec<u8, PIECE>;
 
+/// Appends bytes, for which there is room.
 fn push_bytes(piece: &mut Piece, bytes: &[u8])
     requires { array_vec_len piece.old + length bytes.now ≤ PIECE }
     ensures bytes { piece.new.items ≡ piece.old.items ++ bytes.now }
     ensures len { array_vec_len piece.new ≡ array_vec_len piece.old + length bytes.now }
 {
-    for byte in bytes {
-        piece.push(*byte);
-    }
+    let _fits = piece.try_extend_from_slice(bytes);
 }
 
 /// Appends a number in two bytes, the lowest first.

@@ -20,6 +20,7 @@ pub struct Random {
 }
 
 impl Random {
+    /// A number below the bound.
     pub fn below(&mut self, bound: u64) -> u64 {
         self.state ^= self.state.wrapping_shl(13);
         self.state ^= self.state.wrapping_shr(7);

@@ -103,6 +103,25 @@ fn detached_ring() -> Bytes {
     image
 }
 
+/// One free block of 64 bytes, and a live one of 16 bytes that is on no chain.
+fn stray() -> Bytes {
+    let mut image = Bytes {
+        len: RECORDS_AT + 32,
+        ..vector().with(8, 2)
+    };
+    image.put(
+        RECORDS_AT + 16,
+        b"\x00\x00\x00\x00\x12\x00\x00\x00\xff\xff\xff\xff\xff\xff\xff\xff",
+    );
+    image
+}
+
+/// The vector, whose block names itself by the link at an offset in its record.
+fn own_neighbour(offset: usize) -> Bytes {
+    let at = RECORDS_AT.saturating_add(offset);
+    vector().with(at, 0).with(at.saturating_add(1), 0)
+}
+
 /// Whether an image is checked with this status and line.
 fn is_checked(alloc: Global, image: &[u8], status: u8, line: &[u8]) -> bool {
     let mut reader = MemorySource::in_pieces(image, 5_000);
@@ -181,7 +200,12 @@ fn checked_images(rt: HostRuntime) {
         (vector().with(28, 1), 1, b"broken: V4\n"),
         (vector().with(RECORDS_AT + 4, 0x43), 1, b"broken: V5\n"),
         (vector().with(HEADS_AT, 0), 1, b"broken: V6\n"),
+        (own_neighbour(8), 1, b"broken: V7\n"),
+        (own_neighbour(10), 1, b"broken: V7\n"),
         (vector().with(RECORDS_AT, 16), 1, b"broken: V8\n"),
+        (stray(), 1, b"broken: V9\n"),
+        (own_neighbour(12), 1, b"broken: V11\n"),
+        (own_neighbour(14), 1, b"broken: V11\n"),
         (free_neighbours(), 1, b"broken: V10\n"),
         (detached_ring(), 1, b"broken: V12\n"),
         (unlisted, 1, b"broken: V12\n"),
@@ -192,6 +216,35 @@ fn checked_images(rt: HostRuntime) {
         );
     }
     assert!(rt; is_checked(rt.alloc(), b"", 1, b"broken: V1\n"));
+}
+
+/// Of the rules that an image breaks, the first is named: each line breaks one more, in front of those before.
+#[test]
+fn first_rule_named(rt: HostRuntime) {
+    let mut image = vector();
+    for (offset, bytes, line) in [
+        (
+            HEADS_AT + 8,
+            b"\xff\xff".as_slice(),
+            b"broken: V12\n".as_slice(),
+        ),
+        (RECORDS_AT + 12, b"\0\0", b"broken: V12\n"),
+        (HEADS_AT + 6, b"\0\0", b"broken: V11\n"),
+        (RECORDS_AT, b"\x10", b"broken: V8\n"),
+        (RECORDS_AT + 8, b"\0\0", b"broken: V7\n"),
+        (RECORDS_AT + 14, b"\x09\0", b"broken: V6\n"),
+        (RECORDS_AT + 4, b"\x43", b"broken: V5\n"),
+        (40, b"\x01", b"broken: V4\n"),
+        (16, b"\x01", b"broken: V3\n"),
+        (13, b"\x01", b"broken: V2\n"),
+        (3, b"\x01", b"broken: V1\n"),
+    ] {
+        image.put(offset, bytes);
+        assert!(rt;
+            is_checked(rt.alloc(), image.as_slice(), 1, line),
+            "{line:?}"
+        );
+    }
 }
 
 /// A file that is longer than any image, and begins as one.

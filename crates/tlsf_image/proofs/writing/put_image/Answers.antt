@@ -6,7 +6,7 @@ use Rattle.mtrace_log.specs.Output.{PutsAll, PutsPart, Puts}
 use Rattle.mtrace_log.proofs.Writing.{IsPutting, putting_more, putting_fails, putting_last, puts_exit}
 use Rattle.tlsf_image.specs.Image.{Parts}
 use Rattle.tlsf_image.specs.Writing.{record_bytes, image_of}
-use Rattle.tlsf_image.proofs.Appending.{appended, appended_all}
+use Rattle.tlsf_image.proofs.Appending.{pushed, appended_all}
 use Rattle.tlsf_image.proofs.writing.put_image.Goals as goal
 use Rattle.tlsf_image.proofs.writing.put_image.Goals.{then-is_full+in_ok-put_all, else-is_full}
 
@@ -25,7 +25,7 @@ loop-number-preserved g c =
     let later : List ℕ = flat_map record_bytes (drop (number + 1) parts.records) in
     let read : c.record.result ≡ record_at parts.records number = c.record.ensures.value ∙ ap (λ (p : Parts). record_at p.records number) c.loop-number.invariant.same in
     let whole : c.push_record.new.piece.items ++ later ≡ rest =
-    ap (λ text. text ++ later) (c.push_record.ensures.bytes ∙ ap (λ r. items ++ record_bytes r) read) ∙ appended record_bytes parts.records blank number items rest within refl in
+    pushed record_bytes parts.records blank number items c.push_record.new.piece.items rest c.record.result within read c.push_record.ensures.bytes refl in
     let I : List ℕ → g.row.W.Denot → Type 0 = λ text writer. IsPutting taken trace (image_of parts) text c.args.writer.now writer in
     elim c.if-is_full.branch [
       | then-is_full+in_ok-put_all w ↦
@@ -65,7 +65,7 @@ returns-in_err-put_all-clause-put g c =
     let later : List ℕ = flat_map record_bytes (drop (number + 1) parts.records) in
     let read : c.record.result ≡ record_at parts.records number = c.record.ensures.value ∙ ap (λ (p : Parts). record_at p.records number) c.loop-number.invariant.same in
     let whole : c.push_record.new.piece.items ++ later ≡ rest =
-    ap (λ text. text ++ later) (c.push_record.ensures.bytes ∙ ap (λ r. items ++ record_bytes r) read) ∙ appended record_bytes parts.records blank number items rest within refl in
+    pushed record_bytes parts.records blank number items c.push_record.new.piece.items rest c.record.result within read c.push_record.ensures.bytes refl in
     let P : List ℕ → Type 0 = λ text. PutsPart taken trace text c.loop-number.writer c.put_all.new.writer in
     puts_exit taken trace c.from_residual.result _ c.from_residual.ensures.1 (image_of parts) c.args.writer.now c.put_all.new.writer
     (putting_fails taken trace c.args.writer.now c.loop-number.writer c.put_all.new.writer (image_of parts) rest c.push_record.new.piece.items later c.loop-number.invariant.put (sym whole) (subst P c.deref.ensures.0 c.in_err-put_all.ensures))
