@@ -1,6 +1,6 @@
 -- What is held at the spots of an index, and how it changes where one spot does.
 use Rattle.std.proofs.Common.{◌≡◌, ℕ, Bool, cond, suc, ◌+◌, ◌<◌, ◌≤◌, List, [], ◌∷◌, ◌++◌, take, drop, length, slice_index_or, slice_set, Option, Some, None, true, false, Less, arith, refl, sym, ap, ◌∙◌, subst}
-use Rattle.std.specs.Prelude.{◌==◌, option_to_list}
+use Rattle.std.specs.Prelude.{◌==◌, option_to_list, Result, Ok, Err, IfOk, IfErr}
 use Rattle.std.specs.List.{AllByRecursion}
 use Rattle.std.specs.List.Sorted.{IsStrictlySortedBy}
 use Rattle.std.specs.Ordering.{nat_cmp}
@@ -13,7 +13,9 @@ use Rattle.mtrace_replay.specs.declared.spot.Spot.{Spot}
 use Rattle.mtrace_replay.specs.declared.spot.Spot.TheVariants.{Held, Vacant}
 use Rattle.mtrace_replay.specs.Spot.{spot_address, least_behind, Holds, holding_of, all_held, RiseFrom, AreBelow, AreAbove}
 use Rattle.mtrace_replay.specs.Search.{StandsAt, FitsAt, Enters}
-use Rattle.mtrace_replay.specs.Index.{addresses, held_at, held_bytes, AreInOrder, IsIndex}
+use Rattle.mtrace_replay.specs.declared.index.Found.{Found}
+use Rattle.mtrace_replay.specs.Index.{addresses, held_at, held_bytes, AreInOrder, IsIndex, Indexed, IsFound}
+use Rattle.mtrace_replay.specs.declared.index.Found.{Found}
 use Rattle.mtrace_replay.proofs.SpotLemmas.{not_higher, holds_address, holds_above, rise_lower, held_append, below_before, above_behind, rise_take, rise_drop, rise_above, rise_join, rise_set, kept_rise, kept_below, kept_held}
 use Rattle.mtrace_replay.proofs.EnterLemmas.{parted, seam_set}
 
@@ -254,3 +256,11 @@ arranged_keeps spots new memory new_memory room blocks bytes kept same rise with
   blocks_are = kept.blocks_are ∙ sym (ap (length {A = Holding}) same);
   bytes_are = kept.bytes_are ∙ sym (ap held_bytes same);
 }
+
+-- where an address was found in an index that has these spots
+module _ (spots : List Spot) (index : Indexed) (seen : spots ≡ index.spots) (found : Found) (is_found : IsFound index.spots found) (at : ℕ) where
+  pub found_stands : found.place ≡ Ok at → StandsAt spots found.address at
+  found_stands is = subst (λ all. StandsAt all found.address at) (sym seen) (subst (λ (place : Result ℕ ℕ). IfOk place (StandsAt index.spots found.address)) is is_found.held)
+
+  pub found_fits : found.place ≡ Err at → FitsAt spots found.address at
+  found_fits is = subst (λ all. FitsAt all found.address at) (sym seen) (subst (λ (place : Result ℕ ℕ). IfErr place (FitsAt index.spots found.address)) is is_found.absent)

@@ -65,6 +65,15 @@ pub under_some : (held : Option Holding) (ptr : Pointer) → option_map (λ hold
 under_some None ptr is = absurd (cc)
 under_some (Some holding) ptr is = let same : holding.ptr ≡ ptr = cc in (holding, refl, same)
 
+-- what was read where an address was found
+pub seen_held : (all held : List Holding) (found address : ℕ) (is : Bool) → is ≡ is_some (held_at all found) → all ≡ held → found ≡ address → is ≡ is_some (held_at held address)
+seen_held all held found address is value same there = value ∙ ap (λ known. is_some (held_at known found)) same ∙ ap (λ a. is_some (held_at held a)) there
+
+pub seen_block : (all held : List Holding) (found address : ℕ) (block : Option Pointer) → block ≡ option_map (λ holding. holding.ptr) (held_at all found) → all ≡ held → found ≡ address
+    → block ≡ option_map (λ holding. holding.ptr) (held_at held address)
+seen_block all held found address block value same there =
+    value ∙ ap (λ known. option_map (λ (holding : Holding). holding.ptr) (held_at known found)) same ∙ ap (λ a. option_map (λ (holding : Holding). holding.ptr) (held_at held a)) there
+
 pub under_none : (held : Option Holding) → option_map (λ holding. holding.ptr) held ≡ None → held ≡ None
 under_none None is = refl
 under_none (Some holding) is = absurd (cc)

@@ -1,13 +1,16 @@
 -- What is held, by address, as a list in order of address.
-use Rattle.std.specs.Prelude.{◌≡◌, ℕ, ◌+◌, ◌*◌, ◌<◌, ◌≤◌, ◌^◌, List, length, map, find, sum_by, Option, ◌==◌}
+use Rattle.std.specs.Prelude.{◌≡◌, ℕ, ◌+◌, ◌*◌, ◌<◌, ◌≤◌, ◌^◌, List, length, map, find, sum_by, Option, ◌==◌, IfOk, IfErr}
 use Rattle.std.specs.List.Sorted.{IsStrictlyIncreasing}
 use Rattle.mtrace_replay.specs.declared.holding.Holding.{Holding}
 use Rattle.mtrace_replay.specs.declared.spot.Spot.{Spot}
+use Rattle.mtrace_replay.specs.declared.index.Found.{Found}
 use Rattle.mtrace_replay.specs.Spot.{all_held, RiseFrom}
+use Rattle.mtrace_replay.specs.Search.{StandsAt, FitsAt}
 
--- what is held in order of address, how much can be, and how many addresses were compared
+-- what is held in order of address, the spots, how much can be held, and how many addresses were compared
 pub record Indexed : Type 0 where
   pub all : List Holding
+  pub spots : List Spot
   pub room : ℕ
   pub comparisons : ℕ
 
@@ -31,6 +34,11 @@ held_bytes holdings = sum_by (λ holding. holding.entry.size) holdings
 pub record LooksUp (times : ℕ) (old new : Indexed) : Type 0 where
   pub room : new.room ≡ old.room
   pub compared : (digits : ℕ) → old.room < 2 ^ digits → new.comparisons ≤ old.comparisons + times * digits
+
+-- the address is held at the spot there, or else it would stand there
+pub record IsFound (spots : List Spot) (found : Found) : Type 0 where
+  pub held : IfOk found.place (StandsAt spots found.address)
+  pub absent : IfErr found.place (FitsAt spots found.address)
 
 -- what an index keeps: the addresses of its spots rise; there are no more spots than room, and memory for
 -- exactly that many;

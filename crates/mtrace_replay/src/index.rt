@@ -1,7 +1,7 @@
 //! What is held, by address.
 
 ghost use Rattle.std.specs.Prelude.{◌≡◌, ℕ, ◌+◌, ◌<◌, ◌≤◌, ◌^◌, option_map, [], length, map, None, Some, IfOk, if◌then◌else◌, ◌==◌, is_some, true};
-ghost use Rattle.mtrace_replay.specs.Index.{held_at, held_bytes, AreInOrder, LooksUp};
+ghost use Rattle.mtrace_replay.specs.Index.{held_at, held_bytes, AreInOrder, LooksUp, IsFound};
 
 use crate::arrange::arrange;
 use crate::entry::Entry;
@@ -13,6 +13,14 @@ use std::alloc::{AllocError, Global};
 use std::marker::Model;
 use tlsf_heap::Ptr;
 use tlsf_store::GhostCount;
+
+/// Where an address stands among the spots of an index: at its own, or where that would enter. It tells so until the index
+/// is changed.
+#[derive(Clone, Copy)]
+pub(crate) struct Found {
+    address: Addr,
+    place: Result<usize, usize>,
+}
 
 /// What is held, in order of address. The spot of an address that is held no more stays vacant, for the same address or
 /// for one near it, so that an address which comes again moves nothing. Where much has moved for new addresses, the spots
@@ -34,7 +42,7 @@ impl Model for Index {
 
     ghost Value = { Indexed };
 
-    ghost view = { λ index. record { all = all_held index.spots.items; room = index.room; comparisons = index.comparisons.count } };
+    ghost view = { λ index. record { all = all_held index.spots.items; spots = index.spots.items; room = index.room; comparisons = index.comparisons.count } };
 
     ghost invariant = { λ index. IsIndex index.spots.items (vec_capacity index.spots) index.room index.blocks index.bytes };
 }
@@ -46,7 +54,7 @@ impl Index {
     ///
     /// `AllocError` where memory is refused.
     pub fn new(alloc: Global, room: u32) -> Result<Index, AllocError>
-        ensures { IfOk result (λ index. index ≡ record { all = []; room = room; comparisons = 0 }) }
+        ensures { IfOk result (λ index. index ≡ record { all = []; spots = []; room = room; comparisons = 0 }) }
     {
         let room = room as usize;
         Ok(Index {
@@ -59,37 +67,60 @@ impl Index {
         })
     }
 
-    /// The block that the address is held under.
-    pub fn block(&mut self, address: Addr) -> Option<Ptr>
-        ensures value { result ≡ option_map (λ holding. holding.ptr) (held_at self.old.all address) }
+    /// Where the address stands: the one look-up, for what is read and changed there.
+    pub fn find(&mut self, address: Addr) -> Found
+        ensures found { IsFound self.old.spots result }
+        ensures address { result.address ≡ address }
         ensures unchanged { self.new.all ≡ self.old.all }
+        ensures spots { self.new.spots ≡ self.old.spots }
         ensures looked { LooksUp 1 self.old self.new }
     {
-        match search(&self.spots, &mut self.comparisons, address) {
+        let place = search(&self.spots, &mut self.comparisons, address);
+        Found { address, place }
+    }
+
+    /// The block that the address which was found is held under.
+    pub fn block(&self, found: &Found) -> Option<Ptr>
+        requires found { IsFound self.now.spots found.now }
+        ensures value { result ≡ option_map (λ holding. holding.ptr) (held_at self.now.all found.now.address) }
+    {
+        match found.place {
             Ok(at) => self.spots[at].block(),
             Err(_) => None,
         }
+    }
+
+    /// Whether the address that was found is held.
+    pub fn is_held(&self, found: &Found) -> bool
+        requires found { IsFound self.now.spots found.now }
+        ensures value { result ≡ is_some (held_at self.now.all found.now.address) }
+    {
+        self.block(found).is_some()
     }
 
     /// Whether the address is held.
     pub fn contains(&mut self, address: Addr) -> bool
         ensures value { result ≡ is_some (held_at self.old.all address) }
         ensures unchanged { self.new.all ≡ self.old.all }
+        ensures spots { self.new.spots ≡ self.old.spots }
         ensures looked { LooksUp 1 self.old self.new }
     {
-        self.block(address).is_some()
+        let found = self.find(address);
+        self.is_held(&found)
     }
 
-    /// Holds an address, in place of what it was held under.
-    pub fn insert(&mut self, holding: Holding)
+    /// Holds the address that was found, in place of what it was held under.
+    pub fn insert(&mut self, found: &Found, holding: Holding)
+        requires found { IsFound self.old.spots found.now }
+        requires address { found.now.address ≡ holding.entry.addr }
         requires bytes { held_bytes self.old.all + holding.entry.size < 2 ^ 64 }
         requires room { length self.old.all < self.old.room }
         ensures held { (address : ℕ) → held_at self.new.all address
             ≡ (if holding.entry.addr == address then Some holding else held_at self.old.all address) }
-        ensures looked { LooksUp 1 self.old self.new }
+        ensures looked { LooksUp 0 self.old self.new }
     {
         let size = holding.size();
-        match search(&self.spots, &mut self.comparisons, holding.address()) {
+        match found.place {
             Ok(at) => {
                 self.bytes = self.bytes + size - self.spots[at].size();
                 self.spots[at] = Spot::Held(holding);
@@ -108,30 +139,33 @@ impl Index {
         }
     }
 
-    /// Holds an address in place of the old one, which may be the same.
-    pub fn replace(&mut self, old: Addr, holding: Holding)
+    /// Holds an address in place of the old one that was found, which may be the same.
+    pub fn replace(&mut self, old: &Found, holding: Holding)
+        requires found { IsFound self.old.spots old.now }
         requires bytes { held_bytes self.old.all + holding.entry.size < 2 ^ 64 }
-        requires held { is_some (held_at self.old.all old) ≡ true }
+        requires held { is_some (held_at self.old.all old.now.address) ≡ true }
         requires room { length self.old.all ≤ self.old.room }
         ensures held { (address : ℕ) → held_at self.new.all address
-            ≡ (if holding.entry.addr == address then Some holding else (if old == address then None else held_at self.old.all address)) }
-        ensures looked { LooksUp 2 self.old self.new }
-    {
-        self.remove(old);
-        self.insert(holding);
-    }
-
-    /// Holds the address no more: its spot stays, vacant.
-    pub fn remove(&mut self, address: Addr)
-        ensures held { (other : ℕ) → held_at self.new.all other ≡ (if address == other then None else held_at self.old.all other) }
-        ensures fewer { is_some (held_at self.old.all address) ≡ true → length self.new.all < length self.old.all }
-        ensures bytes { held_bytes self.new.all ≤ held_bytes self.old.all }
+            ≡ (if holding.entry.addr == address then Some holding else (if old.now.address == address then None else held_at self.old.all address)) }
         ensures looked { LooksUp 1 self.old self.new }
     {
-        if let Ok(at) = search(&self.spots, &mut self.comparisons, address) {
+        self.remove(old);
+        let found = self.find(holding.address());
+        self.insert(&found, holding);
+    }
+
+    /// Holds the address that was found no more: its spot stays, vacant.
+    pub fn remove(&mut self, found: &Found)
+        requires found { IsFound self.old.spots found.now }
+        ensures held { (other : ℕ) → held_at self.new.all other ≡ (if found.now.address == other then None else held_at self.old.all other) }
+        ensures fewer { is_some (held_at self.old.all found.now.address) ≡ true → length self.new.all < length self.old.all }
+        ensures bytes { held_bytes self.new.all ≤ held_bytes self.old.all }
+        ensures looked { LooksUp 0 self.old self.new }
+    {
+        if let Ok(at) = found.place {
             self.bytes -= self.spots[at].size();
             self.blocks -= 1;
-            self.spots[at] = Spot::Vacant(address);
+            self.spots[at] = Spot::Vacant(found.address);
         }
     }
 

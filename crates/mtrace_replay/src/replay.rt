@@ -182,7 +182,7 @@ impl<H: Heaped> Replay<H> {
         ensures memory { OnErr result (MayLack H.lacks) }
         ensures unchanged { OnErr result (entries self.new ≡ entries self.old) }
         ensures totals_unchanged { OnErr result (self.new.totals ≡ self.old.totals) }
-        ensures compared { (digits : ℕ) → self.old.content.records < 2 ^ digits → self.new.comparisons ≤ self.old.comparisons + 4 * digits }
+        ensures compared { (digits : ℕ) → self.old.content.records < 2 ^ digits → self.new.comparisons ≤ self.old.comparisons + 3 * digits }
         ensures bound { self.new.touches ≤ self.old.touches + 384 }
         ensures idle { asks line.event self.old.pending (found self.old.given) ≡ false → self.new.touches ≡ self.old.touches }
     {

@@ -7,14 +7,14 @@ ghost use Rattle.tlsf_heap.specs.Content.{blocks_of, size_at};
 ghost use Rattle.tlsf_heap.specs.Free.{is_live};
 ghost use Rattle.tlsf_heap.specs.Realloc.{realloc as reallocated};
 ghost use Rattle.tlsf_heap.specs.Run.{MayLack};
-ghost use Rattle.mtrace_replay.specs.Index.{held_at, LooksUp};
+ghost use Rattle.mtrace_replay.specs.Index.{held_at, LooksUp, IsFound};
 ghost use Rattle.mtrace_replay.specs.Moment.{asked_size as size_asked, asked_block, without, allocation, release as released, moved, renewal, renewal_asks, asks, outcome as outcome_of};
 ghost use Rattle.mtrace_replay.specs.Step.{found, all_given, Replays, IsUnder, AreLive};
 
 use crate::diagnostic::{Diagnostic, Kind, Note};
 use crate::entry::Entry;
 use crate::holding::Holding;
-use crate::index::Index;
+use crate::index::{Found, Index};
 use arrayvec::ArrayVec;
 use mtrace_log::{Addr, Event, LineFault, Location};
 use std::alloc::AllocError;
@@ -167,11 +167,12 @@ fn allocate<H: Heaped>(
 ) -> Result<Effect, AllocError>
     requires live { AreLive held.old.all (H.content heap.old) }
     requires room { held.old.room ≡ (H.content heap.old).records }
-    ensures { Replays H.content H.touches H.lacks 2 164 (not (is_some (found (all_given held.old.all) entry.addr)))
+    ensures { Replays H.content H.touches H.lacks 1 164 (not (is_some (found (all_given held.old.all) entry.addr)))
         (allocation entry.line entry.at entry.addr align entry.size (found (all_given held.old.all) entry.addr) (bare (H.content heap.old)))
         result heap.old heap.new held.old held.new }
 {
-    if held.contains(entry.addr) {
+    let found = held.find(entry.addr);
+    if held.is_held(&found) {
         return Ok(unserved(one_note(entry.line, Kind::AlreadyHeld(entry.addr))));
     }
     heap.keeps_good();
@@ -180,7 +181,7 @@ fn allocate<H: Heaped>(
         Ok(block) => {
             let ptr = block.ptr;
             heap.keeps_good();
-            held.insert(Holding { entry, ptr });
+            held.insert(&found, Holding { entry, ptr });
             Ok(served(block.end))
         }
         Err(Refusal::OutOfMemory) => Err(AllocError),
@@ -188,29 +189,30 @@ fn allocate<H: Heaped>(
     }
 }
 
-/// Frees the block that an address is held under, and holds the address no more.
+/// Frees the block that the address which was found is held under, and holds the address no more.
 #[inline(always)]
 fn take<H: Heaped>(
     heap: &mut H,
     held: &mut Index,
-    address: Addr,
+    found: &Found,
     ptr: Ptr,
 ) -> Result<(), AllocError>
     requires live { AreLive held.old.all (H.content heap.old) }
-    requires held { IsUnder ptr (held_at held.old.all address) }
+    requires found { IsFound held.old.spots found.now }
+    requires held { IsUnder ptr (held_at held.old.all found.now.address) }
     ensures content { OnOk result (bare (H.content heap.new) ≡ without ptr.place (bare (H.content heap.old))) }
-    ensures held { OnOk result ((other : ℕ) → held_at held.new.all other ≡ (if address == other then None else held_at held.old.all other)) }
+    ensures held { OnOk result ((other : ℕ) → held_at held.new.all other ≡ (if found.now.address == other then None else held_at held.old.all other)) }
     ensures live { OnOk result (AreLive held.new.all (H.content heap.new)) }
     ensures memory { OnErr result (MayLack H.lacks) }
     ensures unchanged { OnErr result (held.new.all ≡ held.old.all) }
     ensures records { (H.content heap.new).records ≡ (H.content heap.old).records }
-    ensures looked { LooksUp 1 held.old held.new }
+    ensures looked { LooksUp 0 held.old held.new }
     ensures bound { H.touches heap.new ≤ H.touches heap.old + 96 }
 {
     heap.keeps_good();
     match heap.free(ptr) {
         Ok(()) => {
-            held.remove(address);
+            held.remove(found);
             Ok(())
         }
         Err(Refusal::OutOfMemory) => Err(AllocError),
@@ -227,30 +229,32 @@ fn release<H: Heaped>(
     address: Addr,
 ) -> Result<Effect, AllocError>
     requires live { AreLive held.old.all (H.content heap.old) }
-    ensures { Replays H.content H.touches H.lacks 2 96 (is_some (found (all_given held.old.all) address))
+    ensures { Replays H.content H.touches H.lacks 1 96 (is_some (found (all_given held.old.all) address))
         (released number address (found (all_given held.old.all) address) (bare (H.content heap.old)))
         result heap.old heap.new held.old held.new }
 {
-    let Some(ptr) = held.block(address) else {
+    let found = held.find(address);
+    let Some(ptr) = held.block(&found) else {
         return Ok(unserved(one_note(number, Kind::NotHeld(address))));
     };
-    take(heap, held, address, ptr)?;
+    take(heap, held, &found, ptr)?;
     Ok(unserved(no_note()))
 }
 
-/// Asks the heap to reallocate the block of the old address for the entry; where it refuses, the block is freed.
+/// Asks the heap to reallocate the block of the old address that was found for the entry; where it refuses, the block is freed.
 fn reallocate<H: Heaped>(
     heap: &mut H,
     held: &mut Index,
-    old: Addr,
+    old: &Found,
     ptr: Ptr,
     entry: Entry,
 ) -> Result<Effect, AllocError>
     requires live { AreLive held.old.all (H.content heap.old) }
     requires room { held.old.room ≡ (H.content heap.old).records }
-    requires held { IsUnder ptr (held_at held.old.all old) }
-    ensures { Replays H.content H.touches H.lacks 2 356 true
-        (moved entry.line entry.at old ptr.place entry.addr entry.size (bare (H.content heap.old))
+    requires found { IsFound held.old.spots old.now }
+    requires held { IsUnder ptr (held_at held.old.all old.now.address) }
+    ensures { Replays H.content H.touches H.lacks 1 356 true
+        (moved entry.line entry.at old.now.address ptr.place entry.addr entry.size (bare (H.content heap.old))
         (reallocated (λ one other. true) tt (Some (ptr.place, tt)) (size_asked entry.size) (bare (H.content heap.old))))
         result heap.old heap.new held.old held.new }
 {
@@ -274,6 +278,7 @@ fn reallocate<H: Heaped>(
 fn is_held_too(held: &mut Index, address: Addr, old: Addr) -> bool
     ensures value { result ≡ (not (address == old) && is_some (held_at held.old.all address)) }
     ensures unchanged { held.new.all ≡ held.old.all }
+    ensures spots { held.new.spots ≡ held.old.spots }
     ensures looked { LooksUp 1 held.old held.new }
 {
     address != old && held.contains(address)
@@ -300,7 +305,7 @@ fn renew<H: Heaped>(
 ) -> Result<Effect, AllocError>
     requires live { AreLive held.old.all (H.content heap.old) }
     requires room { held.old.room ≡ (H.content heap.old).records }
-    ensures { Replays H.content H.touches H.lacks 4 356 (renewal_asks pending entry.addr (found (all_given held.old.all)))
+    ensures { Replays H.content H.touches H.lacks 3 356 (renewal_asks pending entry.addr (found (all_given held.old.all)))
         (renewal entry.line entry.at pending entry.addr entry.size (found (all_given held.old.all)) (bare (H.content heap.old)))
         result heap.old heap.new held.old held.new }
 {
@@ -308,7 +313,8 @@ fn renew<H: Heaped>(
     let Some(old) = pending else {
         return Ok(unserved(one_note(number, Kind::Stray)));
     };
-    let Some(ptr) = held.block(old) else {
+    let found = held.find(old);
+    let Some(ptr) = held.block(&found) else {
         let more = allocate(heap, held, None, entry)?;
         let first = Diagnostic {
             line: number,
@@ -319,7 +325,7 @@ fn renew<H: Heaped>(
     if is_held_too(held, entry.addr, old) {
         return Ok(unserved(one_note(number, Kind::AlreadyHeld(entry.addr))));
     }
-    reallocate(heap, held, old, ptr, entry)
+    reallocate(heap, held, &found, ptr, entry)
 }
 
 /// The entry of a line that asks for a block.
@@ -346,7 +352,7 @@ pub(crate) fn outcome<H: Heaped>(
 ) -> Result<Effect, AllocError>
     requires live { AreLive held.old.all (H.content heap.old) }
     requires room { held.old.room ≡ (H.content heap.old).records }
-    ensures { Replays H.content H.touches H.lacks 4 356 (asks event pending (found (all_given held.old.all)))
+    ensures { Replays H.content H.touches H.lacks 3 356 (asks event pending (found (all_given held.old.all)))
         (outcome_of number event pending (found (all_given held.old.all)) (bare (H.content heap.old)))
         result heap.old heap.new held.old held.new }
 {

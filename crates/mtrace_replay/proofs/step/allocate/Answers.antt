@@ -14,8 +14,8 @@ use Rattle.mtrace_replay.proofs.HeapSteps.{bare_served, bare_refused}
 use Rattle.mtrace_replay.proofs.AskedBlock.{asked_small, asked_records}
 use Rattle.mtrace_replay.proofs.Living.{live_after_asked}
 use Rattle.mtrace_replay.proofs.HeldFew.{held_fits, held_room}
-use Rattle.mtrace_replay.proofs.LookLemmas.{look_on, looks_up_fewer}
-use Rattle.mtrace_replay.proofs.StepLemmas.{asked_least, found_some, none_is, comes_held, comes_served, comes_refused}
+use Rattle.mtrace_replay.proofs.LookLemmas.{look_on}
+use Rattle.mtrace_replay.proofs.StepLemmas.{asked_least, found_some, none_is, seen_held, comes_held, comes_served, comes_refused}
 use Rattle.mtrace_replay.proofs.step.allocate.Goals as goal
 
 pub insert-requires : goal.insert-requires
@@ -23,7 +23,7 @@ insert-requires g c =
     let old = g.H.Heaped.content c.args.heap.now in
     let new = g.H.Heaped.content c.new_block.new.heap in
     let held = c.args.held.now.all in
-    let same = c.contains.ensures.unchanged in
+    let same = c.find-found.ensures.unchanged in
     let ordered = subst AreInOrder same c.keeps_order.ensures in
     let most = asked_small c.in-Ok.block.ptr.slot c.args.align c.asked_size.result old (c.in-Ok.block.ptr.place, new) c.in-Ok.ensures.ok in
     let fits = held_fits held old ordered c.keeps_good.ensures.good c.requires.live in
@@ -31,19 +31,21 @@ insert-requires g c =
     let is = c.asked_size.ensures in
     let more : Holding = record { entry = c.args.entry; ptr = c.in-Ok.block.ptr } in
     let live = live_after_asked held (more ∷ held) old new c.keeps_good.ensures.good c.requires.live more c.args.align c.asked_size.result c.in-Ok.ensures.ok (omega (arith, asked, is)) (λ other. refl) in
-    let room = held_room held new ordered c.keeps_good-in-Ok.ensures.good more (none_is (held_at held c.args.entry.addr) (sym c.contains.ensures.value ∙ c.if-contains.false)) live in
+    let room = held_room held new ordered c.keeps_good-in-Ok.ensures.good more (none_is (held_at held c.args.entry.addr) (sym (seen_held c.find-found.new.self.all c.args.held.now.all c.find-found.result.address c.args.entry.addr c.is_held.result c.is_held.ensures.value c.find-found.ensures.unchanged c.find-found.ensures.address) ∙ c.if-is_held.false)) live in
     let records = asked_records c.in-Ok.block.ptr.slot c.args.align c.asked_size.result old (c.in-Ok.block.ptr.place, new) c.in-Ok.ensures.ok in
     record {
+      found = search rules;
+      address = c.find-found.ensures.address;
       bytes = omega (arith, most, fits, asked, is, ap held_bytes same);
-      room = omega (arith, room, records, c.requires.room, c.contains.ensures.looked.room, ap (length {A = Holding}) same);
+      room = omega (arith, room, records, c.requires.room, c.find-found.ensures.looked.room, ap (length {A = Holding}) same);
     }
 
 -- the heap is asked, where the address isn't held
 is_asked : (held : List Holding) (address : ℕ) → is_some (held_at held address) ≡ false → not (is_some (found (all_given held) address)) ≡ true
 is_asked held address absent = ap not (found_some held address ∙ absent)
 
-pub returns-then-contains : goal.returns-then-contains
-returns-then-contains g c =
+pub returns-then-is_held : goal.returns-then-is_held
+returns-then-is_held g c =
     let heap = g.H.Heaped.content c.args.heap.now in
     let content = bare heap in
     let held = c.args.held.now.all in
@@ -52,13 +54,13 @@ returns-then-contains g c =
     let P : List Diagnostic → Type 0 = λ notes. Comes content content (all_given held) (all_given held) notes None moment in
     let Q : Effect → List Holding → Type 0 = λ effect all. Comes content content (all_given held) (all_given all) effect.note.items effect.end moment in
     record {
-      comes = subst (Q c.unserved.result) (sym c.contains.ensures.unchanged)
-          (subst (λ effect. Q effect held) (sym c.unserved.ensures) (subst P (sym c.one_note.ensures) (comes_held held held content content entry.line entry.at entry.addr c.args.align entry.size (sym c.contains.ensures.value ∙ c.if-contains.true))));
-      live = subst (λ all. AreLive all heap) (sym c.contains.ensures.unchanged) c.requires.live;
+      comes = subst (Q c.unserved.result) (sym c.find-found.ensures.unchanged)
+          (subst (λ effect. Q effect held) (sym c.unserved.ensures) (subst P (sym c.one_note.ensures) (comes_held held held content content entry.line entry.at entry.addr c.args.align entry.size (sym (seen_held c.find-found.new.self.all c.args.held.now.all c.find-found.result.address c.args.entry.addr c.is_held.result c.is_held.ensures.value c.find-found.ensures.unchanged c.find-found.ensures.address) ∙ c.if-is_held.true))));
+      live = subst (λ all. AreLive all heap) (sym c.find-found.ensures.unchanged) c.requires.live;
       memory = tt;
       unchanged = tt;
       records = refl;
-      looked = looks_up_fewer 1 1 c.args.held.now c.contains.new.self c.contains.ensures.looked;
+      looked = c.find-found.ensures.looked;
       bound = omega arith;
       idle = λ idle. refl;
     }
@@ -74,10 +76,10 @@ returns-in-Ok g c =
     let more : Holding = record { entry = entry; ptr = ptr } in
     let moment = allocation entry.line entry.at entry.addr c.args.align entry.size (found (all_given held) entry.addr) (bare old) in
     let P : List Diagnostic → Option ℕ → Type 0 = λ notes end. Comes (bare old) (bare new) (all_given held) (all_given after) notes end moment in
-    let absent = sym c.contains.ensures.value ∙ c.if-contains.false in
+    let absent = sym (seen_held c.find-found.new.self.all c.args.held.now.all c.find-found.result.address c.args.entry.addr c.is_held.result c.is_held.ensures.value c.find-found.ensures.unchanged c.find-found.ensures.address) ∙ c.if-is_held.false in
     let served = bare_served old new ptr.slot c.args.align c.asked_size.result ptr.place c.in-Ok.ensures.ok in
     let end = c.served.ensures.end ∙ ap (λ (n : ℕ). Some n) (c.in-Ok.ensures.end ∙ ap (λ (n : ℕ). ptr.place + n) (sym (size_at-renamed (λ owner. tt) ptr.place new.pools))) in
-    let changed = (λ (other : ℕ). c.insert.ensures.held other ∙ ap (λ all. cond (entry.addr == other) (Some more) (held_at all other)) c.contains.ensures.unchanged) in
+    let changed = (λ (other : ℕ). c.insert.ensures.held other ∙ ap (λ all. cond (entry.addr == other) (Some more) (held_at all other)) c.find-found.ensures.unchanged) in
     let asked = asked_least entry.size in
     record {
       comes = subst (λ notes. P notes c.served.result.end) (sym c.served.ensures.note) (subst (P []) (sym end)
@@ -86,7 +88,7 @@ returns-in-Ok g c =
       memory = tt;
       unchanged = tt;
       records = asked_records ptr.slot c.args.align c.asked_size.result old (ptr.place, new) c.in-Ok.ensures.ok;
-      looked = look_on 1 1 c.args.held.now c.contains.new.self c.insert.new.self c.contains.ensures.looked c.insert.ensures.looked;
+      looked = look_on 1 0 c.args.held.now c.find-found.new.self c.insert.new.self c.find-found.ensures.looked c.insert.ensures.looked;
       bound = omega (arith, c.new_block.ensures.bound);
       idle = λ idle. absurd (let is = is_asked held entry.addr absent in cc);
     }
@@ -96,11 +98,11 @@ returns-in-Err-OutOfMemory g c = record {
   comes = tt;
   live = tt;
   memory = search rules;
-  unchanged = c.contains.ensures.unchanged;
+  unchanged = c.find-found.ensures.unchanged;
   records = search rules;
-  looked = looks_up_fewer 1 1 c.args.held.now c.contains.new.self c.contains.ensures.looked;
+  looked = c.find-found.ensures.looked;
   bound = omega (arith, c.new_block.ensures.bound);
-  idle = λ idle. absurd (let is = is_asked c.args.held.now.all c.args.entry.addr (sym c.contains.ensures.value ∙ c.if-contains.false) in cc);
+  idle = λ idle. absurd (let is = is_asked c.args.held.now.all c.args.entry.addr (sym (seen_held c.find-found.new.self.all c.args.held.now.all c.find-found.result.address c.args.entry.addr c.is_held.result c.is_held.ensures.value c.find-found.ensures.unchanged c.find-found.ensures.address) ∙ c.if-is_held.false) in cc);
 }
 
 pub returns-in-Err : goal.returns-in-Err
@@ -115,15 +117,15 @@ returns-in-Err g c =
     let refused = bare_refused old new 0 c.args.align c.asked_size.result c.in-Err.refusal (c.in-Err.ensures.refused (search rules) 0) in
     let same = c.in-Err.ensures.unchanged in
     let told : P (note entry.line (Refused entry.addr c.in-Err.refusal)) =
-    comes_refused held held (bare old) (bare new) entry c.args.align c.in-Err.refusal (sym c.contains.ensures.value ∙ c.if-contains.false) (ap (λ n. asked_block tt c.args.align n (bare old)) (sym c.asked_size.ensures) ∙ refused) in
+    comes_refused held held (bare old) (bare new) entry c.args.align c.in-Err.refusal (sym (seen_held c.find-found.new.self.all c.args.held.now.all c.find-found.result.address c.args.entry.addr c.is_held.result c.is_held.ensures.value c.find-found.ensures.unchanged c.find-found.ensures.address) ∙ c.if-is_held.false) (ap (λ n. asked_block tt c.args.align n (bare old)) (sym c.asked_size.ensures) ∙ refused) in
     record {
-      comes = subst (Q c.unserved-in-Err.result new) (sym c.contains.ensures.unchanged)
+      comes = subst (Q c.unserved-in-Err.result new) (sym c.find-found.ensures.unchanged)
           (subst (λ content. Q c.unserved-in-Err.result content held) (sym same) (subst (λ effect. Q effect old held) (sym c.unserved-in-Err.ensures) (subst P (sym c.one_note-in-Err.ensures) told)));
-      live = subst (λ all. AreLive all new) (sym c.contains.ensures.unchanged) (subst (AreLive held) (sym same) c.requires.live);
+      live = subst (λ all. AreLive all new) (sym c.find-found.ensures.unchanged) (subst (AreLive held) (sym same) c.requires.live);
       memory = tt;
       unchanged = tt;
       records = ap (λ (content : Content ℕ). content.records) same;
-      looked = looks_up_fewer 1 1 c.args.held.now c.contains.new.self c.contains.ensures.looked;
+      looked = c.find-found.ensures.looked;
       bound = omega (arith, c.in-Err.ensures.bound);
-      idle = λ idle. absurd (let is = is_asked held entry.addr (sym c.contains.ensures.value ∙ c.if-contains.false) in cc);
+      idle = λ idle. absurd (let is = is_asked held entry.addr (sym (seen_held c.find-found.new.self.all c.args.held.now.all c.find-found.result.address c.args.entry.addr c.is_held.result c.is_held.ensures.value c.find-found.ensures.unchanged c.find-found.ensures.address) ∙ c.if-is_held.false) in cc);
     }

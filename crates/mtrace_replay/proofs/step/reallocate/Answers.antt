@@ -27,6 +27,7 @@ replace-requires g c =
     let few = held_few c.args.held.now.all old c.keeps_order.ensures c.keeps_good.ensures.good c.requires.live in
     let under = c.requires.held in
     record {
+      found = search rules;
       bytes = omega (arith, most, fits, asked, c.asked_size.ensures);
       held = ap is_some under.1;
       room = omega (arith, few, c.requires.room);
@@ -43,18 +44,18 @@ returns-in-Ok g c =
     let given = c.in-Ok.block.ptr in
     let under = c.requires.held in
     let P : Pointer → Type 0 = λ p. is_live (λ slot. slot == p.slot) p.place (blocks_of old.pools) ≡ true in
-    let live = subst P under.2 (c.requires.live.live c.args.old under.0 under.1) in
+    let live = subst P under.2 (c.requires.live.live c.args.old.now.address under.0 under.1) in
     let served = bare_moved old new ptr.place ptr.slot live given.slot c.asked_size.result given.place given.slot c.in-Ok.ensures.ok in
-    let moment = moved entry.line entry.at c.args.old ptr.place entry.addr entry.size (bare old) (realloc (λ one other. true) tt (Some (ptr.place, tt)) (asked_size entry.size) (bare old)) in
+    let moment = moved entry.line entry.at c.args.old.now.address ptr.place entry.addr entry.size (bare old) (realloc (λ one other. true) tt (Some (ptr.place, tt)) (asked_size entry.size) (bare old)) in
     let Q : List Diagnostic → Option ℕ → Type 0 = λ notes end. Comes (bare old) (bare new) (all_given held) (all_given after) notes end moment in
     let end = c.served.ensures.end ∙ ap (λ (n : ℕ). Some n) (c.in-Ok.ensures.end ∙ ap (λ (n : ℕ). given.place + n) (sym (size_at-renamed (λ owner. tt) given.place new.pools))) in
     let asked = asked_least entry.size in
     let R : Pointer → Type 0 = λ p. realloc (λ a b. a == b) given.slot (Some (p.place, p.slot)) c.asked_size.result old ≡ Ok (Some (given.place, given.slot), new) in
     record {
       comes = subst (λ notes. Q notes c.served.result.end) (sym c.served.ensures.note) (subst (Q []) (sym end)
-          (comes_moved held after (bare old) (bare new) c.args.old ptr.place (record { entry = entry; ptr = given })
+          (comes_moved held after (bare old) (bare new) c.args.old.now.address ptr.place (record { entry = entry; ptr = given })
           (ap (λ n. realloc (λ one other. true) tt (Some (ptr.place, tt)) n (bare old)) (sym c.asked_size.ensures) ∙ served) c.replace.ensures.held));
-      live = live_after_realloc held after old new c.keeps_good.ensures.good c.requires.live c.args.old under.0 under.1 (record { entry = entry; ptr = given }) c.asked_size.result
+      live = live_after_realloc held after old new c.keeps_good.ensures.good c.requires.live c.args.old.now.address under.0 under.1 (record { entry = entry; ptr = given }) c.asked_size.result
           (subst R (sym under.2) c.in-Ok.ensures.ok) (omega (arith, asked, c.asked_size.ensures)) (omega (arith, asked, c.asked_size.ensures)) c.replace.ensures.held;
       memory = tt;
       unchanged = tt;
@@ -76,19 +77,19 @@ returns-in_ok-take-in-Err g c =
     let ptr = c.args.ptr in
     let under = c.requires.held in
     let P : Pointer → Type 0 = λ p. is_live (λ slot. slot == p.slot) p.place (blocks_of old.pools) ≡ true in
-    let live = subst P under.2 (c.requires.live.live c.args.old under.0 under.1) in
+    let live = subst P under.2 (c.requires.live.live c.args.old.now.address under.0 under.1) in
     let refused = bare_not_moved old middle ptr.place ptr.slot live 0 c.asked_size.result c.in-Err.refusal (c.in-Err.ensures.refused (search rules) 0) in
     let freed : new ≡ without ptr.place (bare old) = c.in_ok-take-in-Err.ensures.content ∙ ap (λ content. without ptr.place (bare content)) c.in-Err.ensures.unchanged in
-    let moment = moved entry.line entry.at c.args.old ptr.place entry.addr entry.size (bare old) (realloc (λ one other. true) tt (Some (ptr.place, tt)) (asked_size entry.size) (bare old)) in
+    let moment = moved entry.line entry.at c.args.old.now.address ptr.place entry.addr entry.size (bare old) (realloc (λ one other. true) tt (Some (ptr.place, tt)) (asked_size entry.size) (bare old)) in
     let Q : List Diagnostic → Type 0 = λ notes. Comes (bare old) new (all_given held) (all_given after) notes None moment in
     let S : Effect → Type 0 = λ effect. Comes (bare old) new (all_given held) (all_given after) effect.note.items effect.end moment in
     record {
-      comes = subst S (sym c.unserved.ensures) (subst Q (sym c.one_note.ensures) (comes_not_moved held after (bare old) new c.args.old ptr.place entry c.in-Err.refusal
+      comes = subst S (sym c.unserved.ensures) (subst Q (sym c.one_note.ensures) (comes_not_moved held after (bare old) new c.args.old.now.address ptr.place entry c.in-Err.refusal
           (ap (λ n. realloc (λ one other. true) tt (Some (ptr.place, tt)) n (bare old)) (sym c.asked_size.ensures) ∙ refused) freed c.in_ok-take-in-Err.ensures.held));
       live = c.in_ok-take-in-Err.ensures.live;
       memory = tt;
       unchanged = tt;
-      looked = looks_up_fewer 1 1 c.args.held.now c.take.new.held c.take.ensures.looked;
+      looked = looks_up_fewer 0 1 c.args.held.now c.take.new.held c.take.ensures.looked;
       records = c.take.ensures.records ∙ ap (λ (content : Content ℕ). content.records) c.in-Err.ensures.unchanged;
       bound = omega (arith, c.take.ensures.bound, c.realloc_block.ensures.bound);
       idle = λ idle. absurd (cc);

@@ -8,8 +8,8 @@ use Rattle.mtrace_replay.specs.declared.step.Effect.{Effect}
 use Rattle.mtrace_replay.specs.Moment.{release, without}
 use Rattle.mtrace_replay.specs.Index.{held_at}
 use Rattle.mtrace_replay.specs.Step.{all_given, found, Comes, AreLive}
-use Rattle.mtrace_replay.proofs.LookLemmas.{look_on, looks_up_fewer}
-use Rattle.mtrace_replay.proofs.StepLemmas.{found_some, comes_not_held, comes_released, under_none, under_some}
+use Rattle.mtrace_replay.proofs.LookLemmas.{look_on}
+use Rattle.mtrace_replay.proofs.StepLemmas.{found_some, comes_not_held, comes_released, under_none, under_some, seen_block}
 use Rattle.mtrace_replay.proofs.step.release.Goals as goal
 
 pub returns-in_default : goal.returns-in_default
@@ -20,13 +20,13 @@ returns-in_default g c =
     let P : List Diagnostic → Type 0 = λ notes. Comes content content (all_given held) (all_given held) notes None (release c.args.number c.args.address (found (all_given held) c.args.address) content) in
     let Q : Effect → List Holding → Type 0 = λ effect all. Comes content content (all_given held) (all_given all) effect.note.items effect.end (release c.args.number c.args.address (found (all_given held) c.args.address) content) in
     record {
-      comes = subst (Q c.unserved.result) (sym c.block.ensures.unchanged)
-          (subst (λ effect. Q effect held) (sym c.unserved.ensures) (subst P (sym c.one_note.ensures) (comes_not_held held held content content c.args.number c.args.address (under_none (held_at held c.args.address) (sym c.block.ensures.value ∙ c.in_default.is)))));
-      live = subst (λ all. AreLive all heap) (sym c.block.ensures.unchanged) c.requires.live;
+      comes = subst (Q c.unserved.result) (sym c.find-found.ensures.unchanged)
+          (subst (λ effect. Q effect held) (sym c.unserved.ensures) (subst P (sym c.one_note.ensures) (comes_not_held held held content content c.args.number c.args.address (under_none (held_at held c.args.address) (sym (seen_block c.find-found.new.self.all c.args.held.now.all c.find-found.result.address c.args.address c.block.result c.block.ensures.value c.find-found.ensures.unchanged c.find-found.ensures.address) ∙ c.in_default.is)))));
+      live = subst (λ all. AreLive all heap) (sym c.find-found.ensures.unchanged) c.requires.live;
       memory = tt;
       unchanged = tt;
       records = refl;
-      looked = looks_up_fewer 1 1 c.args.held.now c.block.new.self c.block.ensures.looked;
+      looked = c.find-found.ensures.looked;
       bound = omega arith;
       idle = λ idle. refl;
     }
@@ -38,14 +38,14 @@ is_asked held address holding is = found_some held address ∙ ap is_some is
 pub returns-in_err-take : goal.returns-in_err-take
 returns-in_err-take g c =
     let held = c.args.held.now.all in
-    let under = under_some (held_at held c.args.address) c.in-Some.ptr (sym c.block.ensures.value ∙ c.in-Some.is) in
+    let under = under_some (held_at held c.args.address) c.in-Some.ptr (sym (seen_block c.find-found.new.self.all c.args.held.now.all c.find-found.result.address c.args.address c.block.result c.block.ensures.value c.find-found.ensures.unchanged c.find-found.ensures.address) ∙ c.in-Some.is) in
     record {
       comes = search rules;
       live = search rules;
       memory = search rules;
       unchanged = search rules;
       records = c.take.ensures.records;
-      looked = look_on 1 1 c.args.held.now c.block.new.self c.take.new.held c.block.ensures.looked c.take.ensures.looked;
+      looked = look_on 1 0 c.args.held.now c.find-found.new.self c.take.new.held c.find-found.ensures.looked c.take.ensures.looked;
       bound = c.take.ensures.bound;
       idle = λ idle. absurd (let is = is_asked held c.args.address under.0 under.1 in cc);
     }
@@ -56,17 +56,18 @@ returns g c =
     let after = bare (g.H.Heaped.content c.take.new.heap) in
     let held = c.args.held.now.all in
     let new = c.take.new.held.all in
-    let under = under_some (held_at held c.args.address) c.in-Some.ptr (sym c.block.ensures.value ∙ c.in-Some.is) in
+    let under = under_some (held_at held c.args.address) c.in-Some.ptr (sym (seen_block c.find-found.new.self.all c.args.held.now.all c.find-found.result.address c.args.address c.block.result c.block.ensures.value c.find-found.ensures.unchanged c.find-found.ensures.address) ∙ c.in-Some.is) in
     let P : List Diagnostic → Type 0 = λ notes. Comes content after (all_given held) (all_given new) notes None (release c.args.number c.args.address (found (all_given held) c.args.address) content) in
     let Q : Effect → Type 0 = λ effect. Comes content after (all_given held) (all_given new) effect.note.items effect.end (release c.args.number c.args.address (found (all_given held) c.args.address) content) in
     record {
       comes = subst Q (sym c.unserved-2.ensures) (subst P (sym c.no_note.ensures) (comes_released held new content after c.args.number c.args.address under.0 under.1
-          (c.in_ok-take.ensures.content ∙ ap (λ (ptr : Pointer). without ptr.place content) (sym under.2)) (λ other. c.in_ok-take.ensures.held other ∙ ap (λ all. cond (c.args.address == other) None (held_at all other)) c.block.ensures.unchanged)));
+          (c.in_ok-take.ensures.content ∙ ap (λ (ptr : Pointer). without ptr.place content) (sym under.2)) (λ other. c.in_ok-take.ensures.held other ∙ ap (λ all. cond (c.find-found.result.address == other) None (held_at all other)) c.find-found.ensures.unchanged
+          ∙ ap (λ (a : ℕ). cond (a == other) None (held_at held other)) c.find-found.ensures.address)));
       live = c.in_ok-take.ensures.live;
       memory = tt;
       unchanged = tt;
       records = c.take.ensures.records;
-      looked = look_on 1 1 c.args.held.now c.block.new.self c.take.new.held c.block.ensures.looked c.take.ensures.looked;
+      looked = look_on 1 0 c.args.held.now c.find-found.new.self c.take.new.held c.find-found.ensures.looked c.take.ensures.looked;
       bound = c.take.ensures.bound;
       idle = λ idle. absurd (let is = is_asked held c.args.address under.0 under.1 in cc);
     }

@@ -12,7 +12,7 @@ use Rattle.mtrace_replay.specs.Index.{held_at}
 use Rattle.mtrace_replay.specs.Step.{all_given, found, Comes, AreLive}
 use Rattle.std.proofs.lemmas.Result.{on_err_weaker}
 use Rattle.mtrace_replay.proofs.LookLemmas.{look_on, looks_up_fewer}
-use Rattle.mtrace_replay.proofs.StepLemmas.{comes_unserved, comes_after_note, under_none, under_some, renewal_allocates, renewal_is_held, renewal_moves, renewal_asks_new, renewal_asks_moved}
+use Rattle.mtrace_replay.proofs.StepLemmas.{comes_unserved, comes_after_note, under_none, under_some, seen_block, renewal_allocates, renewal_is_held, renewal_moves, renewal_asks_new, renewal_asks_moved}
 use Rattle.mtrace_replay.proofs.step.renew.Goals as goal
 
 pub returns-in_default-block : goal.returns-in_default-block
@@ -23,7 +23,7 @@ returns-in_default-block g c =
     let new = c.allocate.new.held.all in
     let entry = c.args.entry in
     let old = c.in-Some.old in
-    let none = under_none (held_at held old) (sym c.block.ensures.value ∙ c.in_default-block.is) in
+    let none = under_none (held_at held old) (sym (seen_block c.find-found.new.self.all c.args.held.now.all c.find-found.result.address c.in-Some.old c.block.result c.block.ensures.value c.find-found.ensures.unchanged c.find-found.ensures.address) ∙ c.in_default-block.is) in
     let is = renewal_allocates held content entry.line entry.at c.args.pending old entry.addr entry.size c.in-Some.is none in
     let moment = allocation entry.line entry.at entry.addr None entry.size (found (all_given held) entry.addr) content in
     let first : Diagnostic = record { line = entry.line; kind = NotHeld old } in
@@ -33,14 +33,14 @@ returns-in_default-block g c =
     record {
       comes = subst (Comes content after (all_given held) (all_given new) c.after_note.result.note.items c.after_note.result.end) (sym is)
           (subst (λ notes. P notes c.after_note.result.end) (sym c.after_note.ensures.note) (subst (P (first ∷ c.in_ok-more.more.note.items)) (sym c.after_note.ensures.end)
-          (comes_after_note content after (all_given held) (all_given new) first c.in_ok-more.more.note.items c.in_ok-more.more.end moment (subst C c.block.ensures.unchanged c.in_ok-more.ensures.comes))));
+          (comes_after_note content after (all_given held) (all_given new) first c.in_ok-more.more.note.items c.in_ok-more.more.end moment (subst C c.find-found.ensures.unchanged c.in_ok-more.ensures.comes))));
       live = c.in_ok-more.ensures.live;
       memory = tt;
       unchanged = tt;
       records = c.allocate.ensures.records;
-      looked = looks_up_fewer 3 1 c.args.held.now c.allocate.new.held (look_on 1 2 c.args.held.now c.block.new.self c.allocate.new.held c.block.ensures.looked c.allocate.ensures.looked);
+      looked = looks_up_fewer 2 1 c.args.held.now c.allocate.new.held (look_on 1 1 c.args.held.now c.find-found.new.self c.allocate.new.held c.find-found.ensures.looked c.allocate.ensures.looked);
       bound = omega (arith, c.allocate.ensures.bound);
-      idle = λ idle. c.allocate.ensures.idle (ap (λ all. not (is_some (found (all_given all) entry.addr))) c.block.ensures.unchanged
+      idle = λ idle. c.allocate.ensures.idle (ap (λ all. not (is_some (found (all_given all) entry.addr))) c.find-found.ensures.unchanged
           ∙ sym (renewal_asks_new held c.args.pending old entry.addr c.in-Some.is none) ∙ idle);
     }
 
@@ -50,9 +50,9 @@ returns-then-is_held_too g c =
     let held = c.args.held.now.all in
     let entry = c.args.entry in
     let old = c.in-Some.old in
-    let under = under_some (held_at held old) c.in-Some-block.ptr (sym c.block.ensures.value ∙ c.in-Some-block.is) in
-    let value = c.is_held_too.ensures.value ∙ ap (λ all. not (entry.addr == old) && is_some (held_at all entry.addr)) c.block.ensures.unchanged in
-    let same = c.is_held_too.ensures.unchanged ∙ c.block.ensures.unchanged in
+    let under = under_some (held_at held old) c.in-Some-block.ptr (sym (seen_block c.find-found.new.self.all c.args.held.now.all c.find-found.result.address c.in-Some.old c.block.result c.block.ensures.value c.find-found.ensures.unchanged c.find-found.ensures.address) ∙ c.in-Some-block.is) in
+    let value = c.is_held_too.ensures.value ∙ ap (λ all. not (entry.addr == old) && is_some (held_at all entry.addr)) c.find-found.ensures.unchanged in
+    let same = c.is_held_too.ensures.unchanged ∙ c.find-found.ensures.unchanged in
     let is = renewal_is_held held content entry.line entry.at c.args.pending old entry.addr entry.size c.in-Some.is under.0 under.1 (sym value ∙ c.if-is_held_too.true) in
     let notes = note entry.line (AlreadyHeld entry.addr) in
     let P : List Diagnostic → Type 0 = λ ns. Comes content content (all_given held) (all_given held) ns None (unserved notes content) in
@@ -66,7 +66,7 @@ returns-then-is_held_too g c =
       memory = tt;
       unchanged = tt;
       records = refl;
-      looked = looks_up_fewer 2 2 c.args.held.now c.is_held_too.new.held (look_on 1 1 c.args.held.now c.block.new.self c.is_held_too.new.held c.block.ensures.looked c.is_held_too.ensures.looked);
+      looked = looks_up_fewer 2 1 c.args.held.now c.is_held_too.new.held (look_on 1 1 c.args.held.now c.find-found.new.self c.is_held_too.new.held c.find-found.ensures.looked c.is_held_too.ensures.looked);
       bound = omega arith;
       idle = λ idle. refl;
     }
@@ -79,21 +79,22 @@ returns g c =
     let new = c.reallocate.new.held.all in
     let entry = c.args.entry in
     let old = c.in-Some.old in
-    let under = under_some (held_at held old) c.in-Some-block.ptr (sym c.block.ensures.value ∙ c.in-Some-block.is) in
-    let value = c.is_held_too.ensures.value ∙ ap (λ all. not (entry.addr == old) && is_some (held_at all entry.addr)) c.block.ensures.unchanged in
-    let same = c.is_held_too.ensures.unchanged ∙ c.block.ensures.unchanged in
+    let under = under_some (held_at held old) c.in-Some-block.ptr (sym (seen_block c.find-found.new.self.all c.args.held.now.all c.find-found.result.address c.in-Some.old c.block.result c.block.ensures.value c.find-found.ensures.unchanged c.find-found.ensures.address) ∙ c.in-Some-block.is) in
+    let value = c.is_held_too.ensures.value ∙ ap (λ all. not (entry.addr == old) && is_some (held_at all entry.addr)) c.find-found.ensures.unchanged in
+    let same = c.is_held_too.ensures.unchanged ∙ c.find-found.ensures.unchanged in
     let is = renewal_moves held content entry.line entry.at c.args.pending old entry.addr entry.size c.in-Some.is under.0 under.1 (sym value ∙ c.if-is_held_too.false) in
     let there = ap (λ (ptr : Pointer). moved entry.line entry.at old ptr.place entry.addr entry.size content (realloc (λ one other. true) tt (Some (ptr.place, tt)) (asked_size entry.size) content)) under.2 in
+    let by_place : ℕ → Moment = λ (a : ℕ). moved entry.line entry.at a c.in-Some-block.ptr.place entry.addr entry.size content
+    (realloc (λ one other. true) tt (Some (c.in-Some-block.ptr.place, tt)) (asked_size entry.size) content) in
     let P : Moment → List Holding → Type 0 = λ moment all. IfOk c.reallocate.result (λ effect. Comes content after (all_given all) (all_given new) effect.note.items effect.end moment) in
     record {
-      comes = subst (λ moment. P moment held) (sym (is ∙ there)) (subst (P (moved entry.line entry.at old c.in-Some-block.ptr.place entry.addr entry.size content
-          (realloc (λ one other. true) tt (Some (c.in-Some-block.ptr.place, tt)) (asked_size entry.size) content))) same c.reallocate.ensures.comes);
+      comes = subst (λ moment. P moment held) (sym (is ∙ there)) (subst (λ (a : ℕ). P (by_place a) held) c.find-found.ensures.address (subst (P (by_place c.find-found.result.address)) same c.reallocate.ensures.comes));
       live = c.reallocate.ensures.live;
       memory = c.reallocate.ensures.memory;
       unchanged = on_err_weaker c.reallocate.result (λ unchanged. unchanged ∙ same) c.reallocate.ensures.unchanged;
       records = c.reallocate.ensures.records;
-      looked = look_on 2 2 c.args.held.now c.is_held_too.new.held c.reallocate.new.held
-          (look_on 1 1 c.args.held.now c.block.new.self c.is_held_too.new.held c.block.ensures.looked c.is_held_too.ensures.looked) c.reallocate.ensures.looked;
+      looked = look_on 2 1 c.args.held.now c.is_held_too.new.held c.reallocate.new.held
+          (look_on 1 1 c.args.held.now c.find-found.new.self c.is_held_too.new.held c.find-found.ensures.looked c.is_held_too.ensures.looked) c.reallocate.ensures.looked;
       bound = c.reallocate.ensures.bound;
       idle = λ idle. absurd (let is_asked = renewal_asks_moved held c.args.pending old entry.addr under.0 c.in-Some.is under.1 (sym value ∙ c.if-is_held_too.false) in cc);
     }

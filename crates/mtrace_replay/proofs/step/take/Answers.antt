@@ -14,7 +14,7 @@ unreachable-requires g c =
     let content = g.H.Heaped.content c.args.heap.now in
     let under = c.requires.held in
     let P : Pointer → Type 0 = λ ptr. is_live (λ slot. slot == ptr.slot) ptr.place (blocks_of content.pools) ≡ true in
-    let live = subst P under.2 (c.requires.live.live c.args.address under.0 under.1) in
+    let live = subst P under.2 (c.requires.live.live c.args.found.now.address under.0 under.1) in
     let refused = c.in-Err.ensures.refused (search rules) in
     let served = free_of_live (λ slot. slot == c.args.ptr.slot) c.args.ptr.place content live in
     cc
@@ -24,7 +24,7 @@ returns-in-Ok-clause-content g c =
     let content = g.H.Heaped.content c.args.heap.now in
     let under = c.requires.held in
     let P : Pointer → Type 0 = λ ptr. is_live (λ slot. slot == ptr.slot) ptr.place (blocks_of content.pools) ≡ true in
-    let live = subst P under.2 (c.requires.live.live c.args.address under.0 under.1) in
+    let live = subst P under.2 (c.requires.live.live c.args.found.now.address under.0 under.1) in
     bare_freed content (g.H.Heaped.content c.free.new.self) c.args.ptr.place c.args.ptr.slot live c.in-Ok.ensures.ok
 
 pub returns-in-Ok-clause-live : goal.returns-in-Ok-clause-live
@@ -33,5 +33,5 @@ returns-in-Ok-clause-live g c =
     let after = g.H.Heaped.content c.free.new.self in
     let under = c.requires.held in
     let P : Pointer → Type 0 = λ ptr. free (λ slot. slot == ptr.slot) ptr.place content ≡ Ok after in
-    live_after_free c.args.held.now.all c.remove.new.self.all content after c.keeps_good.ensures.good c.requires.live c.args.address under.0 under.1
+    live_after_free c.args.held.now.all c.remove.new.self.all content after c.keeps_good.ensures.good c.requires.live c.args.found.now.address under.0 under.1
     (subst P (sym under.2) c.in-Ok.ensures.ok) c.remove.ensures.held

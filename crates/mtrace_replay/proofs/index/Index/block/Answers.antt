@@ -1,24 +1,29 @@
-use Rattle.std.proofs.Common.{refl, sym, ap, ◌∙◌, subst}
+use Rattle.std.proofs.Common.{refl, sym, ap, ◌∙◌}
 use Rattle.std.specs.Prelude.{option_map}
 use Rattle.mtrace_replay.specs.declared.holding.Holding.{Holding}
 use Rattle.mtrace_replay.specs.declared.spot.Spot.TheVariants.{Vacant}
-use Rattle.mtrace_replay.specs.Index.{held_at}
-use Rattle.mtrace_replay.specs.Search.{StandsAt, FitsAt}
-use Rattle.mtrace_replay.proofs.IndexLemmas.{held_there, nothing_there}
-use Rattle.mtrace_replay.proofs.index.Index.block.Goals.{in-Ok, in-Err}
+use Rattle.mtrace_replay.specs.Index.{Indexed, held_at}
+use Rattle.mtrace_replay.proofs.IndexLemmas.{held_there, nothing_there, found_stands, found_fits}
 use Rattle.mtrace_replay.proofs.index.Index.block.Goals as goal
 
-pub returns-clause-value : goal.returns-clause-value
-returns-clause-value c =
+pub returns-in-Ok : goal.returns-in-Ok
+returns-in-Ok c =
     let spots = c.self.inside.spots.items in
-    let address = c.args.address in
-    let seen = ap (λ index. held_at index.all address) c.self.view_is in
-    elim c.match-search.branch [
-      | in-Ok w ↦ w.result-is ∙ w.block.ensures
+    let address = c.args.found.now.address in
+    let seen = ap (λ (index : Indexed). held_at index.all address) c.self.view_is in
+    let stands = found_stands spots c.args.self.now (ap (λ (index : Indexed). index.spots) c.self.view_is) c.args.found.now c.requires.found c.in-Ok.at c.in-Ok.is in
+    record {
+      value = c.block.ensures
           ∙ ap (option_map (λ (holding : Holding). holding.ptr))
-          (sym (held_there spots address w.in-Ok.at c.self.invariant.rise (subst (λ all. StandsAt all address w.in-Ok.at) c.deref.ensures.value w.in-Ok.ensures.found)
-          w.index.result.now (Vacant address) w.index.ensures refl) ∙ seen)
-      | in-Err w ↦ w.result-is
-          ∙ ap (option_map (λ (holding : Holding). holding.ptr))
-          (sym (nothing_there spots address w.in-Err.field-0 c.self.invariant.rise (subst (λ all. FitsAt all address w.in-Err.field-0) c.deref.ensures.value w.in-Err.ensures.absent)) ∙ seen)
-    ]
+          (sym (held_there spots address c.in-Ok.at c.self.invariant.rise stands c.index.result.now (Vacant address) c.index.ensures refl) ∙ seen);
+    }
+
+pub returns-in-Err : goal.returns-in-Err
+returns-in-Err c =
+    let spots = c.self.inside.spots.items in
+    let address = c.args.found.now.address in
+    let seen = ap (λ (index : Indexed). held_at index.all address) c.self.view_is in
+    let fits = found_fits spots c.args.self.now (ap (λ (index : Indexed). index.spots) c.self.view_is) c.args.found.now c.requires.found c.in-Err.field-0 c.in-Err.is in
+    record {
+      value = ap (option_map (λ (holding : Holding). holding.ptr)) (sym (nothing_there spots address c.in-Err.field-0 c.self.invariant.rise fits) ∙ seen);
+    }
