@@ -1,0 +1,4 @@
+pub mod Creation
+pub mod Lends
+pub mod Owned
+pub mod Status
