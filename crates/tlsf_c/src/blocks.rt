@@ -1,6 +1,6 @@
 //! Blocks are asked for and given back.
 
-ghost use Rattle.std.specs.Prelude.{◌≡◌, ◌≢◌, ◌%◌, ◌<◌, ◌==◌, Ok};
+ghost use Rattle.std.specs.Prelude.{◌≡◌, ◌≢◌, ◌%◌, ◌<◌, ◌==◌, ◌⊎◌, Ok, Some};
 ghost use Rattle.tlsf_heap.specs.Touches.{AtMost};
 ghost use Rattle.tlsf_heap.specs.Counted.{IsUnchanged};
 ghost use Rattle.tlsf_heap.specs.GoodSlots.{slot_times};
@@ -8,7 +8,9 @@ ghost use Rattle.tlsf_heap.specs.Content.{blocks_of};
 ghost use Rattle.tlsf_heap.specs.Malloc.{malloc as served};
 ghost use Rattle.tlsf_heap.specs.Memalign.{memalign as aligned};
 ghost use Rattle.tlsf_heap.specs.Free.{free as freed};
+ghost use Rattle.tlsf_heap.specs.Realloc.{realloc as reallocated};
 ghost use Rattle.tlsf_heap.specs.BlockSize.{block_size as sized};
+ghost use Rattle.tlsf_c.specs.Given.{given};
 ghost use Rattle.tlsf_c.specs.Status.{status_of};
 
 use crate::block::Block;
@@ -72,6 +74,34 @@ pub extern "C" fn tlsf_free(handle: &mut Handle, block: Block) -> u32
 {
     match handle.heap().free(block.ptr()) {
         Ok(()) => SERVED,
+        Err(refusal) => number(refusal),
+    }
+}
+
+/// The live block with room for `bytes` bytes, in its place or moved, which goes to `out`; which bytes are copied is the
+/// caller's. Where `bytes` is 0 the block becomes free, and `out` stays. At most 87 touches.
+///
+/// The status is 0 or the number of `BadPointer`, `NoFit` or `TableFull`.
+#[unsafe(no_mangle)]
+pub extern "C" fn tlsf_realloc(
+    handle: &mut Handle,
+    block: Block,
+    bytes: u64,
+    out: &mut Block,
+) -> u32
+    ensures status { status_of (reallocated (λ a b. a == b) out.new.slot (Some (block.place, block.slot)) bytes handle.old.value.content) ≡ result }
+    ensures ok { result ≡ 0 → reallocated (λ a b. a == b) out.new.slot (Some (block.place, block.slot)) bytes handle.old.value.content ≡ Ok (given bytes out.new.place out.new.slot, handle.new.value.content) }
+    ensures slot_below { result ≡ 0 → bytes ≢ 0 → out.new.slot < handle.old.value.content.records }
+    ensures unchanged { result ≢ 0 → IsUnchanged handle.old.value handle.new.value }
+    ensures out { (result ≢ 0) ⊎ (bytes ≡ 0) → out.new ≡ out.old }
+    ensures bound { AtMost 87 handle.old.value.touches handle.new.value.touches }
+{
+    match handle.heap().realloc(Some(block.ptr()), bytes) {
+        Ok(Some(ptr)) => {
+            *out = Block::of(ptr);
+            SERVED
+        }
+        Ok(None) => SERVED,
         Err(refusal) => number(refusal),
     }
 }

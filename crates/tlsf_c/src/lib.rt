@@ -9,4 +9,6 @@ mod loose;
 mod made;
 mod pools;
 mod readings;
+mod row;
 mod status;
+mod walk;
