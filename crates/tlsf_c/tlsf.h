@@ -43,6 +43,13 @@ typedef struct tlsf_block {
     uint16_t slot;
 } tlsf_block;
 
+/* A block of a pool as a reading gives it: where it begins and its size, and whether it is live. */
+typedef struct tlsf_row {
+    uint32_t place;
+    uint32_t size;
+    bool used;
+} tlsf_row;
+
 /* What a call answers: 0 where it is served, else why it is refused. A refused call leaves the heap's content and what
  * its out parameter points to as they were. */
 enum tlsf_status {
@@ -92,9 +99,23 @@ uint32_t tlsf_memalign(tlsf_heap *heap, uint64_t align, uint64_t bytes, tlsf_blo
  * 0, or TLSF_BAD_POINTER unless a live block has both its place and its slot. */
 uint32_t tlsf_free(tlsf_heap *heap, tlsf_block block);
 
+/* Gives *out the block with room for so many bytes: where it is, or another. A program that has bytes in the block copies
+ * them where the place is another: at that moment the old block is free already, and no call has been given it. Of a
+ * block that moves, the places may overlap: use memmove. At most 87 touches.
+ * Where bytes is 0 the block becomes free, and *out stays.
+ * 0, TLSF_BAD_POINTER unless a live block has both its place and its slot, TLSF_NO_FIT or TLSF_TABLE_FULL: then the old
+ * block is as it was. */
+uint32_t tlsf_realloc(tlsf_heap *heap, tlsf_block block, uint64_t bytes, tlsf_block *out);
+
 /* Gives *out the bytes that a live block has, a multiple of 16. At most 2 touches.
  * 0, or TLSF_BAD_POINTER unless a live block has both its place and its slot. */
 uint32_t tlsf_block_size(tlsf_heap *heap, tlsf_block block, uint32_t *out);
+
+/* Puts the blocks of the pool that begins at the place base into rows, in order of place, as many as `room` has room for,
+ * and into *count how many the pool has. So a first call with room 0 tells how much room a second one needs; a heap has
+ * at most as many blocks as records. At most 4 touches, and one more for each block of the pool.
+ * 0, or TLSF_NO_POOL where no pool begins there. Where room is 0, rows still points to a tlsf_row. */
+uint32_t tlsf_walk(tlsf_heap *heap, uint64_t base, tlsf_row *rows, size_t room, uint64_t *count);
 
 /* Whether the table is whole. It always is, as is proved; where this is false, something wrote over the table. It
  * reads all of it: no call for a path that has to be quick. */
