@@ -100,8 +100,8 @@ uint32_t tlsf_memalign(tlsf_heap *heap, uint64_t align, uint64_t bytes, tlsf_blo
 uint32_t tlsf_free(tlsf_heap *heap, tlsf_block block);
 
 /* Gives *out the block with room for so many bytes: where it is, or another. A program that has bytes in the block copies
- * them where the place is another: at that moment the old block is free already, and no call has been given it. Of a
- * block that moves, the places may overlap: use memmove. At most 87 touches.
+ * them where the place is another, before its next call: the new block was given before the old one became free, so
+ * the two don't overlap, and no one has the old one's bytes yet. At most 87 touches.
  * Where bytes is 0 the block becomes free, and *out stays.
  * 0, TLSF_BAD_POINTER unless a live block has both its place and its slot, TLSF_NO_FIT or TLSF_TABLE_FULL: then the old
  * block is as it was. */
