@@ -24,9 +24,8 @@ use Rattle.core.proofs.cell.Inside.{Good}
 use Rattle.std_alloc.specs.Box.Ownership.{box_owns}
 use Rattle.std_alloc.proofs.ResultValues.{and_tt}
 use Rattle.std.specs.declared.option.Option.TheVariants.{Some}
-use Rattle.libc.specs.Heap.{chunk}
 use Rattle.tlsf_heap.specs.contracts.heap.Heap as heap
-use Rattle.tlsf_c.specs.Owned.{owned_heap}
+use Rattle.tlsf_c.specs.Owned.{token, owned_heap}
 use Rattle.tlsf_c.specs.contracts.handle.Handle as handle
 use Rattle.tlsf_c.specs.contracts.loose.Loose as loose
 use Rattle.tlsf_c.specs.contracts.made.Made as made
@@ -69,7 +68,7 @@ module _ {M : Type 1} {𝓤 : Ura M} {𝓛 : Logic 𝓤} {K : Type 0} {Γ : List
       → Seq K 𝓛 (‵ (handle.the_row.own_val h vs) ∷ Γ) G
   handle_out t h vs k =
       fsplit t $ fpick t (λ vss. fsplit t $ feq_l t (λ ev. fsplit t $ feq_l t (λ ep. drop t $
-      in_a_block t h.at (λ p. owned_heap p h.value) (fst∗ 𝓤 (never 𝓤) (sem 𝓛 (chunk (bare (lone heap.the_row.mir)) null_ptr))) (λ b o e. k b o e
+      in_a_block t h.at (λ p. owned_heap p h.value) (fst∗ 𝓤 (never 𝓤) (sem 𝓛 (token (bare (lone heap.the_row.mir)) null_ptr))) (λ b o e. k b o e
       (subst (λ (p : Ptr). vs ≡ vstruct (of_list (ptr_val p ∷ [])) ∷ []) e (subst (λ (ps : List Val). vs ≡ vstruct (of_list (ps ++ [])) ∷ []) ep ev))))))
 
   pub handle_in : K → (b o : ℕ) (x : heap.the_row.Denot)

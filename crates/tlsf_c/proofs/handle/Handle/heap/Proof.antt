@@ -27,8 +27,8 @@ use denote.Triple.Walked.{says, Stays, stay_dropped, walk_of, ends_at, Goes-spen
 use Rattle.std.proofs.VecSteps.Shapes.{after}
 use Rattle.std.proofs.raw_atomic.Walks.{proved}
 use Rattle.std_alloc.specs.Box.Ownership.{box_owns}
-use Rattle.libc.specs.Heap.{chunk}
 use Rattle.tlsf_heap.specs.contracts.heap.Heap.{the_row as S}
+use Rattle.tlsf_c.specs.Owned.{token}
 use Rattle.tlsf_c.specs.Lends.{with_heap}
 use Rattle.tlsf_c.specs.contracts.handle.Handle.{the_row as R, the_type}
 use Rattle.tlsf_c.specs.declared.handle.Handle.{Handle}
@@ -43,7 +43,7 @@ stayed = (stay_dropped (mut_ref_to (0 ∷ []) tt (plain (λ _. R))) no, tt)
 -- what a handle owns but for the heap's value: the right to free its block, its fields, and its own place
 module _ (h : Handle) (us : List Val) (b o b' o' : ℕ) where
   abbrev Rest : Fml
-  Rest = fsep (fsep (chunk (bare (lone S.mir)) (block_ptr b' o')) ((Struct (shape the_type)).own_val (h.at, tt) us)) (cell_at full_share R.mir us b o)
+  Rest = fsep (fsep (token (bare (lone S.mir)) (block_ptr b' o')) ((Struct (shape the_type)).own_val (h.at, tt) us)) (cell_at full_share R.mir us b o)
 
   back : {M : Type 1} {𝓤 : Ura M} (𝓛 : Logic 𝓤) → h.at ≡ block_ptr b' o' → (w : S.Denot)
       → ent 𝓤 (sep 𝓤 (sem 𝓛 ((mem S).own_at w b' o')) (sem 𝓛 Rest)) (sem 𝓛 ((mem R).own_at (with_heap h w) b o))
@@ -51,7 +51,7 @@ module _ (h : Handle) (us : List Val) (b o b' o' : ℕ) where
   back 𝓛 e w =
       qed 𝓛 (‵ (part_at S full_share w b' o') ∷ ‵ Rest ∷ []) ∵ move ! (1 ∷ []) $ fsplit ! $ fsplit ! $
       -- [the right to free; the fields; the cell; the value]
-      move ! (3 ∷ 0 ∷ []) $ fjoin ! $ rewrite ! 0 (λ (p : Ptr). ‵ (box_owns (λ t q. chunk t q) S p w)) (sym e) refl $
+      move ! (3 ∷ 0 ∷ []) $ fjoin ! $ rewrite ! 0 (λ (p : Ptr). ‵ (box_owns (λ t q. token t q) S p w)) (sym e) refl $
       move ! (1 ∷ 0 ∷ []) $ fjoin ! $ move ! (1 ∷ 0 ∷ []) $ fjoin ! $
       fpack ! (List Val) (λ vs. fsep (cell_at full_share R.mir vs b o) (R.own_val (with_heap h w) vs)) us $ done !
 
@@ -68,7 +68,7 @@ heap_spec 𝓤 𝓛 𝓜 𝓡 wired =
     enter ! _ _ _ _ _ $ alloc_all ! (λ l. pass_all ! refl ((tt, tt), tt) $
     fsplit3 ! $ move ! (1 ∷ 2 ∷ 3 ∷ []) $ opens ! tt R b o (λ us.
     move ! (1 ∷ []) $ peeks ! R _ (shows 𝓛 R) h us (λ is. fsplit ! $ move ! (1 ∷ []) $
-    in_a_block ! h.at (λ p. box_owns (λ t r. chunk t r) S p h.value) (fst∗ 𝓤 (never 𝓤) (sem 𝓛 (chunk (bare (lone S.mir)) null_ptr))) (λ b' o' e. fsplit ! $
+    in_a_block ! h.at (λ p. box_owns (λ t r. token t r) S p h.value) (fst∗ 𝓤 (never 𝓤) (sem 𝓛 (token (bare (lone S.mir)) null_ptr))) (λ b' o' e. fsplit ! $
     -- [the value; the right to free; the fields; the handle's cell; the open borrow, in three entries]
     let word = lowers.val_is h us is ∙ ap (λ (p : Ptr). lowers.lowered (record h { at = p }) ∷ []) e in let Cell = λ (ws : List Val). ‵ (cell_at full_share R.mir ws b o) in
     rewrite ! 3 Cell word refl $ first ! $ blocks ! $
