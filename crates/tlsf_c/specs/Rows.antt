@@ -1,0 +1,14 @@
+-- What a walk puts into a C program's rows.
+use Rattle.std.specs.Prelude.{List, [], ◌∷◌}
+use Rattle.tlsf_heap.specs.declared.row.Row.{Row as HeapRow}
+use Rattle.tlsf_c.specs.declared.row.Row.{Row}
+
+-- the same row for C
+abbrev pub row_for : HeapRow → Row
+row_for row = record { place = row.place; size = row.size; used = row.used }
+
+-- the rows, as many as there is room for, and behind them what stood there
+unfoldable pub filled : List HeapRow → List Row → List Row
+filled [] room = room
+filled (row ∷ rows) [] = []
+filled (row ∷ rows) (other ∷ room) = row_for row ∷ filled rows room

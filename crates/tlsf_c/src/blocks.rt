@@ -1,0 +1,127 @@
+//! Blocks are asked for and given back.
+
+ghost use Rattle.std.specs.Prelude.{◌≡◌, ◌≢◌, ◌%◌, ◌<◌, ◌==◌, ◌⊎◌, Ok, Some};
+ghost use Rattle.tlsf_heap.specs.Touches.{AtMost};
+ghost use Rattle.tlsf_heap.specs.Counted.{IsUnchanged};
+ghost use Rattle.tlsf_heap.specs.GoodSlots.{slot_times};
+ghost use Rattle.tlsf_heap.specs.Content.{blocks_of};
+ghost use Rattle.tlsf_heap.specs.Malloc.{malloc as served};
+ghost use Rattle.tlsf_heap.specs.Memalign.{memalign as aligned};
+ghost use Rattle.tlsf_heap.specs.Free.{free as freed};
+ghost use Rattle.tlsf_heap.specs.Realloc.{realloc as reallocated};
+ghost use Rattle.tlsf_heap.specs.BlockSize.{block_size as sized};
+ghost use Rattle.tlsf_c.specs.Given.{given};
+ghost use Rattle.tlsf_c.specs.Status.{status_of};
+
+use crate::block::Block;
+use crate::handle::Handle;
+use crate::status::{SERVED, number};
+
+/// A live block of at least `bytes` bytes, which goes to `out`. At most 32 touches.
+///
+/// The status is 0 or the number of `ZeroSize`, `NoFit` or `TableFull`.
+#[unsafe(no_mangle)]
+pub extern "C" fn tlsf_malloc(handle: &mut Handle, bytes: u64, out: &mut Block) -> u32
+    ensures status { status_of (served out.new.slot bytes handle.old.value.content) ≡ result }
+    ensures ok { result ≡ 0 → served out.new.slot bytes handle.old.value.content ≡ Ok (out.new.place, handle.new.value.content) }
+    ensures slot_below { result ≡ 0 → out.new.slot < handle.old.value.content.records }
+    ensures slot_new { result ≡ 0 → slot_times out.new.slot (blocks_of handle.old.value.content.pools) ≡ 0 }
+    ensures unchanged { result ≢ 0 → IsUnchanged handle.old.value handle.new.value }
+    ensures out { result ≢ 0 → out.new ≡ out.old }
+    ensures bound { AtMost 32 handle.old.value.touches handle.new.value.touches }
+{
+    match handle.heap().malloc(bytes) {
+        Ok(ptr) => {
+            *out = Block::of(ptr);
+            SERVED
+        }
+        Err(refusal) => number(refusal),
+    }
+}
+
+/// A live block of at least `bytes` bytes that begins at a multiple of `align`, which goes to `out`. At most 56 touches.
+///
+/// The status is 0 or the number of `BadAlign`, `ZeroSize`, `NoFit` or `TableFull`.
+#[unsafe(no_mangle)]
+pub extern "C" fn tlsf_memalign(handle: &mut Handle, align: u64, bytes: u64, out: &mut Block) -> u32
+    ensures status { status_of (aligned out.new.slot align bytes handle.old.value.content) ≡ result }
+    ensures ok { result ≡ 0 → aligned out.new.slot align bytes handle.old.value.content ≡ Ok (out.new.place, handle.new.value.content) }
+    ensures multiple { result ≡ 0 → out.new.place % align ≡ 0 }
+    ensures slot_below { result ≡ 0 → out.new.slot < handle.old.value.content.records }
+    ensures slot_new { result ≡ 0 → slot_times out.new.slot (blocks_of handle.old.value.content.pools) ≡ 0 }
+    ensures unchanged { result ≢ 0 → IsUnchanged handle.old.value handle.new.value }
+    ensures out { result ≢ 0 → out.new ≡ out.old }
+    ensures bound { AtMost 56 handle.old.value.touches handle.new.value.touches }
+{
+    match handle.heap().memalign(align, bytes) {
+        Ok(ptr) => {
+            *out = Block::of(ptr);
+            SERVED
+        }
+        Err(refusal) => number(refusal),
+    }
+}
+
+/// The block becomes free. At most 50 touches.
+///
+/// The status is 0, or the number of `BadPointer` unless a live block has both the place and the slot.
+#[unsafe(no_mangle)]
+pub extern "C" fn tlsf_free(handle: &mut Handle, block: Block) -> u32
+    ensures status { status_of (freed (λ slot. slot == block.slot) block.place handle.old.value.content) ≡ result }
+    ensures ok { result ≡ 0 → freed (λ slot. slot == block.slot) block.place handle.old.value.content ≡ Ok handle.new.value.content }
+    ensures unchanged { result ≢ 0 → IsUnchanged handle.old.value handle.new.value }
+    ensures bound { AtMost 50 handle.old.value.touches handle.new.value.touches }
+{
+    match handle.heap().free(block.ptr()) {
+        Ok(()) => SERVED,
+        Err(refusal) => number(refusal),
+    }
+}
+
+/// The live block with room for `bytes` bytes, in its place or moved, which goes to `out`; which bytes are copied is the
+/// caller's. Where `bytes` is 0 the block becomes free, and `out` stays. At most 87 touches.
+///
+/// The status is 0 or the number of `BadPointer`, `NoFit` or `TableFull`.
+#[unsafe(no_mangle)]
+pub extern "C" fn tlsf_realloc(
+    handle: &mut Handle,
+    block: Block,
+    bytes: u64,
+    out: &mut Block,
+) -> u32
+    ensures status { status_of (reallocated (λ a b. a == b) out.new.slot (Some (block.place, block.slot)) bytes handle.old.value.content) ≡ result }
+    ensures ok { result ≡ 0 → reallocated (λ a b. a == b) out.new.slot (Some (block.place, block.slot)) bytes handle.old.value.content ≡ Ok (given bytes out.new.place out.new.slot, handle.new.value.content) }
+    ensures slot_below { result ≡ 0 → bytes ≢ 0 → out.new.slot < handle.old.value.content.records }
+    ensures unchanged { result ≢ 0 → IsUnchanged handle.old.value handle.new.value }
+    ensures out { (result ≢ 0) ⊎ (bytes ≡ 0) → out.new ≡ out.old }
+    ensures bound { AtMost 87 handle.old.value.touches handle.new.value.touches }
+{
+    match handle.heap().realloc(Some(block.ptr()), bytes) {
+        Ok(Some(ptr)) => {
+            *out = Block::of(ptr);
+            SERVED
+        }
+        Ok(None) => SERVED,
+        Err(refusal) => number(refusal),
+    }
+}
+
+/// The size of a live block, in bytes, which goes to `out`. At most two touches.
+///
+/// The status is 0, or the number of `BadPointer` unless a live block has both the place and the slot.
+#[unsafe(no_mangle)]
+pub extern "C" fn tlsf_block_size(handle: &mut Handle, block: Block, out: &mut u32) -> u32
+    ensures status { status_of (sized (λ slot. slot == block.slot) block.place handle.old.value.content) ≡ result }
+    ensures ok { result ≡ 0 → sized (λ slot. slot == block.slot) block.place handle.old.value.content ≡ Ok out.new }
+    ensures unchanged { IsUnchanged handle.old.value handle.new.value }
+    ensures out { result ≢ 0 → out.new ≡ out.old }
+    ensures bound { AtMost 2 handle.old.value.touches handle.new.value.touches }
+{
+    match handle.heap().block_size(block.ptr()) {
+        Ok(bytes) => {
+            *out = bytes;
+            SERVED
+        }
+        Err(refusal) => number(refusal),
+    }
+}

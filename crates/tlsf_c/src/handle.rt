@@ -1,0 +1,54 @@
+//! What a C program holds of a heap.
+
+ghost use Rattle.tlsf_heap.specs.Counted.{Counted};
+
+use crate::loose::Loose;
+use std::alloc::Global;
+use std::marker::Model;
+use tlsf_heap::Heap;
+
+/// A heap as a C program holds it: where it stands. It owns the heap and the memory that this stands in.
+#[repr(C)]
+pub struct Handle {
+    pub(crate) at: *mut u8,
+    pub ghost value: { Counted },
+}
+
+impl Model for Handle {
+    ghost use Rattle.tlsf_c.specs.Owned.{owned_heap};
+
+    ghost also_owns = { λ h. owned_heap h.at h.value };
+}
+
+impl Handle {
+    ghost use Rattle.std.specs.Prelude.{◌≡◌};
+    ghost use types.Logic.{sem};
+    ghost use Rattle.tlsf_c.specs.Lends.{LendsHeap};
+
+    /// The handle of a heap whose box was taken apart.
+    pub(crate) fn of_loose(loose: Loose<Heap, Global>) -> Handle
+        ensures { result.value ≡ loose.value }
+    {
+        let Loose { at, alloc: _ } = loose;
+        Handle { at: at as *mut u8 }
+    }
+
+    /// The parts of the heap's box.
+    pub(crate) fn into_loose(self, alloc: Global) -> Loose<Heap, Global>
+        ensures { result.value ≡ self.value }
+    {
+        let Handle { at } = self;
+        Loose {
+            at: at as *mut Heap,
+            alloc,
+        }
+    }
+
+    /// The heap, to be called.
+    pub(crate) fn heap(&mut self) -> &mut Heap
+        ensures* writes_back { sem 𝓛 (LendsHeap self.entry result) }
+        ensures value { result.now ≡ self.old.value }
+    {
+        unsafe { &mut *(self.at as *mut Heap) }
+    }
+}

@@ -1,0 +1,42 @@
+//! Pools come and go.
+
+ghost use Rattle.std.specs.Prelude.{◌≡◌, ◌≢◌, Ok};
+ghost use Rattle.tlsf_heap.specs.Touches.{AtMost};
+ghost use Rattle.tlsf_heap.specs.Counted.{IsUnchanged};
+ghost use Rattle.tlsf_heap.specs.Pools.{add_pool as added, remove_pool as removed};
+ghost use Rattle.tlsf_c.specs.Status.{status_of};
+
+use crate::handle::Handle;
+use crate::status::{SERVED, number};
+
+/// A pool of `bytes` bytes from the place `base` on, as one free block. At most 29 touches.
+///
+/// The status is 0 or the number of `BadPool`, `PoolsFull` or `TableFull`.
+#[unsafe(no_mangle)]
+pub extern "C" fn tlsf_add_pool(handle: &mut Handle, base: u64, bytes: u64) -> u32
+    ensures status { status_of (added base bytes handle.old.value.content) ≡ result }
+    ensures ok { result ≡ 0 → added base bytes handle.old.value.content ≡ Ok handle.new.value.content }
+    ensures unchanged { result ≢ 0 → IsUnchanged handle.old.value handle.new.value }
+    ensures bound { AtMost 29 handle.old.value.touches handle.new.value.touches }
+{
+    match handle.heap().add_pool(base, bytes) {
+        Ok(()) => SERVED,
+        Err(refusal) => number(refusal),
+    }
+}
+
+/// The pool that begins at the place `base` is gone. At most 30 touches.
+///
+/// The status is 0 or the number of `NoPool` or `PoolInUse`.
+#[unsafe(no_mangle)]
+pub extern "C" fn tlsf_remove_pool(handle: &mut Handle, base: u64) -> u32
+    ensures status { status_of (removed base handle.old.value.content) ≡ result }
+    ensures ok { result ≡ 0 → removed base handle.old.value.content ≡ Ok handle.new.value.content }
+    ensures unchanged { result ≢ 0 → IsUnchanged handle.old.value handle.new.value }
+    ensures bound { AtMost 30 handle.old.value.touches handle.new.value.touches }
+{
+    match handle.heap().remove_pool(base) {
+        Ok(()) => SERVED,
+        Err(refusal) => number(refusal),
+    }
+}

@@ -1,0 +1,74 @@
+//! The rows of a pool.
+
+ghost use Rattle.std.specs.Prelude.{◌≡◌, ◌≢◌, ◌^◌, ◌≤◌, Ok, IfOk, length, slice_set};
+ghost use Rattle.tlsf_heap.specs.Touches.{AtMost};
+ghost use Rattle.tlsf_heap.specs.Counted.{IsUnchanged};
+ghost use Rattle.tlsf_heap.specs.Cursors.{rows_behind, is_at_row};
+ghost use Rattle.tlsf_heap.specs.Rows.{rows_from};
+ghost use Rattle.tlsf_heap.specs.Walk.{walk_touches};
+ghost use Rattle.tlsf_c.specs.Rows.{filled};
+ghost use Rattle.tlsf_c.specs.Status.{status_of};
+
+use crate::handle::Handle;
+use crate::row::Row;
+use crate::status::{SERVED, number};
+use tlsf_heap::{Cursor, Heap};
+
+/// Puts the rows of the pool that begins at the place `base` into `rows`, from the first on, as many as there is room
+/// for, and into `count` how many the pool has. At most four touches, and one more for each row of the pool.
+///
+/// The status is 0, or the number of `NoPool` where no pool begins there.
+#[unsafe(no_mangle)]
+pub extern "C" fn tlsf_walk(
+    handle: &mut Handle,
+    base: u64,
+    rows: &mut [Row],
+    count: &mut u64,
+) -> u32
+    ensures status { status_of (rows_from base handle.old.value.content.pools) ≡ result }
+    ensures rows { IfOk (rows_from base handle.old.value.content.pools) (λ given. rows.new ≡ filled given rows.old) }
+    ensures count { IfOk (rows_from base handle.old.value.content.pools) (λ given. count.new ≡ length given) }
+    ensures rows_stay { result ≢ 0 → rows.new ≡ rows.old }
+    ensures count_stays { result ≢ 0 → count.new ≡ count.old }
+    ensures unchanged { IsUnchanged handle.old.value handle.new.value }
+    ensures bound { AtMost (walk_touches (rows_from base handle.old.value.content.pools)) handle.old.value.touches handle.new.value.touches }
+{
+    let heap = handle.heap();
+    heap.keeps_good();
+    match heap.first(base) {
+        Ok(cursor) => {
+            *count = fill(heap, cursor, rows);
+            SERVED
+        }
+        Err(refusal) => number(refusal),
+    }
+}
+
+/// Puts the rows from a cursor on into `rows`, as many as there is room for, and answers how many there are.
+fn fill(heap: &mut Heap, cursor: Cursor, rows: &mut [Row]) -> u64
+    requires stands { is_at_row heap.old.rows cursor }
+    requires few { length (rows_behind heap.old.rows cursor) ≤ 2 ^ 32 }
+    ensures count { result ≡ length (rows_behind heap.old.rows cursor) }
+    ensures rows { rows.new ≡ filled (rows_behind heap.old.rows cursor) rows.old }
+    ensures unchanged { IsUnchanged heap.old heap.new }
+    ensures bound { AtMost (length (rows_behind heap.old.rows cursor)) heap.old.touches heap.new.touches }
+{
+    let mut count = 0;
+    let mut here = cursor;
+    while let Some(next) = heap.row(here) {
+        put(rows, count, Row::of(next.0));
+        count += 1;
+        here = next.1;
+    }
+    count
+}
+
+/// Puts a row at an index, where there is room for it.
+fn put(rows: &mut [Row], index: u64, row: Row)
+    ensures { rows.new ≡ slice_set rows.old index row }
+{
+    let index = index as usize;
+    if index < rows.len() {
+        rows[index] = row;
+    }
+}
