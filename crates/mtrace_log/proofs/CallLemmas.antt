@@ -4,7 +4,7 @@ use Rattle.mtrace_log.specs.Trace.{HasGivenAll, HasNotFailed}
 use Rattle.mtrace_log.specs.Progress.{Progress, Status, Reading, Ended, Faulted, TakesLine, GivesLine, FindsEnd, GivesFault, CallsFor}
 use Rattle.mtrace_log.specs.declared.call.Call.{Call}
 use Rattle.mtrace_log.specs.declared.call.Call.TheVariants.{Gave, Ended as EndTold, Failed}
-use Rattle.mtrace_log.specs.declared.event.Event.{Event}
+use Rattle.mtrace_log.specs.Event.{Event}
 use Rattle.mtrace_log.specs.declared.event.LineFault.{LineFault}
 use Rattle.mtrace_log.specs.declared.line.Line.{Line}
 use Rattle.mtrace_log.specs.declared.line.ReadFault.{ReadFault}

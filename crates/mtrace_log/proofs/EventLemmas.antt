@@ -10,7 +10,7 @@ use Rattle.mtrace_log.specs.Form.{Form, Numbers, numbers_text, fields_text, form
 use Rattle.mtrace_log.specs.Form.Form.{alone, marked}
 use Rattle.mtrace_log.specs.Fields.{Finds, IsSize, AreNumbers, AreFields, HasForm}
 use Rattle.mtrace_log.specs.Reading.{Reads}
-use Rattle.mtrace_log.specs.declared.event.Event.{Event}
+use Rattle.mtrace_log.specs.Event.{Event}
 use Rattle.mtrace_log.specs.declared.event.Event.TheVariants.{Start, End, Alloc, Free, Old, New, Failed, Aligned}
 use Rattle.mtrace_log.specs.declared.event.LineFault.{LineFault}
 use Rattle.mtrace_log.specs.declared.event.LineFault.TheVariants.{TooLong, NotALine}

@@ -7,7 +7,7 @@ use Rattle.mtrace_log.specs.Spelling.{spell, IsEvent}
 use Rattle.mtrace_log.specs.Form.{Form, Numbers, numbers_text, fields_text, form_text, form}
 use Rattle.mtrace_log.specs.Form.Form.{alone, marked}
 use Rattle.mtrace_log.specs.Fields.{IsPointer, AreNumbers}
-use Rattle.mtrace_log.specs.declared.event.Event.{Event}
+use Rattle.mtrace_log.specs.Event.{Event}
 use Rattle.mtrace_log.specs.declared.event.Event.TheVariants.{Start, End, Alloc, Free, Old, New, Failed, Aligned}
 use Rattle.mtrace_log.proofs.TextLemmas.{split-same, Lacks-middle}
 use Rattle.mtrace_log.proofs.FieldLemmas.{Lacks-address_text, Lacks-pointer_text, Lacks-size_text, Lacks-location, address_text-same, pointer_text-same, size_text-same}

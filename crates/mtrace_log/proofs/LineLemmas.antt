@@ -6,7 +6,7 @@ use Rattle.mtrace_log.specs.Bytes.{Lacks, newline}
 use Rattle.mtrace_log.specs.Reading.{Reads}
 use Rattle.mtrace_log.specs.Lines.{lines_of, ReadAs}
 use Rattle.mtrace_log.specs.HasRead.{whole_lines}
-use Rattle.mtrace_log.specs.declared.event.Event.{Event}
+use Rattle.mtrace_log.specs.Event.{Event}
 use Rattle.mtrace_log.specs.declared.event.LineFault.{LineFault}
 
 -- one byte that is no newline

@@ -6,7 +6,7 @@ use Rattle.mtrace_log.specs.Bytes.{Lacks, newline}
 use Rattle.mtrace_log.specs.Lines.{lines_of, ReadAs}
 use Rattle.mtrace_log.specs.Progress.{Status, Reading, Ended, Faulted, Progress, to_come, TakesLine, GivesLine, FindsEnd, StopsReading, GivesFault}
 use Rattle.mtrace_log.specs.HasRead.{whole_lines, HasRead, HasReadAll, HasReadBefore, HasReadSo}
-use Rattle.mtrace_log.specs.declared.event.Event.{Event}
+use Rattle.mtrace_log.specs.Event.{Event}
 use Rattle.mtrace_log.specs.declared.event.LineFault.{LineFault}
 use Rattle.mtrace_log.specs.declared.line.Line.{Line}
 use Rattle.mtrace_log.specs.declared.line.ReadFault.{ReadFault}

@@ -8,7 +8,7 @@ use Rattle.mtrace_log.specs.Form.{Form, Numbers, numbers_text, fields_text, form
 use Rattle.mtrace_log.specs.Form.Form.{alone, marked}
 use Rattle.mtrace_log.specs.Fields.{IsPointer, IsSize, AreNumbers}
 use Rattle.mtrace_log.specs.Reading.{Reads}
-use Rattle.mtrace_log.specs.declared.event.Event.{Event}
+use Rattle.mtrace_log.specs.Event.{Event}
 use Rattle.mtrace_log.specs.declared.event.LineFault.{LineFault}
 use Rattle.mtrace_log.specs.declared.event.LineFault.TheVariants.{TooLong, NotALine}
 use Rattle.mtrace_log.proofs.TextLemmas.{AllByRecursion-append}

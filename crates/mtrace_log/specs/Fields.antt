@@ -2,7 +2,7 @@
 use Rattle.std.specs.Prelude.{◌≡◌, ◌≢◌, ℕ, ◌^◌, ◌<◌, List, Option, Some, None, IfSome, MatchOption, Result, Ok, Err}
 use Rattle.mtrace_log.specs.Address.{IsAddress}
 use Rattle.mtrace_log.specs.Form.{Form, Numbers, form}
-use Rattle.mtrace_log.specs.declared.event.Event.{Event}
+use Rattle.mtrace_log.specs.Event.{Event}
 use Rattle.mtrace_log.specs.declared.event.LineFault.{LineFault}
 use Rattle.mtrace_log.specs.declared.event.LineFault.TheVariants.{NotALine}
 

@@ -3,7 +3,7 @@ use Rattle.std.specs.Prelude.{ℕ, List, ◌∷◌, ◌++◌, codes, Option, Som
 use Rattle.mtrace_log.specs.Bytes.{space}
 use Rattle.mtrace_log.specs.Address.{address_text, pointer_text, size_text}
 use Rattle.mtrace_log.specs.Spelling.{location_text}
-use Rattle.mtrace_log.specs.declared.event.Event.{Event}
+use Rattle.mtrace_log.specs.Event.{Event}
 use Rattle.mtrace_log.specs.declared.event.Event.TheVariants.{Start, End, Alloc, Free, Old, New, Failed, Aligned}
 
 -- an alignment or none, and a size

@@ -5,6 +5,7 @@ pub mod Location
 pub mod Spelling
 pub mod Form
 pub mod Reading
+pub mod Event
 pub mod Fields
 pub mod Lines
 pub mod Trace

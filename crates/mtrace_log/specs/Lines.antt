@@ -3,7 +3,7 @@ use Rattle.std.specs.Prelude.{ℕ, ◌∷◌, [], List, Result, ◌==◌, if◌t
 use Rattle.std.specs.List.{onto_first}
 use Rattle.mtrace_log.specs.Bytes.{newline}
 use Rattle.mtrace_log.specs.Reading.{Reads}
-use Rattle.mtrace_log.specs.declared.event.Event.{Event}
+use Rattle.mtrace_log.specs.Event.{Event}
 use Rattle.mtrace_log.specs.declared.event.LineFault.{LineFault}
 
 -- The pieces between newlines, and behind the last newline what is left, if anything is: a newline

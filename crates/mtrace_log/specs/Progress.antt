@@ -3,7 +3,7 @@ use Rattle.std.specs.Prelude.{◌≡◌, ℕ, ◌+◌, ◌-◌, ◌^◌, ◌<◌
 use Rattle.std.specs.Io.KnownBytes.{prepend_known, IsAtEnd}
 use Rattle.mtrace_log.specs.Bytes.{Lacks, newline}
 use Rattle.mtrace_log.specs.Reading.{Reads}
-use Rattle.mtrace_log.specs.declared.event.Event.{Event}
+use Rattle.mtrace_log.specs.Event.{Event}
 use Rattle.mtrace_log.specs.declared.event.LineFault.{LineFault}
 use Rattle.mtrace_log.specs.Trace.{HasGiven, HasGivenAll, HasGivenAndFailed}
 use Rattle.mtrace_log.specs.declared.call.Call.{Call}

@@ -1,7 +1,7 @@
 -- What a line reads as.
 use Rattle.std.specs.Prelude.{◌≡◌, ◌≢◌, ℕ, ◌<◌, ◌≤◌, List, length, Result, Ok, Err}
 use Rattle.mtrace_log.specs.Spelling.{spell, IsEvent, longest_line}
-use Rattle.mtrace_log.specs.declared.event.Event.{Event}
+use Rattle.mtrace_log.specs.Event.{Event}
 use Rattle.mtrace_log.specs.declared.event.LineFault.{LineFault}
 use Rattle.mtrace_log.specs.declared.event.LineFault.TheVariants.{TooLong, NotALine}
 

@@ -4,7 +4,7 @@ use Rattle.std.specs.Prelude.{ℕ, ◌^◌, ◌<◌, List, [], ◌∷◌, ◌++�
 use Rattle.mtrace_log.specs.Bytes.{space}
 use Rattle.mtrace_log.specs.Address.{IsAddress, address_text, pointer_text, size_text}
 use Rattle.mtrace_log.specs.Location.{IsLocation}
-use Rattle.mtrace_log.specs.declared.event.Event.{Event}
+use Rattle.mtrace_log.specs.Event.{Event}
 use Rattle.mtrace_log.specs.declared.event.Event.TheVariants.{Start, End, Alloc, Free, Old, New, Failed, Aligned}
 
 -- the longest line of any event, in bytes without its newline

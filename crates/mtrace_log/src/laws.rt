@@ -6,7 +6,7 @@ ghost use Rattle.mtrace_log.specs.Reading.{Reads};
 ghost use Rattle.mtrace_log.specs.Lines.{lines_of};
 ghost use Rattle.mtrace_log.specs.HasRead.{whole_lines};
 ghost use Rattle.std.specs.List.{AllByRecursion};
-ghost use Rattle.mtrace_log.specs.declared.event.Event.{Event};
+ghost use Rattle.mtrace_log.specs.Event.{Event};
 ghost use Rattle.mtrace_log.specs.declared.event.LineFault.{LineFault};
 
 /// Each event's spelling is one line, which isn't too long.

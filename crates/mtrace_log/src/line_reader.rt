@@ -10,7 +10,7 @@ ghost use Rattle.mtrace_log.specs.declared.event.LineFault.TheVariants.{TooLong}
 use crate::addr::Addr;
 use crate::event::{Event, LineFault};
 use crate::hex;
-use crate::location::Location;
+use crate::location::LentLocation;
 use memchr::memchr;
 
 /// The longest line of any event, in bytes without its newline.
@@ -125,15 +125,18 @@ fn read_marked(bytes: &[u8]) -> Option<(u8, Option<Addr>, Option<Numbers>)>
     Some((mark, addr, numbers))
 }
 
-/// The event with this place, mark and fields. Each arm returns by itself, which saves a copy of the event.
+/// What a line says, with its location where it lies in the line.
+type Lent<'a> = Result<Event<LentLocation<'a>>, LineFault>;
+
+/// The event with this place, mark and fields.
 #[inline(always)]
-fn event_of(
-    at: Option<Location>,
+fn event_of<'a>(
+    at: Option<LentLocation<'a>>,
     mark: u8,
     addr: Option<Addr>,
     numbers: Option<Numbers>,
-) -> Result<Event, LineFault>
-    ensures { HasForm (marked at mark addr numbers) result }
+) -> Lent<'a>
+    ensures { HasForm (marked at.entry mark addr numbers) result }
 {
     match (mark, addr, numbers) {
         (b'+', addr, Some((None, size))) => return Ok(Event::Alloc { at, addr, size }),
@@ -165,7 +168,7 @@ fn behind_at(bytes: &[u8]) -> Option<&[u8]>
 }
 
 /// A line that isn't too long, and not behind `@ `.
-fn read_unlocated(bytes: &[u8]) -> Result<Event, LineFault>
+fn read_unlocated(bytes: &[u8]) -> Lent<'_>
     requires short { length bytes.now ≤ LONGEST_LINE }
     requires unlocated { (rest : List ℕ) → bytes.now ≢ codes "@ " ++ rest }
     ensures { Reads bytes.now result }
@@ -182,13 +185,12 @@ fn read_unlocated(bytes: &[u8]) -> Result<Event, LineFault>
     event_of(None, mark, addr, numbers)
 }
 
-/// What a line says, given without its newline.
+/// What a line says, given without its newline, with its location where it lies in the line.
 ///
 /// # Errors
 ///
-/// `TooLong` exactly where it has more bytes than [`LONGEST_LINE`], and `NotALine` exactly where it has no
-/// more and is the line of no event.
-pub fn read_line(bytes: &[u8]) -> Result<Event, LineFault>
+/// As [`read_line`].
+pub fn read_lent(bytes: &[u8]) -> Result<Event<LentLocation<'_>>, LineFault>
     // The event whose spelling the line is; or too long; or no event's spelling.
     ensures reads { Reads bytes.now result }
     ensures too_long { LONGEST_LINE < length bytes.now → result ≡ Err TooLong }
@@ -205,10 +207,33 @@ pub fn read_line(bytes: &[u8]) -> Result<Event, LineFault>
     let Some((mark, addr, numbers)) = read_marked(marked) else {
         return Err(LineFault::NotALine);
     };
-    // The location is made last, and once.
-    let at = Location::new(place);
+    let at = LentLocation::new(place);
     if at.is_none() {
         return Err(LineFault::NotALine);
     }
     event_of(at, mark, addr, numbers)
+}
+
+/// What a line says, with its location kept.
+pub(crate) fn kept(read: &Result<Event<LentLocation<'_>>, LineFault>) -> Result<Event, LineFault>
+    ensures { result ≡ read.now }
+{
+    match read {
+        Ok(event) => Ok(event.keep()),
+        Err(fault) => Err(*fault),
+    }
+}
+
+/// What a line says, given without its newline.
+///
+/// # Errors
+///
+/// `TooLong` exactly where it has more bytes than [`LONGEST_LINE`], and `NotALine` exactly where it has no
+/// more and is the line of no event.
+pub fn read_line(bytes: &[u8]) -> Result<Event, LineFault>
+    // The event whose spelling the line is; or too long; or no event's spelling.
+    ensures reads { Reads bytes.now result }
+    ensures too_long { LONGEST_LINE < length bytes.now → result ≡ Err TooLong }
+{
+    kept(&read_lent(bytes))
 }

@@ -37,19 +37,64 @@ fn are_location_bytes(bytes: &[u8]) -> bool
     all
 }
 
+/// A location where it lies, in the line that names it.
+#[derive(Drop)]
+pub struct LentLocation<'a> {
+    text: &'a [u8],
+}
+
+impl<'a> Model for LentLocation<'a> {
+    ghost use Rattle.std.specs.Prelude.{ℕ, List};
+    ghost use Rattle.mtrace_log.specs.Location.{IsLocation};
+
+    ghost Value = { List ℕ };
+
+    ghost view = { λ location. location.text.now };
+
+    ghost invariant = { λ location. IsLocation location.text.now };
+}
+
+impl<'a> LentLocation<'a> {
+    /// The location of these bytes, if they are one.
+    pub fn new(bytes: &'a [u8]) -> Option<LentLocation<'a>>
+        ensures { SomeIff result (IsLocation bytes.now) bytes.now }
+    {
+        if bytes.is_empty() || bytes.len() > LONGEST_LOCATION || !are_location_bytes(bytes) {
+            return None;
+        }
+        Some(LentLocation { text: bytes })
+    }
+
+    /// The location, kept.
+    pub fn keep(&self) -> Location
+        ensures { result ≡ self.now }
+    {
+        let mut text = ArrayVec::new();
+        if text.try_extend_from_slice(self.text).is_err() {
+            unreachable!();
+        }
+        Location { text }
+    }
+}
+
 impl Location {
     /// The location of these bytes, if they are one.
     pub fn new(bytes: &[u8]) -> Option<Self>
         ensures { SomeIff result (IsLocation bytes.now) bytes.now }
     {
-        if bytes.is_empty() || !are_location_bytes(bytes) {
+        let Some(lent) = LentLocation::new(bytes) else {
             return None;
+        };
+        Some(lent.keep())
+    }
+
+    /// The location, lent.
+    pub fn lend(&self) -> LentLocation<'_>
+        ensures { result ≡ self.now }
+    {
+        LentLocation {
+            text: self.text.as_slice(),
         }
-        let mut text = ArrayVec::new();
-        if text.try_extend_from_slice(bytes).is_err() {
-            return None;
-        }
-        Some(Location { text })
     }
 
     /// The bytes.
@@ -58,5 +103,25 @@ impl Location {
         ensures location { IsLocation result.now }
     {
         self.text.as_slice()
+    }
+}
+
+/// The location of an event, kept.
+pub fn kept_location(at: &Option<LentLocation<'_>>) -> Option<Location>
+    ensures { result ≡ at.now }
+{
+    match at {
+        Some(location) => Some(location.keep()),
+        None => None,
+    }
+}
+
+/// The location of an event, lent.
+pub(crate) fn lent_location(at: &Option<Location>) -> Option<LentLocation<'_>>
+    ensures { result ≡ at.now }
+{
+    match at {
+        Some(location) => Some(location.lend()),
+        None => None,
     }
 }

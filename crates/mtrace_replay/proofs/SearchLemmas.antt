@@ -1,8 +1,9 @@
 -- A search by halves: what is left, and how often it compares.
-use Rattle.std.proofs.Common.{◌≡◌, ℕ, zero, suc, ◌+◌, ◌-◌, ◌/◌, ◌^◌, ◌<◌, ◌≤◌, List, take, drop, length, is_some, true, slice_index_or, arith, Ordering, Less, Greater, refl, sym, subst}
-use Rattle.std.proofs.lemmas.List.{drop_all}
-use Rattle.std.specs.Ordering.{MatchOrdering}
+use Rattle.std.proofs.Common.{◌≡◌, ℕ, zero, suc, ◌+◌, ◌-◌, ◌/◌, ◌^◌, ◌<◌, ◌≤◌, ◌↔◌, List, [], ◌∷◌, take, drop, length, is_some, Bool, true, false, slice_index_or, arith, IsTrue, MatchBool, ⊥, ◌⊎◌, inl, inr, refl, sym, ◌∙◌, subst}
+use Rattle.std.proofs.lemmas.List.{drop_all, get_or_default}
+use Rattle.std.proofs.lemmas.Bool.{cases_lt}
 use Rattle.mtrace_replay.specs.declared.spot.Spot.{Spot}
+use Rattle.mtrace_replay.specs.declared.spot.Spot.TheVariants.{Held, Vacant}
 use Rattle.mtrace_replay.specs.Spot.{spot_address, least_behind, Holds, holding_of, RiseFrom, AreBelow, AreAbove}
 use Rattle.mtrace_replay.proofs.SpotLemmas.{below_up_to, above_from}
 
@@ -24,26 +25,22 @@ half_left digits before count left less can some fewer = by_rest can.rest refl
       enough = omega (arith, fewer, subst (λ r. left < 2 ^ r) is can.enough);
     }
 
--- what a comparison tells
-module _ (spot : Spot) (address : ℕ) where
-  pub less_tells : (order : Ordering) → MatchOrdering order (least_behind spot ≤ address) (Holds spot address) (address < spot_address spot) → order ≡ Less → least_behind spot ≤ address
-  less_tells order tells is = subst (λ o. MatchOrdering o (least_behind spot ≤ address) (Holds spot address) (address < spot_address spot)) is tells
+-- the address is held at the last of the first so many spots
+pub record IsLast (spots : List Spot) (address low : ℕ) : Type 0 where
+  pub some : 0 < low
+  pub there : (default : Spot) → Holds (slice_index_or spots (low - 1) default) address
 
-  pub greater_tells : (order : Ordering) → MatchOrdering order (least_behind spot ≤ address) (Holds spot address) (address < spot_address spot) → order ≡ Greater → address < spot_address spot
-  greater_tells order tells is = subst (λ o. MatchOrdering o (least_behind spot ≤ address) (Holds spot address) (address < spot_address spot)) is tells
-
--- the address is above what stands before `low`, and below what stands from `high` on
-pub record Searching (spots : List Spot) (address low high before count : ℕ) : Type 0 where
-  pub in_order : low ≤ high
-  pub within : high ≤ length spots
-  pub below : AreBelow address (take low spots)
-  pub above : AreAbove address (drop high spots)
-  pub afford : (digits : ℕ) → length spots < 2 ^ digits → Afford digits before count (high - low)
+-- The address is held at the last spot before `low`, or above all that stands there; and it is below what stands from so many
+-- spots on behind that are left.
+pub record Searching (spots : List Spot) (address low left : ℕ) (holds : Bool) (before count : ℕ) : Type 0 where
+  pub within : low + left ≤ length spots
+  pub below : MatchBool holds (IsLast spots address low) (AreBelow address (take low spots))
+  pub above : AreAbove address (drop (low + left) spots)
+  pub afford : (digits : ℕ) → length spots < 2 ^ digits → Afford digits before count left
 
 module _ (spots : List Spot) (address before : ℕ) where
-  pub from_start : Searching spots address 0 (length spots) before before
+  pub from_start : Searching spots address 0 (length spots) false before before
   from_start = record {
-    in_order = omega arith;
     within = omega arith;
     below = tt;
     above = subst (AreAbove address) (sym (drop_all (length spots) spots (omega arith))) tt;
@@ -56,33 +53,56 @@ pub record HeldAround (spots : List Spot) (room at distance : ℕ) : Type 0 wher
   pub held : (k : ℕ) → at ≤ k + distance → k < at + distance → k < length spots → (default : Spot) → is_some (holding_of (slice_index_or spots k default)) ≡ true
   pub full : length spots < at + distance → room ≤ length spots
 
-module _ (spots : List Spot) (address before low high count : ℕ) (rise : RiseFrom 0 spots) (has : Searching spots address low high before count) (some : low < high) where
+-- what stands behind a spot that reaches an address and doesn't hold it
+not_held : (spot : Spot) (address : ℕ) → (Holds spot address → ⊥) → spot_address spot ≤ address → least_behind spot ≤ address
+not_held (Held holding) address other reaches = by_order (cases_lt holding.entry.addr address)
+  where
+    by_order : (holding.entry.addr < address) ⊎ (address ≤ holding.entry.addr) → suc holding.entry.addr ≤ address
+    by_order (inl below) = below
+    by_order (inr above) = absurd (other (omega (arith, reaches, above)))
+not_held (Vacant vacant) address other reaches = reaches
+
+-- what is above an address is so from any spot on
+pub above_on : (address : ℕ) (spots : List Spot) (from more : ℕ) → AreAbove address (drop from spots) → AreAbove address (drop (from + more) spots)
+above_on address spots from zero above = subst (λ k. AreAbove address (drop k spots)) (omega arith) above
+above_on address [] from (suc more) above = subst (AreAbove address) (sym (drop_all (from + suc more) [] (omega arith))) tt
+above_on address (spot ∷ spots) zero (suc more) above = above_on address spots zero more above.1
+above_on address (spot ∷ spots) (suc from) (suc more) above = above_on address spots from (suc more) above
+
+module _ (spots : List Spot) (address before low left count : ℕ) (holds : Bool) (rise : RiseFrom 0 spots) (has : Searching spots address low left holds before count) (some : 0 < left)
+    (spot : Spot) (is : slice_index_or spots (low + (left - left / 2) - 1) spot ≡ spot) (after : ℕ) (counted : after ≡ count + 1) where
   abbrev pub middle : ℕ
-  middle = low + (high - low) / 2
+  middle = low + (left - left / 2) - 1
 
-  module _ (spot : Spot) (is : slice_index_or spots middle spot ≡ spot) (after : ℕ) (counted : after ≡ count + 1) where
-    next : suc middle ≡ middle + 1
-    next = omega arith
+  affords : (digits : ℕ) → length spots < 2 ^ digits → Afford digits before after (left / 2)
+  affords digits few = subst (λ n. Afford digits before n (left / 2)) (sym counted) (half_left digits before count left (left / 2) (has.afford digits few) some (omega arith))
 
-    -- the spot in the middle is below the address
-    pub go_above : least_behind spot ≤ address → Searching spots address (middle + 1) high before after
-    go_above less = record {
-      in_order = omega (arith, some);
-      within = has.within;
-      below = subst (λ k. AreBelow address (take k spots)) next (below_up_to spot address 0 spots middle rise (omega (arith, some, has.within))
-          (subst (λ s. least_behind s ≤ address) (sym is) less));
-      above = has.above;
-      afford = λ digits few. subst (λ n. Afford digits before n (high - (middle + 1))) (sym counted)
-          (half_left digits before count (high - low) (high - (middle + 1)) (has.afford digits few) (omega (arith, some)) (omega (arith, some)));
-    }
+  within : middle < length spots
+  within = omega (arith, some, has.within)
 
-    -- it is above the address
-    pub go_below : address < spot_address spot → Searching spots address low middle before after
-    go_below greater = record {
-      in_order = omega arith;
-      within = omega (arith, some, has.within);
-      below = has.below;
-      above = above_from spot address 0 spots middle rise (omega (arith, some, has.within)) (subst (λ s. address < spot_address s) (sym is) greater);
-      afford = λ digits few. subst (λ n. Afford digits before n (middle - low)) (sym counted)
-          (half_left digits before count (high - low) (middle - low) (has.afford digits few) (omega (arith, some)) (omega (arith, some)));
-    }
+  -- the spot in the middle doesn't reach the address
+  pub stays : address < spot_address spot → Searching spots address low (left / 2) holds before after
+  stays greater = record {
+    within = omega (arith, has.within);
+    below = has.below;
+    above = subst (λ k. AreAbove address (drop k spots)) (omega (arith, some)) (above_on address spots middle (low + left / 2 - middle)
+        (above_from spot address 0 spots middle rise within (subst (λ s. address < spot_address s) (sym is) greater)));
+    afford = affords;
+  }
+
+  -- it does
+  pub goes_on : (there : Bool) → (IsTrue there ↔ Holds spot address) → spot_address spot ≤ address → Searching spots address (low + (left - left / 2)) (left / 2) there before after
+  goes_on there tells reaches = record {
+    within = omega (arith, has.within);
+    below = by_there there tells;
+    above = subst (λ k. AreAbove address (drop k spots)) (omega arith) has.above;
+    afford = affords;
+  }
+    where
+      by_there : (there : Bool) → (IsTrue there ↔ Holds spot address) → MatchBool there (IsLast spots address (low + (left - left / 2))) (AreBelow address (take (low + (left - left / 2)) spots))
+      by_there true tells = record { some = omega (arith, some); there = λ default. subst (λ s. Holds s address) (other_default default) (tells.0 tt) }
+        where
+          other_default : (default : Spot) → spot ≡ slice_index_or spots middle default
+          other_default default = sym is ∙ get_or_default spots middle spot default within
+      by_there false tells = subst (λ k. AreBelow address (take k spots)) (omega (arith, some)) (below_up_to spot address 0 spots middle rise within
+          (subst (λ s. least_behind s ≤ address) (sym is) (not_held spot address (λ held. tells.1 held) reaches)))

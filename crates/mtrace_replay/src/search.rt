@@ -7,11 +7,11 @@ ghost use Rattle.mtrace_replay.specs.Search.{StandsAt, FitsAt, Compares, IsVacan
 
 use crate::spot::Spot;
 use mtrace_log::Addr;
-use std::cmp::Ordering;
 use tlsf_store::GhostCount;
 
 /// Where the spot of the address is; or else where it would be, in order of address. It halves what is left, and
-/// compares at most as many addresses as the number of spots has binary digits.
+/// compares as many addresses as the number of spots has binary digits. What a comparison tells is added and not tested,
+/// so that there is no branch to guess; whether the address is held is that of the last spot that reaches it.
 pub(crate) fn search(
     spots: &[Spot],
     comparisons: &mut GhostCount,
@@ -23,16 +23,17 @@ pub(crate) fn search(
     ensures compared { Compares (length spots.now) comparisons.old.count comparisons.new.count }
 {
     let mut low = 0;
-    let mut high = spots.len();
-    while low < high {
-        let middle = low + (high - low) / 2;
-        match spots[middle].compare(address, comparisons) {
-            Ordering::Less => low = middle + 1,
-            Ordering::Equal => return Ok(middle),
-            Ordering::Greater => high = middle,
-        }
+    let mut left = spots.len();
+    let mut holds = false;
+    while left > 0 {
+        let half = left / 2;
+        let step = left - half;
+        let standing = spots[low + step - 1].compare(address, comparisons);
+        low += step * standing.reaches;
+        holds = holds & (standing.reaches == 0) | standing.holds;
+        left = half;
     }
-    Err(low)
+    if holds { Ok(low - 1) } else { Err(low) }
 }
 
 /// The vacant spot that is nearest to a place between two spots, or the end where that is nearer.

@@ -1,14 +1,12 @@
 //! A spot of the index: an address, and what is held under it, if anything is.
 
-ghost use Rattle.std.specs.Prelude.{◌≡◌, ◌+◌, ◌<◌, ◌≤◌, option_map, option_to_list, not, is_some};
-ghost use Rattle.std.specs.Ordering.{MatchOrdering};
+ghost use Rattle.std.specs.Prelude.{◌≡◌, ◌+◌, ◌<◌, ◌≤◌, ◌↔◌, IsTrue, option_map, option_to_list, not, is_some};
 ghost use Rattle.mtrace_replay.specs.declared.spot.Spot.TheVariants.{Vacant};
 ghost use Rattle.mtrace_replay.specs.Index.{held_bytes};
-ghost use Rattle.mtrace_replay.specs.Spot.{spot_address, least_behind, Holds, holding_of};
+ghost use Rattle.mtrace_replay.specs.Spot.{spot_address, Holds, holding_of};
 
 use crate::holding::Holding;
 use mtrace_log::Addr;
-use std::cmp::Ordering;
 use tlsf_heap::Ptr;
 use tlsf_store::GhostCount;
 
@@ -19,6 +17,25 @@ pub(crate) enum Spot {
     Held(Holding),
     /// Nothing is held: the address was, or it is that of the next spot that is.
     Vacant(Addr),
+}
+
+/// How a spot stands to an address.
+#[derive(Clone, Copy)]
+pub(crate) struct Standing {
+    /// 1 where the spot's own address is at most that one, else 0.
+    pub reaches: usize,
+    /// Whether the address is held there.
+    pub holds: bool,
+}
+
+/// 1 where the first number is at most the second, else 0. Without a test, so that the search which adds by it has no
+/// branch to guess.
+fn at_most(first: u64, second: u64) -> usize
+    ensures one_or_none { result ≤ 1 }
+    ensures at_most { result ≡ 1 → first ≤ second }
+    ensures above { result ≡ 0 → second < first }
+{
+    (((1 << 64) + u128::from(second) - u128::from(first)) >> 64) as usize
 }
 
 impl Spot {
@@ -32,15 +49,19 @@ impl Spot {
         }
     }
 
-    /// How the spot stands to an address; a vacant one stands before its own. The one way to compare, which counts.
-    pub(crate) fn compare(&self, address: Addr, comparisons: &mut GhostCount) -> Ordering
-        ensures order { MatchOrdering result (least_behind self.now ≤ address) (Holds self.now address) (address < spot_address self.now) }
+    /// How the spot stands to an address. The one way to compare, which counts.
+    pub(crate) fn compare(&self, address: Addr, comparisons: &mut GhostCount) -> Standing
+        ensures one_or_none { result.reaches ≤ 1 }
+        ensures reaches { result.reaches ≡ 1 → spot_address self.now ≤ address }
+        ensures above { result.reaches ≡ 0 → address < spot_address self.now }
+        ensures holds { IsTrue result.holds ↔ Holds self.now address }
         ensures counted { comparisons.new.count ≡ comparisons.old.count + 1 }
     {
         comparisons.tick();
-        match self.address().cmp(&address) {
-            Ordering::Equal if self.is_vacant() => Ordering::Less,
-            order => order,
+        let own = self.address();
+        Standing {
+            reaches: at_most(own.value(), address.value()),
+            holds: own == address && !self.is_vacant(),
         }
     }
 

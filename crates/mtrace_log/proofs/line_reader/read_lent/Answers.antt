@@ -2,7 +2,7 @@ use Rattle.std.proofs.Common.{Some, length, sym, ◌∙◌, ◌≤◌, subst, ar
 use Rattle.mtrace_log.specs.Spelling.{longest_line}
 use Rattle.mtrace_log.specs.Reading.{Reads}
 use Rattle.mtrace_log.proofs.EventLemmas.{ReadsBehind, made-none, made-some, located-no_space, located-cut, located-from_behind, behind-no_fields, behind-from_form}
-use Rattle.mtrace_log.proofs.line_reader.read_line.Goals as goal
+use Rattle.mtrace_log.proofs.line_reader.read_lent.Goals as goal
 
 pub returns-in_default-split_at_space-clause-reads : goal.returns-in_default-split_at_space-clause-reads
 returns-in_default-split_at_space-clause-reads c = (
