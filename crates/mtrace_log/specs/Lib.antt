@@ -10,6 +10,7 @@ pub mod Fields
 pub mod Lines
 pub mod Trace
 pub mod Output
+pub mod Buffer
 pub mod Progress
 pub mod State
 pub mod LineBuffer

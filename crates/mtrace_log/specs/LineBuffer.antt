@@ -1,5 +1,5 @@
 -- What the buffer of a line holds, and how a piece of a text ended.
-use Rattle.std.specs.Prelude.{◌≡◌, ℕ, ◌<◌, List, [], ◌∷◌, ◌++◌, length, Option, Bool, MatchBool}
+use Rattle.std.specs.Prelude.{◌≡◌, ℕ, ◌<◌, List, [], ◌∷◌, ◌++◌, length, Option, Some, None, Bool, MatchBool, if◌then◌else◌}
 use Rattle.std.specs.Io.KnownBytes.{prepend_known, IsAtEnd}
 use Rattle.mtrace_log.specs.Bytes.{Lacks, newline}
 use Rattle.mtrace_log.specs.Spelling.{longest_line}
@@ -12,6 +12,10 @@ use Rattle.mtrace_log.specs.declared.pieces.Stop.TheVariants.{Newline, End, Fail
 -- the buffer holds the piece, or knows that it is too long to be kept
 abbrev pub Holds : LineBuffer → List ℕ → Type 0
 Holds buffer piece = MatchBool buffer.too_long (longest_line < length piece) (buffer.bytes.items ≡ piece)
+
+-- the bytes of a line, where they are few enough to be kept
+abbrev pub kept_bytes : LineBuffer → Option (List ℕ)
+kept_bytes buffer = if buffer.too_long then None else Some buffer.bytes.items
 
 -- what stood unread before the first newline came onto the line, and the newline was passed over; or,
 -- where there was none, all of it, and nothing is unread

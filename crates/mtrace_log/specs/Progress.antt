@@ -5,6 +5,7 @@ use Rattle.mtrace_log.specs.Bytes.{Lacks, newline}
 use Rattle.mtrace_log.specs.Reading.{Reads}
 use Rattle.mtrace_log.specs.Event.{Event}
 use Rattle.mtrace_log.specs.declared.event.LineFault.{LineFault}
+use Rattle.mtrace_log.specs.declared.event.LineFault.TheVariants.{TooLong}
 use Rattle.mtrace_log.specs.Trace.{HasGiven, HasGivenAll, HasGivenAndFailed}
 use Rattle.mtrace_log.specs.declared.call.Call.{Call}
 use Rattle.mtrace_log.specs.declared.line.Line.{Line}
@@ -17,11 +18,18 @@ pub data Status : Type 0 where
   Ended : Status
   Faulted : ReadFault → Status
 
--- the bytes asked of a reader that belong to no line yet, how many lines were given, and the status
+-- the bytes asked of a reader that belong to no line yet, how many lines were given, the status, and the bytes of the
+-- line that was passed last, unless it was too long to be kept
 pub record Progress : Type 0 where
   pub held : List ℕ
   pub count : ℕ
   pub status : Status
+  pub last : Option (List ℕ)
+
+-- what a line says whose bytes are kept, or that is too long
+abbrev pub Says : Option (List ℕ) → Result Event LineFault → Type 0
+Says (Some bytes) answer = Reads bytes answer
+Says None answer = answer ≡ Err TooLong
 
 -- the text to come: the bytes held, and then what the reader has left
 abbrev pub to_come : Progress → Option (List ℕ) → Option (List ℕ)
@@ -50,6 +58,11 @@ pub record GivesLine (old new : Progress) (before after : Option (List ℕ)) (li
   pub number : line.number ≡ old.count + 1
   pub count : new.count ≡ line.number
   pub taken : TakesLine new.status before after line.event
+
+-- a call passed over a line: whatever that says, it is the next one of the text, with this number
+abbrev pub PassesLine : (old new : Progress) (before after : Option (List ℕ)) → ℕ → Type 0
+PassesLine old new before after number =
+    (answer : Result Event LineFault) → Says new.last answer → GivesLine old new before after (record { number = number; event = answer })
 
 -- what a call that gave no line found: the end of the text, or that it was told before, and then it
 -- asked nothing and changed nothing
@@ -81,8 +94,8 @@ CallsFor (Faulted ReaderFailed) old new = HasGivenAndFailed old new
 CallsFor (Faulted TooManyLines) old new = HasGiven old new
 
 -- what a call does while lines are read
-abbrev pub ReadsOn : {R : Type 0} → (left : R → Option (List ℕ)) → (trace : R → List Call) → (old new : Progress) → (reader_old reader_new : R) → Result (Option Line) ReadFault → Type 0
-ReadsOn left trace old new reader_old reader_new (Ok (Some line)) = GivesLine old new (to_come old (left reader_old)) (to_come new (left reader_new)) line
+abbrev pub ReadsOn : {R : Type 0} → (left : R → Option (List ℕ)) → (trace : R → List Call) → (old new : Progress) → (reader_old reader_new : R) → Result (Option ℕ) ReadFault → Type 0
+ReadsOn left trace old new reader_old reader_new (Ok (Some number)) = PassesLine old new (to_come old (left reader_old)) (to_come new (left reader_new)) number
     × CallsFor new.status (trace reader_old) (trace reader_new)
 ReadsOn left trace old new reader_old reader_new (Ok None) = (new.status ≡ Ended)
     × FindsEnd Reading old new reader_old reader_new (to_come old (left reader_old)) (to_come new (left reader_new))

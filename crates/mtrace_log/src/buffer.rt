@@ -1,7 +1,7 @@
 //! The bytes that were asked of a reader and aren't read yet.
-ghost use Rattle.std.specs.Prelude.{◌≡◌, ℕ, ◌+◌, ◌<◌, ◌≤◌, ◌==◌, ◌++◌, ◌∷◌, List, [], length, drop, MatchOption, IfOk, OnErr};
+ghost use Rattle.std.specs.Prelude.{◌≡◌, ℕ, ◌<◌, ◌==◌, ◌∷◌, [], length, IfOk, OnErr};
 ghost use Rattle.std.specs.Io.KnownBytes.{prepend_known, IsAtEnd};
-ghost use Rattle.mtrace_log.specs.Bytes.{Lacks, newline};
+ghost use Rattle.mtrace_log.specs.Buffer.{Buffered, TakesLine};
 ghost use Rattle.mtrace_log.specs.Trace.{pulled};
 
 use crate::failed::Failed;
@@ -12,90 +12,100 @@ use std::marker::Model;
 /// How many bytes a buffer holds.
 const BUFFER_SIZE: usize = 4096;
 
-/// The bytes from `start` up to `end` are unread.
+/// The bytes from `start` up to `end` are unread. Those from `line` up to `line_end` are the line that was taken last.
 #[derive(Drop)]
 pub(crate) struct Buffer {
     bytes: [u8; BUFFER_SIZE],
     start: usize,
     end: usize,
+    line: usize,
+    line_end: usize,
 }
 
 impl Model for Buffer {
-    ghost use Rattle.std.specs.Prelude.{ℕ, List, ◌≤◌, slice_range};
+    ghost use Rattle.std.specs.Prelude.{◌≤◌, slice_range};
+    ghost use Rattle.mtrace_log.specs.Buffer.{Buffered};
 
-    ghost Value = { List ℕ };
+    ghost Value = { Buffered };
 
-    ghost view = { λ buffer. slice_range buffer.bytes buffer.start buffer.end };
+    ghost view = { λ buffer. record {
+      unread = slice_range buffer.bytes buffer.start buffer.end;
+      line = slice_range buffer.bytes buffer.line buffer.line_end;
+    } };
 
-    ghost invariant = { λ buffer. (buffer.start ≤ buffer.end) × (buffer.end ≤ 4096) };
+    ghost invariant = { λ buffer. (buffer.start ≤ buffer.end) × (buffer.end ≤ 4096)
+        × (buffer.line ≤ buffer.line_end) × (buffer.line_end ≤ 4096) };
 }
 
 impl Buffer {
     /// No byte.
     pub(crate) fn new() -> Self
-        ensures { result ≡ [] }
+        ensures { result ≡ record { unread = []; line = [] } }
     {
         Buffer {
             bytes: [0; BUFFER_SIZE],
             start: 0,
             end: 0,
+            line: 0,
+            line_end: 0,
         }
     }
 
     /// Whether each byte is read.
     pub(crate) fn is_empty(&self) -> bool
-        ensures { result ≡ (length self.now == 0) }
+        ensures { result ≡ (length self.now.unread == 0) }
     {
         self.start == self.end
     }
 
     /// The unread bytes.
     pub(crate) fn unread(&self) -> &[u8]
-        ensures { result.now ≡ self.now }
+        ensures { result.now ≡ self.now.unread }
     {
         &self.bytes[self.start..self.end]
     }
 
-    /// The unread bytes before the first newline, if there is one.
-    pub(crate) fn first_line(&self) -> Option<&[u8]>
-        ensures { MatchOption result (Lacks newline self.now)
-            (λ line. Lacks newline line.now × (self.now ≡ line.now ++ newline ∷ drop (length line.now + 1) self.now)) }
+    /// Takes the unread bytes before the first newline as a line, and passes over the newline; false where there is none.
+    pub(crate) fn take_line(&mut self) -> bool
+        ensures { TakesLine result self.old self.new }
     {
-        let unread = self.unread();
-        let Some(at) = memchr(b'\n', unread) else {
-            return None;
+        let Some(len) = memchr(b'\n', self.unread()) else {
+            return false;
         };
-        Some(&unread[..at])
+        self.line = self.start;
+        self.line_end = self.start + len;
+        self.start = self.line_end + 1;
+        true
     }
 
-    /// So many bytes are read.
-    pub(crate) fn skip(&mut self, count: usize)
-        requires { count ≤ length self.old }
-        ensures { self.new ≡ drop count self.old }
+    /// The line that was taken last, until the buffer is filled again.
+    pub(crate) fn line(&self) -> &[u8]
+        ensures { result.now ≡ self.now.line }
     {
-        self.start += count;
+        &self.bytes[self.line..self.line_end]
     }
 
     /// Each byte is read.
     pub(crate) fn skip_all(&mut self)
-        ensures { self.new ≡ [] }
+        ensures { self.new ≡ record self.old { unread = [] } }
     {
         self.start = self.end;
     }
 
     /// Asks the reader once for a buffer of bytes, where none is unread, and answers how many it gave.
     pub(crate) fn refill<R: Source>(&mut self, reader: &mut R) -> Result<usize, Failed>
-        requires { self.old ≡ [] }
-        ensures count { IfOk result (λ count. length self.new ≡ count) }
-        ensures bytes { IfOk result (λ count. R.left reader.old ≡ prepend_known self.new (R.left reader.new)) }
+        requires { self.old.unread ≡ [] }
+        ensures count { IfOk result (λ count. length self.new.unread ≡ count) }
+        ensures bytes { IfOk result (λ count. R.left reader.old ≡ prepend_known self.new.unread (R.left reader.new)) }
         ensures end { IfOk result (λ count. count ≡ 0 → IsAtEnd (R.left reader.new)) }
         ensures falls { IfOk result (λ count. 0 < count → R.budget reader.new < R.budget reader.old) }
-        ensures failed { OnErr result ((self.new ≡ []) × (R.left reader.new ≡ R.left reader.old)) }
+        ensures failed { OnErr result ((self.new.unread ≡ []) × (R.left reader.new ≡ R.left reader.old)) }
         ensures told { R.trace reader.new ≡ pulled result ∷ R.trace reader.old }
     {
         let count = reader.pull(&mut self.bytes)?;
         self.start = 0;
         self.end = count;
+        self.line_end = self.line;
         Ok(count)
     }
 }

@@ -1,9 +1,10 @@
 ghost use Rattle.std.specs.Prelude.{◌≡◌, ℕ, ◌++◌, [], List, length, IsTrue, ◌↔◌};
-ghost use Rattle.mtrace_log.specs.LineBuffer.{Holds};
-ghost use Rattle.mtrace_log.specs.Reading.{Reads};
+ghost use Rattle.mtrace_log.specs.LineBuffer.{Holds, kept_bytes};
+ghost use Rattle.mtrace_log.specs.Progress.{Says};
 
 use crate::event::{Event, LineFault};
-use crate::line_reader::{LONGEST_LINE, read_line};
+use crate::line_reader::{LONGEST_LINE, read_lent};
+use crate::location::LentLocation;
 use arrayvec::ArrayVec;
 
 /// The bytes of one line, as long as they are few enough to be kept.
@@ -41,12 +42,12 @@ impl LineBuffer {
     }
 
     /// What the line says.
-    pub(crate) fn read(&self) -> Result<Event, LineFault>
-        ensures { (piece : List ℕ) → Holds self.now piece → Reads piece result }
+    pub(crate) fn read(&self) -> Result<Event<LentLocation<'_>>, LineFault>
+        ensures { Says (kept_bytes self.now) result }
     {
         if self.too_long {
             return Err(LineFault::TooLong);
         }
-        read_line(self.bytes.as_slice())
+        read_lent(self.bytes.as_slice())
     }
 }

@@ -1,13 +1,14 @@
-ghost use Rattle.std.specs.Prelude.{◌≡◌, ℕ, ◌+◌, ◌<◌, List, [], length, IfOk, IfErr, IfSome, IfNone, Result};
-ghost use Rattle.mtrace_log.specs.Progress.{Progress, Reading, Ended, to_come, greatest_number, GivesLine, FindsEnd, GivesFault, ReadsOn, CallsFor};
-ghost use Rattle.mtrace_log.specs.State.{status_of};
+ghost use Rattle.std.specs.Prelude.{◌≡◌, ◌<◌, [], Some, IfOk, IfErr, IfSome, IfNone};
+ghost use Rattle.mtrace_log.specs.Progress.{Reading, Ended, to_come, greatest_number, Says, GivesLine, PassesLine, FindsEnd, GivesFault, ReadsOn, CallsFor};
 ghost use Rattle.mtrace_log.specs.declared.line.ReadFault.TheVariants.{ReaderFailed};
 
 use crate::buffer::Buffer;
 use crate::event::{Event, LineFault};
 use crate::failed::Failed;
 use crate::line::{Line, ReadFault};
-use crate::line_reader::read_line;
+use crate::line_buffer::LineBuffer;
+use crate::line_reader::{kept, read_lent};
+use crate::location::LentLocation;
 use crate::pieces::{Stop, read_piece};
 use crate::source::Source;
 use std::marker::Model;
@@ -35,6 +36,9 @@ enum State {
 #[derive(Drop)]
 pub struct Lines {
     buffer: Buffer,
+    // The line that was passed last, where it wasn't whole in the buffer.
+    across: LineBuffer,
+    is_across: bool,
     count: u64,
     state: State,
 }
@@ -42,24 +46,31 @@ pub struct Lines {
 impl Model for Lines {
     ghost use Rattle.std.specs.Prelude.{◌≡◌, []};
     ghost use Rattle.mtrace_log.specs.Progress.{Progress, Faulted};
-    ghost use Rattle.mtrace_log.specs.State.{status_of};
+    ghost use Rattle.mtrace_log.specs.State.{status_of, last_of};
     ghost use Rattle.mtrace_log.specs.declared.line.ReadFault.TheVariants.{ReaderFailed};
 
     ghost Value = { Progress };
 
-    ghost view = { λ lines. record { held = lines.buffer; count = lines.count; status = status_of lines.state } };
+    ghost view = { λ lines. record {
+      held = lines.buffer.unread;
+      count = lines.count;
+      status = status_of lines.state;
+      last = last_of lines.is_across lines.across lines.buffer;
+    } };
 
     // The reader is asked only where no byte is unread, so nothing is held once it failed.
-    ghost invariant = { λ lines. status_of lines.state ≡ Faulted ReaderFailed → lines.buffer ≡ [] };
+    ghost invariant = { λ lines. status_of lines.state ≡ Faulted ReaderFailed → lines.buffer.unread ≡ [] };
 }
 
 impl Lines {
     /// No line is read yet.
     pub fn new() -> Self
-        ensures { result ≡ record { held = []; count = 0; status = Reading } }
+        ensures { result ≡ record { held = []; count = 0; status = Reading; last = Some [] } }
     {
         Lines {
             buffer: Buffer::new(),
+            across: LineBuffer::new(),
+            is_across: false,
             count: 0,
             state: State::Reading,
         }
@@ -87,6 +98,33 @@ impl Lines {
         // Where the reader failed, all that it gave is taken: the text to come is what it has left.
         ensures nothing_held { IfErr result (λ fault. fault ≡ ReaderFailed → self.new.held ≡ []) }
     {
+        match self.advance(reader) {
+            Ok(Some(number)) => {
+                let event = kept(&self.event());
+                Ok(Some(Line { number, event }))
+            }
+            Ok(None) => Ok(None),
+            Err(fault) => Err(fault),
+        }
+    }
+
+    /// Passes over the next line, and answers its number: [`Lines::next`] but for what the line says, which is
+    /// [`Lines::event`] then, until the next call.
+    ///
+    /// # Errors
+    ///
+    /// As [`Lines::next`].
+    pub fn advance<R: Source>(&mut self, reader: &mut R) -> Result<Option<u64>, ReadFault>
+        ensures line { IfOk result (λ found. IfSome found (λ number. PassesLine self.old self.new
+            (to_come self.old (R.left reader.old)) (to_come self.new (R.left reader.new)) number)) }
+        ensures end { IfOk result (λ found. IfNone found ((self.new.status ≡ Ended)
+            × FindsEnd self.old.status self.old self.new reader.old reader.new
+            (to_come self.old (R.left reader.old)) (to_come self.new (R.left reader.new)))) }
+        ensures fault { IfErr result (λ fault. GivesFault self.old.status fault self.old self.new reader.old reader.new
+            (to_come self.old (R.left reader.old)) (to_come self.new (R.left reader.new))) }
+        ensures calls { self.old.status ≡ Reading → CallsFor self.new.status (R.trace reader.old) (R.trace reader.new) }
+        ensures nothing_held { IfErr result (λ fault. fault ≡ ReaderFailed → self.new.held ≡ []) }
+    {
         match self.state {
             State::Reading => self.read_next(reader),
             State::Ended => Ok(None),
@@ -95,8 +133,19 @@ impl Lines {
         }
     }
 
-    /// The next line, while lines are read.
-    fn read_next<R: Source>(&mut self, reader: &mut R) -> Result<Option<Line>, ReadFault>
+    /// What the line says that was passed last, with its location where it lies; before the first, what an empty line says.
+    pub fn event(&self) -> Result<Event<LentLocation<'_>>, LineFault>
+        ensures { Says self.now.last result }
+    {
+        if self.is_across {
+            self.across.read()
+        } else {
+            read_lent(self.buffer.line())
+        }
+    }
+
+    /// Passes over the next line, while lines are read.
+    fn read_next<R: Source>(&mut self, reader: &mut R) -> Result<Option<u64>, ReadFault>
         requires { self.old.status ≡ Reading }
         ensures reads { ReadsOn R.left R.trace self.old self.new reader.old reader.new result }
         ensures nothing_held { IfErr result (λ fault. fault ≡ ReaderFailed → self.new.held ≡ []) }
@@ -104,17 +153,16 @@ impl Lines {
         if self.count == u64::MAX {
             return self.find_end(reader);
         }
-        let Some(bytes) = self.buffer.first_line() else {
+        if !self.buffer.take_line() {
             return self.read_across(reader);
-        };
-        let event = read_line(bytes);
-        let count = bytes.len();
-        self.buffer.skip(count + 1);
-        Ok(Some(self.give(event)))
+        }
+        self.is_across = false;
+        self.count += 1;
+        Ok(Some(self.count))
     }
 
-    /// The next line, where its newline isn't in the buffer.
-    fn read_across<R: Source>(&mut self, reader: &mut R) -> Result<Option<Line>, ReadFault>
+    /// Passes over the next line, where its newline isn't in the buffer.
+    fn read_across<R: Source>(&mut self, reader: &mut R) -> Result<Option<u64>, ReadFault>
         requires reading { self.old.status ≡ Reading }
         requires room { self.old.count < greatest_number }
         ensures reads { ReadsOn R.left R.trace self.old self.new reader.old reader.new result }
@@ -122,23 +170,26 @@ impl Lines {
     {
         let (line, stop) = read_piece(&mut self.buffer, reader);
         match stop {
-            Stop::Newline => Ok(Some(self.give(line.read()))),
+            Stop::Newline => {}
             Stop::Failed => {
                 self.state = State::Failed;
-                Err(ReadFault::ReaderFailed)
+                return Err(ReadFault::ReaderFailed);
             }
             Stop::End => {
                 self.state = State::Ended;
                 if line.is_empty() {
                     return Ok(None);
                 }
-                Ok(Some(self.give(line.read())))
             }
         }
+        self.across = line;
+        self.is_across = true;
+        self.count += 1;
+        Ok(Some(self.count))
     }
 
     /// Where no number is left for a line: the end, or a fault.
-    fn find_end<R: Source>(&mut self, reader: &mut R) -> Result<Option<Line>, ReadFault>
+    fn find_end<R: Source>(&mut self, reader: &mut R) -> Result<Option<u64>, ReadFault>
         requires reading { self.old.status ≡ Reading }
         requires full { self.old.count ≡ greatest_number }
         ensures reads { ReadsOn R.left R.trace self.old self.new reader.old reader.new result }
@@ -161,19 +212,6 @@ impl Lines {
                 self.state = State::Failed;
                 Err(ReadFault::ReaderFailed)
             }
-        }
-    }
-
-    /// A line that says this, with the next number.
-    fn give(&mut self, event: Result<Event, LineFault>) -> Line
-        requires { self.old.count < greatest_number }
-        ensures line { result ≡ record { number = self.old.count + 1; event = event } }
-        ensures lines { self.new ≡ record self.old { count = result.number } }
-    {
-        self.count += 1;
-        Line {
-            number: self.count,
-            event,
         }
     }
 }

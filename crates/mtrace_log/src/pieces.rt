@@ -20,24 +20,22 @@ pub(crate) enum Stop {
 /// Takes the unread bytes before the first newline onto the line, and passes over the newline. Where
 /// there is none, takes them all and answers false.
 fn take_front(buffer: &mut Buffer, line: &mut LineBuffer) -> bool
-    ensures { TakesFront line.old line.new result buffer.old buffer.new }
+    ensures { TakesFront line.old line.new result buffer.old.unread buffer.new.unread }
 {
-    let Some(front) = buffer.first_line() else {
-        line.extend(buffer.unread());
-        buffer.skip_all();
-        return false;
-    };
-    line.extend(front);
-    let count = front.len();
-    buffer.skip(count + 1);
-    true
+    if buffer.take_line() {
+        line.extend(buffer.line());
+        return true;
+    }
+    line.extend(buffer.unread());
+    buffer.skip_all();
+    false
 }
 
 /// The next piece, and how it ended.
 pub(crate) fn read_piece<R: Source>(buffer: &mut Buffer, reader: &mut R) -> (LineBuffer, Stop)
-    ensures piece { TakesPiece result.0 result.1 (prepend_known buffer.old (R.left reader.old)) (prepend_known buffer.new (R.left reader.new)) }
+    ensures piece { TakesPiece result.0 result.1 (prepend_known buffer.old.unread (R.left reader.old)) (prepend_known buffer.new.unread (R.left reader.new)) }
     ensures calls { CallsUpTo result.1 (R.trace reader.old) (R.trace reader.new) }
-    ensures nothing_held { result.1 ≡ PieceFailed → buffer.new ≡ [] }
+    ensures nothing_held { result.1 ≡ PieceFailed → buffer.new.unread ≡ [] }
 {
     let mut line = LineBuffer::new();
     loop {

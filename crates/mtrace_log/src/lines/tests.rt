@@ -1,5 +1,6 @@
 use super::{Lines, State};
 use crate::buffer::Buffer;
+use crate::line_buffer::LineBuffer;
 use crate::memory::MemorySource;
 use crate::{Event, ReadFault};
 
@@ -7,6 +8,8 @@ use crate::{Event, ReadFault};
 fn after(count: u64) -> Lines {
     Lines {
         buffer: Buffer::new(),
+        across: LineBuffer::new(),
+        is_across: false,
         count,
         state: State::Reading,
     }

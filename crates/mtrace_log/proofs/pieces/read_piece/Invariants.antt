@@ -7,7 +7,7 @@ use Rattle.mtrace_log.proofs.pieces.read_piece.Given as goal
 -- a piece was taken that hasn't ended, and the reader hasn't failed
 abbrev pub invariant-loop-line : goal.invariant-loop-line
 invariant-loop-line g l = record {
-  piece : TakesPiece l.line Failed (prepend_known l.fn.buffer (g.R.Source.left l.fn.reader)) (prepend_known l.buffer (g.R.Source.left l.reader));
+  piece : TakesPiece l.line Failed (prepend_known l.fn.buffer.unread (g.R.Source.left l.fn.reader)) (prepend_known l.buffer.unread (g.R.Source.left l.reader));
   calls : HasGiven (g.R.Source.trace l.fn.reader) (g.R.Source.trace l.reader);
 }
 
