@@ -1,4 +1,7 @@
+ghost use Rattle.std.specs.Prelude.{◌≡◌};
+
 use crate::event::{Event, LineFault};
+use crate::location::LentLocation;
 
 /// One line of a stream.
 #[derive(Clone, Debug, Drop, PartialEq, Eq)]
@@ -7,6 +10,18 @@ pub struct Line {
     pub number: u64,
     /// What the line says, or why it is no event.
     pub event: Result<Event, LineFault>,
+}
+
+impl Line {
+    /// What the line says, with its location lent.
+    pub fn lend(&self) -> Result<Event<LentLocation<'_>>, LineFault>
+        ensures { result ≡ self.now.event }
+    {
+        match &self.event {
+            Ok(event) => Ok(event.lend()),
+            Err(fault) => Err(*fault),
+        }
+    }
 }
 
 /// Why no further line is read.

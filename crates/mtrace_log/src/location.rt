@@ -92,9 +92,7 @@ impl Location {
     pub fn lend(&self) -> LentLocation<'_>
         ensures { result ≡ self.now }
     {
-        LentLocation {
-            text: self.text.as_slice(),
-        }
+        LentLocation { text: self.bytes() }
     }
 
     /// The bytes.

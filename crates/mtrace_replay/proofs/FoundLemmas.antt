@@ -8,7 +8,7 @@ use Rattle.mtrace_replay.specs.declared.holding.Holding.{Holding}
 use Rattle.mtrace_replay.specs.Moment.{Given, Moment}
 use Rattle.mtrace_replay.specs.Index.{addresses as holding_addresses, held_bytes}
 use Rattle.mtrace_replay.specs.Texts.{total_size}
-use Rattle.mtrace_replay.specs.declared.entry.Entry.{Entry}
+use Rattle.mtrace_replay.specs.Entry.{Entry}
 use Rattle.std.proofs.lemmas.List.Sums.{sum_by-cons}
 use Rattle.mtrace_replay.specs.History.{AreHeld, given_or, unless_taken, held, entries_of}
 use Rattle.mtrace_replay.specs.Step.{found, all_given}

@@ -18,7 +18,7 @@ use Rattle.mtrace_log.specs.declared.line.ReadFault.TheVariants.{ReaderFailed, T
 use Rattle.mtrace_log.proofs.ReadLemmas.{HasRead-none, HasReadSo-line, HasReadSo-end, HasReadSo-fault}
 use Rattle.mtrace_replay.specs.declared.settings.Settings.{Settings}
 use Rattle.mtrace_replay.specs.declared.diagnostic.Diagnostic.{Diagnostic}
-use Rattle.mtrace_replay.specs.declared.entry.Entry.{Entry}
+use Rattle.mtrace_replay.specs.Entry.{Entry}
 use Rattle.mtrace_replay.specs.declared.status.RunFault.{RunFault}
 use Rattle.mtrace_replay.specs.declared.status.Status.{Status as RunStatus}
 use Rattle.mtrace_replay.specs.declared.status.Status.TheVariants.{Clean, Found}
@@ -51,7 +51,7 @@ prepend_nothing (Some bytes) = refl
 
 -- before the first line
 pub underway_start : (settings : Settings) (replay : Replayed) (left taken : Bytes) → StandsFor replay settings []
-    → IsUnderWay settings (record { held = []; count = 0; status = Reading }) replay false left left taken taken
+    → IsUnderWay settings (record { held = []; count = 0; status = Reading; last = Some [] }) replay false left left taken taken
 underway_start settings replay left taken stands =
     let none : history settings [] ≡ [] = moments-none (started settings) in
     record {

@@ -1,7 +1,7 @@
 -- The report, and the text of one line more.
 use Rattle.std.proofs.Common.{◌≡◌, ◌≢◌, ℕ, List, [], ◌∷◌, ◌++◌, length, refl, ap, ◌∙◌, flat_map, codes, decimal}
 use Rattle.mtrace_log.specs.Bytes.{newline}
-use Rattle.mtrace_replay.specs.declared.entry.Entry.{Entry}
+use Rattle.mtrace_replay.specs.Entry.{Entry}
 use Rattle.mtrace_replay.specs.Texts.{entry_text, total_text, total_size, leaks_report}
 
 -- the line above the entries

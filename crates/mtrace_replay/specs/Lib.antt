@@ -1,5 +1,6 @@
 pub mod Settings
 pub mod Started
+pub mod Entry
 pub mod Moment
 pub mod History
 pub mod Held

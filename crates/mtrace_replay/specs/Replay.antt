@@ -1,12 +1,16 @@
 -- What a replay stands for.
-use Rattle.std.specs.Prelude.{◌≡◌, ℕ, Bool, false, List, length, Option}
-use Rattle.mtrace_replay.specs.declared.entry.Entry.{Entry}
+use Rattle.std.specs.Prelude.{◌≡◌, ℕ, ◌+◌, ◌*◌, ◌^◌, ◌<◌, ◌≤◌, Bool, true, false, List, ◌∷◌, length, Option, Result, Err, IfOk, IfErr, OnOk, OnErr}
+use Rattle.tlsf_heap.specs.Run.{MayLack}
+use Rattle.mtrace_replay.specs.Entry.{Entry}
 use Rattle.mtrace_replay.specs.declared.diagnostic.Diagnostic.{Diagnostic}
+use Rattle.mtrace_replay.specs.declared.replay.ReplayFault.{ReplayFault}
+use Rattle.mtrace_replay.specs.declared.replay.ReplayFault.TheVariants.{OutOfMemory}
 use Rattle.mtrace_replay.specs.declared.settings.Settings.{Settings}
 use Rattle.mtrace_replay.specs.declared.totals.Totals.{Totals}
 use Rattle.mtrace_replay.specs.Started.{Bare, started}
+use Rattle.mtrace_replay.specs.Step.{found}
 use Rattle.mtrace_replay.specs.Totals.{AreTotals}
-use Rattle.mtrace_replay.specs.Moment.{Reading, Given, moment}
+use Rattle.mtrace_replay.specs.Moment.{Reading, Given, moment, asks}
 use Rattle.mtrace_replay.specs.History.{AreHeld, held, moments, content_after, pending, entries_of}
 
 -- a replay: the heap's content and how often it was touched, how many addresses were compared, what is held in order of
@@ -38,3 +42,20 @@ abbrev pub added_notes : Settings → Reading → List Reading → List Diagnost
 added_notes settings line past =
     let before = moments (started settings) past in
     (moment (length past) line (pending past) (held before) (content_after (started settings) before)).notes
+
+-- The line of this number was fed. Where that is served, the replay stands for it too, and the answer is what it adds to the
+-- diagnostics. Else memory was refused, by a heap that may lack it: what is held and the totals stay, for good. There are at most
+-- three look-ups and 384 touches, and no touch where the line asks nothing of the heap.
+pub record Feeds {H N : Type 0} (lacks : H → Type 0) (items : N → List Diagnostic) (number : ℕ) (line : Reading) (result : Result N ReplayFault) (old new : Replayed) : Type 0 where
+  pub stands : OnOk result ((settings : Settings) (past : List Reading) → StandsFor old settings past → StandsFor new settings (line ∷ past))
+  pub note : IfOk result (λ note. (settings : Settings) (past : List Reading) → StandsFor old settings past → items note ≡ added_notes settings line past)
+  pub counted : OnOk result (new.totals.lines ≡ number)
+  pub for_good : old.out_of_memory ≡ true → result ≡ Err OutOfMemory
+  pub fault : IfErr result (λ fault. fault ≡ OutOfMemory)
+  pub ends : OnErr result (new.out_of_memory ≡ true)
+  pub memory : OnErr result (MayLack lacks)
+  pub unchanged : OnErr result (entries new ≡ entries old)
+  pub totals_unchanged : OnErr result (new.totals ≡ old.totals)
+  pub compared : (digits : ℕ) → old.content.records < 2 ^ digits → new.comparisons ≤ old.comparisons + 3 * digits
+  pub bound : new.touches ≤ old.touches + 384
+  pub idle : asks line old.pending (found old.given) ≡ false → new.touches ≡ old.touches

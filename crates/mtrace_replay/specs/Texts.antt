@@ -6,7 +6,7 @@ use Rattle.mtrace_log.specs.Bytes.{newline}
 use Rattle.tlsf_heap.specs.declared.row.Row.{Row}
 use Rattle.tlsf_heap.specs.Content.{Pool, blocks_of, is_free}
 use Rattle.tlsf_heap.specs.Rows.{row_of}
-use Rattle.mtrace_replay.specs.declared.entry.Entry.{Entry}
+use Rattle.mtrace_replay.specs.Entry.{Entry}
 use Rattle.mtrace_replay.specs.declared.report.Report.{Report}
 use Rattle.mtrace_replay.specs.declared.report.Report.TheVariants.{Leaks, Peak, Walk, Notes}
 use Rattle.mtrace_replay.specs.declared.totals.Totals.{Totals}

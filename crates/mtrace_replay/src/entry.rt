@@ -1,8 +1,10 @@
-use mtrace_log::{Addr, Location};
+ghost use Rattle.std.specs.Prelude.{◌≡◌};
 
-/// What is kept of an address that is held.
+use mtrace_log::{Addr, LentLocation, Location, kept_location};
+
+/// What is kept of an address that is held. `At` is what its location is, as in `mtrace_log::Event`.
 #[derive(Debug, Drop, PartialEq, Eq)]
-pub struct Entry {
+pub struct Entry<At = Location> {
     /// The address.
     pub addr: Addr,
     /// How many bytes were asked for.
@@ -10,5 +12,19 @@ pub struct Entry {
     /// The number of the line that asked.
     pub line: u64,
     /// The location of that line.
-    pub at: Option<Location>,
+    pub at: Option<At>,
+}
+
+impl Entry<LentLocation<'_>> {
+    /// The entry with its location kept.
+    pub(crate) fn keep(&self) -> Entry
+        ensures { result ≡ self.now }
+    {
+        Entry {
+            addr: self.addr,
+            size: self.size,
+            line: self.line,
+            at: kept_location(&self.at),
+        }
+    }
 }

@@ -1,7 +1,7 @@
 ghost use Rattle.std.specs.Prelude.{◌≡◌};
 
 use crate::entry::Entry;
-use mtrace_log::Addr;
+use mtrace_log::{Addr, LentLocation};
 use tlsf_heap::Ptr;
 
 /// An address that is held: its entry, and the block that the heap gave for it.
@@ -14,6 +14,16 @@ pub struct Holding {
 }
 
 impl Holding {
+    /// What a line asked for, kept with the block that the heap gave for it.
+    pub fn new(entry: &Entry<LentLocation<'_>>, ptr: Ptr) -> Holding
+        ensures { result ≡ record { entry = entry.now; ptr = ptr } }
+    {
+        Holding {
+            entry: entry.keep(),
+            ptr,
+        }
+    }
+
     /// The address.
     pub fn address(&self) -> Addr
         ensures { result ≡ self.now.entry.addr }

@@ -8,7 +8,7 @@ use crate::entry::Entry;
 use crate::holding::Holding;
 use crate::search::{enter, search};
 use crate::spot::Spot;
-use mtrace_log::Addr;
+use mtrace_log::{Addr, LentLocation};
 use std::alloc::{AllocError, Global};
 use std::marker::Model;
 use tlsf_heap::Ptr;
@@ -109,8 +109,21 @@ impl Index {
         self.is_held(&found)
     }
 
-    /// Holds the address that was found, in place of what it was held under.
-    pub fn insert(&mut self, found: &Found, holding: Holding)
+    /// Holds the address that was found for an entry, under this block, in place of what it was held under.
+    pub fn insert(&mut self, found: &Found, entry: &Entry<LentLocation<'_>>, ptr: Ptr)
+        requires found { IsFound self.old.spots found.now }
+        requires address { found.now.address ≡ entry.now.addr }
+        requires bytes { held_bytes self.old.all + entry.now.size < 2 ^ 64 }
+        requires room { length self.old.all < self.old.room }
+        ensures held { (address : ℕ) → held_at self.new.all address
+            ≡ (if entry.now.addr == address then Some (record { entry = entry.now; ptr = ptr }) else held_at self.old.all address) }
+        ensures looked { LooksUp 0 self.old self.new }
+    {
+        self.hold(found, Holding::new(entry, ptr));
+    }
+
+    /// Holds the address that was found so, in place of what it was held under.
+    fn hold(&mut self, found: &Found, holding: Holding)
         requires found { IsFound self.old.spots found.now }
         requires address { found.now.address ≡ holding.entry.addr }
         requires bytes { held_bytes self.old.all + holding.entry.size < 2 ^ 64 }
@@ -140,18 +153,18 @@ impl Index {
     }
 
     /// Holds an address in place of the old one that was found, which may be the same.
-    pub fn replace(&mut self, old: &Found, holding: Holding)
+    pub fn replace(&mut self, old: &Found, entry: &Entry<LentLocation<'_>>, ptr: Ptr)
         requires found { IsFound self.old.spots old.now }
-        requires bytes { held_bytes self.old.all + holding.entry.size < 2 ^ 64 }
+        requires bytes { held_bytes self.old.all + entry.now.size < 2 ^ 64 }
         requires held { is_some (held_at self.old.all old.now.address) ≡ true }
         requires room { length self.old.all ≤ self.old.room }
         ensures held { (address : ℕ) → held_at self.new.all address
-            ≡ (if holding.entry.addr == address then Some holding else (if old.now.address == address then None else held_at self.old.all address)) }
+            ≡ (if entry.now.addr == address then Some (record { entry = entry.now; ptr = ptr }) else (if old.now.address == address then None else held_at self.old.all address)) }
         ensures looked { LooksUp 1 self.old self.new }
     {
         self.remove(old);
-        let found = self.find(holding.address());
-        self.insert(&found, holding);
+        let found = self.find(entry.addr);
+        self.insert(&found, entry, ptr);
     }
 
     /// Holds the address that was found no more: its spot stays, vacant.
@@ -209,7 +222,7 @@ pub struct Entries<'a> {
 
 impl<'a> Model for Entries<'a> {
     ghost use Rattle.std.specs.Prelude.{List, map};
-    ghost use Rattle.mtrace_replay.specs.declared.entry.Entry.{Entry};
+    ghost use Rattle.mtrace_replay.specs.Entry.{Entry};
     ghost use Rattle.mtrace_replay.specs.Spot.{all_held};
 
     ghost Value = { List Entry };

@@ -13,7 +13,7 @@ use crate::step::{noted_after, outcome};
 use crate::totals::Totals;
 use crate::walk::put_walk;
 use arrayvec::ArrayVec;
-use mtrace_log::{Addr, Event, Failed, Line, LineFault, Sink};
+use mtrace_log::{Addr, Event, Failed, LentLocation, Line, LineFault, Sink};
 use std::alloc::Global;
 use std::marker::Model;
 use tlsf_heap::{Heap, Heaped, ImageFault};
@@ -28,7 +28,7 @@ pub enum ReplayFault {
 }
 
 /// The address of a line `<`.
-fn old_address(event: &Result<Event, LineFault>) -> Option<Addr>
+fn old_address(event: &Result<Event<LentLocation<'_>>, LineFault>) -> Option<Addr>
     ensures { result ≡ address_of_old event.now }
 {
     match event {
@@ -54,7 +54,7 @@ fn half_note(number: u64, pending: Option<Addr>) -> Option<Diagnostic>
 fn half_before(
     number: u64,
     pending: Option<Addr>,
-    event: &Result<Event, LineFault>,
+    event: &Result<Event<LentLocation<'_>>, LineFault>,
 ) -> Option<Diagnostic>
     ensures { option_to_list result ≡ (if is_new event.now then [] else half number pending) }
 {
@@ -129,7 +129,7 @@ impl<H: Heaped> Replay<H> {
     ghost use Rattle.mtrace_replay.specs.Settings.{are_bad};
     ghost use Rattle.mtrace_replay.specs.Moment.{Reading, asks, half};
     ghost use Rattle.mtrace_replay.specs.Step.{found};
-    ghost use Rattle.mtrace_replay.specs.Replay.{StandsFor, entries, added_notes};
+    ghost use Rattle.mtrace_replay.specs.Replay.{StandsFor, entries, Feeds};
     ghost use Rattle.mtrace_log.specs.Output.{Puts};
     ghost use Rattle.mtrace_replay.specs.Texts.{free_sizes, walk_report};
     ghost use Rattle.mtrace_replay.specs.Rows.{IsFree};
@@ -168,28 +168,26 @@ impl<H: Heaped> Replay<H> {
     ///
     /// `OutOfMemory` where memory is refused: then what is held and the totals are as before the line, and each later
     /// call answers the same.
-    #[inline(always)]
     pub fn feed(&mut self, line: Line) -> Result<Note, ReplayFault>
         requires next { self.old.out_of_memory ≡ false → line.number ≡ self.old.totals.lines + 1 }
-        ensures stands { OnOk result ((settings : Settings) (past : List Reading) → StandsFor self.old settings past
-            → StandsFor self.new settings (line.event ∷ past)) }
-        ensures note { IfOk result (λ note. (settings : Settings) (past : List Reading) → StandsFor self.old settings past
-            → note.items ≡ added_notes settings line.event past) }
-        ensures counted { OnOk result (self.new.totals.lines ≡ line.number) }
-        ensures for_good { self.old.out_of_memory ≡ true → result ≡ Err ReplayFault.OutOfMemory }
-        ensures fault { IfErr result (λ fault. fault ≡ ReplayFault.OutOfMemory) }
-        ensures ends { OnErr result (self.new.out_of_memory ≡ true) }
-        ensures memory { OnErr result (MayLack H.lacks) }
-        ensures unchanged { OnErr result (entries self.new ≡ entries self.old) }
-        ensures totals_unchanged { OnErr result (self.new.totals ≡ self.old.totals) }
-        ensures compared { (digits : ℕ) → self.old.content.records < 2 ^ digits → self.new.comparisons ≤ self.old.comparisons + 3 * digits }
-        ensures bound { self.new.touches ≤ self.old.touches + 384 }
-        ensures idle { asks line.event self.old.pending (found self.old.given) ≡ false → self.new.touches ≡ self.old.touches }
+        ensures { Feeds H.lacks (λ note. note.items) line.number line.event result self.old self.new }
+    {
+        self.feed_lent(line.number, line.lend())
+    }
+
+    /// `feed` of the line of this number that says this, with its location where it lies.
+    #[inline(always)]
+    pub(crate) fn feed_lent(
+        &mut self,
+        number: u64,
+        event: Result<Event<LentLocation<'_>>, LineFault>,
+    ) -> Result<Note, ReplayFault>
+        requires next { self.old.out_of_memory ≡ false → number ≡ self.old.totals.lines + 1 }
+        ensures { Feeds H.lacks (λ note. note.items) number event.entry result self.old self.new }
     {
         if self.out_of_memory {
             return Err(ReplayFault::OutOfMemory);
         }
-        let Line { number, event } = line;
         let half = half_before(self.totals.lines, self.pending, &event);
         let next = old_address(&event);
         match outcome(&mut self.heap, &mut self.held, number, self.pending, event) {

@@ -16,7 +16,7 @@ use crate::replay::{Replay, ReplayFault};
 use crate::report::{Report, put_report};
 use crate::settings::Settings;
 use crate::status::{RunFault, Status};
-use mtrace_log::{Failed, Line, Lines, Sink, Source, put_all};
+use mtrace_log::{Event, Failed, LentLocation, LineFault, Lines, Sink, Source, put_all};
 use std::alloc::Global;
 use tlsf_heap::{Heap, Heaped};
 
@@ -34,22 +34,23 @@ fn put_note<W: Sink>(writer: &mut W, note: &Note) -> Result<(), Failed>
 fn replay_line<H: Heaped, W: Sink>(
     writer: &mut W,
     replay: &mut Replay<H>,
-    line: Line,
+    number: u64,
+    event: Result<Event<LentLocation<'_>>, LineFault>,
 ) -> Result<bool, RunFault>
-    requires next { replay.old.out_of_memory ≡ false → line.number ≡ replay.old.totals.lines + 1 }
+    requires next { replay.old.out_of_memory ≡ false → number ≡ replay.old.totals.lines + 1 }
     ensures done { IfOk result (λ noted. (settings : Settings) (past : List Reading) → StandsFor replay.old settings past
-        → LineGives replay.new settings line.event past (W.taken writer.old) (W.taken writer.new) noted) }
-    ensures counted { OnOk result (replay.new.totals.lines ≡ line.number) }
+        → LineGives replay.new settings event.entry past (W.taken writer.old) (W.taken writer.new) noted) }
+    ensures counted { OnOk result (replay.new.totals.lines ≡ number) }
     ensures took { result ≢ Err RunFault.Write → HasTaken (W.trace writer.old) (W.trace writer.new) }
     ensures write { IsErrOf result RunFault.Write → (settings : Settings) (past : List Reading) → StandsFor replay.old settings past
-        → LineBegins replay.new settings line.event past (W.taken writer.old) (W.taken writer.new) }
+        → LineBegins replay.new settings event.entry past (W.taken writer.old) (W.taken writer.new) }
     ensures failed { IsErrOf result RunFault.Write → HasTakenAndFailed (W.trace writer.old) (W.trace writer.new) }
     ensures memory { IsErrOf result RunFault.OutOfMemory → MayLack H.lacks }
     ensures no_read { result ≢ Err RunFault.Read }
     ensures no_settings { result ≢ Err RunFault.BadSettings }
     ensures no_image { result ≢ Err RunFault.Image }
 {
-    let Ok(note) = replay.feed(line) else {
+    let Ok(note) = replay.feed_lent(number, event) else {
         return Err(RunFault::OutOfMemory);
     };
     if note.is_empty() {
@@ -86,12 +87,12 @@ fn replay_lines<H: Heaped, R: Source, W: Sink>(
     let mut lines = Lines::new();
     let mut noted = false;
     loop {
-        let line = match lines.next(reader) {
-            Ok(Some(line)) => line,
+        let number = match lines.advance(reader) {
+            Ok(Some(number)) => number,
             Ok(None) => return Ok(noted),
             Err(_) => return Err(RunFault::Read),
         };
-        match replay_line(writer, replay, line) {
+        match replay_line(writer, replay, number, lines.event()) {
             Ok(more) => noted |= more,
             Err(fault) => return Err(fault),
         }

@@ -13,10 +13,9 @@ ghost use Rattle.mtrace_replay.specs.Step.{found, all_given, Replays, IsUnder, A
 
 use crate::diagnostic::{Diagnostic, Kind, Note};
 use crate::entry::Entry;
-use crate::holding::Holding;
 use crate::index::{Found, Index};
 use arrayvec::ArrayVec;
-use mtrace_log::{Addr, Event, LineFault, Location};
+use mtrace_log::{Addr, Event, LentLocation, LineFault};
 use std::alloc::AllocError;
 use tlsf_heap::{Heaped, Ptr, Refusal};
 
@@ -163,12 +162,12 @@ fn allocate<H: Heaped>(
     heap: &mut H,
     held: &mut Index,
     align: Option<Addr>,
-    entry: Entry,
+    entry: &Entry<LentLocation<'_>>,
 ) -> Result<Effect, AllocError>
     requires live { AreLive held.old.all (H.content heap.old) }
     requires room { held.old.room ≡ (H.content heap.old).records }
-    ensures { Replays H.content H.touches H.lacks 1 164 (not (is_some (found (all_given held.old.all) entry.addr)))
-        (allocation entry.line entry.at entry.addr align entry.size (found (all_given held.old.all) entry.addr) (bare (H.content heap.old)))
+    ensures { Replays H.content H.touches H.lacks 1 164 (not (is_some (found (all_given held.old.all) entry.now.addr)))
+        (allocation entry.now.line entry.now.at entry.now.addr align entry.now.size (found (all_given held.old.all) entry.now.addr) (bare (H.content heap.old)))
         result heap.old heap.new held.old held.new }
 {
     let found = held.find(entry.addr);
@@ -181,7 +180,7 @@ fn allocate<H: Heaped>(
         Ok(block) => {
             let ptr = block.ptr;
             heap.keeps_good();
-            held.insert(&found, Holding { entry, ptr });
+            held.insert(&found, entry, ptr);
             Ok(served(block.end))
         }
         Err(Refusal::OutOfMemory) => Err(AllocError),
@@ -247,15 +246,15 @@ fn reallocate<H: Heaped>(
     held: &mut Index,
     old: &Found,
     ptr: Ptr,
-    entry: Entry,
+    entry: &Entry<LentLocation<'_>>,
 ) -> Result<Effect, AllocError>
     requires live { AreLive held.old.all (H.content heap.old) }
     requires room { held.old.room ≡ (H.content heap.old).records }
     requires found { IsFound held.old.spots old.now }
     requires held { IsUnder ptr (held_at held.old.all old.now.address) }
     ensures { Replays H.content H.touches H.lacks 1 356 true
-        (moved entry.line entry.at old.now.address ptr.place entry.addr entry.size (bare (H.content heap.old))
-        (reallocated (λ one other. true) tt (Some (ptr.place, tt)) (size_asked entry.size) (bare (H.content heap.old))))
+        (moved entry.now.line entry.now.at old.now.address ptr.place entry.now.addr entry.now.size (bare (H.content heap.old))
+        (reallocated (λ one other. true) tt (Some (ptr.place, tt)) (size_asked entry.now.size) (bare (H.content heap.old))))
         result heap.old heap.new held.old held.new }
 {
     heap.keeps_good();
@@ -263,7 +262,7 @@ fn reallocate<H: Heaped>(
     match realloc_block(heap, ptr, asked_size(entry.size)) {
         Ok(block) => {
             let ptr = block.ptr;
-            held.replace(old, Holding { entry, ptr });
+            held.replace(old, entry, ptr);
             Ok(served(block.end))
         }
         Err(Refusal::OutOfMemory) => Err(AllocError),
@@ -301,12 +300,12 @@ fn renew<H: Heaped>(
     heap: &mut H,
     held: &mut Index,
     pending: Option<Addr>,
-    entry: Entry,
+    entry: &Entry<LentLocation<'_>>,
 ) -> Result<Effect, AllocError>
     requires live { AreLive held.old.all (H.content heap.old) }
     requires room { held.old.room ≡ (H.content heap.old).records }
-    ensures { Replays H.content H.touches H.lacks 3 356 (renewal_asks pending entry.addr (found (all_given held.old.all)))
-        (renewal entry.line entry.at pending entry.addr entry.size (found (all_given held.old.all)) (bare (H.content heap.old)))
+    ensures { Replays H.content H.touches H.lacks 3 356 (renewal_asks pending entry.now.addr (found (all_given held.old.all)))
+        (renewal entry.now.line entry.now.at pending entry.now.addr entry.now.size (found (all_given held.old.all)) (bare (H.content heap.old)))
         result heap.old heap.new held.old held.new }
 {
     let number = entry.line;
@@ -329,8 +328,13 @@ fn renew<H: Heaped>(
 }
 
 /// The entry of a line that asks for a block.
-fn entry_of(number: u64, at: Option<Location>, addr: Addr, size: u64) -> Entry
-    ensures { result ≡ record { addr = addr; size = size; line = number; at = at } }
+fn entry_of<'a>(
+    number: u64,
+    at: Option<LentLocation<'a>>,
+    addr: Addr,
+    size: u64,
+) -> Entry<LentLocation<'a>>
+    ensures { result ≡ record { addr = addr; size = size; line = number; at = at.entry } }
 {
     Entry {
         addr,
@@ -348,12 +352,12 @@ pub(crate) fn outcome<H: Heaped>(
     held: &mut Index,
     number: u64,
     pending: Option<Addr>,
-    event: Result<Event, LineFault>,
+    event: Result<Event<LentLocation<'_>>, LineFault>,
 ) -> Result<Effect, AllocError>
     requires live { AreLive held.old.all (H.content heap.old) }
     requires room { held.old.room ≡ (H.content heap.old).records }
-    ensures { Replays H.content H.touches H.lacks 3 356 (asks event pending (found (all_given held.old.all)))
-        (outcome_of number event pending (found (all_given held.old.all)) (bare (H.content heap.old)))
+    ensures { Replays H.content H.touches H.lacks 3 356 (asks event.entry pending (found (all_given held.old.all)))
+        (outcome_of number event.entry pending (found (all_given held.old.all)) (bare (H.content heap.old)))
         result heap.old heap.new held.old held.new }
 {
     match event {
@@ -362,7 +366,7 @@ pub(crate) fn outcome<H: Heaped>(
         Ok(Event::Start) => Ok(unserved(no_note())),
         Ok(Event::End) => Ok(unserved(no_note())),
         Ok(Event::Alloc { at, addr, size }) => match addr {
-            Some(addr) => allocate(heap, held, None, entry_of(number, at, addr, size)),
+            Some(addr) => allocate(heap, held, None, &entry_of(number, at, addr, size)),
             None => Ok(unserved(no_note())),
         },
         Ok(Event::Free { at: _at, addr }) => release(heap, held, number, addr),
@@ -372,12 +376,9 @@ pub(crate) fn outcome<H: Heaped>(
                 addr: _addr,
             },
         ) => Ok(unserved(no_note())),
-        Ok(Event::New { at, addr, size }) => renew(
-            heap,
-            held,
-            pending,
-            entry_of(number, at, addr, size),
-        ),
+        Ok(Event::New { at, addr, size }) => {
+            renew(heap, held, pending, &entry_of(number, at, addr, size))
+        }
         Ok(
             Event::Failed {
                 at: _at,
@@ -392,6 +393,6 @@ pub(crate) fn outcome<H: Heaped>(
                 align,
                 size,
             },
-        ) => allocate(heap, held, Some(align), entry_of(number, at, addr, size)),
+        ) => allocate(heap, held, Some(align), &entry_of(number, at, addr, size)),
     }
 }

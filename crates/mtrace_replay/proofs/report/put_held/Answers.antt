@@ -2,7 +2,7 @@ use Rattle.std.proofs.Common.{ℕ, List, ◌++◌, sym, subst, ap, ◌∙◌, fl
 use Rattle.mtrace_log.specs.Output.{PutsAll, PutsPart, Puts}
 use Rattle.mtrace_log.proofs.Writing.{puts_on, puts_then, fails_on, fails_early, puts_exit}
 use Rattle.mtrace_replay.specs.Texts.{entry_text, total_text, total_size, leaks_report}
-use Rattle.mtrace_replay.specs.declared.entry.Entry.{Entry}
+use Rattle.mtrace_replay.specs.Entry.{Entry}
 use Rattle.mtrace_replay.specs.Replay.{entries}
 use Rattle.mtrace_replay.proofs.TextLemmas.{heading, leaks_report-some, total_text-is}
 use Rattle.mtrace_replay.proofs.report.put_held.Goals as goal

@@ -1,6 +1,6 @@
 use Rattle.std.proofs.Common.{List, length, ap, ◌∙◌, arith}
 use Rattle.std.proofs.lemmas.List.Sums.{sum_by-cons}
-use Rattle.mtrace_replay.specs.declared.entry.Entry.{Entry}
+use Rattle.mtrace_replay.specs.Entry.{Entry}
 use Rattle.mtrace_replay.specs.Texts.{total_size}
 use Rattle.mtrace_replay.proofs.report.total_size.Goals as goal
 

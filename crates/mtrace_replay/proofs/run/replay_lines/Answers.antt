@@ -6,8 +6,8 @@ use Rattle.mtrace_log.proofs.CallLemmas.{calls_more, calls_of_line, calls_to_end
 use Rattle.mtrace_replay.proofs.RunLemmas.{IsUnderWay, underway_start, underway_line, underway_end, underway_fault, underway_write, same_error}
 use Rattle.mtrace_replay.proofs.run.replay_lines.Goals as goal
 
-pub loop-line-init : goal.loop-line-init
-loop-line-init g c =
+pub loop-number-init : goal.loop-number-init
+loop-number-init g c =
     let left = g.R.Source.left c.args.reader.now in
     let taken = g.W.Sink.taken c.args.writer.now in
     let gave = g.R.Source.trace c.args.reader.now in
@@ -23,63 +23,67 @@ loop-line-init g c =
 pub returns-in-Ok-None-clause-done : goal.returns-in-Ok-None-clause-done
 returns-in-Ok-None-clause-done g c = λ settings stands.
     let found = rw c.in-Ok-None.field-0-is at c.in-Ok-None.ensures.end in
-    underway_end g.R.Source.left settings c.loop-line.lines c.next.new.self c.loop-line.replay c.loop-line.noted (g.R.Source.left c.args.reader.now) c.loop-line.reader c.next.new.reader
-    (g.W.Sink.taken c.args.writer.now) (g.W.Sink.taken c.loop-line.writer) (c.loop-line.invariant.under_way settings stands) found.1
+    underway_end g.R.Source.left settings c.loop-number.lines c.advance.new.self c.loop-number.replay c.loop-number.noted (g.R.Source.left c.args.reader.now) c.loop-number.reader c.advance.new.reader
+    (g.W.Sink.taken c.args.writer.now) (g.W.Sink.taken c.loop-number.writer) (c.loop-number.invariant.under_way settings stands) found.1
 
 pub returns-in-Ok-None-clause-reader_ended : goal.returns-in-Ok-None-clause-reader_ended
 returns-in-Ok-None-clause-reader_ended g c =
     let found = rw c.in-Ok-None.field-0-is at c.in-Ok-None.ensures.end in
-    calls_to_end g.R.Source.trace (g.R.Source.trace c.args.reader.now) c.loop-line.lines c.next.new.self c.loop-line.reader c.next.new.reader _ _
-    c.loop-line.invariant.gave c.in-Ok-None.ensures.calls found.0 found.1
+    calls_to_end g.R.Source.trace (g.R.Source.trace c.args.reader.now) c.loop-number.lines c.advance.new.self c.loop-number.reader c.advance.new.reader _ _
+    c.loop-number.invariant.gave c.in-Ok-None.ensures.calls found.0 found.1
 
 pub returns-in-Ok-None-clause-reader_not_failed : goal.returns-in-Ok-None-clause-reader_not_failed
 returns-in-Ok-None-clause-reader_not_failed g c = λ other. inr (returns-in-Ok-None-clause-reader_ended g c)
 
 pub returns-in-Err-clause-read : goal.returns-in-Err-clause-read
 returns-in-Err-clause-read g c = λ _ settings stands.
-    let came = calls_to_fault g.R.Source.trace (g.R.Source.trace c.args.reader.now) c.loop-line.lines c.next.new.self c.loop-line.reader c.next.new.reader _ _ c.in-Err.field-0
-    c.loop-line.invariant.gave c.in-Err.ensures.calls c.in-Err.ensures.fault in
-    underway_fault g.R.Source.left settings c.loop-line.lines c.next.new.self c.loop-line.replay c.loop-line.noted (g.R.Source.left c.args.reader.now) c.loop-line.reader c.next.new.reader
-    (g.W.Sink.taken c.args.writer.now) (g.W.Sink.taken c.loop-line.writer) _ _ c.in-Err.field-0 (c.loop-line.invariant.under_way settings stands) c.in-Err.ensures.fault c.in-Err.ensures.nothing_held came
+    let came = calls_to_fault g.R.Source.trace (g.R.Source.trace c.args.reader.now) c.loop-number.lines c.advance.new.self c.loop-number.reader c.advance.new.reader _ _ c.in-Err.field-0
+    c.loop-number.invariant.gave c.in-Err.ensures.calls c.in-Err.ensures.fault in
+    underway_fault g.R.Source.left settings c.loop-number.lines c.advance.new.self c.loop-number.replay c.loop-number.noted (g.R.Source.left c.args.reader.now) c.loop-number.reader c.advance.new.reader
+    (g.W.Sink.taken c.args.writer.now) (g.W.Sink.taken c.loop-number.writer) _ _ c.in-Err.field-0 (c.loop-number.invariant.under_way settings stands) c.in-Err.ensures.fault c.in-Err.ensures.nothing_held came
 
 pub replay_line-requires : goal.replay_line-requires
 replay_line-requires g c =
-    let given = rw c.in-Ok-Some.field-0-is at c.in-Ok-Some.ensures.line in
-    record { next = (λ works. given.number ∙ ap (λ n. n + 1) (sym c.loop-line.invariant.counted)) }
+    let passed = rw c.in-Ok-Some.field-0-is at c.in-Ok-Some.ensures.line in
+    let given = passed c.event.result c.event.ensures in
+    record { next = (λ works. given.number ∙ ap (λ n. n + 1) (sym c.loop-number.invariant.counted)) }
 
-pub loop-line-preserved : goal.loop-line-preserved
-loop-line-preserved g c =
-    let given = rw c.in-Ok-Some.field-0-is at c.in-Ok-Some.ensures.line in
+pub loop-number-preserved : goal.loop-number-preserved
+loop-number-preserved g c =
+    let passed = rw c.in-Ok-Some.field-0-is at c.in-Ok-Some.ensures.line in
+    let given = passed c.event.result c.event.ensures in
     record {
-      under_way = (λ settings stands. let under = c.loop-line.invariant.under_way settings stands in underway_line settings c.loop-line.lines c.next.new.self c.loop-line.replay c.replay_line.new.replay c.loop-line.noted c.in-Ok.more
-          (g.R.Source.left c.args.reader.now) (g.R.Source.left c.loop-line.reader) (g.R.Source.left c.next.new.reader)
-          (g.W.Sink.taken c.args.writer.now) (g.W.Sink.taken c.loop-line.writer) (g.W.Sink.taken c.replay_line.new.writer) c.in-Ok-Some.line
+      under_way = (λ settings stands. let under = c.loop-number.invariant.under_way settings stands in underway_line settings c.loop-number.lines c.advance.new.self c.loop-number.replay c.replay_line.new.replay c.loop-number.noted c.in-Ok.more
+          (g.R.Source.left c.args.reader.now) (g.R.Source.left c.loop-number.reader) (g.R.Source.left c.advance.new.reader)
+          (g.W.Sink.taken c.args.writer.now) (g.W.Sink.taken c.loop-number.writer) (g.W.Sink.taken c.replay_line.new.writer) (record { number = c.in-Ok-Some.number; event = c.event.result })
           under given (c.in-Ok.ensures.done settings (reverse under.lines) under.stands));
       counted = c.in-Ok.ensures.counted ∙ sym given.count;
-      gave = calls_more c.loop-line.lines.status c.next.new.self.status _ _ _ given.was_reading c.loop-line.invariant.gave c.in-Ok-Some.ensures.calls;
-      took = moved_append Took _ _ _ c.loop-line.invariant.took (c.in-Ok.ensures.took (λ e. cc));
+      gave = calls_more c.loop-number.lines.status c.advance.new.self.status _ _ _ given.was_reading c.loop-number.invariant.gave c.in-Ok-Some.ensures.calls;
+      took = moved_append Took _ _ _ c.loop-number.invariant.took (c.in-Ok.ensures.took (λ e. cc));
     }
 
 pub returns-in-Err-replay_line-clause-reader_not_failed : goal.returns-in-Err-replay_line-clause-reader_not_failed
 returns-in-Err-replay_line-clause-reader_not_failed g c = λ other.
-    let given = rw c.in-Ok-Some.field-0-is at c.in-Ok-Some.ensures.line in
-    calls_of_line c.next.new.self.status _ _ _ _ _ given.taken
-    (calls_more c.loop-line.lines.status c.next.new.self.status _ _ _ given.was_reading c.loop-line.invariant.gave c.in-Ok-Some.ensures.calls)
+    let passed = rw c.in-Ok-Some.field-0-is at c.in-Ok-Some.ensures.line in
+    let given = passed c.event.result c.event.ensures in
+    calls_of_line c.advance.new.self.status _ _ _ _ _ given.taken
+    (calls_more c.loop-number.lines.status c.advance.new.self.status _ _ _ given.was_reading c.loop-number.invariant.gave c.in-Ok-Some.ensures.calls)
 
 pub returns-in-Err-replay_line-clause-writer_took : goal.returns-in-Err-replay_line-clause-writer_took
 returns-in-Err-replay_line-clause-writer_took g c = λ other.
-    moved_append Took _ _ _ c.loop-line.invariant.took (c.in-Err-replay_line.ensures.took (λ e. other (same_error _ Bool _ _ e)))
+    moved_append Took _ _ _ c.loop-number.invariant.took (c.in-Err-replay_line.ensures.took (λ e. other (same_error _ Bool _ _ e)))
 
 pub returns-in-Err-replay_line-clause-writer_failed : goal.returns-in-Err-replay_line-clause-writer_failed
 returns-in-Err-replay_line-clause-writer_failed g c = λ e.
-    moved_then_append Took Failed _ _ _ c.loop-line.invariant.took (c.in-Err-replay_line.ensures.failed (same_error _ Bool _ _ e))
+    moved_then_append Took Failed _ _ _ c.loop-number.invariant.took (c.in-Err-replay_line.ensures.failed (same_error _ Bool _ _ e))
 
 pub returns-in-Err-replay_line-clause-write : goal.returns-in-Err-replay_line-clause-write
 returns-in-Err-replay_line-clause-write g c = λ e settings stands report.
-    let under = (c.loop-line.invariant.under_way settings stands) in
-    let given = rw c.in-Ok-Some.field-0-is at c.in-Ok-Some.ensures.line in
+    let under = (c.loop-number.invariant.under_way settings stands) in
+    let passed = rw c.in-Ok-Some.field-0-is at c.in-Ok-Some.ensures.line in
+    let given = passed c.event.result c.event.ensures in
     let wrote = c.in-Err-replay_line.ensures.write (same_error _ Bool _ _ e) in
-    underway_write report settings c.loop-line.lines c.next.new.self c.loop-line.replay c.replay_line.new.replay c.loop-line.noted
-    (g.R.Source.left c.args.reader.now) (g.R.Source.left c.loop-line.reader) (g.R.Source.left c.next.new.reader)
-    (g.W.Sink.taken c.args.writer.now) (g.W.Sink.taken c.loop-line.writer) (g.W.Sink.taken c.replay_line.new.writer) c.in-Ok-Some.line
+    underway_write report settings c.loop-number.lines c.advance.new.self c.loop-number.replay c.replay_line.new.replay c.loop-number.noted
+    (g.R.Source.left c.args.reader.now) (g.R.Source.left c.loop-number.reader) (g.R.Source.left c.advance.new.reader)
+    (g.W.Sink.taken c.args.writer.now) (g.W.Sink.taken c.loop-number.writer) (g.W.Sink.taken c.replay_line.new.writer) (record { number = c.in-Ok-Some.number; event = c.event.result })
     under given (wrote settings (reverse under.lines) under.stands)

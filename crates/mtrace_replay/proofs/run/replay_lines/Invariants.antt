@@ -7,8 +7,8 @@ use Rattle.mtrace_replay.proofs.RunLemmas.{IsUnderWay}
 use Rattle.mtrace_replay.proofs.run.replay_lines.Given as goal
 
 -- the run is under way, and as many lines were replayed as were read; the reader gave pieces, and perhaps told its end; the writer took pieces
-abbrev pub invariant-loop-line : goal.invariant-loop-line
-invariant-loop-line g l =
+abbrev pub invariant-loop-number : goal.invariant-loop-number
+invariant-loop-number g l =
     let left = g.R.Source.left in
     let taken = g.W.Sink.taken in
     record {
@@ -20,5 +20,5 @@ invariant-loop-line g l =
     }
 
 -- how many numbers of lines are left
-abbrev pub decreases-loop-line : goal.decreases-loop-line
-decreases-loop-line g l = 2 ^ 64 - l.lines.count
+abbrev pub decreases-loop-number : goal.decreases-loop-number
+decreases-loop-number g l = 2 ^ 64 - l.lines.count

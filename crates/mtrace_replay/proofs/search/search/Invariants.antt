@@ -1,8 +1,8 @@
 use Rattle.mtrace_replay.proofs.SearchLemmas.{Searching}
 use Rattle.mtrace_replay.proofs.search.search.Given as goal
 
-abbrev pub invariant-loop-low : goal.invariant-loop-low
-invariant-loop-low l = Searching l.spots l.address l.low l.left l.holds l.initial.comparisons.count l.comparisons.count
+abbrev pub invariant-loop-left : goal.invariant-loop-left
+invariant-loop-left l = Searching l.spots l.address l.low l.left l.holds l.initial.comparisons.count l.comparisons.count
 
-abbrev pub decreases-loop-low : goal.decreases-loop-low
-decreases-loop-low l = l.left
+abbrev pub decreases-loop-left : goal.decreases-loop-left
+decreases-loop-left l = l.left

@@ -21,7 +21,7 @@ use Rattle.mtrace_replay.proofs.step.reallocate.Goals as goal
 pub replace-requires : goal.replace-requires
 replace-requires g c =
     let old = g.H.Heaped.content c.args.heap.now in
-    let asked = asked_least c.args.entry.size in
+    let asked = asked_least c.args.entry.now.size in
     let most = moved_small (λ a b. a == b) c.in-Ok.block.ptr.slot c.args.ptr.slot c.args.ptr.place c.asked_size.result old (Some (c.in-Ok.block.ptr.place, c.in-Ok.block.ptr.slot), g.H.Heaped.content c.realloc_block.new.heap) (λ none. omega (arith, asked, c.asked_size.ensures, none)) c.in-Ok.ensures.ok in
     let fits = held_fits c.args.held.now.all old c.keeps_order.ensures c.keeps_good.ensures.good c.requires.live in
     let few = held_few c.args.held.now.all old c.keeps_order.ensures c.keeps_good.ensures.good c.requires.live in
@@ -39,7 +39,7 @@ returns-in-Ok g c =
     let new = g.H.Heaped.content c.realloc_block.new.heap in
     let held = c.args.held.now.all in
     let after = c.replace.new.self.all in
-    let entry = c.args.entry in
+    let entry = c.args.entry.now in
     let ptr = c.args.ptr in
     let given = c.in-Ok.block.ptr in
     let under = c.requires.held in
@@ -73,7 +73,7 @@ returns-in_ok-take-in-Err g c =
     let new = bare last in
     let held = c.args.held.now.all in
     let after = c.take.new.held.all in
-    let entry = c.args.entry in
+    let entry = c.args.entry.now in
     let ptr = c.args.ptr in
     let under = c.requires.held in
     let P : Pointer → Type 0 = λ p. is_live (λ slot. slot == p.slot) p.place (blocks_of old.pools) ≡ true in

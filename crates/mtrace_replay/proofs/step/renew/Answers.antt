@@ -21,7 +21,7 @@ returns-in_default-block g c =
     let after = bare (g.H.Heaped.content c.allocate.new.heap) in
     let held = c.args.held.now.all in
     let new = c.allocate.new.held.all in
-    let entry = c.args.entry in
+    let entry = c.args.entry.now in
     let old = c.in-Some.old in
     let none = under_none (held_at held old) (sym (seen_block c.find-found.new.self.all c.args.held.now.all c.find-found.result.address c.in-Some.old c.block.result c.block.ensures.value c.find-found.ensures.unchanged c.find-found.ensures.address) ∙ c.in_default-block.is) in
     let is = renewal_allocates held content entry.line entry.at c.args.pending old entry.addr entry.size c.in-Some.is none in
@@ -48,7 +48,7 @@ pub returns-then-is_held_too : goal.returns-then-is_held_too
 returns-then-is_held_too g c =
     let content = bare (g.H.Heaped.content c.args.heap.now) in
     let held = c.args.held.now.all in
-    let entry = c.args.entry in
+    let entry = c.args.entry.now in
     let old = c.in-Some.old in
     let under = under_some (held_at held old) c.in-Some-block.ptr (sym (seen_block c.find-found.new.self.all c.args.held.now.all c.find-found.result.address c.in-Some.old c.block.result c.block.ensures.value c.find-found.ensures.unchanged c.find-found.ensures.address) ∙ c.in-Some-block.is) in
     let value = c.is_held_too.ensures.value ∙ ap (λ all. not (entry.addr == old) && is_some (held_at all entry.addr)) c.find-found.ensures.unchanged in
@@ -77,7 +77,7 @@ returns g c =
     let after = bare (g.H.Heaped.content c.reallocate.new.heap) in
     let held = c.args.held.now.all in
     let new = c.reallocate.new.held.all in
-    let entry = c.args.entry in
+    let entry = c.args.entry.now in
     let old = c.in-Some.old in
     let under = under_some (held_at held old) c.in-Some-block.ptr (sym (seen_block c.find-found.new.self.all c.args.held.now.all c.find-found.result.address c.in-Some.old c.block.result c.block.ensures.value c.find-found.ensures.unchanged c.find-found.ensures.address) ∙ c.in-Some-block.is) in
     let value = c.is_held_too.ensures.value ∙ ap (λ all. not (entry.addr == old) && is_some (held_at all entry.addr)) c.find-found.ensures.unchanged in

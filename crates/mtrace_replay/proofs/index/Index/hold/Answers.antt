@@ -5,7 +5,7 @@ use Rattle.mtrace_replay.specs.declared.spot.Spot.TheVariants.{Held}
 use Rattle.mtrace_replay.specs.Search.{StandsAt, FitsAt}
 use Rattle.mtrace_replay.specs.Index.{Indexed, IsIndex, held_at}
 use Rattle.mtrace_replay.proofs.IndexLemmas.{set_keeps, set_held, set_bytes, one_was, enters_rise, enters_held, enters_keeps, arranged_keeps, found_stands, found_fits}
-use Rattle.mtrace_replay.proofs.index.Index.insert.Goals as goal
+use Rattle.mtrace_replay.proofs.index.Index.hold.Goals as goal
 
 pub overflow_sub-self : goal.overflow_sub-self
 overflow_sub-self c =
