@@ -1,12 +1,11 @@
 -- What the calls of a reader came to in many calls of `next`.
 use Rattle.std.proofs.Common.{◌≡◌, ℕ, List, Option, Result, refl, subst, sym, inl, inr}
 use Rattle.mtrace_log.specs.Trace.{HasGivenAll, HasNotFailed}
-use Rattle.mtrace_log.specs.Progress.{Progress, Status, Reading, Ended, Faulted, TakesLine, GivesLine, FindsEnd, GivesFault, CallsFor}
+use Rattle.mtrace_log.specs.Progress.{Progress, Status, Reading, Ended, Faulted, TakesLine, FindsEnd, GivesFault, CallsFor}
 use Rattle.mtrace_log.specs.declared.call.Call.{Call}
 use Rattle.mtrace_log.specs.declared.call.Call.TheVariants.{Gave, Ended as EndTold, Failed}
 use Rattle.mtrace_log.specs.Event.{Event}
 use Rattle.mtrace_log.specs.declared.event.LineFault.{LineFault}
-use Rattle.mtrace_log.specs.declared.line.Line.{Line}
 use Rattle.mtrace_log.specs.declared.line.ReadFault.{ReadFault}
 use Rattle.mtrace_log.specs.declared.line.ReadFault.TheVariants.{ReaderFailed, TooManyLines}
 use Rattle.mtrace_log.proofs.TraceLemmas.{moved_append, moved_then_append}

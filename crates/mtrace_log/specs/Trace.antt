@@ -1,5 +1,5 @@
 -- What the calls of a reader or of a writer came to, the latest first, and what of them a clause says.
-use Rattle.std.specs.Prelude.{◌≡◌, ℕ, zero, suc, ◌+◌, List, [], ◌∷◌, ◌++◌, map, Result, Ok, Err, ◌⊎◌}
+use Rattle.std.specs.Prelude.{◌≡◌, ℕ, zero, suc, List, ◌∷◌, ◌++◌, map, Result, Ok, Err, ◌⊎◌}
 use Rattle.mtrace_log.specs.declared.failed.Failed.{Failed as Failure}
 use Rattle.mtrace_log.specs.declared.call.Call.{Call}
 use Rattle.mtrace_log.specs.declared.call.Call.TheVariants.{Gave, Ended, Took, Flushed, FlushFailed, Failed}
