@@ -4,9 +4,9 @@ use Rattle.std.proofs.Math.Nat.{mul-zero, zero-div}
 use Rattle.std.proofs.Math.Seq.{take-suc, drop-append-add}
 use Rattle.std.proofs.lemmas.List.{length-take-le, append_assoc, take_at, take-append-le, drop-drop, drop-append-le, get_or-drop, length-drop, length-append, get_or-take}
 use borrow.Rule.Slice.PartMut.{mid_of, put_mid}
-use Rattle.mtrace_replay.specs.declared.holding.Holding.{Holding}
-use Rattle.mtrace_replay.specs.declared.spot.Spot.{Spot}
-use Rattle.mtrace_replay.specs.declared.spot.Spot.TheVariants.{Held, Vacant}
+use Rattle.mtrace_replay.specs.Holding.{Holding}
+use Rattle.mtrace_replay.specs.Spot.{Spot}
+use Rattle.mtrace_replay.specs.Spot.Spot.{Held, Vacant}
 use Rattle.mtrace_replay.specs.Spot.{spot_address, least_behind, holding_of, all_held, RiseFrom}
 use Rattle.mtrace_replay.specs.Arrange.{behind_vacant}
 use Rattle.mtrace_replay.proofs.SpotLemmas.{rise_lower, held_append}

@@ -3,7 +3,7 @@ use Rattle.std.proofs.Common.{◌≡◌, ℕ, suc, ◌+◌, ◌-◌, ◌<◌, �
 use Rattle.std.proofs.Math.Seq.{take-suc, drop-cons, set-append_seam, take-append-add}
 use Rattle.std.proofs.lemmas.List.{take-append-drop, get_or-drop, length-take-le, length-drop, length-append, append_assoc, drop-drop, drop_at, take_at}
 use borrow.Rule.Slice.PartMut.{mid_of, put_mid}
-use Rattle.mtrace_replay.specs.declared.spot.Spot.{Spot}
+use Rattle.mtrace_replay.specs.Spot.{Spot}
 use Rattle.mtrace_replay.specs.Search.{IsVacantAt, Enters}
 
 -- a list in three parts, the second the element there

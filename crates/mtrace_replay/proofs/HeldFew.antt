@@ -11,7 +11,7 @@ use Rattle.std.proofs.lemmas.List.{length-map}
 use Rattle.tlsf_heap.specs.Content.{Block, Content, blocks_of, is_at}
 use Rattle.tlsf_heap.specs.Free.{is_owned_by, is_live}
 use Rattle.tlsf_heap.specs.Good.{IsGood}
-use Rattle.mtrace_replay.specs.declared.holding.Holding.{Holding}
+use Rattle.mtrace_replay.specs.Holding.{Holding}
 use Rattle.tlsf_class.specs.Classes.{greatest_size}
 use Rattle.tlsf_heap.specs.Pools.{most_records}
 use Rattle.std.proofs.lemmas.List.Sums.{sum_by-cons}

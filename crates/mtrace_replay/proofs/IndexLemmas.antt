@@ -8,9 +8,9 @@ use Rattle.std.proofs.lemmas.Bool.Decides.{nat_tests}
 use Rattle.std.proofs.lemmas.List.{length-append, length-take-le, length-set, take-append-drop}
 use Rattle.std.proofs.lemmas.List.Sums.{sum_by-append}
 use Rattle.std.proofs.lemmas.Map.Keys.{IsStrictlyIncreasing-from_sorted}
-use Rattle.mtrace_replay.specs.declared.holding.Holding.{Holding}
-use Rattle.mtrace_replay.specs.declared.spot.Spot.{Spot}
-use Rattle.mtrace_replay.specs.declared.spot.Spot.TheVariants.{Held, Vacant}
+use Rattle.mtrace_replay.specs.Holding.{Holding}
+use Rattle.mtrace_replay.specs.Spot.{Spot}
+use Rattle.mtrace_replay.specs.Spot.Spot.{Held, Vacant}
 use Rattle.mtrace_replay.specs.Spot.{spot_address, least_behind, Holds, holding_of, all_held, RiseFrom, AreBelow, AreAbove}
 use Rattle.mtrace_replay.specs.Search.{StandsAt, FitsAt, Enters}
 use Rattle.mtrace_replay.specs.declared.index.Found.{Found}

@@ -9,7 +9,7 @@ use Rattle.tlsf_heap.specs.Good.{IsGood}
 use Rattle.tlsf_heap.proofs.Good.StaysLive.{live_through_free, live_through_realloc, moved_elsewhere, live_moved}
 use Rattle.tlsf_class.specs.Classes.{greatest_size}
 use Rattle.tlsf_heap.specs.Pools.{most_records}
-use Rattle.mtrace_replay.specs.declared.holding.Holding.{Holding}
+use Rattle.mtrace_replay.specs.Holding.{Holding}
 use Rattle.mtrace_replay.specs.Index.{held_at}
 use Rattle.mtrace_replay.specs.Moment.{asked_block}
 use Rattle.mtrace_replay.specs.Step.{IsLive, AreLive}

@@ -2,8 +2,8 @@
 use Rattle.std.proofs.Common.{◌≡◌, ℕ, zero, suc, ◌+◌, ◌-◌, ◌/◌, ◌^◌, ◌<◌, ◌≤◌, ◌↔◌, List, [], ◌∷◌, take, drop, length, is_some, Bool, true, false, slice_index_or, drop-drop, arith, nat_eq, ◌*◌, ◌&&◌, ◌||◌, IsTrue, MatchBool, ◌⊎◌, inl, inr, refl, sym, ◌∙◌, subst}
 use Rattle.std.proofs.lemmas.List.{drop_all, get_or_default}
 use Rattle.std.proofs.lemmas.Bool.{cases_lt, false≢true}
-use Rattle.mtrace_replay.specs.declared.spot.Spot.{Spot}
-use Rattle.mtrace_replay.specs.declared.spot.Spot.TheVariants.{Held, Vacant}
+use Rattle.mtrace_replay.specs.Spot.{Spot}
+use Rattle.mtrace_replay.specs.Spot.Spot.{Held, Vacant}
 use Rattle.mtrace_replay.specs.Spot.{spot_address, least_behind, Holds, holding_of, RiseFrom, AreBelow, AreAbove}
 use Rattle.mtrace_replay.proofs.SpotLemmas.{holds_address, below_up_to, above_from}
 
@@ -44,7 +44,7 @@ module _ (spots : List Spot) (address before : ℕ) where
     within = omega arith;
     below = tt;
     above = (let whole : length spots ≡ 0 + length spots = omega arith in
-    subst (λ k. AreAbove address (drop k spots)) whole (subst (AreAbove address) (sym (drop_all (length spots) spots (omega arith))) tt));
+        subst (λ k. AreAbove address (drop k spots)) whole (subst (AreAbove address) (sym (drop_all (length spots) spots (omega arith))) tt));
     afford = λ digits few. record { rest = digits; spent = omega arith; enough = omega (arith, few) };
   }
 

@@ -20,7 +20,7 @@ use Rattle.tlsf_heap.specs.Bare.{bare}
 use Rattle.tlsf_heap.specs.Good.{IsGood}
 use Rattle.tlsf_heap.proofs.Content.BareSteps.{size_at-renamed}
 use Rattle.tlsf_heap.proofs.Good.LiveBlocks.{end_here_bare, live_end_bare}
-use Rattle.mtrace_replay.specs.declared.holding.Holding.{Holding}
+use Rattle.mtrace_replay.specs.Holding.{Holding}
 use Rattle.mtrace_replay.specs.declared.totals.Totals.{Totals}
 use Rattle.mtrace_replay.specs.Index.{held_at}
 use Rattle.mtrace_replay.specs.Texts.{total_size}

@@ -10,7 +10,7 @@ use Rattle.tlsf_heap.proofs.Content.BareSteps.{ap-cond}
 use Rattle.mtrace_replay.specs.Entry.{Entry}
 use Rattle.mtrace_replay.specs.declared.diagnostic.Diagnostic.{Diagnostic}
 use Rattle.mtrace_replay.specs.declared.diagnostic.Kind.TheVariants.{NotHeld, AlreadyHeld, Refused}
-use Rattle.mtrace_replay.specs.declared.holding.Holding.{Holding}
+use Rattle.mtrace_replay.specs.Holding.{Holding}
 use Rattle.mtrace_replay.specs.Started.{Bare}
 use Rattle.mtrace_replay.specs.Moment.{Given, Moment, unserved, note, noted_after, asked_size, asked_block, without, answered, allocation, release, moved, reallocation, renewal, renewal_asks}
 use Rattle.mtrace_replay.specs.Index.{held_at}

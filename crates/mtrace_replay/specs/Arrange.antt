@@ -1,7 +1,7 @@
 -- How vacant spots come to stand among held ones.
 use Rattle.std.specs.Prelude.{ℕ, List, [], ◌∷◌, ◌++◌, replicate}
-use Rattle.mtrace_replay.specs.declared.spot.Spot.{Spot}
-use Rattle.mtrace_replay.specs.declared.spot.Spot.TheVariants.{Vacant}
+use Rattle.mtrace_replay.specs.Spot.{Spot}
+use Rattle.mtrace_replay.specs.Spot.Spot.{Vacant}
 use Rattle.mtrace_replay.specs.Spot.{spot_address}
 
 -- a spot behind so many vacant ones that may stand before it

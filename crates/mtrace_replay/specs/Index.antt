@@ -1,8 +1,8 @@
 -- What is held, by address, as a list in order of address.
 use Rattle.std.specs.Prelude.{◌≡◌, ℕ, ◌+◌, ◌*◌, ◌<◌, ◌≤◌, ◌^◌, List, length, map, find, sum_by, Option, ◌==◌, IfOk, IfErr}
 use Rattle.std.specs.List.Sorted.{IsStrictlyIncreasing}
-use Rattle.mtrace_replay.specs.declared.holding.Holding.{Holding}
-use Rattle.mtrace_replay.specs.declared.spot.Spot.{Spot}
+use Rattle.mtrace_replay.specs.Holding.{Holding}
+use Rattle.mtrace_replay.specs.Spot.{Spot}
 use Rattle.mtrace_replay.specs.declared.index.Found.{Found}
 use Rattle.mtrace_replay.specs.Spot.{all_held, RiseFrom}
 use Rattle.mtrace_replay.specs.Search.{StandsAt, FitsAt}

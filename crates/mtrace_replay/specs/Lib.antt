@@ -4,6 +4,7 @@ pub mod Entry
 pub mod Moment
 pub mod History
 pub mod Held
+pub mod Holding
 pub mod Spot
 pub mod Index
 pub mod Search

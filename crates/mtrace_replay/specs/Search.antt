@@ -1,6 +1,6 @@
 -- Where an address stands among the spots of an index, and where it enters.
 use Rattle.std.specs.Prelude.{◌≡◌, ◌⊎◌, ℕ, ◌+◌, ◌<◌, ◌≤◌, ◌^◌, List, ◌∷◌, ◌++◌, length, take, drop, slice_index_or, None}
-use Rattle.mtrace_replay.specs.declared.spot.Spot.{Spot}
+use Rattle.mtrace_replay.specs.Spot.{Spot}
 use Rattle.mtrace_replay.specs.Spot.{Holds, holding_of, AreBelow, AreAbove}
 
 -- the address is held at the spot there

@@ -1,9 +1,19 @@
 -- The spots of an index, as a list in order of address.
 use Rattle.std.specs.Prelude.{◌≡◌, ℕ, suc, ◌<◌, ◌≤◌, ⊤, List, [], ◌∷◌, ◌++◌, Option, Some, None, option_to_list}
 use Rattle.std.specs.List.{AllByRecursion}
-use Rattle.mtrace_replay.specs.declared.holding.Holding.{Holding}
-use Rattle.mtrace_replay.specs.declared.spot.Spot.{Spot}
-use Rattle.mtrace_replay.specs.declared.spot.Spot.TheVariants.{Held, Vacant}
+use Rattle.mtrace_replay.specs.Holding.{Holding}
+use Rattle.mtrace_replay.specs.Entry.{Entry}
+use Rattle.tlsf_heap.specs.Pointer.{Pointer}
+
+-- what is held under an address; or an address under which nothing is, which is that of the spot that held it or of one behind
+pub data Spot : Type 0 where
+  Held : Holding → Spot
+  Vacant : ℕ → Spot
+
+-- an entry and its block; or the address of an entry that is held no more
+abbrev pub spot_of : Entry → Option Pointer → Spot
+spot_of entry (Some ptr) = Held (record { entry = entry; ptr = ptr })
+spot_of entry None = Vacant entry.addr
 
 abbrev pub spot_address : Spot → ℕ
 spot_address (Held holding) = holding.entry.addr

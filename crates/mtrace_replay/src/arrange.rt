@@ -2,8 +2,7 @@
 
 ghost use Rattle.std.specs.Prelude.{◌≡◌, ◌+◌, ◌-◌, ◌<◌, ◌≤◌, length, take, drop, slice_index_or};
 ghost use Rattle.std.specs.Vec.{vec_capacity};
-ghost use Rattle.mtrace_replay.specs.declared.spot.Spot.{Spot};
-ghost use Rattle.mtrace_replay.specs.Spot.{all_held, RiseFrom};
+ghost use Rattle.mtrace_replay.specs.Spot.{Spot, all_held, RiseFrom};
 ghost use Rattle.mtrace_replay.specs.Arrange.{behind_vacant};
 
 use crate::spot::Spot;

@@ -28,3 +28,15 @@ impl Entry<LentLocation<'_>> {
         }
     }
 }
+
+impl Entry {
+    /// Becomes the other entry, with its location kept.
+    pub(crate) fn set(&mut self, other: &Entry<LentLocation<'_>>)
+        ensures { self.new ≡ other.now }
+    {
+        self.addr = other.addr;
+        self.size = other.size;
+        self.line = other.line;
+        self.at = kept_location(&other.at);
+    }
+}

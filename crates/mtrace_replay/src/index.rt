@@ -5,7 +5,6 @@ ghost use Rattle.mtrace_replay.specs.Index.{held_at, held_bytes, AreInOrder, Loo
 
 use crate::arrange::arrange;
 use crate::entry::Entry;
-use crate::holding::Holding;
 use crate::search::{enter, search};
 use crate::spot::Spot;
 use mtrace_log::{Addr, LentLocation};
@@ -119,30 +118,17 @@ impl Index {
             ≡ (if entry.now.addr == address then Some (record { entry = entry.now; ptr = ptr }) else held_at self.old.all address) }
         ensures looked { LooksUp 0 self.old self.new }
     {
-        self.hold(found, Holding::new(entry, ptr));
-    }
-
-    /// Holds the address that was found so, in place of what it was held under.
-    fn hold(&mut self, found: &Found, holding: Holding)
-        requires found { IsFound self.old.spots found.now }
-        requires address { found.now.address ≡ holding.entry.addr }
-        requires bytes { held_bytes self.old.all + holding.entry.size < 2 ^ 64 }
-        requires room { length self.old.all < self.old.room }
-        ensures held { (address : ℕ) → held_at self.new.all address
-            ≡ (if holding.entry.addr == address then Some holding else held_at self.old.all address) }
-        ensures looked { LooksUp 0 self.old self.new }
-    {
-        let size = holding.size();
+        let size = entry.size;
         match found.place {
             Ok(at) => {
                 self.bytes = self.bytes + size - self.spots[at].size();
-                self.spots[at] = Spot::Held(holding);
+                self.spots[at].hold(entry, ptr);
             }
             Err(at) => {
                 let at_end = at == self.spots.len();
                 self.blocks += 1;
                 self.bytes += size;
-                let moved = enter(&mut self.spots, self.room, at, Spot::Held(holding));
+                let moved = enter(&mut self.spots, self.room, at, entry, ptr);
                 self.moved = self.moved.saturating_add(moved);
                 if self.moved > self.spots.len() {
                     self.moved = 0;
@@ -178,7 +164,7 @@ impl Index {
         if let Ok(at) = found.place {
             self.bytes -= self.spots[at].size();
             self.blocks -= 1;
-            self.spots[at] = Spot::Vacant(found.address);
+            self.spots[at].vacate();
         }
     }
 
@@ -242,8 +228,8 @@ impl<'a> Iterator for Entries<'a> {
     fn next(&mut self) -> Option<&'a Entry> {
         while let Some((spot, rest)) = self.spots.split_first() {
             self.spots = rest;
-            if let Spot::Held(holding) = spot {
-                return Some(&holding.entry);
+            if let Some(entry) = spot.entry() {
+                return Some(entry);
             }
         }
         None

@@ -6,7 +6,6 @@ mod arrange;
 mod diagnostic;
 mod entry;
 mod free_blocks;
-mod holding;
 mod index;
 pub mod laws;
 mod line_text;

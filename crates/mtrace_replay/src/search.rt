@@ -3,10 +3,13 @@
 ghost use Rattle.std.specs.Prelude.{◌≡◌, ℕ, ◌<◌, ◌≤◌, length, IfOk, IfErr};
 ghost use Rattle.std.specs.Vec.{vec_capacity};
 ghost use Rattle.mtrace_replay.specs.Spot.{spot_address, all_held, RiseFrom};
+ghost use Rattle.mtrace_replay.specs.Spot.Spot.{Held};
 ghost use Rattle.mtrace_replay.specs.Search.{StandsAt, FitsAt, Compares, IsVacantAt, IsGap, Enters};
 
+use crate::entry::Entry;
 use crate::spot::Spot;
-use mtrace_log::Addr;
+use mtrace_log::{Addr, LentLocation};
+use tlsf_heap::Ptr;
 use tlsf_store::GhostCount;
 
 /// Where the spot of the address is; or else where it would be, in order of address. It halves what is left, and
@@ -56,50 +59,56 @@ fn nearest_gap(spots: &[Spot], room: usize, at: usize) -> usize
     unreachable!()
 }
 
-/// Puts a spot in place of the vacant one before it; what lies between moves down.
-fn enter_below(spots: &mut [Spot], gap: usize, at: usize, spot: Spot)
+/// The entry comes to be held in place of the vacant spot before it; what lies between moves down.
+fn enter_below(spots: &mut [Spot], gap: usize, at: usize, entry: &Entry<LentLocation<'_>>, ptr: Ptr)
     requires below { gap < at }
     requires at_most { at ≤ length spots.old }
     requires vacant { IsVacantAt spots.old gap }
-    ensures enters { Enters spot at spots.old spots.new }
+    ensures enters { Enters (Held (record { entry = entry.now; ptr = ptr })) at spots.old spots.new }
     ensures len { length spots.new ≡ length spots.old }
 {
     spots[gap..at].rotate_left(1);
-    spots[at - 1] = spot;
+    spots[at - 1].hold(entry, ptr);
 }
 
-/// Puts a spot in place of the vacant one behind it; what lies between moves up.
-fn enter_above(spots: &mut [Spot], gap: usize, at: usize, spot: Spot)
+/// The entry comes to be held in place of the vacant spot behind it; what lies between moves up.
+fn enter_above(spots: &mut [Spot], gap: usize, at: usize, entry: &Entry<LentLocation<'_>>, ptr: Ptr)
     requires above { at ≤ gap }
     requires within { gap < length spots.old }
     requires vacant { IsVacantAt spots.old gap }
-    ensures enters { Enters spot at spots.old spots.new }
+    ensures enters { Enters (Held (record { entry = entry.now; ptr = ptr })) at spots.old spots.new }
     ensures len { length spots.new ≡ length spots.old }
 {
     spots[at..gap + 1].rotate_right(1);
-    spots[at] = spot;
+    spots[at].hold(entry, ptr);
 }
 
-/// Puts a spot between the first so many and the others. It takes the nearest vacant spot, so that only what lies
-/// between moves, or else one more place at the end. Answers how many spots moved.
-pub(crate) fn enter(spots: &mut Vec<Spot>, room: usize, at: usize, spot: Spot) -> usize
+/// The entry comes to be held between the first so many spots and the others. It takes the nearest vacant spot, so that only what
+/// lies between moves, or else one more place at the end. Answers how many spots moved.
+pub(crate) fn enter(
+    spots: &mut Vec<Spot>,
+    room: usize,
+    at: usize,
+    entry: &Entry<LentLocation<'_>>,
+    ptr: Ptr,
+) -> usize
     requires at_most { at ≤ length spots.old.items }
     requires within { length spots.old.items ≤ room }
     requires reserved { room ≤ vec_capacity spots.old }
     requires free { length (all_held spots.old.items) < room }
-    ensures enters { Enters spot at spots.old.items spots.new.items }
+    ensures enters { Enters (Held (record { entry = entry.now; ptr = ptr })) at spots.old.items spots.new.items }
     ensures within { length spots.new.items ≤ room }
     ensures reserved { vec_capacity spots.new ≡ vec_capacity spots.old }
 {
     let gap = nearest_gap(spots, room, at);
     if gap == spots.len() {
-        let _ = spots.insert(at, spot);
+        let _ = spots.insert(at, Spot::new(entry, ptr));
         gap - at
     } else if gap < at {
-        enter_below(spots, gap, at, spot);
+        enter_below(spots, gap, at, entry, ptr);
         at - gap - 1
     } else {
-        enter_above(spots, gap, at, spot);
+        enter_above(spots, gap, at, entry, ptr);
         gap - at
     }
 }

@@ -1,22 +1,31 @@
 //! A spot of the index: an address, and what is held under it, if anything is.
 
 ghost use Rattle.std.specs.Prelude.{◌≡◌, ◌+◌, ◌<◌, ◌≤◌, ◌↔◌, IsTrue, option_map, option_to_list, not, is_some};
-ghost use Rattle.mtrace_replay.specs.declared.spot.Spot.TheVariants.{Vacant};
+ghost use Rattle.std.specs.Option.{option_copied};
+ghost use Rattle.mtrace_replay.specs.Spot.Spot.{Held, Vacant};
 ghost use Rattle.mtrace_replay.specs.Index.{held_bytes};
 ghost use Rattle.mtrace_replay.specs.Spot.{spot_address, Holds, holding_of};
 
-use crate::holding::Holding;
-use mtrace_log::Addr;
+use crate::entry::Entry;
+use mtrace_log::{Addr, LentLocation};
+use std::marker::Model;
 use tlsf_heap::Ptr;
 use tlsf_store::GhostCount;
 
-/// A spot of the index. The address of a vacant one still tells a search which way to go.
+/// A spot of the index: an entry and its block. Where nothing is held there is no block, and the entry's address still tells a
+/// search which way to go; the rest of the entry means nothing then.
 #[derive(Drop)]
-pub(crate) enum Spot {
-    /// An address that is held.
-    Held(Holding),
-    /// Nothing is held: the address was, or it is that of the next spot that is.
-    Vacant(Addr),
+pub(crate) struct Spot {
+    entry: Entry,
+    block: Option<Ptr>,
+}
+
+impl Model for Spot {
+    ghost use Rattle.mtrace_replay.specs.Spot.{Spot, spot_of};
+
+    ghost Value = { Spot };
+
+    ghost view = { λ spot. spot_of spot.entry spot.block };
 }
 
 /// How a spot stands to an address.
@@ -39,14 +48,51 @@ fn at_most(first: u64, second: u64) -> usize
 }
 
 impl Spot {
+    /// An entry that is held under this block.
+    pub(crate) fn new(entry: &Entry<LentLocation<'_>>, ptr: Ptr) -> Spot
+        ensures { result ≡ Held (record { entry = entry.now; ptr = ptr }) }
+    {
+        Spot {
+            entry: entry.keep(),
+            block: Some(ptr),
+        }
+    }
+
+    /// The entry is held here, under this block.
+    pub(crate) fn hold(&mut self, entry: &Entry<LentLocation<'_>>, ptr: Ptr)
+        ensures { self.new ≡ Held (record { entry = entry.now; ptr = ptr }) }
+    {
+        self.entry.set(entry);
+        self.block = Some(ptr);
+    }
+
+    /// Nothing is held here any more.
+    pub(crate) fn vacate(&mut self)
+        ensures { self.new ≡ Vacant (spot_address self.old) }
+    {
+        self.block = None;
+    }
+
+    /// A vacant spot that may stand before this one.
+    pub(crate) fn vacant_before(&self) -> Spot
+        ensures { result ≡ Vacant (spot_address self.now) }
+    {
+        Spot {
+            entry: Entry {
+                addr: self.address(),
+                size: 0,
+                line: 0,
+                at: None,
+            },
+            block: None,
+        }
+    }
+
     /// The address, for `compare` and a spot before this one.
     fn address(&self) -> Addr
         ensures { result ≡ spot_address self.now }
     {
-        match self {
-            Spot::Held(holding) => holding.address(),
-            Spot::Vacant(address) => *address,
-        }
+        self.entry.addr
     }
 
     /// How the spot stands to an address. The one way to compare, which counts.
@@ -65,40 +111,38 @@ impl Spot {
         }
     }
 
-    /// A vacant spot that may stand before this one.
-    pub(crate) fn vacant_before(&self) -> Spot
-        ensures { result ≡ Vacant (spot_address self.now) }
-    {
-        Spot::Vacant(self.address())
-    }
-
     /// Whether nothing is held.
     pub(crate) fn is_vacant(&self) -> bool
         ensures { result ≡ not (is_some (holding_of self.now)) }
     {
-        match self {
-            Spot::Held(_) => false,
-            Spot::Vacant(_) => true,
-        }
+        self.block.is_none()
     }
 
     /// The block that is held.
     pub(crate) fn block(&self) -> Option<Ptr>
         ensures { result ≡ option_map (λ holding. holding.ptr) (holding_of self.now) }
     {
-        match self {
-            Spot::Held(holding) => Some(holding.ptr),
-            Spot::Vacant(_) => None,
+        self.block
+    }
+
+    /// The entry that is held.
+    pub(crate) fn entry(&self) -> Option<&Entry>
+        ensures { option_copied result ≡ option_map (λ holding. holding.entry) (holding_of self.now) }
+    {
+        if self.block.is_none() {
+            return None;
         }
+        Some(&self.entry)
     }
 
     /// How many bytes were asked for what is held.
     pub(crate) fn size(&self) -> u64
         ensures { result ≡ held_bytes (option_to_list (holding_of self.now)) }
     {
-        match self {
-            Spot::Held(holding) => holding.size(),
-            Spot::Vacant(_) => 0,
+        if self.block.is_some() {
+            self.entry.size
+        } else {
+            0
         }
     }
 }

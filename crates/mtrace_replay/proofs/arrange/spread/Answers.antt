@@ -1,6 +1,6 @@
 use Rattle.std.proofs.Common.{◌-◌, ◌<◌, ◌≤◌, ◌∙◌, arith, subst, length, take}
 use Rattle.mtrace_replay.specs.Spot.{all_held}
-use Rattle.mtrace_replay.specs.declared.spot.Spot.TheVariants.{Vacant}
+use Rattle.mtrace_replay.specs.Spot.Spot.{Vacant}
 use Rattle.mtrace_replay.proofs.ArrangeLemmas.{Spreads, number_before, no_share, spread_on, spread_length}
 use Rattle.mtrace_replay.proofs.arrange.spread.Goals as goal
 

@@ -6,7 +6,7 @@ use Rattle.tlsf_heap.proofs.Content.BareSteps.{size_at-renamed}
 use Rattle.mtrace_replay.specs.declared.diagnostic.Diagnostic.{Diagnostic}
 use Rattle.mtrace_replay.specs.declared.step.Effect.{Effect}
 use Rattle.mtrace_replay.specs.declared.diagnostic.Kind.TheVariants.{Refused}
-use Rattle.mtrace_replay.specs.declared.holding.Holding.{Holding}
+use Rattle.mtrace_replay.specs.Holding.{Holding}
 use Rattle.mtrace_replay.specs.Moment.{note, allocation, asked_block}
 use Rattle.mtrace_replay.specs.Index.{AreInOrder, held_at, held_bytes}
 use Rattle.mtrace_replay.specs.Step.{all_given, found, Comes, AreLive}

@@ -1,5 +1,5 @@
 use Rattle.std.proofs.Common.{◌≡◌, map, length}
-use Rattle.mtrace_replay.specs.declared.holding.Holding.{Holding}
+use Rattle.mtrace_replay.specs.Holding.{Holding}
 use Rattle.mtrace_replay.specs.Spot.{all_held}
 use Rattle.mtrace_replay.proofs.index.EntriesIterator.next.Given as goal
 

@@ -1,7 +1,7 @@
 use Rattle.std.proofs.Common.{refl, sym, ap, ◌∙◌}
 use Rattle.std.specs.Prelude.{option_map}
-use Rattle.mtrace_replay.specs.declared.holding.Holding.{Holding}
-use Rattle.mtrace_replay.specs.declared.spot.Spot.TheVariants.{Vacant}
+use Rattle.mtrace_replay.specs.Holding.{Holding}
+use Rattle.mtrace_replay.specs.Spot.Spot.{Vacant}
 use Rattle.mtrace_replay.specs.Index.{Indexed, held_at}
 use Rattle.mtrace_replay.proofs.IndexLemmas.{held_there, nothing_there, found_stands, found_fits}
 use Rattle.mtrace_replay.proofs.index.Index.block.Goals as goal

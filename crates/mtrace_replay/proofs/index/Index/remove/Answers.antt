@@ -1,6 +1,6 @@
 use Rattle.std.proofs.Common.{◌-◌, None, is_some, length, arith, refl, sym, ap, ◌∙◌, cond}
 use Rattle.std.specs.Prelude.{◌==◌}
-use Rattle.mtrace_replay.specs.declared.spot.Spot.TheVariants.{Vacant}
+use Rattle.mtrace_replay.specs.Spot.Spot.{Vacant}
 use Rattle.mtrace_replay.specs.Index.{Indexed, held_at, held_bytes}
 use Rattle.mtrace_replay.proofs.IndexLemmas.{set_keeps, set_held, set_count, set_bytes, one_was, nothing_there, nothing_removed, found_stands, found_fits}
 use Rattle.mtrace_replay.proofs.index.Index.remove.Goals as goal

@@ -1,6 +1,6 @@
 use Rattle.std.proofs.Common.{◌≤◌, length, sym, subst, ap, ◌∙◌, arith}
 use Rattle.std.proofs.lemmas.List.{length-map}
-use Rattle.mtrace_replay.specs.declared.holding.Holding.{Holding}
+use Rattle.mtrace_replay.specs.Holding.{Holding}
 use Rattle.mtrace_replay.specs.Replay.{Replayed, entries}
 use Rattle.mtrace_replay.proofs.FoundLemmas.{entries_given}
 use Rattle.mtrace_replay.proofs.replay.Replay.held.Goals as goal
