@@ -51,7 +51,7 @@ typedef struct tlsf_row {
 } tlsf_row;
 
 /* What a call answers: 0 where it is served, else why it is refused. A refused call leaves the heap's content and what
- * its out parameter points to as they were. */
+ * its out parameter points to as they were; only tlsf_save puts as much as there is room for. */
 enum tlsf_status {
     TLSF_OK = 0,
     TLSF_ZERO_SIZE = 1,      /* no byte was asked for */
