@@ -1,7 +1,7 @@
 /* Calls to be counted by callgrind, over the library or, with -DPLAIN, over the heap of plain_heap.h. No test.
  *
  *     instructions pairs LIVE        pairs of free and malloc with so many live blocks; what they answered is written
- *     instructions worst LIVE        one call in each of some bad states, each with so many live blocks besides; a line a call
+ *     instructions worst LIVE        one call in each of some bad states, and then any calls, with so many live blocks besides; a line a call
  *
  * tests/benchmark_c runs it: each counted call is one of the functions named counted_.. */
 #include <stdio.h>
@@ -23,7 +23,7 @@ static tlsf_heap heap;
 #define WORK 1073741824u     /* where the pools of a state begin; below it are the other live blocks */
 #define GREATEST 1073741808u
 
-enum { MOST = 60000, PAIRS = 20000 };
+enum { MOST = 60000, PAIRS = 20000, MOST_OWN = 400, CALLS = 4000 };
 
 static tlsf_block blocks[MOST], given;
 static volatile uint32_t status;
@@ -204,21 +204,32 @@ static void grows(uint32_t live)
     }
 }
 
-/* A split of the only block of a class, or of the first of two, whose rest is of its class, of another level, or full. */
+/* A split of the only block of a class, or of the first of two, each with a live block behind it; the lists that the pieces
+ * enter are empty or not. */
 static void splits(uint32_t live, int pools, uint32_t base, uint32_t bytes, uint64_t align, uint64_t wanted, bool full)
 {
+    static const uint64_t others[] = {496, 512, (1u << 19) - 32, 1u << 19};
+    tlsf_block kept[4], large[2];
     begin(live);
     if (full) {
-        must(CALL(add_pool)(&heap, WORK, 1u << 20));
-        for (int k = 0; k < 2; k++) {
-            tlsf_block small = live_block(512), large = live_block((1u << 19) - 32);
-            must(CALL(free)(&heap, small));
-            must(CALL(free)(&heap, large));
+        must(CALL(add_pool)(&heap, WORK, 1u << 22));
+        for (int k = 0; k < 4; k++) {
+            kept[k] = live_block(others[k]);
+            live_block(16);
         }
-        live_block(1u << 15);
     }
     for (int k = 0; k < pools; k++) {
-        must(CALL(add_pool)(&heap, (2u + (uint32_t)k) * WORK + base, bytes));
+        must(CALL(add_pool)(&heap, (2u + (uint32_t)k) * WORK + base, bytes + 16));
+    }
+    for (int k = 0; k < pools; k++) {
+        large[k] = live_block(bytes);
+        live_block(16);
+    }
+    for (int k = 0; k < pools; k++) {
+        must(CALL(free)(&heap, large[k]));
+    }
+    for (int k = 0; k < 4 && full; k++) {
+        must(CALL(free)(&heap, kept[k]));
     }
     if (align == 0) {
         counted_malloc(wanted);
@@ -229,16 +240,50 @@ static void splits(uint32_t live, int pools, uint32_t base, uint32_t bytes, uint
     }
 }
 
+/* Any calls, one after the other in one heap. */
+static void anything(uint32_t live)
+{
+    static tlsf_block own[MOST_OWN];
+    uint32_t count = 0;
+    state = 1;
+    begin(live);
+    must(CALL(add_pool)(&heap, WORK, 1u << 20));
+    must(CALL(add_pool)(&heap, 2u * WORK, GREATEST));
+    must(CALL(add_pool)(&heap, 3u * WORK, 1u << 29));
+    for (uint32_t call = 0; call < CALLS; call++) {
+        uint32_t kind = count < 50 ? next() % 2 : count == MOST_OWN ? 2 : next() % 4, at = count > 0 ? next() % count : 0;
+        uint64_t bytes = next() % 7 == 0 ? 1 + next() % 600000 : 1 + next() % 2000, align = 1u << next() % 16;
+        if (kind == 0) {
+            counted_malloc(bytes);
+        } else if (kind == 1) {
+            counted_memalign(align, bytes);
+        } else if (kind == 2) {
+            counted_free(own[at]);
+            own[at] = own[--count];
+        } else {
+            counted_realloc(own[at], bytes);
+        }
+        if (kind < 2 && status == TLSF_OK) {
+            own[count++] = given;
+        } else if (kind == 3 && status == TLSF_OK) {
+            own[at] = given;
+        }
+        CALLGRIND_DUMP_STATS;
+        printf("%s: any: %s\n", kind == 0 ? "malloc" : kind == 1 ? "memalign" : kind == 2 ? "free" : "realloc", tlsf_status_name(status));
+    }
+    CALL(destroy)(heap);
+}
+
 static void worst(uint32_t live)
 {
-    static const uint32_t sizes[] = {GREATEST - 48, 1u << 29, (1u << 29) + 512, 1u << 20};
-    static const uint64_t wanted[] = {16, 512, (1u << 29) - 512, (1u << 20) - 512, 1u << 19};
+    static const uint32_t sizes[] = {1056964608, 1u << 29, (1u << 29) + (1u << 24), 1u << 20};
+    static const uint64_t wanted[] = {16, 512, 520, (1u << 29) - 512, (1u << 20) - 512, 1u << 19};
     tlsf_block none = {0, 0};
     counted_nothing(none);
     CALLGRIND_DUMP_STATS;
     printf("nothing: no call: served\n");
     for (size_t size = 0; size < 4; size++) {
-        for (size_t bytes = 0; bytes < 5; bytes++) {
+        for (size_t bytes = 0; bytes < 6; bytes++) {
             for (int pools = 1; pools < 3; pools++) {
                 for (int full = 0; full < 2; full++) {
                     splits(live, pools, 0, sizes[size], 0, wanted[bytes], full);
@@ -251,6 +296,7 @@ static void worst(uint32_t live)
     frees(live);
     moves(live);
     grows(live);
+    anything(live);
 }
 
 int main(int count, char **words)
