@@ -10,15 +10,15 @@
  * A place is from 0 to 2^32 - 1. A block has at most 1,073,741,808 bytes (2^30 - 16).
  *
  * Bounds: each call says how often it touches the table, at most, whatever the heap holds, and refused or not. Only
- * tlsf_create takes memory, twice: for the table, and for the heap itself. tlsf_destroy gives both back.
+ * tlsf_create and tlsf_load take memory, twice: for the table, and for the heap itself. tlsf_destroy gives both back.
  *
  * Who may call: a heap belongs to the thread that made it. One call at a time; none from a signal handler, nor from
  * the forked child of a process with threads. A program that wants a heap in several threads puts a lock around it
  * at its own risk: that a heap may pass from thread to thread isn't proved.
  *
- * What the program owes: it passes a tlsf_heap that tlsf_create filled and tlsf_destroy didn't end, doesn't use two
- * copies of it, and doesn't write it; and each pointer points to an object of its type, and two of them in one call
- * to different ones. Nothing checks this. What a tlsf_block holds is checked: a wrong one is refused.
+ * What the program owes: it passes a tlsf_heap that tlsf_create or tlsf_load filled and tlsf_destroy didn't end, doesn't
+ * use two copies of it, and doesn't write it; and each pointer points to an object of its type, and two of them in one
+ * call to different ones. Nothing checks this. What a tlsf_block holds is checked: a wrong one is refused.
  */
 #ifndef TLSF_H
 #define TLSF_H
@@ -31,7 +31,7 @@
 extern "C" {
 #endif
 
-/* A heap. Start it with zeros (tlsf_heap heap = {0};) and fill it with tlsf_create. */
+/* A heap. Start it with zeros (tlsf_heap heap = {0};) and fill it with tlsf_create or tlsf_load. */
 typedef struct tlsf_heap {
     unsigned char *at;
 } tlsf_heap;
@@ -51,7 +51,7 @@ typedef struct tlsf_row {
 } tlsf_row;
 
 /* What a call answers: 0 where it is served, else why it is refused. A refused call leaves the heap's content and what
- * its out parameter points to as they were. */
+ * its out parameter points to as they were; only tlsf_save puts as much as there is room for. */
 enum tlsf_status {
     TLSF_OK = 0,
     TLSF_ZERO_SIZE = 1,      /* no byte was asked for */
@@ -64,8 +64,28 @@ enum tlsf_status {
     TLSF_POOL_IN_USE = 8,    /* a block of the pool is live */
     TLSF_OUT_OF_MEMORY = 9,  /* memory was refused */
     TLSF_NO_POOL = 10,       /* no pool begins there */
-    TLSF_BAD_COUNT = 11      /* the number of records isn't from 1 to 65,535 */
+    TLSF_BAD_COUNT = 11,     /* the number of records isn't from 1 to 65,535 */
+    TLSF_NO_ROOM = 14,       /* the image has more bytes than there is room for */
+
+    /* The bytes are no image of a heap. There are twelve rules, looked at in this order, each only where those before it
+     * hold; the status is a hundred more than the number of the first that is broken. docs/FORMATS.md says what stands
+     * where. */
+    TLSF_BROKEN_MAGIC = 101,         /* nothing is missing in front of the records, and TLSFIMG1 stands first */
+    TLSF_BROKEN_LENGTH = 102,        /* 1 to 65,535 records, at most 8 pools, and the last record ends the image */
+    TLSF_BROKEN_POOLS = 103,         /* each pool is where a pool can be, at or above the end of the one before */
+    TLSF_BROKEN_UNUSED_POOLS = 104,  /* the other pool entries are zero */
+    TLSF_BROKEN_STATES = 105,        /* each record is vacant, free or live, and a vacant one is zero */
+    TLSF_BROKEN_LINKS = 106,         /* each link is none or one of the records, and a block has bytes */
+    TLSF_BROKEN_CHAINS = 107,        /* the chain of each pool ends, has blocks alone, and is linked back */
+    TLSF_BROKEN_COVER = 108,         /* the blocks of each chain cover its pool end to end */
+    TLSF_BROKEN_ON_CHAINS = 109,     /* each block is on the chain of a pool */
+    TLSF_BROKEN_MERGED = 110,        /* no two free blocks stand side by side */
+    TLSF_BROKEN_LISTS = 111,         /* the list of each class ends, has its free blocks alone, and is linked back */
+    TLSF_BROKEN_ON_LISTS = 112       /* each free block is on the list of its class */
 };
+
+/* How many bytes the image of a heap of so many records has: at most 1,050,080. */
+#define TLSF_IMAGE_BYTES(records) (1520u + 16u * (size_t)(records))
 
 /* Fills *out with a heap of so many records, from 1 to 65,535, with no pool. Each block takes a record, live or free:
  * so 2 * L + P are always enough for L live blocks in P pools, and one more where tlsf_memalign is used.
@@ -121,6 +141,21 @@ uint32_t tlsf_walk(tlsf_heap *heap, uint64_t base, tlsf_row *rows, size_t room, 
  * reads all of it: no call for a path that has to be quick. */
 bool tlsf_check(tlsf_heap *heap);
 
+/* Puts an image of the heap into the `room` bytes at bytes, as much of it as there is room for, and into *count how many
+ * bytes that is. The bytes behind them stay as they were. The heap is unchanged, and no memory is taken. It reads the whole
+ * table: no call for a path that has to be quick.
+ * 0 where the whole image is put, or TLSF_NO_ROOM exactly where it has more bytes than `room`. Where room is 0, bytes still
+ * points to a byte. TLSF_IMAGE_BYTES tells the room that is needed. */
+uint32_t tlsf_save(tlsf_heap *heap, unsigned char *bytes, size_t room, uint64_t *count);
+
+/* Fills *out with the heap of which the `length` bytes at bytes are an image: each block that was live is live, with its
+ * place and its slot. The bytes need not be trusted: *out is filled exactly where they break none of the twelve rules, unless
+ * memory is refused. They aren't kept. At most 16 touches for each record and 8 for each of the 704 classes.
+ * 0, TLSF_BROKEN_MAGIC to TLSF_BROKEN_ON_LISTS for the first rule that is broken, and then no memory was asked for; or
+ * TLSF_OUT_OF_MEMORY. Where length is 0, bytes still points to a byte.
+ * What *out held before is forgotten where it is filled: a heap in use would be lost. */
+uint32_t tlsf_load(const unsigned char *bytes, size_t length, tlsf_heap *out);
+
 /* The name of a status. */
 static inline const char *tlsf_status_name(uint32_t status)
 {
@@ -137,6 +172,19 @@ static inline const char *tlsf_status_name(uint32_t status)
     case TLSF_OUT_OF_MEMORY: return "out of memory";
     case TLSF_NO_POOL: return "no pool";
     case TLSF_BAD_COUNT: return "bad count";
+    case TLSF_NO_ROOM: return "no room";
+    case TLSF_BROKEN_MAGIC: return "broken image: magic";
+    case TLSF_BROKEN_LENGTH: return "broken image: length";
+    case TLSF_BROKEN_POOLS: return "broken image: pools";
+    case TLSF_BROKEN_UNUSED_POOLS: return "broken image: unused pools";
+    case TLSF_BROKEN_STATES: return "broken image: states";
+    case TLSF_BROKEN_LINKS: return "broken image: links";
+    case TLSF_BROKEN_CHAINS: return "broken image: chains";
+    case TLSF_BROKEN_COVER: return "broken image: cover";
+    case TLSF_BROKEN_ON_CHAINS: return "broken image: block on no chain";
+    case TLSF_BROKEN_MERGED: return "broken image: free blocks side by side";
+    case TLSF_BROKEN_LISTS: return "broken image: lists";
+    case TLSF_BROKEN_ON_LISTS: return "broken image: free block on no list";
     default: return "unknown";
     }
 }

@@ -1,5 +1,5 @@
-/* Memory: tlsf_create takes it twice, no later call takes any, tlsf_destroy gives both back, and where it is refused
- * create says so. The library's three functions stand here over an array, as an embedded program would write them. */
+/* Memory: tlsf_create and tlsf_load take it twice, no other call takes any, tlsf_destroy gives both back, and where it is
+ * refused they say so. The library's three functions stand here over an array, as an embedded program would write them. */
 #include <string.h>
 
 #include "cases.h"
@@ -59,13 +59,39 @@ static void calls(tlsf_heap *heap)
     tlsf_row rows[4];
     uint32_t bytes;
     uint64_t count;
+    static unsigned char image[TLSF_IMAGE_BYTES(1000)];
     bool served = tlsf_add_pool(heap, 0, 4096) == TLSF_OK && tlsf_add_pool(heap, 8192, 64) == TLSF_OK;
     served = tlsf_malloc(heap, 100, &one) == TLSF_OK && tlsf_memalign(heap, 256, 40, &other) == TLSF_OK && served;
     served = tlsf_realloc(heap, one, 2000, &third) == TLSF_OK && tlsf_block_size(heap, third, &bytes) == TLSF_OK && served;
     served = tlsf_walk(heap, 0, rows, 4, &count) == TLSF_OK && tlsf_check(heap) && served;
+    served = tlsf_save(heap, image, sizeof image, &count) == TLSF_OK && tlsf_save(heap, image, 100, &count) == TLSF_NO_ROOM && served;
     served = tlsf_free(heap, third) == TLSF_OK && tlsf_free(heap, other) == TLSF_OK && served;
     served = tlsf_remove_pool(heap, 8192) == TLSF_OK && served;
     expect(served && tlsf_free(heap, other) == TLSF_BAD_POINTER, "each call is made");
+}
+
+static void loads(void)
+{
+    static unsigned char image[TLSF_IMAGE_BYTES(1000)];
+    tlsf_heap heap = {0};
+    uint64_t count;
+    start(0);
+    expect(tlsf_create(1000, &heap) == TLSF_OK && tlsf_save(&heap, image, sizeof image, &count) == TLSF_OK, "a heap is saved");
+    tlsf_destroy(heap);
+    for (unsigned refused = 1; refused <= 2; refused++) {
+        tlsf_heap none = {0};
+        start(refused);
+        expect(tlsf_load(image, sizeof image, &none) == TLSF_OUT_OF_MEMORY, refused == 1 ? "load, where the first is refused" : "load, where the second is refused");
+        expect(none.at == NULL && live == 0, "what out points to stays, and what it took is given back");
+    }
+    start(3);
+    expect(tlsf_load(image, sizeof image, &heap) == TLSF_OK && takes == 2 && live == 2, "load takes memory twice");
+    calls(&heap);
+    tlsf_destroy(heap);
+    expect(takes == 2 && returns == 2 && live == 0, "no other call takes any, and destroy gives both back");
+    start(0);
+    image[0] = 0;
+    expect(tlsf_load(image, sizeof image, &heap) == TLSF_BROKEN_MAGIC && takes == 0, "bytes that are no image take no memory");
 }
 
 int main(void)
@@ -92,5 +118,6 @@ int main(void)
     expect(live == 0, "and its end");
     start(0);
     expect(tlsf_create(0, &heap) == TLSF_BAD_COUNT && takes == 0, "a bad count takes no memory");
+    loads();
     return cases_end();
 }

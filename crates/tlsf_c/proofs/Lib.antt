@@ -1,5 +1,8 @@
 -- Lemmas that several proofs share.
 mod FewRows
 mod FilledRows
+mod LoadLemmas
+mod PlacedLemmas
 mod ReallocGives
+mod SavedLemmas
 mod Values

@@ -2,5 +2,8 @@ pub mod Creation
 pub mod Given
 pub mod Lends
 pub mod Owned
+pub mod Placed
 pub mod Rows
+pub mod Saving
 pub mod Status
+pub mod Window

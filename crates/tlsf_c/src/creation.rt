@@ -32,7 +32,7 @@ pub extern "C" fn tlsf_create(alloc: Global, records: u32, out: &mut Made) -> u3
 }
 
 /// Puts the heap into memory of its own, and its handle into `out`.
-fn put(alloc: Global, heap: Heap, out: &mut Made) -> u32
+pub(crate) fn put(alloc: Global, heap: Heap, out: &mut Made) -> u32
     ensures made { result ≡ 0 → out.new.value ≡ Some heap }
     ensures known { (result ≡ 0) ⊎ (result ≡ number OutOfMemory) }
     ensures out { result ≢ 0 → out.new ≡ out.old }

@@ -1,0 +1,35 @@
+//! What contracts alone see of a window.
+
+ghost use Rattle.std.specs.Prelude.{◌≡◌, ℕ, List, [], ◌∷◌, ◌++◌};
+ghost use Rattle.std.specs.Borrow.{ftrue};
+ghost use Rattle.mtrace_log.specs.declared.call.Call.{Call};
+
+use mtrace_log::Call;
+use std::marker::Model;
+
+/// What each call of a window came to, the latest first, and which bytes it was told. It takes no byte and no time.
+#[derive(Drop)]
+pub(crate) struct Told {
+    pub ghost calls: { List Call },
+    pub ghost bytes: { List ℕ },
+}
+
+impl Model for Told {
+    ghost also_owns = { λ _. ftrue };
+}
+
+impl Told {
+    /// No call yet, and no byte.
+    pub(crate) fn new() -> Told
+        ensures calls { result.calls ≡ [] }
+        ensures bytes { result.bytes ≡ [] }
+    {
+        Told {}
+    }
+
+    /// One call more, and these bytes.
+    pub(crate) fn add(&mut self, _call: &Call, _bytes: &[u8])
+        ensures calls { self.new.calls ≡ _call.now ∷ self.old.calls }
+        ensures bytes { self.new.bytes ≡ self.old.bytes ++ _bytes.now }
+    {}
+}

@@ -1,0 +1,67 @@
+//! A writer into bytes that a C program hands in.
+
+ghost use Rattle.std.specs.Prelude.{◌≡◌, ◌-◌, ◌≤◌, length, min, take, drop, false, nat_le};
+ghost use Rattle.tlsf_c.specs.Placed.{placed, has_failed};
+
+use crate::place::place;
+use crate::told::Told;
+use mtrace_log::{Call, Failed, Sink};
+
+/// A writer into bytes that are lent to it. It takes all that it is offered, and keeps as much as there is room for.
+///
+/// It was told the bytes that stood in the room, and then those that were put.
+#[derive(Drop)]
+pub(crate) struct Window<'a> {
+    pub(crate) room: &'a mut [u8],
+    pub(crate) end: usize,
+    pub(crate) fits: bool,
+    pub(crate) told: Told,
+    ghost told_room: { length room.now ≤ length told.bytes },
+    ghost kept: { room.now ≡ placed (drop (length room.now) told.bytes) (take (length room.now) told.bytes) },
+    ghost ends: { end ≡ min (length told.bytes - length room.now) (length room.now) },
+    ghost all: { fits ≡ nat_le (length told.bytes - length room.now) (length room.now) },
+    ghost served: { has_failed told.calls ≡ false },
+}
+
+impl<'a> Window<'a> {
+    ghost use Rattle.std.specs.Prelude.{◌≡◌, length};
+
+    /// The writer into these bytes.
+    pub(crate) fn over(room: &'a mut [u8]) -> Window<'a>
+        ensures lent { result.room.ghost_name ≡ room.entry.ghost_name }
+        ensures room { result.room.now ≡ room.old }
+        ensures told { result.told.bytes ≡ room.old }
+    {
+        let mut told = Told::new();
+        told.add(&Call::Flushed, room);
+        Window {
+            room,
+            end: 0,
+            fits: true,
+            told,
+        }
+    }
+}
+
+impl<'a> Sink for Window<'a> {
+    ghost use Rattle.tlsf_c.specs.Window.{taken, calls};
+
+    ghost taken = { taken };
+
+    ghost trace = { calls };
+
+    fn put(&mut self, bytes: &[u8]) -> Result<usize, Failed> {
+        let start = self.end;
+        let left = self.room.len() - start;
+        place(self.room, start, bytes);
+        self.end = start + bytes.len().min(left);
+        self.fits = self.fits && bytes.len() <= left;
+        self.told.add(&Call::Took(bytes.len()), bytes);
+        Ok(bytes.len())
+    }
+
+    fn flush(&mut self) -> Result<(), Failed> {
+        self.told.add(&Call::Flushed, &[]);
+        Ok(())
+    }
+}
