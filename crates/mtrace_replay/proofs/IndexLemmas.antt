@@ -19,6 +19,10 @@ use Rattle.mtrace_replay.specs.declared.index.Found.{Found}
 use Rattle.mtrace_replay.proofs.SpotLemmas.{not_higher, holds_address, holds_above, rise_lower, held_append, below_before, above_behind, rise_take, rise_drop, rise_above, rise_join, rise_set, kept_rise, kept_below, kept_held}
 use Rattle.mtrace_replay.proofs.EnterLemmas.{parted, seam_set}
 
+-- the spot where an address stands has it
+pub stands_address : (spots : List Spot) (address at : ℕ) → StandsAt spots address at → (was : Spot) → was ≡ slice_index_or spots at was → spot_address was ≡ address
+stands_address spots address at stands was there = holds_address was address (subst (λ spot. Holds spot address) (sym there) (stands.1 was))
+
 -- what is held changes at one address, from `was` to `now`; before it stand lower addresses, behind it higher ones
 pub record Changes (address : ℕ) (was now : Option Holding) (old new : List Holding) : Type 0 where
   pub before : List Holding

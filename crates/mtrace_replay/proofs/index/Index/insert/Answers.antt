@@ -12,7 +12,7 @@ overflow_sub-self c =
     let address = c.args.entry.now.addr in
     let stands = subst (λ a. StandsAt c.self.inside.spots.items a c.in-Ok.at) c.requires.address (found_stands c.self.inside.spots.items c.args.self.now (ap (λ (index : Indexed). index.spots) c.self.view_is) c.args.found.now c.requires.found c.in-Ok.at c.in-Ok.is) in
     let bytes = set_bytes c.self.inside.spots.items address c.in-Ok.at c.self.invariant.rise stands c.index.result.now (Held (record { entry = c.args.entry.now; ptr = c.args.ptr })) c.index.ensures refl in
-    omega (arith, bytes, c.size.ensures, c.size-size.ensures, c.self.invariant.bytes_are)
+    omega (arith, bytes, c.size.ensures, c.self.invariant.bytes_are)
 
 pub invariant_of-self : goal.invariant_of-self
 invariant_of-self c =
@@ -20,16 +20,16 @@ invariant_of-self c =
     let stands = subst (λ a. StandsAt c.self.inside.spots.items a c.in-Ok.at) c.requires.address (found_stands c.self.inside.spots.items c.args.self.now (ap (λ (index : Indexed). index.spots) c.self.view_is) c.args.found.now c.requires.found c.in-Ok.at c.in-Ok.is) in
     let one = one_was c.self.inside.spots.items address c.in-Ok.at c.self.invariant.rise stands c.index.result.now (Held (record { entry = c.args.entry.now; ptr = c.args.ptr })) c.index.ensures refl in
     let bytes = set_bytes c.self.inside.spots.items address c.in-Ok.at c.self.invariant.rise stands c.index.result.now (Held (record { entry = c.args.entry.now; ptr = c.args.ptr })) c.index.ensures refl in
-    set_keeps c.self.inside.spots.items address c.in-Ok.at c.self.invariant.rise stands c.index.result.now (Held (record { entry = c.args.entry.now; ptr = c.args.ptr })) c.index.ensures refl
-    c.self.inside.spots.cap c.self.inside.room c.self.inside.blocks c.self.inside.bytes c.self.inside.blocks (c.self.inside.bytes + c.size-size.result - c.size.result) c.self.invariant
-    (omega (arith, one)) (omega (arith, bytes, c.size.ensures, c.size-size.ensures, c.self.invariant.bytes_are))
+    rw (c.hold.ensures) (set_keeps c.self.inside.spots.items address c.in-Ok.at c.self.invariant.rise stands c.index.result.now (Held (record { entry = c.args.entry.now; ptr = c.args.ptr })) c.index.ensures refl
+    c.self.inside.spots.cap c.self.inside.room c.self.inside.blocks c.self.inside.bytes c.self.inside.blocks (c.self.inside.bytes + c.args.entry.now.size - c.size.result) c.self.invariant
+    (omega (arith, one)) (omega (arith, bytes, c.size.ensures, c.self.invariant.bytes_are)))
 
 pub returns-in-Ok-clause-held : goal.returns-in-Ok-clause-held
 returns-in-Ok-clause-held c other =
     let address = c.args.entry.now.addr in
     let stands = subst (λ a. StandsAt c.self.inside.spots.items a c.in-Ok.at) c.requires.address (found_stands c.self.inside.spots.items c.args.self.now (ap (λ (index : Indexed). index.spots) c.self.view_is) c.args.found.now c.requires.found c.in-Ok.at c.in-Ok.is) in
-    set_held c.self.inside.spots.items address c.in-Ok.at c.self.invariant.rise stands c.index.result.now (Held (record { entry = c.args.entry.now; ptr = c.args.ptr })) c.index.ensures refl other
-    ∙ ap (λ (index : Indexed). cond (address == other) (Some (record { entry = c.args.entry.now; ptr = c.args.ptr })) (held_at index.all other)) c.self.view_is
+    rw (c.hold.ensures) (set_held c.self.inside.spots.items address c.in-Ok.at c.self.invariant.rise stands c.index.result.now (Held (record { entry = c.args.entry.now; ptr = c.args.ptr })) c.index.ensures refl other
+    ∙ ap (λ (index : Indexed). cond (address == other) (Some (record { entry = c.args.entry.now; ptr = c.args.ptr })) (held_at index.all other)) c.self.view_is)
 
 pub arrange-requires-clause-rise : goal.arrange-requires-clause-rise
 arrange-requires-clause-rise c =
@@ -40,20 +40,20 @@ pub invariant_of-self-then-self-len : goal.invariant_of-self-then-self-len
 invariant_of-self-then-self-len c =
     let address = c.args.entry.now.addr in
     let fits = subst (λ a. FitsAt c.self.inside.spots.items a c.in-Err.at) c.requires.address (found_fits c.self.inside.spots.items c.args.self.now (ap (λ (index : Indexed). index.spots) c.self.view_is) c.args.found.now c.requires.found c.in-Err.at c.in-Err.is) in
-    arranged_keeps c.enter-moved.new.spots.items c.arrange.new.spots.items (vec_capacity c.self.inside.spots) (vec_capacity c.arrange.new.spots) c.self.inside.room (c.self.inside.blocks + 1) (c.self.inside.bytes + c.size-size.result)
+    arranged_keeps c.enter-moved.new.spots.items c.arrange.new.spots.items (vec_capacity c.self.inside.spots) (vec_capacity c.arrange.new.spots) c.self.inside.room (c.self.inside.blocks + 1) (c.self.inside.bytes + c.args.entry.now.size)
     (enters_keeps c.self.inside.spots.items address c.in-Err.at c.self.invariant.rise fits (Held (record { entry = c.args.entry.now; ptr = c.args.ptr })) refl c.enter-moved.new.spots.items c.enter-moved.ensures.enters
-    (vec_capacity c.self.inside.spots) c.self.inside.room c.self.inside.blocks c.self.inside.bytes (c.self.inside.blocks + 1) (c.self.inside.bytes + c.size-size.result) c.self.invariant c.enter-moved.ensures.within
-    (omega arith) (omega (arith, c.size-size.ensures)))
+    (vec_capacity c.self.inside.spots) c.self.inside.room c.self.inside.blocks c.self.inside.bytes (c.self.inside.blocks + 1) (c.self.inside.bytes + c.args.entry.now.size) c.self.invariant c.enter-moved.ensures.within
+    (omega arith) (omega (arith)))
     c.arrange.ensures.same c.arrange.ensures.rise c.arrange.ensures.within (c.arrange.ensures.reserved ∙ c.enter-moved.ensures.reserved)
 
 pub invariant_of-self-else-self-len : goal.invariant_of-self-else-self-len
 invariant_of-self-else-self-len c =
     let address = c.args.entry.now.addr in
     let fits = subst (λ a. FitsAt c.self.inside.spots.items a c.in-Err.at) c.requires.address (found_fits c.self.inside.spots.items c.args.self.now (ap (λ (index : Indexed). index.spots) c.self.view_is) c.args.found.now c.requires.found c.in-Err.at c.in-Err.is) in
-    subst (λ memory. IsIndex c.enter-moved.new.spots.items memory c.self.inside.room (c.self.inside.blocks + 1) (c.self.inside.bytes + c.size-size.result)) (sym c.enter-moved.ensures.reserved)
+    subst (λ memory. IsIndex c.enter-moved.new.spots.items memory c.self.inside.room (c.self.inside.blocks + 1) (c.self.inside.bytes + c.args.entry.now.size)) (sym c.enter-moved.ensures.reserved)
     (enters_keeps c.self.inside.spots.items address c.in-Err.at c.self.invariant.rise fits (Held (record { entry = c.args.entry.now; ptr = c.args.ptr })) refl c.enter-moved.new.spots.items c.enter-moved.ensures.enters
-    (vec_capacity c.self.inside.spots) c.self.inside.room c.self.inside.blocks c.self.inside.bytes (c.self.inside.blocks + 1) (c.self.inside.bytes + c.size-size.result) c.self.invariant c.enter-moved.ensures.within
-    (omega arith) (omega (arith, c.size-size.ensures)))
+    (vec_capacity c.self.inside.spots) c.self.inside.room c.self.inside.blocks c.self.inside.bytes (c.self.inside.blocks + 1) (c.self.inside.bytes + c.args.entry.now.size) c.self.invariant c.enter-moved.ensures.within
+    (omega arith) (omega (arith)))
 
 pub returns-then-self-len-clause-held : goal.returns-then-self-len-clause-held
 returns-then-self-len-clause-held c other =
