@@ -1,5 +1,5 @@
 -- The held spots alone, and vacant ones spread among them.
-use Rattle.std.proofs.Common.{◌≡◌, ℕ, zero, suc, ◌<◌, ◌≤◌, ◌+◌, ◌-◌, ◌*◌, ◌/◌, ◌^◌, min, List, [], ◌∷◌, ◌++◌, Bool, take, drop, length, replicate, slice_index_or, filter, is_some, not, cond, true, false, arith, refl, sym, ap, ◌∙◌, subst}
+use Rattle.std.proofs.Common.{◌≡◌, ℕ, zero, suc, ◌<◌, ◌≤◌, ◌+◌, ◌-◌, ◌*◌, ◌/◌, ◌^◌, min, List, [], ◌∷◌, ◌++◌, Bool, take, drop, length, replicate, slice_index_or, filter, is_some, not, arith, refl, sym, ap, ◌∙◌, subst}
 use Rattle.std.proofs.Math.Nat.{mul-zero, zero-div}
 use Rattle.std.proofs.Math.Seq.{take-suc, drop-append-add}
 use Rattle.std.proofs.lemmas.List.{length-take-le, append_assoc, take_at, take-append-le, drop-drop, drop-append-le, get_or-drop, length-drop, length-append, get_or-take}

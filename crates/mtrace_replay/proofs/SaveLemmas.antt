@@ -1,11 +1,11 @@
 -- A text is put and flushed.
-use Rattle.std.proofs.Common.{◌≡◌, ℕ, true, List, ◌∷◌, ◌∙◌, Option, inl, inr}
+use Rattle.std.proofs.Common.{◌≡◌, ℕ, true, List, ◌∷◌, ◌∙◌, inl, inr}
 use Rattle.std.specs.Prelude.{Result, Ok, Err}
 use Rattle.std.specs.Result.{is_err}
 use Rattle.mtrace_log.specs.declared.call.Call.{Call}
 use Rattle.mtrace_log.specs.declared.call.Call.TheVariants.{Took, Flushed, FlushFailed}
 use Rattle.mtrace_log.specs.declared.failed.Failed.{Failed}
-use Rattle.mtrace_log.specs.Output.{Begins, PutsAll, PutsPart, Puts}
+use Rattle.mtrace_log.specs.Output.{Begins, PutsAll, Puts}
 use Rattle.mtrace_log.specs.Trace.{flushed, HasFailedToWrite}
 use Rattle.mtrace_log.proofs.TraceLemmas.{moved_then_last}
 use Rattle.mtrace_log.proofs.Writing.{Begins-all}

@@ -13,11 +13,12 @@ use tlsf_heap::Ptr;
 use tlsf_store::GhostCount;
 
 /// A spot of the index: an entry and its block. Where nothing is held there is no block, and the entry's address still tells a
-/// search which way to go; the rest of the entry means nothing then.
+/// search which way to go; the rest of the entry means nothing then. The block stands first, beside the address, for both are
+/// looked at together.
 #[derive(Drop)]
 pub(crate) struct Spot {
-    entry: Entry,
     block: Option<Ptr>,
+    entry: Entry,
 }
 
 impl Model for Spot {
