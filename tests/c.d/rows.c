@@ -224,6 +224,21 @@ static void counts(void)
     end();
 }
 
+static void wrong_pointers(void)
+{
+    begin(2);
+    tlsf_add_pool(&heap, 0, 64);
+    expect(malloc_is(64, 0) && tlsf_free(&heap, last) == TLSF_OK && malloc_is(64, 0), "wrong-pointers: a block of place 0");
+    const uint16_t slot = last.slot;
+    const tlsf_block wrong[] = {{0, (uint16_t)(1 - slot)}, {8, slot}, {0, 65535}};
+    for (size_t k = 0; k < sizeof wrong / sizeof *wrong; k++)
+        expect(tlsf_free(&heap, wrong[k]) == TLSF_BAD_POINTER, "wrong-pointers: a wrong one is refused");
+    tlsf_block same = last;
+    expect(tlsf_realloc(&heap, last, UINT64_MAX, &same) == TLSF_NO_FIT, "wrong-pointers: realloc to 2^64 - 1 is refused");
+    expect(tlsf_free(&heap, last) == TLSF_OK, "wrong-pointers: the right one is served");
+    end();
+}
+
 static void helpers(void)
 {
     static _Alignas(16) unsigned char bytes[1024];
@@ -249,6 +264,7 @@ int main(void)
     realloc_rows();
     walks();
     counts();
+    wrong_pointers();
     helpers();
     return cases_end();
 }
