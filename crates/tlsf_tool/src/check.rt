@@ -2,7 +2,7 @@
 
 ghost use Rattle.std.specs.Prelude.{◌≡◌, ◌≢◌, ◌⊎◌, ◌<◌, ◌≤◌, ◌∷◌, length, take, Ok, Err, Some, None, IfOk, IfErr, OnOk, OnErr, IsErrOf};
 ghost use Rattle.std.specs.Io.KnownBytes.{prepend_known, IsAtEnd};
-ghost use Rattle.mtrace_log.specs.Trace.{pulled, HasGiven, HasGivenAll, HasGivenAndFailed, HasTakenAndFlushed, HasFailedToWrite};
+ghost use Rattle.mtrace_log.specs.Trace.{pulled, HasGiven, HasGivenAll, HasGivenAndFailed, HasNotFailed, HasTakenAndFlushed, HasFailedToWrite};
 ghost use Rattle.tlsf_image.specs.Rules.{first_broken};
 ghost use Rattle.mtrace_replay.specs.Saving.{PutsAndFlushes};
 ghost use Rattle.tlsf_tool.specs.Checking.{HasReadImage, Checks, check_text, check_status};
@@ -46,6 +46,7 @@ fn pull_some<R: Source>(
 fn read_image<R: Source>(alloc: Global, reader: &mut R) -> Result<Vec<u8>, RunFault>
     ensures read { IfOk result (λ bytes. HasReadImage bytes.items (R.left reader.old) (R.left reader.new)) }
     ensures failed { IsErrOf result RunFault.Read → HasGivenAndFailed (R.trace reader.old) (R.trace reader.new) }
+    ensures not_failed { result ≢ Err RunFault.Read → HasNotFailed (R.trace reader.old) (R.trace reader.new) }
     ensures faults { IfErr result (λ fault. (fault ≡ RunFault.Read) ⊎ (fault ≡ RunFault.OutOfMemory)) }
 {
     let Ok(mut bytes) = Vec::with_capacity(alloc, MOST_READ) else {
@@ -135,6 +136,7 @@ fn checked<R: Source, W: Sink>(
     ensures few { IfOk result (λ status. status ≤ 1) }
     ensures flushed { OnOk result (HasTakenAndFlushed (W.trace writer.old) (W.trace writer.new)) }
     ensures read { IsErrOf result RunFault.Read → HasGivenAndFailed (R.trace reader.old) (R.trace reader.new) }
+    ensures not_failed { result ≢ Err RunFault.Read → HasNotFailed (R.trace reader.old) (R.trace reader.new) }
     ensures write { IsErrOf result RunFault.Write → HasFailedToWrite (W.trace writer.old) (W.trace writer.new) }
     ensures unwritten { result ≢ Err RunFault.Write → OnErr result (writer.new ≡ writer.old) }
     ensures faults { IfErr result (λ fault. (fault ≡ RunFault.Read) ⊎ ((fault ≡ RunFault.Write) ⊎ (fault ≡ RunFault.OutOfMemory))) }
@@ -166,7 +168,8 @@ pub fn check_image<R: Source, W: Sink, E: Sink>(
     ensures flushed { result ≤ 1 → HasTakenAndFlushed (W.trace writer.old) (W.trace writer.new) }
     ensures no_errors { result ≤ 1 → errors.new ≡ errors.old }
     ensures failed { result ≡ 3 → HasGivenAndFailed (R.trace reader.old) (R.trace reader.new) × (writer.new ≡ writer.old)
-        ⊎ HasFailedToWrite (W.trace writer.old) (W.trace writer.new) }
+        ⊎ HasNotFailed (R.trace reader.old) (R.trace reader.new) × HasFailedToWrite (W.trace writer.old) (W.trace writer.new) }
+    ensures reader_not_failed { result ≢ 3 → HasNotFailed (R.trace reader.old) (R.trace reader.new) }
     ensures memory { result ≡ 4 → writer.new ≡ writer.old }
     ensures known { (result ≤ 1) ⊎ ((result ≡ 3) ⊎ (result ≡ 4)) }
 {

@@ -4,6 +4,7 @@
 mod asked;
 mod check;
 mod command_line;
+mod progress;
 mod service;
 mod statuses;
 #[cfg(test)]
@@ -12,12 +13,13 @@ mod words;
 
 use crate::asked::{Command, Name, ToolFault};
 use crate::check::check_image;
+use crate::progress::{Cleared, Counted, Notice};
 use crate::service::{serve, serve_save};
 use crate::words::command;
 use mtrace_log::{FromRead, ToWrite};
 use mtrace_replay::{RunFault, Settings};
 use std::alloc::Global;
-use std::io::{BufWriter, Read};
+use std::io::{BufWriter, IsTerminal, Read};
 use std::process::ExitCode;
 use std::{env, fs, io};
 
@@ -49,20 +51,21 @@ fn asked_words(rt: &HostRuntime) -> Result<Vec<String>, ToolFault> {
 /// Serves a log that is open, with standard output and standard error.
 fn serve_log<R: Read + Drop>(
     rt: &HostRuntime,
+    notice: &Notice<'_>,
     name: Name,
     settings: Settings,
     log: R,
 ) -> Result<u8, ToolFault> {
-    let Ok(writer) = BufWriter::new(rt.alloc(), rt.stdout()) else {
+    let Ok(writer) = BufWriter::new(rt.alloc(), Cleared::new(notice, rt.stdout())) else {
         return Err(ToolFault::Run(RunFault::OutOfMemory));
     };
     Ok(serve(
         rt.alloc(),
         name,
         settings,
-        &mut FromRead::new(log),
+        &mut FromRead::new(Counted::new(notice, log)),
         &mut ToWrite::new(writer),
-        &mut ToWrite::new(rt.stderr()),
+        &mut ToWrite::new(Cleared::new(notice, rt.stderr())),
     ))
 }
 
@@ -74,10 +77,11 @@ fn report_log(
     log: String,
 ) -> Result<u8, ToolFault> {
     if log.as_str() == "-" {
-        return serve_log(rt, name, settings, rt.stdin());
+        let notice = Notice::new(rt, rt.stdin().is_terminal());
+        return serve_log(rt, &notice, name, settings, rt.stdin());
     }
     match fs::open(rt, log.as_str()) {
-        Ok(file) => serve_log(rt, name, settings, file),
+        Ok(file) => serve_log(rt, &Notice::new(rt, false), name, settings, file),
         Err(_) => Err(ToolFault::CannotOpen(log)),
     }
 }
@@ -85,6 +89,7 @@ fn report_log(
 /// Makes the image and saves to it the heap at the end of a log that is open.
 fn save_open<R: Read + Drop>(
     rt: &HostRuntime,
+    notice: &Notice<'_>,
     settings: Settings,
     log: R,
     image: String,
@@ -92,16 +97,16 @@ fn save_open<R: Read + Drop>(
     let Ok(file) = fs::create(rt, image.as_str()) else {
         return Err(ToolFault::CannotOpen(image));
     };
-    let Ok(writer) = BufWriter::new(rt.alloc(), rt.stdout()) else {
+    let Ok(writer) = BufWriter::new(rt.alloc(), Cleared::new(notice, rt.stdout())) else {
         return Err(ToolFault::Run(RunFault::OutOfMemory));
     };
     Ok(serve_save(
         rt.alloc(),
         settings,
-        &mut FromRead::new(log),
+        &mut FromRead::new(Counted::new(notice, log)),
         &mut ToWrite::new(writer),
         &mut ToWrite::new(file),
-        &mut ToWrite::new(rt.stderr()),
+        &mut ToWrite::new(Cleared::new(notice, rt.stderr())),
     ))
 }
 
@@ -113,10 +118,11 @@ fn save_log(
     image: String,
 ) -> Result<u8, ToolFault> {
     if log.as_str() == "-" {
-        return save_open(rt, settings, rt.stdin(), image);
+        let notice = Notice::new(rt, rt.stdin().is_terminal());
+        return save_open(rt, &notice, settings, rt.stdin(), image);
     }
     match fs::open(rt, log.as_str()) {
-        Ok(file) => save_open(rt, settings, file, image),
+        Ok(file) => save_open(rt, &Notice::new(rt, false), settings, file, image),
         Err(_) => Err(ToolFault::CannotOpen(log)),
     }
 }

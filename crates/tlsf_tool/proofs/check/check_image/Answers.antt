@@ -21,3 +21,6 @@ returns-in-Ok-clause-known g c = inl c.in-Ok.ensures.few
 
 pub returns-in-Err-clause-checks : goal.returns-in-Err-clause-checks
 returns-in-Err-clause-checks g c = λ few. absurd (fault_above c.in-Err.fault c.in-Err.ensures.faults (omega (arith, few, c.fault_status.ensures)))
+
+pub returns-in-Ok-clause-reader_not_failed : goal.returns-in-Ok-clause-reader_not_failed
+returns-in-Ok-clause-reader_not_failed g c = λ other. c.in-Ok.ensures.not_failed (λ is. cc)

@@ -15,3 +15,9 @@ returns-in-Ok-put_line-clause-checks g c =
       wrote = subst P (c.line_of.ensures ∙ ap check_text rule) c.in-Ok-put_line.ensures.0;
       status_is = c.status_of.ensures.value ∙ ap check_status rule;
     }
+
+pub returns-in-Ok-put_line-clause-not_failed : goal.returns-in-Ok-put_line-clause-not_failed
+returns-in-Ok-put_line-clause-not_failed g c = λ other. c.in-Ok.ensures.not_failed (λ is. cc)
+
+pub returns-clause-not_failed : goal.returns-clause-not_failed
+returns-clause-not_failed g c = λ other. c.in-Ok.ensures.not_failed (λ is. cc)
