@@ -12,7 +12,7 @@ use Rattle.mtrace_log.specs.Location.{IsLocationByte}
 -- ---- bytes that the fields lack
 
 -- no digit is below `0`
-digit_char-other : (b d : ℕ) → b < 48 → digit_char d ≢ b
+pub digit_char-other : (b d : ℕ) → b < 48 → digit_char d ≢ b
 digit_char-other b d small = grind (arith, nat_tests)
 
 map-lacks : (b : ℕ) (ds : List ℕ) → b < 48 → Lacks b (map digit_char ds)

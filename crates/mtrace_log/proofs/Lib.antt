@@ -2,6 +2,8 @@
 pub mod TextLemmas
 pub mod HexLemmas
 pub mod FieldLemmas
+pub mod FrontLemmas
+pub mod LocationLemmas
 pub mod FormLemmas
 pub mod EventLemmas
 pub mod SpellingLemmas

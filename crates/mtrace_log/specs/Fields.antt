@@ -1,5 +1,6 @@
 -- What the readers of the fields of a line answer.
-use Rattle.std.specs.Prelude.{◌≡◌, ◌≢◌, ℕ, ◌^◌, ◌<◌, List, Option, Some, None, IfSome, MatchOption, Result, Ok, Err}
+use Rattle.std.specs.Prelude.{◌≡◌, ◌≢◌, ℕ, ◌^◌, ◌<◌, List, [], ◌∷◌, ◌++◌, ⊤, Option, Some, None, IfSome, MatchOption, Result, Ok, Err}
+use Rattle.mtrace_log.specs.Bytes.{space}
 use Rattle.mtrace_log.specs.Address.{IsAddress}
 use Rattle.mtrace_log.specs.Form.{Form, Numbers, form}
 use Rattle.mtrace_log.specs.Event.{Event}
@@ -9,6 +10,19 @@ use Rattle.mtrace_log.specs.declared.event.LineFault.TheVariants.{NotALine}
 -- the answer is the value that the bytes spell, or none where they spell none
 abbrev pub Finds : {X : Type 0} → (X → Type 0) → (X → List ℕ) → List ℕ → Option X → Type 0
 Finds {X} IsValue text bytes found = MatchOption found ((x : X) → IsValue x → bytes ≢ text x) (λ x. IsValue x × (bytes ≡ text x))
+
+-- a field ends before these bytes: there are none, or a space is first
+abbrev pub EndsField : List ℕ → Type 0
+EndsField [] = ⊤
+EndsField (b ∷ rest) = b ≡ space
+
+-- the bytes spell the value, and then the rest follows, before which a field ends
+abbrev pub IsFront : {X : Type 0} → (X → Type 0) → (X → List ℕ) → List ℕ → X → List ℕ → Type 0
+IsFront IsValue text bytes x rest = IsValue x × EndsField rest × (bytes ≡ text x ++ rest)
+
+-- the bytes spell no value so
+abbrev pub HasNoFront : {X : Type 0} → (X → Type 0) → (X → List ℕ) → List ℕ → Type 0
+HasNoFront {X} IsValue text bytes = (x : X) (rest : List ℕ) → IsFront IsValue text bytes x rest → ⊥
 
 -- a pointer is none, or an address
 abbrev pub IsPointer : Option ℕ → Type 0

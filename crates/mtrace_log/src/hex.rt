@@ -1,9 +1,10 @@
 //! Numbers in base 16.
-ghost use Rattle.std.specs.Prelude.{◌≡◌, ◌≢◌, ℕ, ◌+◌, ◌^◌, ◌<◌, ◌≤◌, ◌++◌, ◌∷◌, [], length, MatchOption};
+ghost use Rattle.std.specs.Prelude.{◌≡◌, ◌≢◌, ◌↔◌, ℕ, ◌+◌, ◌^◌, ◌<◌, ◌≤◌, ◌++◌, ◌∷◌, [], List, length, slice_index, IsTrue, MatchOption};
 ghost use Rattle.arrayvec.specs.ArrayVec.{array_vec_len};
 ghost use Rattle.std.specs.Int.Digits.{digits_of};
 ghost use Rattle.std.specs.Char.{digit_char};
 ghost use Rattle.mtrace_log.specs.Address.{hex_digits, address_text, IsAddress};
+ghost use Rattle.mtrace_log.specs.Fields.{EndsField};
 
 use arrayvec::ArrayVec;
 
@@ -71,35 +72,37 @@ fn digit_of(byte: u8) -> Option<u8>
     if digit < 16 { Some(digit) } else { None }
 }
 
-/// The number above 0 that at most 16 digits write, without leading zeros.
-fn read_digits(digits: &[u8]) -> Option<u64>
-    requires { length digits.now ≤ 16 }
-    ensures { MatchOption result ((n : ℕ) → 0 < n → digits.now ≢ hex_digits n)
-        (λ n. (0 < n) × (digits.now ≡ hex_digits n)) }
+/// The greatest number of digits of an address.
+const MOST_DIGITS: usize = LONGEST_ADDRESS - 2;
+
+/// Whether the first byte is the digit `0`.
+fn begins_with_zero(bytes: &[u8]) -> bool
+    ensures { IsTrue result ↔ (slice_index bytes.now 0 ≡ 48) }
 {
-    let mut number: u64 = 0;
-    for byte in digits {
-        let Some(digit) = digit_of(*byte) else {
-            return None;
-        };
-        number = number * 16 + u64::from(digit);
-        if number == 0 {
-            return None;
-        }
+    match bytes {
+        [b'0', ..] => true,
+        _ => false,
     }
-    if number == 0 { None } else { Some(number) }
 }
 
-/// The number of an address that the bytes spell.
-pub(crate) fn read_address(bytes: &[u8]) -> Option<u64>
-    ensures { MatchOption result ((n : ℕ) → IsAddress n → bytes.now ≢ address_text n)
-        (λ n. IsAddress n × (bytes.now ≡ address_text n)) }
+/// The number that the digits at the front write, at most 16 of them, and what follows these; 0 where they begin with `0`.
+#[inline(always)]
+pub(crate) fn read_digits(bytes: &[u8]) -> (u64, &[u8])
+    ensures digits { bytes.now ≡ hex_digits result.0 ++ result.1.now }
+    // Where an address is spelled up to the end of a field, it is this one.
+    ensures only { (n : ℕ) (rest : List ℕ) → IsAddress n → EndsField rest → bytes.now ≡ hex_digits n ++ rest
+        → (n ≡ result.0) × (rest ≡ result.1.now) }
 {
-    let [b'0', b'x', digits @ ..] = bytes else {
-        return None;
-    };
-    if digits.len() > 16 {
-        return None;
+    if begins_with_zero(bytes) {
+        return (0, bytes);
     }
-    read_digits(digits)
+    let most = bytes.len().min(MOST_DIGITS);
+    let mut number: u64 = 0;
+    for i in 0..most {
+        let Some(digit) = digit_of(bytes[i]) else {
+            return (number, &bytes[i..]);
+        };
+        number = number * 16 + u64::from(digit);
+    }
+    (number, &bytes[most..])
 }

@@ -36,7 +36,7 @@ pub use crate::hex::LONGEST_ADDRESS;
 pub use crate::line::{Line, ReadFault};
 pub use crate::line_reader::{LONGEST_LINE, read_lent, read_line};
 pub use crate::lines::Lines;
-pub use crate::location::{LONGEST_LOCATION, LentLocation, Location, kept_location};
+pub use crate::location::{LONGEST_LOCATION, LentLocation, Location, kept_location, set_location};
 pub use crate::output::put_all;
 pub use crate::sink::Sink;
 pub use crate::source::Source;

@@ -1,17 +1,16 @@
-ghost use Rattle.std.specs.Prelude.{◌≡◌, ◌≢◌, ℕ, ◌+◌, ◌<◌, ◌≤◌, ◌++◌, ◌∷◌, List, length, codes, Err, MatchOption};
-ghost use Rattle.mtrace_log.specs.Bytes.{Lacks, space};
+ghost use Rattle.std.specs.Prelude.{◌≡◌, ◌≢◌, ◌↔◌, ℕ, ◌+◌, ◌<◌, ◌≤◌, ◌++◌, ◌∷◌, List, length, codes, Err, IsTrue, MatchOption};
+ghost use Rattle.mtrace_log.specs.Bytes.{space};
 ghost use Rattle.mtrace_log.specs.Address.{IsAddress, address_text, pointer_text, size_text};
 ghost use Rattle.mtrace_log.specs.Form.{numbers_text, fields_text};
 ghost use Rattle.mtrace_log.specs.Form.Form.{marked};
-ghost use Rattle.mtrace_log.specs.Fields.{Finds, IsPointer, IsSize, AreNumbers, AreFields, HasForm};
+ghost use Rattle.mtrace_log.specs.Fields.{Finds, EndsField, IsFront, HasNoFront, IsPointer, IsSize, AreNumbers, AreFields, HasForm};
 ghost use Rattle.mtrace_log.specs.Reading.{Reads};
 ghost use Rattle.mtrace_log.specs.declared.event.LineFault.TheVariants.{TooLong};
 
 use crate::addr::Addr;
 use crate::event::{Event, LineFault};
 use crate::hex;
-use crate::location::LentLocation;
-use memchr::memchr;
+use crate::location::{LentLocation, behind_space};
 
 /// The longest line of any event, in bytes without its newline.
 pub const LONGEST_LINE: usize = 316;
@@ -19,86 +18,125 @@ pub const LONGEST_LINE: usize = 316;
 /// The numbers behind the pointer of a line: an alignment or none, and a size.
 type Numbers = (Option<Addr>, u64);
 
-/// What stands before the first space, and what behind it.
-fn split_at_space(bytes: &[u8]) -> Option<(&[u8], &[u8])>
-    ensures { MatchOption result (Lacks space bytes.now)
-        (λ parts. Lacks space parts.0.now × (bytes.now ≡ parts.0.now ++ space ∷ parts.1.now)) }
+/// Whether a field ends before these bytes.
+fn ends_field(bytes: &[u8]) -> bool
+    ensures { IsTrue result ↔ EndsField bytes.now }
 {
-    let Some(at) = memchr(b' ', bytes) else {
-        return None;
-    };
-    Some((&bytes[..at], &bytes[at + 1..]))
-}
-
-/// ADDR
-fn read_addr(bytes: &[u8]) -> Option<Addr>
-    ensures { Finds IsAddress address_text bytes.now result }
-{
-    let Some(number) = hex::read_address(bytes) else {
-        return None;
-    };
-    Addr::new(number)
-}
-
-/// PTR
-fn read_pointer(bytes: &[u8]) -> Option<Option<Addr>>
-    ensures { Finds IsPointer pointer_text bytes.now result }
-{
-    if bytes == b"(nil)".as_slice() {
-        return Some(None);
+    match bytes {
+        [] | [b' ', ..] => true,
+        _ => false,
     }
-    let Some(addr) = read_addr(bytes) else {
-        return None;
-    };
-    Some(Some(addr))
 }
 
-/// SIZE
-fn read_size(bytes: &[u8]) -> Option<u64>
-    ensures { Finds IsSize size_text bytes.now result }
+/// What follows `(nil)`, where a field ends behind it.
+fn behind_nil(bytes: &[u8]) -> Option<&[u8]>
+    ensures { MatchOption result ((rest : List ℕ) → EndsField rest → bytes.now ≢ codes "(nil)" ++ rest)
+        (λ rest. EndsField rest.now × (bytes.now ≡ codes "(nil)" ++ rest.now)) }
 {
-    if bytes == b"0".as_slice() {
-        return Some(0);
+    match bytes {
+        [b'(', b'n', b'i', b'l', b')', rest @ ..] if ends_field(rest) => Some(rest),
+        _ => None,
     }
-    hex::read_address(bytes)
+}
+
+/// What follows `0`, where a field ends behind it.
+fn behind_zero(bytes: &[u8]) -> Option<&[u8]>
+    ensures { MatchOption result ((rest : List ℕ) → EndsField rest → bytes.now ≢ codes "0" ++ rest)
+        (λ rest. EndsField rest.now × (bytes.now ≡ codes "0" ++ rest.now)) }
+{
+    match bytes {
+        [b'0', rest @ ..] if ends_field(rest) => Some(rest),
+        _ => None,
+    }
+}
+
+/// ADDR at the front, and what follows it.
+#[inline(always)]
+fn read_addr(bytes: &[u8]) -> Option<(Addr, &[u8])>
+    ensures { MatchOption result (HasNoFront IsAddress address_text bytes.now)
+        (λ front. IsFront IsAddress address_text bytes.now front.0 front.1.now) }
+{
+    let [b'0', b'x', digits @ ..] = bytes else {
+        return None;
+    };
+    let (number, rest) = hex::read_digits(digits);
+    if !ends_field(rest) {
+        return None;
+    }
+    let Some(addr) = Addr::new(number) else {
+        return None;
+    };
+    Some((addr, rest))
+}
+
+/// PTR at the front, and what follows it.
+#[inline(always)]
+fn read_pointer(bytes: &[u8]) -> Option<(Option<Addr>, &[u8])>
+    ensures { MatchOption result (HasNoFront IsPointer pointer_text bytes.now)
+        (λ front. IsFront IsPointer pointer_text bytes.now front.0 front.1.now) }
+{
+    if let Some(rest) = behind_nil(bytes) {
+        return Some((None, rest));
+    }
+    let Some((addr, rest)) = read_addr(bytes) else {
+        return None;
+    };
+    Some((Some(addr), rest))
+}
+
+/// SIZE at the front, and what follows it.
+#[inline(always)]
+fn read_size(bytes: &[u8]) -> Option<(u64, &[u8])>
+    ensures { MatchOption result (HasNoFront IsSize size_text bytes.now)
+        (λ front. IsFront IsSize size_text bytes.now front.0 front.1.now) }
+{
+    if let Some(rest) = behind_zero(bytes) {
+        return Some((0, rest));
+    }
+    let Some((addr, rest)) = read_addr(bytes) else {
+        return None;
+    };
+    Some((addr.value(), rest))
 }
 
 /// SIZE, or ALIGN SIZE
+#[inline(always)]
 fn read_numbers(bytes: &[u8]) -> Option<Numbers>
     ensures { Finds AreNumbers numbers_text bytes.now result }
 {
-    let Some((alignment, number)) = split_at_space(bytes) else {
-        let Some(size) = read_size(bytes) else {
-            return None;
-        };
-        return Some((None, size));
-    };
-    let Some(align) = read_addr(alignment) else {
+    let Some((first, rest)) = read_size(bytes) else {
         return None;
     };
-    let Some(size) = read_size(number) else {
+    let Some(behind) = behind_space(rest) else {
+        return Some((None, first));
+    };
+    let Some(align) = Addr::new(first) else {
         return None;
     };
+    let Some((size, last)) = read_size(behind) else {
+        return None;
+    };
+    if !last.is_empty() {
+        return None;
+    }
     Some((Some(align), size))
 }
 
 /// PTR, or PTR and the numbers
+#[inline(always)]
 fn read_fields(bytes: &[u8]) -> Option<(Option<Addr>, Option<Numbers>)>
     ensures { Finds (λ fields. AreFields fields.0 fields.1) (λ fields. fields_text fields.0 fields.1) bytes.now result }
 {
-    let Some((pointer, rest)) = split_at_space(bytes) else {
-        let Some(addr) = read_pointer(bytes) else {
-            return None;
-        };
-        return Some((addr, None));
-    };
-    let Some(addr) = read_pointer(pointer) else {
+    let Some((pointer, rest)) = read_pointer(bytes) else {
         return None;
     };
-    let Some(numbers) = read_numbers(rest) else {
+    let Some(behind) = behind_space(rest) else {
+        return Some((pointer, None));
+    };
+    let Some(numbers) = read_numbers(behind) else {
         return None;
     };
-    Some((addr, Some(numbers)))
+    Some((pointer, Some(numbers)))
 }
 
 /// The first byte, where a space follows it, and what stands behind that space.
@@ -113,6 +151,7 @@ fn split_mark(bytes: &[u8]) -> Option<(u8, &[u8])>
 }
 
 /// A mark, a space and fields.
+#[inline(always)]
 fn read_marked(bytes: &[u8]) -> Option<(u8, Option<Addr>, Option<Numbers>)>
     ensures { Finds (λ parts. AreFields parts.1 parts.2) (λ parts. parts.0 ∷ space ∷ fields_text parts.1 parts.2) bytes.now result }
 {
@@ -201,17 +240,13 @@ pub fn read_lent(bytes: &[u8]) -> Result<Event<LentLocation<'_>>, LineFault>
     let Some(located) = behind_at(bytes) else {
         return read_unlocated(bytes);
     };
-    let Some((place, marked)) = split_at_space(located) else {
+    let Some((at, marked)) = LentLocation::front(located) else {
         return Err(LineFault::NotALine);
     };
     let Some((mark, addr, numbers)) = read_marked(marked) else {
         return Err(LineFault::NotALine);
     };
-    let at = LentLocation::new(place);
-    if at.is_none() {
-        return Err(LineFault::NotALine);
-    }
-    event_of(at, mark, addr, numbers)
+    event_of(Some(at), mark, addr, numbers)
 }
 
 /// What a line says, with its location kept.

@@ -1,8 +1,10 @@
-ghost use Rattle.std.specs.Prelude.{◌≡◌, ◌↔◌, EachIndex, slice_index, IsTrue, SomeIff};
+ghost use Rattle.std.specs.Prelude.{◌≡◌, ◌≢◌, ℕ, ◌<◌, ◌≤◌, ◌++◌, ◌∷◌, List, length, slice_index, MatchOption, SomeIff};
+ghost use Rattle.mtrace_log.specs.Bytes.{space};
 ghost use Rattle.mtrace_log.specs.Location.{IsLocation, IsLocationByte};
 
 use arrayvec::ArrayVec;
 use std::marker::Model;
+use std::simd::prelude::*;
 
 /// The greatest number of bytes in a location.
 pub const LONGEST_LOCATION: usize = 255;
@@ -26,15 +28,54 @@ impl Model for Location {
     ghost inverse = { λ bytes. record { text = record { items = bytes } } };
 }
 
-/// Whether each byte can stand in a location.
-fn are_location_bytes(bytes: &[u8]) -> bool
-    ensures { IsTrue result ↔ EachIndex bytes.now (λ k. IsLocationByte (slice_index bytes.now k)) }
+/// How many bytes of a vector, from the first on, can stand in a location.
+fn location_lanes(lanes: u8x16) -> usize
+    ensures most { result ≤ 16 }
+    ensures allowed { (k : ℕ) → k < result → IsLocationByte (slice_index lanes k) }
 {
-    let mut all = true;
-    for b in bytes {
-        all &= (*b > b' ') & (*b != 0x7F);
+    let above = lanes.simd_gt(u8x16::splat(b' ')).to_bitmask();
+    let other = lanes.simd_ne(u8x16::splat(0x7F)).to_bitmask();
+    (above & other).trailing_ones() as usize
+}
+
+/// So many bytes at the front can stand in a location, and perhaps more. They are looked at 16 at a time.
+fn location_vectors(bytes: &[u8]) -> usize
+    ensures within { result ≤ length bytes.now }
+    ensures allowed { (k : ℕ) → k < result → IsLocationByte (slice_index bytes.now k) }
+{
+    let mut at = 0;
+    while bytes.len() - at >= 16 {
+        let count = location_lanes(u8x16::from_slice(&bytes[at..at + 16]));
+        if count < 16 {
+            return at + count;
+        }
+        at += 16;
     }
-    all
+    at
+}
+
+/// How many bytes at the front can stand in a location.
+fn location_end(bytes: &[u8]) -> usize
+    ensures within { result ≤ length bytes.now }
+    ensures allowed { (k : ℕ) → k < result → IsLocationByte (slice_index bytes.now k) }
+    ensures ended { result < length bytes.now → ¬ IsLocationByte (slice_index bytes.now result) }
+{
+    for at in location_vectors(bytes)..bytes.len() {
+        if bytes[at] <= b' ' || bytes[at] == 0x7F {
+            return at;
+        }
+    }
+    bytes.len()
+}
+
+/// What stands behind a space, where one is first.
+pub(crate) fn behind_space(bytes: &[u8]) -> Option<&[u8]>
+    ensures { MatchOption result ((rest : List ℕ) → bytes.now ≢ space ∷ rest) (λ rest. bytes.now ≡ space ∷ rest.now) }
+{
+    let [b' ', rest @ ..] = bytes else {
+        return None;
+    };
+    Some(rest)
 }
 
 /// A location where it lies, in the line that names it.
@@ -59,10 +100,30 @@ impl<'a> LentLocation<'a> {
     pub fn new(bytes: &'a [u8]) -> Option<LentLocation<'a>>
         ensures { SomeIff result (IsLocation bytes.now) bytes.now }
     {
-        if bytes.is_empty() || bytes.len() > LONGEST_LOCATION || !are_location_bytes(bytes) {
+        if bytes.is_empty() || bytes.len() > LONGEST_LOCATION || location_end(bytes) < bytes.len() {
             return None;
         }
         Some(LentLocation { text: bytes })
+    }
+
+    /// The location at the front, and what stands behind the space that ends it.
+    pub(crate) fn front(bytes: &'a [u8]) -> Option<(LentLocation<'a>, &'a [u8])>
+        ensures { MatchOption result ((place rest : List ℕ) → IsLocation place → bytes.now ≢ place ++ space ∷ rest)
+            (λ parts. IsLocation parts.0 × (bytes.now ≡ parts.0 ++ space ∷ parts.1.now)) }
+    {
+        let end = location_end(bytes);
+        if end == 0 || end > LONGEST_LOCATION {
+            return None;
+        }
+        let Some(rest) = behind_space(&bytes[end..]) else {
+            return None;
+        };
+        Some((
+            LentLocation {
+                text: &bytes[..end],
+            },
+            rest,
+        ))
     }
 
     /// The location, kept.
@@ -95,6 +156,16 @@ impl Location {
         LentLocation { text: self.bytes() }
     }
 
+    /// Becomes the location that is lent, in its place.
+    pub(crate) fn set(&mut self, other: &LentLocation<'_>)
+        ensures { self.new ≡ other.now }
+    {
+        self.text.clear();
+        if self.text.try_extend_from_slice(other.text).is_err() {
+            unreachable!();
+        }
+    }
+
     /// The bytes.
     pub fn bytes(&self) -> &[u8]
         ensures bytes { result.now ≡ self.now }
@@ -111,6 +182,19 @@ pub fn kept_location(at: &Option<LentLocation<'_>>) -> Option<Location>
     match at {
         Some(location) => Some(location.keep()),
         None => None,
+    }
+}
+
+/// Becomes the location of an event, kept, in its place where one is kept already.
+pub fn set_location(kept: &mut Option<Location>, at: &Option<LentLocation<'_>>)
+    ensures { kept.new ≡ at.now }
+{
+    match at {
+        Some(lent) => match kept {
+            Some(location) => location.set(lent),
+            None => *kept = Some(lent.keep()),
+        },
+        None => *kept = None,
     }
 }
 

@@ -11,17 +11,17 @@ use Rattle.std.proofs.lemmas.Map.Keys.{IsStrictlyIncreasing-from_sorted}
 use Rattle.mtrace_replay.specs.Holding.{Holding}
 use Rattle.mtrace_replay.specs.Spot.{Spot}
 use Rattle.mtrace_replay.specs.Spot.Spot.{Held, Vacant}
-use Rattle.mtrace_replay.specs.Spot.{spot_address, least_behind, Holds, holding_of, all_held, RiseFrom, AreBelow, AreAbove}
+use Rattle.mtrace_replay.specs.Spot.{spot_address, least_behind, holding_of, all_held, RiseFrom, AreBelow, AreAbove}
 use Rattle.mtrace_replay.specs.Search.{StandsAt, FitsAt, Enters}
 use Rattle.mtrace_replay.specs.declared.index.Found.{Found}
 use Rattle.mtrace_replay.specs.Index.{addresses, held_at, held_bytes, AreInOrder, IsIndex, Indexed, IsFound}
 use Rattle.mtrace_replay.specs.declared.index.Found.{Found}
-use Rattle.mtrace_replay.proofs.SpotLemmas.{not_higher, holds_address, holds_above, rise_lower, held_append, below_before, above_behind, rise_take, rise_drop, rise_above, rise_join, rise_set, kept_rise, kept_below, kept_held}
+use Rattle.mtrace_replay.proofs.SpotLemmas.{not_higher, rise_lower, held_append, below_before, rise_take, rise_drop, rise_above, rise_join, kept_rise, kept_below, kept_held}
 use Rattle.mtrace_replay.proofs.EnterLemmas.{parted, seam_set}
 
 -- the spot where an address stands has it
 pub stands_address : (spots : List Spot) (address at : ℕ) → StandsAt spots address at → (was : Spot) → was ≡ slice_index_or spots at was → spot_address was ≡ address
-stands_address spots address at stands was there = holds_address was address (subst (λ spot. Holds spot address) (sym there) (stands.1 was))
+stands_address spots address at stands was there = ap spot_address there ∙ stands.1 was
 
 -- what is held changes at one address, from `was` to `now`; before it stand lower addresses, behind it higher ones
 pub record Changes (address : ℕ) (was now : Option Holding) (old new : List Holding) : Type 0 where
@@ -131,7 +131,7 @@ module _ (spots : List Spot) (address at : ℕ) (rise : RiseFrom 0 spots) where
   -- the spot of the address is replaced
   module _ (stands : StandsAt spots address at) (was spot : Spot) (there : was ≡ slice_index_or spots at was) (its : spot_address spot ≡ address) where
     was_its_address : spot_address was ≡ address
-    was_its_address = ap spot_address there ∙ holds_address (slice_index_or spots at was) address (stands.1 was)
+    was_its_address = ap spot_address there ∙ stands.1 was
 
     parts : spots ≡ take at spots ++ was ∷ drop (suc at) spots
     parts = parted was spots at stands.0 ∙ ap (λ s. take at spots ++ s ∷ drop (suc at) spots) (sym there)
@@ -139,12 +139,18 @@ module _ (spots : List Spot) (address at : ℕ) (rise : RiseFrom 0 spots) where
     new_parts : slice_set spots at spot ≡ take at spots ++ spot ∷ drop (suc at) spots
     new_parts = ap (λ all. slice_set all at spot) parts ∙ seam_set (take at spots) (drop (suc at) spots) was spot at (length-take-le at spots (omega (arith, stands.0)))
 
+    before_below : AreBelow address (take at spots)
+    before_below = subst (λ a. AreBelow a (take at spots)) (stands.1 was) (below_before was 0 spots at rise stands.0)
+
+    behind_above : AreAbove address (drop (suc at) spots)
+    behind_above = (let next : at + 1 ≡ suc at = omega arith in subst (λ k. AreAbove address (drop k spots)) next stands.2)
+
     pub set_changes : Changes address (holding_of was) (holding_of spot) (all_held spots) (all_held (slice_set spots at spot))
     set_changes = record {
       before = all_held (take at spots);
       behind = all_held (drop (suc at) spots);
-      below = all_below address (take at spots) (subst (λ a. AreBelow a (take at spots)) (holds_address (slice_index_or spots at was) address (stands.1 was)) (below_before was 0 spots at rise stands.0));
-      above = all_above address (drop (suc at) spots) (above_behind was 0 address spots at rise stands.0 (stands.1 was));
+      below = all_below address (take at spots) before_below;
+      above = all_above address (drop (suc at) spots) behind_above;
       was_its = subst (λ a. AllByRecursion (λ (held : Holding). held.entry.addr ≡ a) (option_to_list (holding_of was))) was_its_address (own_address was);
       now_its = subst (λ a. AllByRecursion (λ (held : Holding). held.entry.addr ≡ a) (option_to_list (holding_of spot))) its (own_address spot);
       old_is = ap all_held parts ∙ held_append (take at spots) (was ∷ drop (suc at) spots);
@@ -152,19 +158,13 @@ module _ (spots : List Spot) (address at : ℕ) (rise : RiseFrom 0 spots) where
     }
 
     pub set_rises : RiseFrom 0 (slice_set spots at spot)
-    set_rises = rise_set was 0 spots at spot rise stands.0 (holds_address (slice_index_or spots at was) address (stands.1 was) ∙ sym its)
-        (omega (arith, its, not_higher spot, holds_above (slice_index_or spots at was) address (stands.1 was)))
+    set_rises = subst (RiseFrom 0) (sym new_parts) (rise_join 0 (take at spots) spot (drop (suc at) spots) (rise_take 0 spots at rise)
+        (subst (λ a. AreBelow a (take at spots)) (sym its) before_below) (omega arith)
+        (rise_lower (suc address) (least_behind spot) (drop (suc at) spots) (omega (arith, its, not_higher spot))
+        (rise_above address 0 (drop (suc at) spots) (rise_drop 0 spots (suc at) rise) behind_above)))
 
     pub set_held : (q : ℕ) → held_at (all_held (slice_set spots at spot)) q ≡ cond (address == q) (holding_of spot) (held_at (all_held spots) q)
     set_held = changes_held address (holding_of was) (holding_of spot) (all_held spots) (all_held (slice_set spots at spot)) set_changes
-
-    -- one address was held there
-    pub one_was : length (option_to_list (holding_of was)) ≡ 1
-    one_was = ap (λ s. length (option_to_list (holding_of s))) there ∙ one_at (slice_index_or spots at was) (stands.1 was)
-      where
-        one_at : (spot : Spot) → Holds spot address → length (option_to_list (holding_of spot)) ≡ 1
-        one_at (Held holding) holds = refl
-        one_at (Vacant vacant) holds = absurd holds
 
     -- what was held under the address
     pub held_there : held_at (all_held spots) address ≡ holding_of was

@@ -1,10 +1,10 @@
 -- The spots of an index: their order, and what is held at them.
-use Rattle.std.proofs.Common.{◌≡◌, ℕ, zero, suc, ◌<◌, ◌≤◌, List, [], ◌∷◌, ◌++◌, take, drop, length, slice_index_or, slice_set, is_some, true, None, inl, inr, arith, refl, sym, ap, ◌∙◌, subst}
+use Rattle.std.proofs.Common.{◌≡◌, ℕ, zero, suc, ◌<◌, ◌≤◌, List, [], ◌∷◌, ◌++◌, take, drop, length, slice_index_or, is_some, true, None, inl, inr, arith, refl, sym, ap, ◌∙◌, subst}
 use Rattle.std.specs.Prelude.{option_to_list}
 use Rattle.mtrace_replay.specs.Search.{AreKept}
 use Rattle.mtrace_replay.specs.Spot.{Spot}
 use Rattle.mtrace_replay.specs.Spot.Spot.{Held, Vacant}
-use Rattle.mtrace_replay.specs.Spot.{spot_address, least_behind, Holds, holding_of, all_held, RiseFrom, AreBelow, AreAbove}
+use Rattle.mtrace_replay.specs.Spot.{spot_address, least_behind, holding_of, all_held, RiseFrom, AreBelow, AreAbove}
 
 -- what is behind a spot is not below its address
 pub not_lower : (spot : Spot) → spot_address spot ≤ least_behind spot
@@ -16,15 +16,6 @@ pub not_higher : (spot : Spot) → least_behind spot ≤ suc (spot_address spot)
 not_higher (Held holding) = omega arith
 not_higher (Vacant address) = omega arith
 
--- a spot that holds an address has it, and only higher ones are behind it
-pub holds_address : (spot : Spot) (address : ℕ) → Holds spot address → spot_address spot ≡ address
-holds_address (Held holding) address holds = holds
-holds_address (Vacant vacant) address holds = absurd holds
-
-pub holds_above : (spot : Spot) (address : ℕ) → Holds spot address → least_behind spot ≡ suc address
-holds_above (Held holding) address holds = ap suc holds
-holds_above (Vacant vacant) address holds = absurd holds
-
 -- a spot of a list that rises is not below the bound
 pub not_below : (default : Spot) (bound : ℕ) (spots : List Spot) (k : ℕ) → RiseFrom bound spots → k < length spots → bound ≤ spot_address (slice_index_or spots k default)
 not_below default bound [] k rise within = absurd (omega (arith, within))
@@ -32,6 +23,18 @@ not_below default bound (spot ∷ spots) zero rise within = rise.0
 not_below default bound (spot ∷ spots) (suc k) rise within =
     let later = not_below default (least_behind spot) spots k rise.1 (omega (arith, within)) in
     omega (arith, rise.0, later, not_lower spot)
+
+-- nor below one that stands before it
+pub not_below_one_before : (default : Spot) (bound : ℕ) (spots : List Spot) (one other : ℕ) → RiseFrom bound spots → one ≤ other → other < length spots
+    → spot_address (slice_index_or spots one default) ≤ spot_address (slice_index_or spots other default)
+not_below_one_before default bound [] one other rise before within = absurd (omega (arith, within))
+not_below_one_before default bound (spot ∷ spots) zero zero rise before within = omega arith
+not_below_one_before default bound (spot ∷ spots) zero (suc other) rise before within =
+    let later = not_below default (least_behind spot) spots other rise.1 (omega (arith, within)) in
+    omega (arith, later, not_lower spot)
+not_below_one_before default bound (spot ∷ spots) (suc one) zero rise before within = absurd (omega (arith, before))
+not_below_one_before default bound (spot ∷ spots) (suc one) (suc other) rise before within =
+    not_below_one_before default (least_behind spot) spots one other rise.1 (omega (arith, before)) (omega (arith, within))
 
 -- what stands up to a spot below the address is below it
 pub below_up_to : (default : Spot) (address bound : ℕ) (spots : List Spot) (k : ℕ) → RiseFrom bound spots → k < length spots
@@ -78,17 +81,12 @@ all_are_held (Vacant address ∷ spots) all =
     let none = all 0 (omega arith) (Vacant address) in
     cc
 
--- what stands before a spot is below it, and what stands behind it above
+-- what stands before a spot is below it
 pub below_before : (default : Spot) (bound : ℕ) (spots : List Spot) (k : ℕ) → RiseFrom bound spots → k < length spots → AreBelow (spot_address (slice_index_or spots k default)) (take k spots)
 below_before default bound [] k rise within = absurd (omega (arith, within))
 below_before default bound (spot ∷ spots) zero rise within = tt
 below_before default bound (spot ∷ spots) (suc k) rise within =
     (not_below default (least_behind spot) spots k rise.1 (omega (arith, within)), below_before default (least_behind spot) spots k rise.1 (omega (arith, within)))
-
-pub above_behind : (default : Spot) (bound address : ℕ) (spots : List Spot) (k : ℕ) → RiseFrom bound spots → k < length spots → Holds (slice_index_or spots k default) address → AreAbove address (drop (suc k) spots)
-above_behind default bound address [] k rise within holds = absurd (omega (arith, within))
-above_behind default bound address (spot ∷ spots) zero rise within holds = above_all address (least_behind spot) spots rise.1 (omega (arith, holds_above spot address holds))
-above_behind default bound address (spot ∷ spots) (suc k) rise within holds = above_behind default (least_behind spot) address spots k rise.1 (omega (arith, within)) holds
 
 -- a list that rises from a bound rises from a lower one
 pub rise_lower : (bound lower : ℕ) (spots : List Spot) → lower ≤ bound → RiseFrom bound spots → RiseFrom lower spots
@@ -125,13 +123,6 @@ rise_without bound (first ∷ before) spot behind rise = (rise.0, rise_without (
 pub below_without : (address : ℕ) (before : List Spot) (spot : Spot) (behind : List Spot) → AreBelow address (before ++ spot ∷ behind) → AreBelow address (before ++ behind)
 below_without address [] spot behind below = below.1
 below_without address (first ∷ before) spot behind below = (below.0, below_without address before spot behind below.1)
-
--- a spot of the same address in place of one
-pub rise_set : (default : Spot) (bound : ℕ) (spots : List Spot) (k : ℕ) (spot : Spot) → RiseFrom bound spots → k < length spots → spot_address (slice_index_or spots k default) ≡ spot_address spot
-    → least_behind spot ≤ least_behind (slice_index_or spots k default) → RiseFrom bound (slice_set spots k spot)
-rise_set default bound [] k spot rise within same less = absurd (omega (arith, within))
-rise_set default bound (old ∷ spots) zero spot rise within same less = (subst (λ a. bound ≤ a) same rise.0, rise_lower (least_behind old) (least_behind spot) spots less rise.1)
-rise_set default bound (old ∷ spots) (suc k) spot rise within same less = (rise.0, rise_set default (least_behind old) spots k spot rise.1 (omega (arith, within)) same less)
 
 -- all but at most one vacant spot
 module _ (old new : List Spot) where

@@ -35,7 +35,7 @@ pub record LooksUp (times : ℕ) (old new : Indexed) : Type 0 where
   pub room : new.room ≡ old.room
   pub compared : (digits : ℕ) → old.room < 2 ^ digits → new.comparisons ≤ old.comparisons + times * digits
 
--- the address is held at the spot there, or else it would stand there
+-- the address stands at the spot there, held or not, or else it would stand there
 pub record IsFound (spots : List Spot) (found : Found) : Type 0 where
   pub held : IfOk found.place (StandsAt spots found.address)
   pub absent : IfErr found.place (FitsAt spots found.address)

@@ -1,11 +1,11 @@
 -- Where an address stands among the spots of an index, and where it enters.
 use Rattle.std.specs.Prelude.{◌≡◌, ◌⊎◌, ℕ, ◌+◌, ◌<◌, ◌≤◌, ◌^◌, List, ◌∷◌, ◌++◌, length, take, drop, slice_index_or, None}
 use Rattle.mtrace_replay.specs.Spot.{Spot}
-use Rattle.mtrace_replay.specs.Spot.{Holds, holding_of, AreBelow, AreAbove}
+use Rattle.mtrace_replay.specs.Spot.{spot_address, holding_of, AreBelow, AreAbove}
 
--- the address is held at the spot there
+-- the spot there has the address, held or not, and the spots behind it have higher ones
 abbrev pub StandsAt : List Spot → ℕ → ℕ → Type 0
-StandsAt spots address at = (at < length spots) × ((default : Spot) → Holds (slice_index_or spots at default) address)
+StandsAt spots address at = (at < length spots) × ((default : Spot) → spot_address (slice_index_or spots at default) ≡ address) × AreAbove address (drop (at + 1) spots)
 
 -- the address is not held; in order of address it would stand there
 abbrev pub FitsAt : List Spot → ℕ → ℕ → Type 0

@@ -1,5 +1,5 @@
 -- The spots of an index, as a list in order of address.
-use Rattle.std.specs.Prelude.{◌≡◌, ℕ, suc, ◌<◌, ◌≤◌, ⊤, List, [], ◌∷◌, ◌++◌, Option, Some, None, option_to_list}
+use Rattle.std.specs.Prelude.{ℕ, suc, ◌<◌, ◌≤◌, ⊤, List, [], ◌∷◌, ◌++◌, Option, Some, None, option_to_list}
 use Rattle.std.specs.List.{AllByRecursion}
 use Rattle.mtrace_replay.specs.Holding.{Holding}
 use Rattle.mtrace_replay.specs.Entry.{Entry}
@@ -23,11 +23,6 @@ spot_address (Vacant address) = address
 abbrev pub least_behind : Spot → ℕ
 least_behind (Held holding) = suc holding.entry.addr
 least_behind (Vacant address) = address
-
--- the address is held at a spot
-abbrev pub Holds : Spot → ℕ → Type 0
-Holds (Held holding) address = holding.entry.addr ≡ address
-Holds (Vacant vacant) address = ⊥
 
 -- what is held at a spot
 abbrev pub holding_of : Spot → Option Holding

@@ -9,7 +9,6 @@ use Rattle.tlsf_heap.specs.Run.{MayLack}
 use Rattle.tlsf_heap.specs.Pointer.{Pointer}
 use Rattle.mtrace_replay.specs.declared.diagnostic.Diagnostic.{Diagnostic}
 use Rattle.mtrace_replay.specs.Holding.{Holding}
-use Rattle.mtrace_replay.specs.declared.step.Effect.{Effect}
 use Rattle.mtrace_replay.specs.declared.totals.Totals.{Totals}
 use Rattle.mtrace_replay.specs.Started.{Bare}
 use Rattle.mtrace_replay.specs.Moment.{Given, Moment}
@@ -55,12 +54,13 @@ pub record AreLive (holdings : List Holding) (content : Content ℕ) : Type 0 wh
   pub small : (address : ℕ) (holding : Holding) → held_at holdings address ≡ Some holding → holding.entry.size ≤ greatest_size
   pub records : content.records ≤ most_records
 
--- What a line does, or a part of it. Where no memory is refused, the heap and what is held come to the moment, and
--- what is held is live; else what is held is as it was. The heap has as many records as before; so many look-ups are
--- made, and at most so many touches: none where nothing is asked of the heap.
+-- What a line does, or a part of it, which answers where the block ends that it was given, if any. Where no memory is
+-- refused, the heap, what is held and the notes come to the moment, and what is held is live; else what is held is as it
+-- was. The heap has as many records as before; so many look-ups are made, and at most so many touches: none where nothing
+-- is asked of the heap.
 pub record Replays {H E : Type 0} (content : H → Content ℕ) (touches : H → ℕ) (lacks : H → Type 0) (looks most : ℕ) (asks : Bool) (moment : Moment)
-    (result : Result Effect E) (heap_old heap_new : H) (held_old held_new : Indexed) : Type 0 where
-  pub comes : IfOk result (λ effect. Comes (bare (content heap_old)) (bare (content heap_new)) (all_given held_old.all) (all_given held_new.all) effect.note.items effect.end moment)
+    (notes : List Diagnostic) (result : Result (Option ℕ) E) (heap_old heap_new : H) (held_old held_new : Indexed) : Type 0 where
+  pub comes : IfOk result (λ end. Comes (bare (content heap_old)) (bare (content heap_new)) (all_given held_old.all) (all_given held_new.all) notes end moment)
   pub live : OnOk result (AreLive held_new.all (content heap_new))
   pub memory : OnErr result (MayLack lacks)
   pub unchanged : OnErr result (held_new.all ≡ held_old.all)

@@ -1,6 +1,6 @@
 ghost use Rattle.std.specs.Prelude.{◌≡◌};
 
-use mtrace_log::{Addr, LentLocation, Location, kept_location};
+use mtrace_log::{Addr, LentLocation, Location, kept_location, set_location};
 
 /// What is kept of an address that is held. `At` is what its location is, as in `mtrace_log::Event`.
 #[derive(Debug, Drop, PartialEq, Eq)]
@@ -37,6 +37,6 @@ impl Entry {
         self.addr = other.addr;
         self.size = other.size;
         self.line = other.line;
-        self.at = kept_location(&other.at);
+        set_location(&mut self.at, &other.at);
     }
 }

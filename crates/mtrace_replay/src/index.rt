@@ -5,7 +5,7 @@ ghost use Rattle.mtrace_replay.specs.Index.{held_at, held_bytes, AreInOrder, Loo
 
 use crate::arrange::arrange;
 use crate::entry::Entry;
-use crate::search::{enter, search};
+use crate::search::{enter, is_last_of, search};
 use crate::spot::Spot;
 use mtrace_log::{Addr, LentLocation};
 use std::alloc::{AllocError, Global};
@@ -13,8 +13,8 @@ use std::marker::Model;
 use tlsf_heap::Ptr;
 use tlsf_store::GhostCount;
 
-/// Where an address stands among the spots of an index: at its own, or where that would enter. It tells so until the index
-/// is changed.
+/// Where an address stands among the spots of an index: at its own, held or vacant, or where that would enter. It tells so
+/// until the index is changed.
 #[derive(Clone, Copy)]
 pub(crate) struct Found {
     address: Addr,
@@ -22,8 +22,8 @@ pub(crate) struct Found {
 }
 
 /// What is held, in order of address. The spot of an address that is held no more stays vacant, for the same address or
-/// for one near it, so that an address which comes again moves nothing. Where much has moved for new addresses, the spots
-/// are arranged anew.
+/// for one near it, so that an address which comes again moves nothing. Where much has moved for new addresses, or a new one
+/// above all others finds most spots vacant, the spots are arranged anew.
 #[derive(Drop)]
 pub(crate) struct Index {
     spots: Vec<Spot>,
@@ -31,6 +31,8 @@ pub(crate) struct Index {
     blocks: u64,
     bytes: u64,
     moved: usize,
+    // Where the spot is that was vacated last, unless spots have moved since: a hint.
+    vacated: u32,
     comparisons: GhostCount,
 }
 
@@ -44,6 +46,12 @@ impl Model for Index {
     ghost view = { λ index. record { all = all_held index.spots.items; spots = index.spots.items; room = index.room; comparisons = index.comparisons.count } };
 
     ghost invariant = { λ index. IsIndex index.spots.items (vec_capacity index.spots) index.room index.blocks index.bytes };
+}
+
+/// Whether more than half of so many spots are vacant, but for a few. So where addresses rise, the spots stay few, and a search
+/// stays among those that it looked at before.
+fn is_sparse(spots: usize, blocks: u64) -> bool {
+    spots as u64 / 2 > blocks.saturating_add(64)
 }
 
 impl Index {
@@ -62,8 +70,28 @@ impl Index {
             blocks: 0,
             bytes: 0,
             moved: 0,
+            vacated: 0,
             comparisons: GhostCount::new(),
         })
+    }
+
+    /// Where the address stands. That is where the spot was vacated last, if the address is its own, or else as `find`
+    /// says: an allocator gives the address that was freed last again.
+    pub fn find_again(&mut self, address: Addr) -> Found
+        ensures found { IsFound self.old.spots result }
+        ensures address { result.address ≡ address }
+        ensures unchanged { self.new.all ≡ self.old.all }
+        ensures spots { self.new.spots ≡ self.old.spots }
+        ensures looked { LooksUp 2 self.old self.new }
+    {
+        let at = self.vacated as usize;
+        if is_last_of(&self.spots, &mut self.comparisons, at, address) {
+            return Found {
+                address,
+                place: Ok(at),
+            };
+        }
+        self.find(address)
     }
 
     /// Where the address stands: the one look-up, for what is read and changed there.
@@ -121,7 +149,12 @@ impl Index {
         let size = entry.size;
         match found.place {
             Ok(at) => {
-                self.bytes = self.bytes + size - self.spots[at].size();
+                let spot = &self.spots[at];
+                if at as u32 == self.vacated {
+                    self.vacated = spot.vacated_before();
+                }
+                self.blocks = self.blocks + 1 - spot.blocks();
+                self.bytes = self.bytes + size - spot.size();
                 self.spots[at].hold(entry, ptr);
             }
             Err(at) => {
@@ -130,7 +163,9 @@ impl Index {
                 self.bytes += size;
                 let moved = enter(&mut self.spots, self.room, at, entry, ptr);
                 self.moved = self.moved.saturating_add(moved);
-                if self.moved > self.spots.len() {
+                if self.moved > self.spots.len()
+                    || at_end && is_sparse(self.spots.len(), self.blocks)
+                {
                     self.moved = 0;
                     arrange(&mut self.spots, self.room, at_end);
                 }
@@ -162,9 +197,11 @@ impl Index {
         ensures looked { LooksUp 0 self.old self.new }
     {
         if let Ok(at) = found.place {
-            self.bytes -= self.spots[at].size();
-            self.blocks -= 1;
-            self.spots[at].vacate();
+            let spot = &self.spots[at];
+            self.blocks -= spot.blocks();
+            self.bytes -= spot.size();
+            self.spots[at].vacate(self.vacated);
+            self.vacated = at as u32;
         }
     }
 

@@ -5,6 +5,7 @@
 mod arrange;
 mod diagnostic;
 mod entry;
+mod findings;
 mod free_blocks;
 mod index;
 pub mod laws;

@@ -1,18 +1,16 @@
 ghost use Rattle.std.specs.Prelude.{◌≡◌, ◌+◌, ◌≤◌, ◌++◌, length, if◌then◌else◌, [], option_to_list};
 ghost use Rattle.mtrace_replay.specs.Moment.{half, is_new};
 ghost use Rattle.mtrace_replay.specs.History.{old_address as address_of_old};
-ghost use Rattle.mtrace_replay.specs.Totals.{is_refusal as is_of_refusal};
-ghost use Rattle.std.specs.List.{list_any};
 
 use crate::diagnostic::{Diagnostic, Kind, Note};
+use crate::findings::Findings;
 use crate::free_blocks::{Free, free_in};
 use crate::index::{Entries, Index};
 use crate::settings::Settings;
 use crate::start::started_heap;
-use crate::step::{noted_after, outcome};
+use crate::step::outcome;
 use crate::totals::Totals;
 use crate::walk::put_walk;
-use arrayvec::ArrayVec;
 use mtrace_log::{Addr, Event, Failed, LentLocation, Line, LineFault, Sink};
 use std::alloc::Global;
 use std::marker::Model;
@@ -64,29 +62,14 @@ fn half_before(
     }
 }
 
-/// The diagnostic of the line before, where there is one, and those of this line.
-fn after_half(half: Option<Diagnostic>, more: Note) -> Note
-    requires { length (option_to_list half) + length more.items ≤ 2 }
-    ensures { result.items ≡ option_to_list half ++ more.items }
+/// Puts the diagnostic of the line before, where there is one, before those of this line.
+fn put_half(half: Option<Diagnostic>, findings: &mut Findings)
+    requires { length (option_to_list half) + length findings.old ≤ 2 }
+    ensures { findings.new ≡ option_to_list half ++ findings.old }
 {
-    match half {
-        Some(first) => noted_after(first, &more),
-        None => more,
+    if let Some(first) = half {
+        findings.put_first(first);
     }
-}
-
-/// Whether the heap refused what a line asked for.
-fn is_refusal(kind: Kind) -> bool
-    ensures { result ≡ is_of_refusal kind }
-{
-    matches!(kind, Kind::Refused(..))
-}
-
-/// Whether the heap refused what a line asked for, by the line's diagnostics.
-fn has_refusal(note: &Note) -> bool
-    ensures { result ≡ list_any (λ diagnostic. is_of_refusal diagnostic.kind) note.now.items }
-{
-    note.as_slice().iter().any(|d| is_refusal(d.kind))
 }
 
 /// The replay of a log's lines on a heap: what is held, by address, and what is wrong with each line.
@@ -172,34 +155,47 @@ impl<H: Heaped> Replay<H> {
         requires next { self.old.out_of_memory ≡ false → line.number ≡ self.old.totals.lines + 1 }
         ensures { Feeds H.lacks (λ note. note.items) line.number line.event result self.old self.new }
     {
-        self.feed_lent(line.number, line.lend())
+        let mut findings = Findings::none();
+        match self.feed_lent(line.number, line.lend(), &mut findings) {
+            Ok(()) => Ok(findings.note()),
+            Err(fault) => Err(fault),
+        }
     }
 
-    /// `feed` of the line of this number that says this, with its location where it lies.
+    /// `feed` of the line of this number that says this, with its location where it lies. What is wrong comes to the findings.
     #[inline(always)]
     pub(crate) fn feed_lent(
         &mut self,
         number: u64,
         event: Result<Event<LentLocation<'_>>, LineFault>,
-    ) -> Result<Note, ReplayFault>
+        findings: &mut Findings,
+    ) -> Result<(), ReplayFault>
         requires next { self.old.out_of_memory ≡ false → number ≡ self.old.totals.lines + 1 }
-        ensures { Feeds H.lacks (λ note. note.items) number event.entry result self.old self.new }
+        requires none { findings.old ≡ [] }
+        ensures { Feeds H.lacks (λ done. findings.new) number event.entry result self.old self.new }
     {
         if self.out_of_memory {
             return Err(ReplayFault::OutOfMemory);
         }
         let half = half_before(self.totals.lines, self.pending, &event);
         let next = old_address(&event);
-        match outcome(&mut self.heap, &mut self.held, number, self.pending, event) {
-            Ok(done) => {
+        match outcome(
+            &mut self.heap,
+            &mut self.held,
+            number,
+            self.pending,
+            event,
+            findings,
+        ) {
+            Ok(end) => {
                 self.heap.keeps_good();
                 self.held.keeps_order();
-                let note = after_half(half, done.note);
-                let is_refused = has_refusal(&note);
+                put_half(half, findings);
+                let is_refused = findings.has_refusal();
                 let (bytes, blocks) = (self.held.bytes(), self.held.len());
-                self.totals = self.totals.after(done.end, is_refused, bytes, blocks);
+                self.totals = self.totals.after(end, is_refused, bytes, blocks);
                 self.pending = next;
-                Ok(note)
+                Ok(())
             }
             Err(_) => {
                 self.out_of_memory = true;
@@ -224,7 +220,9 @@ impl<H: Heaped> Replay<H> {
         if self.out_of_memory {
             return Err(ReplayFault::OutOfMemory);
         }
-        Ok(after_half(half_note(self.totals.lines, self.pending), ArrayVec::new()))
+        let mut findings = Findings::none();
+        put_half(half_note(self.totals.lines, self.pending), &mut findings);
+        Ok(findings.note())
     }
 
     /// How many addresses are held.

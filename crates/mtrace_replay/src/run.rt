@@ -11,6 +11,7 @@ ghost use Rattle.mtrace_replay.specs.Replay.{StandsFor, entries};
 ghost use Rattle.mtrace_replay.specs.Run.{end_text, Runs, Replays, status_in, StopsAtRead, StopsAtWrite, HasReplayed, LineGives, LineBegins, is_some_note, is_some_entry};
 
 use crate::diagnostic::Note;
+use crate::findings::Findings;
 use crate::line_text::note_text;
 use crate::replay::{Replay, ReplayFault};
 use crate::report::{Report, put_report};
@@ -50,13 +51,14 @@ fn replay_line<H: Heaped, W: Sink>(
     ensures no_settings { result ≢ Err RunFault.BadSettings }
     ensures no_image { result ≢ Err RunFault.Image }
 {
-    let Ok(note) = replay.feed_lent(number, event) else {
+    let mut findings = Findings::none();
+    let Ok(()) = replay.feed_lent(number, event, &mut findings) else {
         return Err(RunFault::OutOfMemory);
     };
-    if note.is_empty() {
+    if findings.is_empty() {
         return Ok(false);
     }
-    match put_note(writer, &note) {
+    match put_note(writer, &findings.note()) {
         Ok(()) => Ok(true),
         Err(_) => Err(RunFault::Write),
     }

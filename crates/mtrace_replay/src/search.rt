@@ -1,6 +1,6 @@
 //! Where an address stands among the spots of an index, and how a spot comes between them.
 
-ghost use Rattle.std.specs.Prelude.{◌≡◌, ℕ, ◌<◌, ◌≤◌, length, IfOk, IfErr};
+ghost use Rattle.std.specs.Prelude.{◌≡◌, ℕ, ◌*◌, ◌<◌, ◌≤◌, length, IfOk, IfErr, IsTrue};
 ghost use Rattle.std.specs.Vec.{vec_capacity};
 ghost use Rattle.mtrace_replay.specs.Spot.{spot_address, all_held, RiseFrom};
 ghost use Rattle.mtrace_replay.specs.Spot.Spot.{Held};
@@ -12,9 +12,17 @@ use mtrace_log::{Addr, LentLocation};
 use tlsf_heap::Ptr;
 use tlsf_store::GhostCount;
 
-/// Where the spot of the address is; or else where it would be, in order of address. It halves what is left, and
+/// So many, where this is 1, or none, where it is 0. Without a test, and quicker than to multiply.
+fn so_many_if(many: usize, one: usize) -> usize
+    requires { one ≤ 1 }
+    ensures { result ≡ many * one }
+{
+    many & 0_usize.wrapping_sub(one)
+}
+
+/// Where the last spot of the address is, held or vacant; or else where it would be, in order of address. It halves what is left, and
 /// compares as many addresses as the number of spots has binary digits. What a comparison tells is added and not tested,
-/// so that there is no branch to guess; whether the address is held is that of the last spot that reaches it.
+/// so that there is no branch to guess. An address that was seen is that of the last spot that reaches it.
 pub(crate) fn search(
     spots: &[Spot],
     comparisons: &mut GhostCount,
@@ -27,16 +35,38 @@ pub(crate) fn search(
 {
     let mut low = 0;
     let mut left = spots.len();
-    let mut holds = false;
+    let mut is_seen = false;
     while left > 0 {
         let half = left / 2;
         let step = left - half;
         let standing = spots[low + step - 1].compare(address, comparisons);
-        low += step * standing.reaches;
-        holds = holds & (standing.reaches == 0) | standing.holds;
+        low += so_many_if(step, standing.reaches);
+        is_seen |= standing.is_same;
         left = half;
     }
-    if holds { Ok(low - 1) } else { Err(low) }
+    if is_seen { Ok(low - 1) } else { Err(low) }
+}
+
+/// Whether the spot there is the last one of the address. It compares that address and the one behind it, but no more
+/// addresses than the number of spots has binary digits.
+pub(crate) fn is_last_of(
+    spots: &[Spot],
+    comparisons: &mut GhostCount,
+    at: usize,
+    address: Addr,
+) -> bool
+    requires { RiseFrom 0 spots.now }
+    ensures stands { IsTrue result → StandsAt spots.now address at }
+    ensures compared { Compares (length spots.now) comparisons.old.count comparisons.new.count }
+{
+    if at >= spots.len() {
+        return false;
+    }
+    if !spots[at].compare(address, comparisons).is_same {
+        return false;
+    }
+    let behind = at + 1;
+    behind == spots.len() || spots[behind].compare(address, comparisons).reaches == 0
 }
 
 /// The vacant spot that is nearest to a place between two spots, or the end where that is nearer.

@@ -1,10 +1,10 @@
 //! A spot of the index: an address, and what is held under it, if anything is.
 
-ghost use Rattle.std.specs.Prelude.{◌≡◌, ◌+◌, ◌<◌, ◌≤◌, ◌↔◌, IsTrue, option_map, option_to_list, not, is_some};
+ghost use Rattle.std.specs.Prelude.{◌≡◌, ◌+◌, ◌<◌, ◌≤◌, ◌==◌, option_map, option_to_list, not, is_some, length};
 ghost use Rattle.std.specs.Option.{option_copied};
 ghost use Rattle.mtrace_replay.specs.Spot.Spot.{Held, Vacant};
 ghost use Rattle.mtrace_replay.specs.Index.{held_bytes};
-ghost use Rattle.mtrace_replay.specs.Spot.{spot_address, Holds, holding_of};
+ghost use Rattle.mtrace_replay.specs.Spot.{spot_address, holding_of};
 
 use crate::entry::Entry;
 use mtrace_log::{Addr, LentLocation};
@@ -14,10 +14,11 @@ use tlsf_store::GhostCount;
 
 /// A spot of the index: an entry and its block. Where nothing is held there is no block, and the entry's address still tells a
 /// search which way to go; the rest of the entry means nothing then. The block stands first, beside the address, for both are
-/// looked at together.
+/// looked at together. Between them is a hint, which no contract sees: where the spot was that was vacated before this one.
 #[derive(Drop)]
 pub(crate) struct Spot {
     block: Option<Ptr>,
+    vacated_before: u32,
     entry: Entry,
 }
 
@@ -34,8 +35,8 @@ impl Model for Spot {
 pub(crate) struct Standing {
     /// 1 where the spot's own address is at most that one, else 0.
     pub reaches: usize,
-    /// Whether the address is held there.
-    pub holds: bool,
+    /// Whether it is that one.
+    pub is_same: bool,
 }
 
 /// 1 where the first number is at most the second, else 0. Without a test, so that the search which adds by it has no
@@ -55,6 +56,7 @@ impl Spot {
     {
         Spot {
             entry: entry.keep(),
+            vacated_before: 0,
             block: Some(ptr),
         }
     }
@@ -67,11 +69,17 @@ impl Spot {
         self.block = Some(ptr);
     }
 
-    /// Nothing is held here any more.
-    pub(crate) fn vacate(&mut self)
+    /// Nothing is held here any more. It keeps the hint where the spot was that was vacated before.
+    pub(crate) fn vacate(&mut self, vacated_before: u32)
         ensures { self.new ≡ Vacant (spot_address self.old) }
     {
         self.block = None;
+        self.vacated_before = vacated_before;
+    }
+
+    /// The hint where the spot was that was vacated before this one.
+    pub(crate) fn vacated_before(&self) -> u32 {
+        self.vacated_before
     }
 
     /// A vacant spot that may stand before this one.
@@ -85,6 +93,7 @@ impl Spot {
                 line: 0,
                 at: None,
             },
+            vacated_before: 0,
             block: None,
         }
     }
@@ -101,14 +110,14 @@ impl Spot {
         ensures one_or_none { result.reaches ≤ 1 }
         ensures reaches { result.reaches ≡ 1 → spot_address self.now ≤ address }
         ensures above { result.reaches ≡ 0 → address < spot_address self.now }
-        ensures holds { IsTrue result.holds ↔ Holds self.now address }
+        ensures same { result.is_same ≡ (spot_address self.now == address) }
         ensures counted { comparisons.new.count ≡ comparisons.old.count + 1 }
     {
         comparisons.tick();
         let own = self.address();
         Standing {
             reaches: at_most(own.value(), address.value()),
-            holds: own == address && !self.is_vacant(),
+            is_same: own == address,
         }
     }
 
@@ -134,6 +143,13 @@ impl Spot {
             return None;
         }
         Some(&self.entry)
+    }
+
+    /// How many blocks are held: one or none.
+    pub(crate) fn blocks(&self) -> u64
+        ensures { result ≡ length (option_to_list (holding_of self.now)) }
+    {
+        u64::from(self.block.is_some())
     }
 
     /// How many bytes were asked for what is held.

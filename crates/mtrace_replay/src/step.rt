@@ -1,7 +1,6 @@
 //! What one line does to the heap and to what is held.
 
 ghost use Rattle.std.specs.Prelude.{◌≡◌, ◌≢◌, ℕ, ◌+◌, ◌<◌, ◌≤◌, Ok, Err, IfErr, ◌&&◌, not, is_some, true, List, [], ◌∷◌, length, Some, None, option_map, IfOk, OnOk, OnErr, if◌then◌else◌, ◌==◌};
-ghost use Rattle.arrayvec.specs.ArrayVec.{array_vec_len};
 ghost use Rattle.tlsf_heap.specs.Bare.{bare};
 ghost use Rattle.tlsf_heap.specs.Content.{blocks_of, size_at};
 ghost use Rattle.tlsf_heap.specs.Free.{is_live};
@@ -11,67 +10,13 @@ ghost use Rattle.mtrace_replay.specs.Index.{held_at, LooksUp, IsFound};
 ghost use Rattle.mtrace_replay.specs.Moment.{asked_size as size_asked, asked_block, without, allocation, release as released, moved, renewal, renewal_asks, asks, outcome as outcome_of};
 ghost use Rattle.mtrace_replay.specs.Step.{found, all_given, Replays, IsUnder, AreLive};
 
-use crate::diagnostic::{Diagnostic, Kind, Note};
+use crate::diagnostic::{Diagnostic, Kind};
 use crate::entry::Entry;
+use crate::findings::Findings;
 use crate::index::{Found, Index};
-use arrayvec::ArrayVec;
 use mtrace_log::{Addr, Event, LentLocation, LineFault};
 use std::alloc::AllocError;
 use tlsf_heap::{Heaped, Ptr, Refusal};
-
-/// What a line came to: its diagnostics, and where the block ends that it was given, as a place.
-#[derive(Drop)]
-pub(crate) struct Effect {
-    /// What is wrong with the line.
-    pub note: Note,
-    /// The end of the block, if one was given.
-    pub end: Option<u64>,
-}
-
-/// Nothing was given.
-fn unserved(note: Note) -> Effect
-    ensures { result ≡ record { note = note; end = None } }
-{
-    Effect { note, end: None }
-}
-
-/// The line was served; the block ends there.
-fn served(end: u64) -> Effect
-    ensures note { result.note.items ≡ [] }
-    ensures end { result.end ≡ Some end }
-{
-    Effect {
-        note: no_note(),
-        end: Some(end),
-    }
-}
-
-/// No diagnostic.
-fn no_note() -> Note
-    ensures { result.items ≡ [] }
-{
-    ArrayVec::new()
-}
-
-/// One diagnostic.
-fn one_note(line: u64, kind: Kind) -> Note
-    ensures { result.items ≡ record { line = line; kind = kind } ∷ [] }
-{
-    let mut note = ArrayVec::new();
-    note.push(Diagnostic { line, kind });
-    note
-}
-
-/// A diagnostic before at most one other.
-pub(crate) fn noted_after(first: Diagnostic, more: &Note) -> Note
-    requires { array_vec_len more.now ≤ 1 }
-    ensures { result.items ≡ first ∷ more.now.items }
-{
-    let mut note = ArrayVec::new();
-    note.push(first);
-    let _ = note.try_extend_from_slice(more.as_slice());
-    note
-}
 
 /// How many bytes are asked of the heap: for a block of no byte it is asked for one byte.
 fn asked_size(size: u64) -> u64
@@ -163,16 +108,19 @@ fn allocate<H: Heaped>(
     held: &mut Index,
     align: Option<Addr>,
     entry: &Entry<LentLocation<'_>>,
-) -> Result<Effect, AllocError>
+    findings: &mut Findings,
+) -> Result<Option<u64>, AllocError>
     requires live { AreLive held.old.all (H.content heap.old) }
     requires room { held.old.room ≡ (H.content heap.old).records }
-    ensures { Replays H.content H.touches H.lacks 1 164 (not (is_some (found (all_given held.old.all) entry.now.addr)))
+    requires none { findings.old ≡ [] }
+    ensures { Replays H.content H.touches H.lacks 2 164 (not (is_some (found (all_given held.old.all) entry.now.addr)))
         (allocation entry.now.line entry.now.at entry.now.addr align entry.now.size (found (all_given held.old.all) entry.now.addr) (bare (H.content heap.old)))
-        result heap.old heap.new held.old held.new }
+        findings.new result heap.old heap.new held.old held.new }
 {
-    let found = held.find(entry.addr);
+    let found = held.find_again(entry.addr);
     if held.is_held(&found) {
-        return Ok(unserved(one_note(entry.line, Kind::AlreadyHeld(entry.addr))));
+        findings.set_one(entry.line, Kind::AlreadyHeld(entry.addr));
+        return Ok(None);
     }
     heap.keeps_good();
     held.keeps_order();
@@ -181,10 +129,13 @@ fn allocate<H: Heaped>(
             let ptr = block.ptr;
             heap.keeps_good();
             held.insert(&found, entry, ptr);
-            Ok(served(block.end))
+            Ok(Some(block.end))
         }
         Err(Refusal::OutOfMemory) => Err(AllocError),
-        Err(refusal) => Ok(unserved(one_note(entry.line, Kind::Refused(entry.addr, refusal)))),
+        Err(refusal) => {
+            findings.set_one(entry.line, Kind::Refused(entry.addr, refusal));
+            Ok(None)
+        }
     }
 }
 
@@ -226,18 +177,21 @@ fn release<H: Heaped>(
     held: &mut Index,
     number: u64,
     address: Addr,
-) -> Result<Effect, AllocError>
+    findings: &mut Findings,
+) -> Result<Option<u64>, AllocError>
     requires live { AreLive held.old.all (H.content heap.old) }
+    requires none { findings.old ≡ [] }
     ensures { Replays H.content H.touches H.lacks 1 96 (is_some (found (all_given held.old.all) address))
         (released number address (found (all_given held.old.all) address) (bare (H.content heap.old)))
-        result heap.old heap.new held.old held.new }
+        findings.new result heap.old heap.new held.old held.new }
 {
     let found = held.find(address);
     let Some(ptr) = held.block(&found) else {
-        return Ok(unserved(one_note(number, Kind::NotHeld(address))));
+        findings.set_one(number, Kind::NotHeld(address));
+        return Ok(None);
     };
     take(heap, held, &found, ptr)?;
-    Ok(unserved(no_note()))
+    Ok(None)
 }
 
 /// Asks the heap to reallocate the block of the old address that was found for the entry; where it refuses, the block is freed.
@@ -247,15 +201,17 @@ fn reallocate<H: Heaped>(
     old: &Found,
     ptr: Ptr,
     entry: &Entry<LentLocation<'_>>,
-) -> Result<Effect, AllocError>
+    findings: &mut Findings,
+) -> Result<Option<u64>, AllocError>
     requires live { AreLive held.old.all (H.content heap.old) }
     requires room { held.old.room ≡ (H.content heap.old).records }
     requires found { IsFound held.old.spots old.now }
     requires held { IsUnder ptr (held_at held.old.all old.now.address) }
+    requires none { findings.old ≡ [] }
     ensures { Replays H.content H.touches H.lacks 1 356 true
         (moved entry.now.line entry.now.at old.now.address ptr.place entry.now.addr entry.now.size (bare (H.content heap.old))
         (reallocated (λ one other. true) tt (Some (ptr.place, tt)) (size_asked entry.now.size) (bare (H.content heap.old))))
-        result heap.old heap.new held.old held.new }
+        findings.new result heap.old heap.new held.old held.new }
 {
     heap.keeps_good();
     held.keeps_order();
@@ -263,12 +219,13 @@ fn reallocate<H: Heaped>(
         Ok(block) => {
             let ptr = block.ptr;
             held.replace(old, entry, ptr);
-            Ok(served(block.end))
+            Ok(Some(block.end))
         }
         Err(Refusal::OutOfMemory) => Err(AllocError),
         Err(refusal) => {
             take(heap, held, old, ptr)?;
-            Ok(unserved(one_note(entry.line, Kind::Refused(entry.addr, refusal))))
+            findings.set_one(entry.line, Kind::Refused(entry.addr, refusal));
+            Ok(None)
         }
     }
 }
@@ -283,48 +240,40 @@ fn is_held_too(held: &mut Index, address: Addr, old: Addr) -> bool
     address != old && held.contains(address)
 }
 
-/// A diagnostic before those of a line.
-fn after_note(first: Diagnostic, effect: Effect) -> Effect
-    requires { length effect.note.items ≤ 1 }
-    ensures note { result.note.items ≡ first ∷ effect.note.items }
-    ensures end { result.end ≡ effect.end }
-{
-    Effect {
-        note: noted_after(first, &effect.note),
-        end: effect.end,
-    }
-}
-
 /// `> address size`: reallocates the block of the address of the line before, where that is `<`.
 fn renew<H: Heaped>(
     heap: &mut H,
     held: &mut Index,
     pending: Option<Addr>,
     entry: &Entry<LentLocation<'_>>,
-) -> Result<Effect, AllocError>
+    findings: &mut Findings,
+) -> Result<Option<u64>, AllocError>
     requires live { AreLive held.old.all (H.content heap.old) }
     requires room { held.old.room ≡ (H.content heap.old).records }
+    requires none { findings.old ≡ [] }
     ensures { Replays H.content H.touches H.lacks 3 356 (renewal_asks pending entry.now.addr (found (all_given held.old.all)))
         (renewal entry.now.line entry.now.at pending entry.now.addr entry.now.size (found (all_given held.old.all)) (bare (H.content heap.old)))
-        result heap.old heap.new held.old held.new }
+        findings.new result heap.old heap.new held.old held.new }
 {
     let number = entry.line;
     let Some(old) = pending else {
-        return Ok(unserved(one_note(number, Kind::Stray)));
+        findings.set_one(number, Kind::Stray);
+        return Ok(None);
     };
     let found = held.find(old);
     let Some(ptr) = held.block(&found) else {
-        let more = allocate(heap, held, None, entry)?;
-        let first = Diagnostic {
+        let end = allocate(heap, held, None, entry, findings)?;
+        findings.put_first(Diagnostic {
             line: number,
             kind: Kind::NotHeld(old),
-        };
-        return Ok(after_note(first, more));
+        });
+        return Ok(end);
     };
     if is_held_too(held, entry.addr, old) {
-        return Ok(unserved(one_note(number, Kind::AlreadyHeld(entry.addr))));
+        findings.set_one(number, Kind::AlreadyHeld(entry.addr));
+        return Ok(None);
     }
-    reallocate(heap, held, &found, ptr, entry)
+    reallocate(heap, held, &found, ptr, entry, findings)
 }
 
 /// The entry of a line that asks for a block.
@@ -353,31 +302,51 @@ pub(crate) fn outcome<H: Heaped>(
     number: u64,
     pending: Option<Addr>,
     event: Result<Event<LentLocation<'_>>, LineFault>,
-) -> Result<Effect, AllocError>
+    findings: &mut Findings,
+) -> Result<Option<u64>, AllocError>
     requires live { AreLive held.old.all (H.content heap.old) }
     requires room { held.old.room ≡ (H.content heap.old).records }
+    requires none { findings.old ≡ [] }
     ensures { Replays H.content H.touches H.lacks 3 356 (asks event.entry pending (found (all_given held.old.all)))
         (outcome_of number event.entry pending (found (all_given held.old.all)) (bare (H.content heap.old)))
-        result heap.old heap.new held.old held.new }
+        findings.new result heap.old heap.new held.old held.new }
 {
     match event {
-        Err(LineFault::TooLong) => Ok(unserved(one_note(number, Kind::TooLong))),
-        Err(LineFault::NotALine) => Ok(unserved(one_note(number, Kind::NotALine))),
-        Ok(Event::Start) => Ok(unserved(no_note())),
-        Ok(Event::End) => Ok(unserved(no_note())),
+        Err(LineFault::TooLong) => {
+            findings.set_one(number, Kind::TooLong);
+            Ok(None)
+        }
+        Err(LineFault::NotALine) => {
+            findings.set_one(number, Kind::NotALine);
+            Ok(None)
+        }
+        Ok(Event::Start) => Ok(None),
+        Ok(Event::End) => Ok(None),
         Ok(Event::Alloc { at, addr, size }) => match addr {
-            Some(addr) => allocate(heap, held, None, &entry_of(number, at, addr, size)),
-            None => Ok(unserved(no_note())),
+            Some(addr) => allocate(
+                heap,
+                held,
+                None,
+                &entry_of(number, at, addr, size),
+                findings,
+            ),
+            None => Ok(None),
         },
-        Ok(Event::Free { at: _at, addr }) => release(heap, held, number, addr),
+        Ok(Event::Free { at: _at, addr }) => release(heap, held, number, addr, findings),
         Ok(
             Event::Old {
                 at: _at,
                 addr: _addr,
             },
-        ) => Ok(unserved(no_note())),
+        ) => Ok(None),
         Ok(Event::New { at, addr, size }) => {
-            renew(heap, held, pending, &entry_of(number, at, addr, size))
+            renew(
+                heap,
+                held,
+                pending,
+                &entry_of(number, at, addr, size),
+                findings,
+            )
         }
         Ok(
             Event::Failed {
@@ -385,7 +354,7 @@ pub(crate) fn outcome<H: Heaped>(
                 addr: _addr,
                 size: _size,
             },
-        ) => Ok(unserved(no_note())),
+        ) => Ok(None),
         Ok(
             Event::Aligned {
                 at,
@@ -393,6 +362,12 @@ pub(crate) fn outcome<H: Heaped>(
                 align,
                 size,
             },
-        ) => allocate(heap, held, Some(align), &entry_of(number, at, addr, size)),
+        ) => allocate(
+            heap,
+            held,
+            Some(align),
+            &entry_of(number, at, addr, size),
+            findings,
+        ),
     }
 }

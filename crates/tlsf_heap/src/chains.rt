@@ -18,26 +18,18 @@ pub(crate) fn set_state(store: &mut Store, slot: Slot, state: State)
     ensures cells { store.new.cells ≡ with_state slot state store.old.cells }
     ensures touches { store.new.touches ≡ store.old.touches + 2 }
 {
-    let block = store.read(slot);
-    store.write(slot, Record { state, ..block });
+    store.set_state(slot, state);
 }
 
-/// Links a block, if there is one, to the one in front of it in its pool. At most two touches.
+/// Links a block, if there is one, to the one in front of it in its pool. At most one touch.
 fn set_prev(store: &mut Store, slot: Option<Slot>, prev: Slot)
     requires used { IsUsed store.old.cells.records slot }
     requires below { prev < length store.old.cells.records }
     ensures cells { store.new.cells ≡ with_prev slot (Some prev) store.old.cells }
-    ensures touches { AtMost 2 store.old.touches store.new.touches }
+    ensures touches { AtMost 1 store.old.touches store.new.touches }
 {
     if let Some(slot) = slot {
-        let block = store.read(slot);
-        store.write(
-            slot,
-            Record {
-                prev: Some(prev),
-                ..block
-            },
-        );
+        store.set_prev(slot, Some(prev));
     }
 }
 
@@ -84,12 +76,7 @@ pub(crate) fn absorb(store: &mut Store, slot: Slot, behind: Slot)
 {
     let block = store.read(slot);
     let taken = store.read(behind);
-    let grown = Record {
-        size: block.size + taken.size,
-        next: taken.next,
-        ..block
-    };
-    store.write(slot, grown);
+    store.set_size_and_next(slot, block.size + taken.size, taken.next);
     set_prev(store, taken.next, slot);
     store.give_vacant(behind);
 }

@@ -8,7 +8,7 @@ ghost use Rattle.tlsf_heap.specs.Inner.Edits.{IsUsed, with_prev_free, with_next_
 
 use crate::bitmaps::{clear_class_bit, set_class_bit};
 use tlsf_class::Class;
-use tlsf_store::{Record, Slot, Store};
+use tlsf_store::{Slot, Store};
 
 /// Makes a free block the first of its class's list. At most ten touches.
 pub(crate) fn link(store: &mut Store, class: Class, slot: Slot)
@@ -61,32 +61,18 @@ fn set_free_links(store: &mut Store, slot: Slot, prev: Option<Slot>, next: Optio
     ensures cells { store.new.cells ≡ with_free_links slot prev next store.old.cells }
     ensures touches { store.new.touches ≡ store.old.touches + 2 }
 {
-    let block = store.read(slot);
-    store.write(
-        slot,
-        Record {
-            prev_free: prev,
-            next_free: next,
-            ..block
-        },
-    );
+    store.set_prev_free(slot, prev);
+    store.set_next_free(slot, next);
 }
 
-/// Links a free block to the one in front of it. Two touches.
+/// Links a free block to the one in front of it. One touch.
 fn set_prev_free(store: &mut Store, slot: Slot, prev: Option<Slot>)
     requires used { IsUsed store.old.cells.records (Some slot) }
     requires prev_below { IsBelow (length store.old.cells.records) prev }
     ensures cells { store.new.cells ≡ with_prev_free (Some slot) prev store.old.cells }
-    ensures touches { store.new.touches ≡ store.old.touches + 2 }
+    ensures touches { store.new.touches ≡ store.old.touches + 1 }
 {
-    let block = store.read(slot);
-    store.write(
-        slot,
-        Record {
-            prev_free: prev,
-            ..block
-        },
-    );
+    store.set_prev_free(slot, prev);
 }
 
 /// Links the block behind, if there is one, to the one in front. At most two touches.
@@ -101,21 +87,14 @@ fn set_in_back(store: &mut Store, next: Option<Slot>, prev: Option<Slot>)
     }
 }
 
-/// Links a free block to the one behind it. Two touches.
+/// Links a free block to the one behind it. One touch.
 fn set_next_free(store: &mut Store, slot: Slot, next: Option<Slot>)
     requires used { IsUsed store.old.cells.records (Some slot) }
     requires next_below { IsBelow (length store.old.cells.records) next }
     ensures cells { store.new.cells ≡ with_next_free (Some slot) next store.old.cells }
-    ensures touches { store.new.touches ≡ store.old.touches + 2 }
+    ensures touches { store.new.touches ≡ store.old.touches + 1 }
 {
-    let block = store.read(slot);
-    store.write(
-        slot,
-        Record {
-            next_free: next,
-            ..block
-        },
-    );
+    store.set_next_free(slot, next);
 }
 
 /// Makes a block, or none, the first of a class's list. At most five touches.

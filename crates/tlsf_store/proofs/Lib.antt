@@ -1,4 +1,5 @@
 mod Chains
+mod Heads
 mod PackedVectors
 pub mod RecordLaws
 mod TableLaws

@@ -63,8 +63,8 @@ record_at-set_same records slot r within = get_or-set_same records slot r blank 
 pub record_at-set_other : (records : List Record) (slot q : ℕ) (r : Record) → q ≢ slot → record_at (set records slot r) q ≡ record_at records q
 record_at-set_other records slot q r other = get_or-set_other records slot q r blank other
 
--- what a table keeps, a longer one keeps
-below_more : (count more : ℕ) (link : Option ℕ) → count ≤ more → IsBelow count link → IsBelow more link
+-- what a table keeps, a longer one keeps: a link
+pub below_more : (count more : ℕ) (link : Option ℕ) → count ≤ more → IsBelow count link → IsBelow more link
 below_more count more None most below = tt
 below_more count more (Some slot) most below = omega arith
 

@@ -1,12 +1,12 @@
 -- A table as callers see it: what a write, a take and a give change.
-use Rattle.std.proofs.Common.{◌≡◌, ◌≢◌, ℕ, ◌+◌, ◌-◌, ◌<◌, true, false, cond, List, [], ◌∷◌, length, set, map, Option, Some, None, ◌∙◌, sym, ap, subst, refl, arith}
-use Rattle.std.proofs.lemmas.List.{length-map, map-set, get_or-map}
+use Rattle.std.proofs.Common.{◌≡◌, ◌≢◌, ℕ, ◌+◌, ◌-◌, ◌<◌, true, false, cond, List, [], ◌∷◌, length, set, map, slice_index_or, Option, Some, None, ◌∙◌, sym, ap, subst, refl, arith}
+use Rattle.std.proofs.lemmas.List.{length-map, length-set, map-set, get_or-map, get_or_default}
 use Rattle.std.proofs.lemmas.List.Sums.{sum_by-cons}
 use Rattle.tlsf_store.specs.declared.records.State.{State}
 use Rattle.tlsf_store.specs.declared.records.State.TheVariants.{Vacant, Free, Live}
 use Rattle.tlsf_store.specs.declared.records.Record.{Record}
 use Rattle.tlsf_store.specs.Records.{blank, blank_in, record_at, is_vacant, vacant_count, IsKept}
-use Rattle.tlsf_store.specs.Table.{seen, seen_in, next_at, IsTable}
+use Rattle.tlsf_store.specs.Table.{seen, seen_in, next_at, IsTable, IsStored}
 use Rattle.tlsf_store.proofs.RecordLaws.{mark, used_state}
 use Rattle.tlsf_store.proofs.TableLaws.{table_write, table_give, table_take, table_none, first_below, IsTaken}
 
@@ -80,6 +80,31 @@ write_changes records shown first vacant table view slot r within used new one =
     record {
       table = table_write records first vacant table slot r inside (shown_used records shown view slot inside used) (used_state r.state new) kept;
       view = shown_set records shown view slot r r (seen-used r (used_state r.state new));
+    }
+
+-- an edit of a used record: the table in memory, and what callers see
+pub record Edited (edit : Record → Record) (room : ℕ) (records shown : List Record) (first : Option ℕ) (vacant slot : ℕ) (was : Record) : Type 0 where
+  pub stored : IsStored room (set records slot (edit was)) first vacant
+  pub view : map seen (set records slot (edit was)) ≡ set shown slot (edit (record_at shown slot))
+
+pub edit_changes : (edit : Record → Record) (room : ℕ) (records shown : List Record) (first : Option ℕ) (vacant : ℕ) → IsStored room records first vacant →
+    map seen records ≡ shown → (slot index : ℕ) → index ≡ slot → slot < length shown → (record_at shown slot).state ≢ Vacant →
+    (edit (record_at shown slot)).state ≢ Vacant → ((r : Record) → IsKept (length shown) r → IsKept (length shown) (edit r)) →
+    (was : Record) → was ≡ slice_index_or records index was → Edited edit room records shown first vacant slot was
+edit_changes edit room records shown first vacant stored view slot index at within used new keeps was is =
+    let long : length records ≡ length shown = shown_length records shown view in
+    let inside : slot < length records = omega arith in
+    let here : was ≡ record_at records slot =
+    is ∙ (ap (λ k. slice_index_or records k was) at ∙ get_or_default records slot was blank inside) in
+    let same : record_at shown slot ≡ was =
+    shown_at records shown view slot inside ∙ (seen-used (record_at records slot) (shown_used records shown view slot inside used) ∙ sym here) in
+    let kept : IsKept (length shown) (record_at records slot) = subst (λ n. IsKept n (record_at records slot)) long (stored.table.kept slot blank inside) in
+    let one : IsKept (length shown) (edit was) = keeps was (subst (λ r. IsKept (length shown) r) (sym here) kept) in
+    let changed : Changed (set records slot (edit was)) (set shown slot (edit was)) first vacant =
+    write_changes records shown first vacant stored.table view slot (edit was) within used (subst (λ r. (edit r).state ≢ Vacant) same new) one in
+    record {
+      stored = record { exact = stored.exact ∙ sym (length-set records slot (edit was)); table = changed.table };
+      view = changed.view ∙ ap (λ r. set shown slot (edit r)) (sym same);
     }
 
 pub give_changes : (records shown : List Record) (first : Option ℕ) (vacant : ℕ) → IsTable records first vacant →

@@ -1,10 +1,10 @@
 -- The cells of a store, and what is written into them.
-use Rattle.std.specs.Prelude.{ℕ, ◌<◌, ◌^◌, List, Option, Some, None, All, replicate, slice_index_or, slice_set}
+use Rattle.std.specs.Prelude.{ℕ, ◌<◌, ◌≤◌, ◌^◌, List, Option, Some, None, All, replicate, slice_index_or, slice_set}
 use Rattle.tlsf_class.specs.Classes.{classes, levels}
 use Rattle.tlsf_store.specs.declared.records.Record.{Record}
 use Rattle.tlsf_store.specs.declared.records.State.TheVariants.{Free}
 use Rattle.tlsf_store.specs.declared.pools.Pool.{Pool}
-use Rattle.tlsf_store.specs.Records.{blank, blank_in, IsBelow}
+use Rattle.tlsf_store.specs.Records.{most_records, blank, blank_in, IsBelow}
 
 -- at most so many pools: there is an entry for each
 abbrev pub most_pools : ℕ
@@ -71,6 +71,7 @@ empty_cells count =
 -- the cells beside the table, over a table of `count` records
 pub record AreCells (count : ℕ) (heads : List (Option ℕ)) (level_word : ℕ) (pools : List (Option Pool)) : Type 0 where
   pub some : 0 < count
+  pub few : count ≤ most_records
   pub heads_below : All (IsBelow count) heads
   pub level : level_word < 2 ^ levels
   pub pools_below : All (IsPoolBelow count) pools

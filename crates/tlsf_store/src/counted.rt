@@ -1,15 +1,16 @@
 //! The store.
 
-ghost use Rattle.std.specs.Prelude.{◌≡◌, ◌≢◌, ◌+◌, ◌<◌, ◌≤◌, ◌^◌, ◌⊎◌, ◌↔◌, IfOk, IfSome, IfNone, length, slice_index, Err};
-ghost use Rattle.tlsf_class.specs.Classes.{levels, classes};
+ghost use Rattle.std.specs.Prelude.{◌≡◌, ◌≢◌, ◌+◌, ◌<◌, ◌≤◌, ◌%◌, ◌^◌, ◌⊎◌, ◌↔◌, IfOk, IfSome, IfNone, length, slice_index, Err};
+ghost use Rattle.tlsf_class.specs.Classes.{unit, levels, classes};
 ghost use Rattle.tlsf_store.specs.declared.errors.StoreError.TheVariants.{BadCount};
 ghost use Rattle.tlsf_store.specs.declared.records.State.TheVariants.{Vacant};
 ghost use Rattle.tlsf_store.specs.Records.{most_records, blank, record_at, vacant_count, IsBelow, IsKept};
 ghost use Rattle.tlsf_store.specs.Cells.{with_record, with_head, with_level_word, with_step_word, with_pool, with_taken, head_at, pool_at, most_pools, empty_cells, IsPoolBelow};
 
 use super::ghost_count::GhostCount;
+use super::packed::{MISSING, link, link_word};
 use super::table::Table;
-use super::{Pool, Record, Slot, StoreError};
+use super::{Pool, Record, Slot, State, StoreError};
 use std::alloc::Global;
 use std::marker::Model;
 use tlsf_class::{CLASSES, Class, LEVELS};
@@ -30,7 +31,7 @@ const STEP_WORDS: usize = LEVELS as usize;
 #[derive(Drop)]
 pub struct Store {
     table: Table,
-    heads: [Option<Slot>; HEADS],
+    heads: [u16; HEADS],
     level_word: u32,
     step_words: [u32; STEP_WORDS],
     pools: [Option<Pool>; MOST_POOLS],
@@ -40,14 +41,15 @@ pub struct Store {
 impl Model for Store {
     ghost use Rattle.tlsf_store.specs.Cells.{AreCells};
     ghost use Rattle.tlsf_store.specs.CountedCells.{CountedCells};
-    ghost use Rattle.std.specs.Prelude.{length};
+    ghost use Rattle.tlsf_store.specs.Packed.{link_of};
+    ghost use Rattle.std.specs.Prelude.{length, map};
 
     ghost Value = { CountedCells };
 
     ghost view = { λ s. record {
       cells = record {
         records = s.table;
-        heads = s.heads;
+        heads = map link_of s.heads;
         level_word = s.level_word;
         step_words = s.step_words;
         pools = s.pools;
@@ -55,7 +57,7 @@ impl Model for Store {
       touches = s.touches.count;
     } };
 
-    ghost invariant = { λ s. AreCells (length s.table) s.heads s.level_word s.pools };
+    ghost invariant = { λ s. AreCells (length s.table) (map link_of s.heads) s.level_word s.pools };
 }
 
 impl Store {
@@ -74,7 +76,7 @@ impl Store {
         };
         Ok(Store {
             table,
-            heads: [None; HEADS],
+            heads: [MISSING; HEADS],
             level_word: 0,
             step_words: [0; STEP_WORDS],
             pools: [None; MOST_POOLS],
@@ -118,6 +120,71 @@ impl Store {
         self.table.write(slot, value);
     }
 
+    /// Makes a record that isn't vacant one of a free or of a live block. Two touches: the
+    /// word of size and state is read and written.
+    pub fn set_state(&mut self, slot: Slot, state: State)
+        requires within { slot < length self.old.cells.records }
+        requires used { (record_at self.old.cells.records slot).state ≢ Vacant }
+        requires new_used { state ≢ Vacant }
+        ensures written { self.new.cells ≡ with_record self.old.cells slot (record (record_at self.old.cells.records slot) { state = state }) }
+        ensures touch { self.new.touches ≡ self.old.touches + 2 }
+    {
+        self.touches.tick();
+        self.touches.tick();
+        self.table.set_state(slot, state);
+    }
+
+    /// Writes the size and the link `next` of a record that isn't vacant. Two touches, as
+    /// `set_state`.
+    pub fn set_size_and_next(&mut self, slot: Slot, size: u32, next: Option<Slot>)
+        requires within { slot < length self.old.cells.records }
+        requires used { (record_at self.old.cells.records slot).state ≢ Vacant }
+        requires in_units { size % unit ≡ 0 }
+        requires below { IsBelow (length self.old.cells.records) next }
+        ensures written { self.new.cells ≡ with_record self.old.cells slot (record (record_at self.old.cells.records slot) { size = size; next = next }) }
+        ensures touch { self.new.touches ≡ self.old.touches + 2 }
+    {
+        self.touches.tick();
+        self.touches.tick();
+        self.table.set_size_and_next(slot, size, next);
+    }
+
+    /// Writes the link `prev` of a record that isn't vacant. One touch.
+    pub fn set_prev(&mut self, slot: Slot, prev: Option<Slot>)
+        requires within { slot < length self.old.cells.records }
+        requires used { (record_at self.old.cells.records slot).state ≢ Vacant }
+        requires below { IsBelow (length self.old.cells.records) prev }
+        ensures written { self.new.cells ≡ with_record self.old.cells slot (record (record_at self.old.cells.records slot) { prev = prev }) }
+        ensures touch { self.new.touches ≡ self.old.touches + 1 }
+    {
+        self.touches.tick();
+        self.table.set_prev(slot, prev);
+    }
+
+    /// Writes the link `prev_free` of a record that isn't vacant. One touch.
+    pub fn set_prev_free(&mut self, slot: Slot, prev: Option<Slot>)
+        requires within { slot < length self.old.cells.records }
+        requires used { (record_at self.old.cells.records slot).state ≢ Vacant }
+        requires below { IsBelow (length self.old.cells.records) prev }
+        ensures written { self.new.cells ≡ with_record self.old.cells slot (record (record_at self.old.cells.records slot) { prev_free = prev }) }
+        ensures touch { self.new.touches ≡ self.old.touches + 1 }
+    {
+        self.touches.tick();
+        self.table.set_prev_free(slot, prev);
+    }
+
+    /// Writes the link `next_free` of a record that isn't vacant. One touch.
+    pub fn set_next_free(&mut self, slot: Slot, next: Option<Slot>)
+        requires within { slot < length self.old.cells.records }
+        requires used { (record_at self.old.cells.records slot).state ≢ Vacant }
+        requires below { IsBelow (length self.old.cells.records) next }
+        ensures written { self.new.cells ≡ with_record self.old.cells slot (record (record_at self.old.cells.records slot) { next_free = next }) }
+        ensures touch { self.new.touches ≡ self.old.touches + 1 }
+    {
+        self.touches.tick();
+        self.table.set_next_free(slot, next);
+    }
+
     /// The first block of a class's list. One touch.
     pub fn head(&mut self, class: Class) -> Option<Slot>
         ensures within { class < length self.old.cells.heads }
@@ -128,7 +195,7 @@ impl Store {
         ensures touch { self.new.touches ≡ self.old.touches + 1 }
     {
         self.touches.tick();
-        self.heads[class.number() as usize]
+        link(self.heads[class.number() as usize])
     }
 
     /// Makes this the first block of a class's list. One touch.
@@ -139,7 +206,7 @@ impl Store {
         ensures touch { self.new.touches ≡ self.old.touches + 1 }
     {
         self.touches.tick();
-        self.heads[class.number() as usize] = first;
+        self.heads[class.number() as usize] = link_word(first);
     }
 
     /// The level word: a bit for each first level. One touch.

@@ -1,6 +1,7 @@
 //! A record as the table keeps it, in sixteen bytes.
 
-ghost use Rattle.std.specs.Prelude.{◌≡◌};
+ghost use Rattle.std.specs.Prelude.{◌≡◌, ◌%◌};
+ghost use Rattle.tlsf_class.specs.Classes.{unit};
 ghost use Rattle.tlsf_store.specs.Records.{most_records, IsBelow, IsKept};
 ghost use Rattle.tlsf_store.specs.Packed.{link_of};
 
@@ -9,7 +10,7 @@ use std::marker::Model;
 use tlsf_class::UNIT;
 
 /// The word of a missing link. Every slot is below it.
-const MISSING: u16 = 65_535;
+pub(crate) const MISSING: u16 = 65_535;
 
 /// A record in sixteen bytes. The size word is the size, a multiple of the unit, and below the unit the
 /// state: 0 for vacant, 1 for free, 2 for live.
@@ -79,10 +80,51 @@ impl Packed {
     {
         link(self.next)
     }
+
+    /// Writes the state alone.
+    pub(crate) fn set_state(&mut self, state: State)
+        ensures { self.new ≡ record self.old { state = state } }
+    {
+        self.size_word = self.size_word - self.size_word % UNIT + state as u32;
+    }
+
+    /// Writes the size, a multiple of the unit, and the link `next` alone.
+    pub(crate) fn set_size_and_next(&mut self, size: u32, next: Option<Slot>)
+        requires in_units { size % unit ≡ 0 }
+        requires below { IsBelow most_records next }
+        ensures { self.new ≡ record self.old { size = size; next = next } }
+    {
+        self.size_word = size + self.size_word % UNIT;
+        self.next = link_word(next);
+    }
+
+    /// Writes the link `prev` alone.
+    pub(crate) fn set_prev(&mut self, prev: Option<Slot>)
+        requires { IsBelow most_records prev }
+        ensures { self.new ≡ record self.old { prev = prev } }
+    {
+        self.prev = link_word(prev);
+    }
+
+    /// Writes the link `prev_free` alone.
+    pub(crate) fn set_prev_free(&mut self, prev: Option<Slot>)
+        requires { IsBelow most_records prev }
+        ensures { self.new ≡ record self.old { prev_free = prev } }
+    {
+        self.prev_free = link_word(prev);
+    }
+
+    /// Writes the link `next_free` alone.
+    pub(crate) fn set_next_free(&mut self, next: Option<Slot>)
+        requires { IsBelow most_records next }
+        ensures { self.new ≡ record self.old { next_free = next } }
+    {
+        self.next_free = link_word(next);
+    }
 }
 
 /// The word of a link.
-fn link_word(link: Option<Slot>) -> u16
+pub(crate) fn link_word(link: Option<Slot>) -> u16
     requires { IsBelow most_records link }
     ensures { link_of result ≡ link }
 {
@@ -90,7 +132,7 @@ fn link_word(link: Option<Slot>) -> u16
 }
 
 /// The link of a word.
-fn link(word: u16) -> Option<Slot>
+pub(crate) fn link(word: u16) -> Option<Slot>
     ensures { result ≡ link_of word }
 {
     (word != MISSING).then_some(Slot(word))

@@ -1,8 +1,9 @@
 //! The table of records, and the chain of those that are vacant.
 
-ghost use Rattle.std.specs.Prelude.{◌≡◌, ◌<◌, ◌≤◌, ◌≢◌, IfOk, MatchOption, length, replicate, slice_set, Some};
+ghost use Rattle.std.specs.Prelude.{◌≡◌, ◌<◌, ◌≤◌, ◌≢◌, ◌%◌, IfOk, MatchOption, length, replicate, slice_set, Some};
+ghost use Rattle.tlsf_class.specs.Classes.{unit};
 ghost use Rattle.tlsf_store.specs.declared.records.State.TheVariants.{Vacant, Free};
-ghost use Rattle.tlsf_store.specs.Records.{most_records, blank, blank_in, record_at, vacant_count, IsKept};
+ghost use Rattle.tlsf_store.specs.Records.{most_records, blank, blank_in, record_at, vacant_count, IsBelow, IsKept};
 
 use super::packed::Packed;
 use super::{Record, Slot, State};
@@ -76,6 +77,57 @@ impl Table {
     {
         let item = &mut self.items[slot.index()];
         *item = Packed::pack(value);
+    }
+
+    /// Makes a record that isn't vacant one of a free or of a live block.
+    pub(crate) fn set_state(&mut self, slot: Slot, state: State)
+        requires within { slot < length self.old }
+        requires used { (record_at self.old slot).state ≢ Vacant }
+        requires new_used { state ≢ Vacant }
+        ensures { self.new ≡ slice_set self.old slot (record (record_at self.old slot) { state = state }) }
+    {
+        self.items[slot.index()].set_state(state);
+    }
+
+    /// Writes the size and the link `next` of a record that isn't vacant.
+    pub(crate) fn set_size_and_next(&mut self, slot: Slot, size: u32, next: Option<Slot>)
+        requires within { slot < length self.old }
+        requires used { (record_at self.old slot).state ≢ Vacant }
+        requires in_units { size % unit ≡ 0 }
+        requires below { IsBelow (length self.old) next }
+        ensures { self.new ≡ slice_set self.old slot (record (record_at self.old slot) { size = size; next = next }) }
+    {
+        self.items[slot.index()].set_size_and_next(size, next);
+    }
+
+    /// Writes the link `prev` of a record that isn't vacant.
+    pub(crate) fn set_prev(&mut self, slot: Slot, prev: Option<Slot>)
+        requires within { slot < length self.old }
+        requires used { (record_at self.old slot).state ≢ Vacant }
+        requires below { IsBelow (length self.old) prev }
+        ensures { self.new ≡ slice_set self.old slot (record (record_at self.old slot) { prev = prev }) }
+    {
+        self.items[slot.index()].set_prev(prev);
+    }
+
+    /// Writes the link `prev_free` of a record that isn't vacant.
+    pub(crate) fn set_prev_free(&mut self, slot: Slot, prev: Option<Slot>)
+        requires within { slot < length self.old }
+        requires used { (record_at self.old slot).state ≢ Vacant }
+        requires below { IsBelow (length self.old) prev }
+        ensures { self.new ≡ slice_set self.old slot (record (record_at self.old slot) { prev_free = prev }) }
+    {
+        self.items[slot.index()].set_prev_free(prev);
+    }
+
+    /// Writes the link `next_free` of a record that isn't vacant.
+    pub(crate) fn set_next_free(&mut self, slot: Slot, next: Option<Slot>)
+        requires within { slot < length self.old }
+        requires used { (record_at self.old slot).state ≢ Vacant }
+        requires below { IsBelow (length self.old) next }
+        ensures { self.new ≡ slice_set self.old slot (record (record_at self.old slot) { next_free = next }) }
+    {
+        self.items[slot.index()].set_next_free(next);
     }
 
     /// How many records are vacant.

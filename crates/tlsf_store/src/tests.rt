@@ -42,6 +42,21 @@ fn write(rt: &impl Abort, store: &mut Store, slot: Slot, value: Record) {
     store.write(slot, value);
 }
 
+/// Writes each part of a record alone, of which the caller knows that it isn't vacant, with links to another.
+fn write_parts(rt: &impl Abort, store: &mut Store, slot: Slot, other: Slot) {
+    assert!(rt; u32::from(slot.0) < store.records() && u32::from(other.0) < store.records());
+    assert!(rt; store.read(slot).state != State::Vacant);
+    store.set_state(slot, State::Live);
+    assert!(rt; store.read(slot).state != State::Vacant);
+    store.set_size_and_next(slot, 48, Some(other));
+    assert!(rt; store.read(slot).state != State::Vacant);
+    store.set_prev(slot, None);
+    assert!(rt; store.read(slot).state != State::Vacant);
+    store.set_prev_free(slot, Some(other));
+    assert!(rt; store.read(slot).state != State::Vacant);
+    store.set_next_free(slot, None);
+}
+
 /// A record of these fields.
 fn row(
     (place, size): (u32, u32),
@@ -93,6 +108,30 @@ fn memory_taken_once(rt: HostRuntime) {
     give(&rt, &mut store, slot);
     assert_eq!(rt; (store.vacant(), store.records()), (3, 3));
     assert!(rt; Store::create(rt.alloc(), 1).is_ok(), "no second store");
+}
+
+#[test]
+fn parts_of_a_record(rt: HostRuntime) {
+    let Ok(mut store) = Store::create(rt.alloc(), 2) else {
+        panic!(rt; "no store");
+    };
+    let slot = store.take_vacant().expect(&rt, "a slot");
+    let other = store.take_vacant().expect(&rt, "another slot");
+    let links = (Some(other), None);
+    write(
+        &rt,
+        &mut store,
+        slot,
+        row((32, 16), State::Free, links, (None, Some(other))),
+    );
+    write_parts(&rt, &mut store, slot, other);
+    let written = row(
+        (32, 48),
+        State::Live,
+        (None, Some(other)),
+        (Some(other), None),
+    );
+    assert_eq!(rt; read(&rt, &mut store, slot), written);
 }
 
 /// Each of the other tests that make a store makes one, so it fails where the first allocation is refused and passes

@@ -1,16 +1,14 @@
-use Rattle.mtrace_log.proofs.EventLemmas.{fields-no_space, fields-cut, numbers-fit}
+use Rattle.std.proofs.Common.{◌∙◌}
+use Rattle.mtrace_log.proofs.FrontLemmas.{pointer-same, behind_pointer, fields-front, fields-behind}
 use Rattle.mtrace_log.proofs.line_reader.read_fields.Goals as goal
 
-pub returns-in_default-read_pointer : goal.returns-in_default-read_pointer
-returns-in_default-read_pointer c = λ fields fits same.
-    c.in_default-read_pointer.ensures fields.0 fits.0 (fields-no_space c.args.bytes.now fields.0 fields.1 c.in_default.ensures same)
-
-pub returns-in_default-read_pointer-2 : goal.returns-in_default-read_pointer-2
-returns-in_default-read_pointer-2 c = λ fields fits same.
-    let parts = fields-cut c.args.bytes.now c.in-Some.pointer.now c.in-Some.rest.now fields.0 fields.1 c.in-Some.ensures.0 c.in-Some.ensures.1 same in
-    c.in_default-read_pointer-2.ensures fields.0 fits.0 parts.2
+pub returns-in_default : goal.returns-in_default
+returns-in_default c = λ fields fits same.
+    c.in_default.ensures fields.0 (behind_pointer fields.1) (fields-front c.args.bytes.now fields.0 fields.1 fits.0 same)
 
 pub returns-in_default-read_numbers : goal.returns-in_default-read_numbers
 returns-in_default-read_numbers c = λ fields fits same.
-    let parts = fields-cut c.args.bytes.now c.in-Some.pointer.now c.in-Some.rest.now fields.0 fields.1 c.in-Some.ensures.0 c.in-Some.ensures.1 same in
-    c.in_default-read_numbers.ensures parts.0 (numbers-fit fields.1 parts.0 parts.1 fits.1) parts.3
+    let front = fields-front c.args.bytes.now fields.0 fields.1 fits.0 same in
+    let parts = pointer-same c.args.bytes.now fields.0 c.in-Some.pointer (behind_pointer fields.1) c.in-Some.rest.now front c.in-Some.ensures in
+    let (numbers, fit, is) = fields-behind fields.1 c.in-Some-behind_space.behind.now fits.1 (parts.1 ∙ c.in-Some-behind_space.ensures) in
+    c.in_default-read_numbers.ensures numbers fit is

@@ -12,7 +12,7 @@ use Rattle.mtrace_replay.proofs.run.replay_line.Goals as goal
 pub returns-then-is_empty-clause-done : goal.returns-then-is_empty-clause-done
 returns-then-is_empty-clause-done g c = λ settings past stands.
     let is = c.in-Ok.ensures.note settings past stands in
-    let none = sym (no_note-is c.in-Ok.note.items (sym c.is_empty.ensures ∙ c.if-is_empty.true)) ∙ is in
+    let none = sym (no_note-is c.feed_lent.new.findings (sym c.is_empty.ensures ∙ c.if-is_empty.true)) ∙ is in
     let taken = g.W.Sink.taken c.args.writer.now in
     record {
       stands = c.in-Ok.ensures.stands settings past stands;
@@ -29,6 +29,6 @@ returns-in-Ok-put_note-clause-done g c = λ settings past stands.
     let P : List Diagnostic → Type 0 = λ notes. Wrote (g.W.Sink.taken c.args.writer.now) (g.W.Sink.taken c.put_note.new.writer) (notes_text notes) in
     record {
       stands = c.in-Ok.ensures.stands settings past stands;
-      wrote = subst P is c.in-Ok-put_note.ensures.wrote;
-      noted_is = sym (ap not (sym c.is_empty.ensures ∙ c.if-is_empty.false)) ∙ some_note-is c.in-Ok.note.items ∙ ap is_some_note is;
+      wrote = subst P (c.note.ensures ∙ is) c.in-Ok-put_note.ensures.wrote;
+      noted_is = sym (ap not (sym c.is_empty.ensures ∙ c.if-is_empty.false)) ∙ some_note-is c.feed_lent.new.findings ∙ ap is_some_note is;
     }

@@ -1,10 +1,20 @@
-use Rattle.std.proofs.Common.{sym}
-use Rattle.mtrace_replay.proofs.SearchLemmas.{goes}
+use Rattle.std.proofs.Common.{◌≡◌, ℕ, Bool, arith, sym, subst}
+use Rattle.mtrace_replay.proofs.SearchLemmas.{Searching, goes, ends_seen}
 use Rattle.mtrace_replay.proofs.search.search.Goals as goal
 
 pub loop-left-preserved : goal.loop-left-preserved
 loop-left-preserved c =
     let told = c.compare-standing.ensures in
-    goes c.args.spots.now c.args.address c.args.comparisons.now.count c.loop-left.low c.loop-left.left c.loop-left.comparisons.count c.loop-left.holds c.requires c.loop-left.invariant c.loop-left-test.true
+    goes c.args.spots.now c.args.address c.args.comparisons.now.count c.loop-left.low c.loop-left.left c.loop-left.comparisons.count c.loop-left.is_seen c.requires c.loop-left.invariant c.loop-left-test.true
     c.index-spots-low.result (sym c.index-spots-low.is) c.compare-standing.new.comparisons.count told.counted
-    c.compare-standing.result.reaches c.compare-standing.result.holds told.one_or_none told.reaches told.above told.holds
+    c.compare-standing.result.reaches c.so_many_if-low.result c.compare-standing.result.is_same c.so_many_if-low.ensures told.one_or_none told.reaches told.above told.same
+
+pub returns-then-is_seen-clause-found : goal.returns-then-is_seen-clause-found
+returns-then-is_seen-clause-found c =
+    let spots = c.args.spots.now in
+    let before = c.args.comparisons.now.count in
+    let now = c.loop-left.comparisons.count in
+    let low = c.loop-left.low in
+    let none_left : c.loop-left.left ≡ 0 = omega (arith, c.loop-left-test.false) in
+    let ended = subst (λ (n : ℕ). Searching spots c.args.address low n c.loop-left.is_seen before now) none_left c.loop-left.invariant in
+    ends_seen spots c.args.address low before now (subst (λ (b : Bool). Searching spots c.args.address low 0 b before now) c.if-is_seen.true ended)

@@ -4,7 +4,6 @@ use Rattle.tlsf_heap.specs.Bare.{bare}
 use Rattle.tlsf_heap.specs.Content.{Content}
 use Rattle.tlsf_heap.proofs.Content.BareSteps.{size_at-renamed}
 use Rattle.mtrace_replay.specs.declared.diagnostic.Diagnostic.{Diagnostic}
-use Rattle.mtrace_replay.specs.declared.step.Effect.{Effect}
 use Rattle.mtrace_replay.specs.declared.diagnostic.Kind.TheVariants.{Refused}
 use Rattle.mtrace_replay.specs.Holding.{Holding}
 use Rattle.mtrace_replay.specs.Moment.{note, allocation, asked_block}
@@ -23,7 +22,7 @@ insert-requires g c =
     let old = g.H.Heaped.content c.args.heap.now in
     let new = g.H.Heaped.content c.new_block.new.heap in
     let held = c.args.held.now.all in
-    let same = c.find-found.ensures.unchanged in
+    let same = c.find_again-found.ensures.unchanged in
     let ordered = subst AreInOrder same c.keeps_order.ensures in
     let most = asked_small c.in-Ok.block.ptr.slot c.args.align c.asked_size.result old (c.in-Ok.block.ptr.place, new) c.in-Ok.ensures.ok in
     let fits = held_fits held old ordered c.keeps_good.ensures.good c.requires.live in
@@ -31,13 +30,13 @@ insert-requires g c =
     let is = c.asked_size.ensures in
     let more : Holding = record { entry = c.args.entry.now; ptr = c.in-Ok.block.ptr } in
     let live = live_after_asked held (more ∷ held) old new c.keeps_good.ensures.good c.requires.live more c.args.align c.asked_size.result c.in-Ok.ensures.ok (omega (arith, asked, is)) (λ other. refl) in
-    let room = held_room held new ordered c.keeps_good-in-Ok.ensures.good more (none_is (held_at held c.args.entry.now.addr) (sym (seen_held c.find-found.new.self.all c.args.held.now.all c.find-found.result.address c.args.entry.now.addr c.is_held.result c.is_held.ensures.value c.find-found.ensures.unchanged c.find-found.ensures.address) ∙ c.if-is_held.false)) live in
+    let room = held_room held new ordered c.keeps_good-in-Ok.ensures.good more (none_is (held_at held c.args.entry.now.addr) (sym (seen_held c.find_again-found.new.self.all c.args.held.now.all c.find_again-found.result.address c.args.entry.now.addr c.is_held.result c.is_held.ensures.value c.find_again-found.ensures.unchanged c.find_again-found.ensures.address) ∙ c.if-is_held.false)) live in
     let records = asked_records c.in-Ok.block.ptr.slot c.args.align c.asked_size.result old (c.in-Ok.block.ptr.place, new) c.in-Ok.ensures.ok in
     record {
       found = search rules;
-      address = c.find-found.ensures.address;
+      address = c.find_again-found.ensures.address;
       bytes = omega (arith, most, fits, asked, is, ap held_bytes same);
-      room = omega (arith, room, records, c.requires.room, c.find-found.ensures.looked.room, ap (length {A = Holding}) same);
+      room = omega (arith, room, records, c.requires.room, c.find_again-found.ensures.looked.room, ap (length {A = Holding}) same);
     }
 
 -- the heap is asked, where the address isn't held
@@ -52,15 +51,15 @@ returns-then-is_held g c =
     let entry = c.args.entry.now in
     let moment = allocation entry.line entry.at entry.addr c.args.align entry.size (found (all_given held) entry.addr) content in
     let P : List Diagnostic → Type 0 = λ notes. Comes content content (all_given held) (all_given held) notes None moment in
-    let Q : Effect → List Holding → Type 0 = λ effect all. Comes content content (all_given held) (all_given all) effect.note.items effect.end moment in
+    let Q : List Diagnostic → List Holding → Type 0 = λ notes all. Comes content content (all_given held) (all_given all) notes None moment in
     record {
-      comes = subst (Q c.unserved.result) (sym c.find-found.ensures.unchanged)
-          (subst (λ effect. Q effect held) (sym c.unserved.ensures) (subst P (sym c.one_note.ensures) (comes_held held held content content entry.line entry.at entry.addr c.args.align entry.size (sym (seen_held c.find-found.new.self.all c.args.held.now.all c.find-found.result.address c.args.entry.now.addr c.is_held.result c.is_held.ensures.value c.find-found.ensures.unchanged c.find-found.ensures.address) ∙ c.if-is_held.true))));
-      live = subst (λ all. AreLive all heap) (sym c.find-found.ensures.unchanged) c.requires.live;
+      comes = subst (Q c.set_one.new.self) (sym c.find_again-found.ensures.unchanged)
+          (subst P (sym c.set_one.ensures) (comes_held held held content content entry.line entry.at entry.addr c.args.align entry.size (sym (seen_held c.find_again-found.new.self.all c.args.held.now.all c.find_again-found.result.address c.args.entry.now.addr c.is_held.result c.is_held.ensures.value c.find_again-found.ensures.unchanged c.find_again-found.ensures.address) ∙ c.if-is_held.true)));
+      live = subst (λ all. AreLive all heap) (sym c.find_again-found.ensures.unchanged) c.requires.live;
       memory = tt;
       unchanged = tt;
       records = refl;
-      looked = c.find-found.ensures.looked;
+      looked = c.find_again-found.ensures.looked;
       bound = omega arith;
       idle = λ idle. refl;
     }
@@ -76,19 +75,19 @@ returns-in-Ok g c =
     let more : Holding = record { entry = entry; ptr = ptr } in
     let moment = allocation entry.line entry.at entry.addr c.args.align entry.size (found (all_given held) entry.addr) (bare old) in
     let P : List Diagnostic → Option ℕ → Type 0 = λ notes end. Comes (bare old) (bare new) (all_given held) (all_given after) notes end moment in
-    let absent = sym (seen_held c.find-found.new.self.all c.args.held.now.all c.find-found.result.address c.args.entry.now.addr c.is_held.result c.is_held.ensures.value c.find-found.ensures.unchanged c.find-found.ensures.address) ∙ c.if-is_held.false in
+    let absent = sym (seen_held c.find_again-found.new.self.all c.args.held.now.all c.find_again-found.result.address c.args.entry.now.addr c.is_held.result c.is_held.ensures.value c.find_again-found.ensures.unchanged c.find_again-found.ensures.address) ∙ c.if-is_held.false in
     let served = bare_served old new ptr.slot c.args.align c.asked_size.result ptr.place c.in-Ok.ensures.ok in
-    let end = c.served.ensures.end ∙ ap (λ (n : ℕ). Some n) (c.in-Ok.ensures.end ∙ ap (λ (n : ℕ). ptr.place + n) (sym (size_at-renamed (λ owner. tt) ptr.place new.pools))) in
-    let changed = (λ (other : ℕ). c.insert.ensures.held other ∙ ap (λ all. cond (entry.addr == other) (Some more) (held_at all other)) c.find-found.ensures.unchanged) in
+    let end = ap (λ (n : ℕ). Some n) (c.in-Ok.ensures.end ∙ ap (λ (n : ℕ). ptr.place + n) (sym (size_at-renamed (λ owner. tt) ptr.place new.pools))) in
+    let changed = (λ (other : ℕ). c.insert.ensures.held other ∙ ap (λ all. cond (entry.addr == other) (Some more) (held_at all other)) c.find_again-found.ensures.unchanged) in
     let asked = asked_least entry.size in
     record {
-      comes = subst (λ notes. P notes c.served.result.end) (sym c.served.ensures.note) (subst (P []) (sym end)
+      comes = subst (λ notes. P notes (Some c.in-Ok.block.end)) (sym c.requires.none) (subst (P []) (sym end)
           (comes_served held after (bare old) (bare new) more c.args.align absent (ap (λ n. asked_block tt c.args.align n (bare old)) (sym c.asked_size.ensures) ∙ served) changed));
       live = live_after_asked held after old new c.keeps_good.ensures.good c.requires.live more c.args.align c.asked_size.result c.in-Ok.ensures.ok (omega (arith, asked, c.asked_size.ensures)) changed;
       memory = tt;
       unchanged = tt;
       records = asked_records ptr.slot c.args.align c.asked_size.result old (ptr.place, new) c.in-Ok.ensures.ok;
-      looked = look_on 1 0 c.args.held.now c.find-found.new.self c.insert.new.self c.find-found.ensures.looked c.insert.ensures.looked;
+      looked = look_on 2 0 c.args.held.now c.find_again-found.new.self c.insert.new.self c.find_again-found.ensures.looked c.insert.ensures.looked;
       bound = omega (arith, c.new_block.ensures.bound);
       idle = λ idle. absurd (let is = is_asked held entry.addr absent in cc);
     }
@@ -98,11 +97,11 @@ returns-in-Err-OutOfMemory g c = record {
   comes = tt;
   live = tt;
   memory = search rules;
-  unchanged = c.find-found.ensures.unchanged;
+  unchanged = c.find_again-found.ensures.unchanged;
   records = search rules;
-  looked = c.find-found.ensures.looked;
+  looked = c.find_again-found.ensures.looked;
   bound = omega (arith, c.new_block.ensures.bound);
-  idle = λ idle. absurd (let is = is_asked c.args.held.now.all c.args.entry.now.addr (sym (seen_held c.find-found.new.self.all c.args.held.now.all c.find-found.result.address c.args.entry.now.addr c.is_held.result c.is_held.ensures.value c.find-found.ensures.unchanged c.find-found.ensures.address) ∙ c.if-is_held.false) in cc);
+  idle = λ idle. absurd (let is = is_asked c.args.held.now.all c.args.entry.now.addr (sym (seen_held c.find_again-found.new.self.all c.args.held.now.all c.find_again-found.result.address c.args.entry.now.addr c.is_held.result c.is_held.ensures.value c.find_again-found.ensures.unchanged c.find_again-found.ensures.address) ∙ c.if-is_held.false) in cc);
 }
 
 pub returns-in-Err : goal.returns-in-Err
@@ -113,19 +112,19 @@ returns-in-Err g c =
     let entry = c.args.entry.now in
     let moment = allocation entry.line entry.at entry.addr c.args.align entry.size (found (all_given held) entry.addr) (bare old) in
     let P : List Diagnostic → Type 0 = λ notes. Comes (bare old) (bare old) (all_given held) (all_given held) notes None moment in
-    let Q : Effect → Content ℕ → List Holding → Type 0 = λ effect content all. Comes (bare old) (bare content) (all_given held) (all_given all) effect.note.items effect.end moment in
+    let Q : List Diagnostic → Content ℕ → List Holding → Type 0 = λ notes content all. Comes (bare old) (bare content) (all_given held) (all_given all) notes None moment in
     let refused = bare_refused old new 0 c.args.align c.asked_size.result c.in-Err.refusal (c.in-Err.ensures.refused (search rules) 0) in
     let same = c.in-Err.ensures.unchanged in
     let told : P (note entry.line (Refused entry.addr c.in-Err.refusal)) =
-    comes_refused held held (bare old) (bare new) entry c.args.align c.in-Err.refusal (sym (seen_held c.find-found.new.self.all c.args.held.now.all c.find-found.result.address c.args.entry.now.addr c.is_held.result c.is_held.ensures.value c.find-found.ensures.unchanged c.find-found.ensures.address) ∙ c.if-is_held.false) (ap (λ n. asked_block tt c.args.align n (bare old)) (sym c.asked_size.ensures) ∙ refused) in
+    comes_refused held held (bare old) (bare new) entry c.args.align c.in-Err.refusal (sym (seen_held c.find_again-found.new.self.all c.args.held.now.all c.find_again-found.result.address c.args.entry.now.addr c.is_held.result c.is_held.ensures.value c.find_again-found.ensures.unchanged c.find_again-found.ensures.address) ∙ c.if-is_held.false) (ap (λ n. asked_block tt c.args.align n (bare old)) (sym c.asked_size.ensures) ∙ refused) in
     record {
-      comes = subst (Q c.unserved-in-Err.result new) (sym c.find-found.ensures.unchanged)
-          (subst (λ content. Q c.unserved-in-Err.result content held) (sym same) (subst (λ effect. Q effect old held) (sym c.unserved-in-Err.ensures) (subst P (sym c.one_note-in-Err.ensures) told)));
-      live = subst (λ all. AreLive all new) (sym c.find-found.ensures.unchanged) (subst (AreLive held) (sym same) c.requires.live);
+      comes = subst (Q c.set_one-in-Err.new.self new) (sym c.find_again-found.ensures.unchanged)
+          (subst (λ content. Q c.set_one-in-Err.new.self content held) (sym same) (subst P (sym c.set_one-in-Err.ensures) told));
+      live = subst (λ all. AreLive all new) (sym c.find_again-found.ensures.unchanged) (subst (AreLive held) (sym same) c.requires.live);
       memory = tt;
       unchanged = tt;
       records = ap (λ (content : Content ℕ). content.records) same;
-      looked = c.find-found.ensures.looked;
+      looked = c.find_again-found.ensures.looked;
       bound = omega (arith, c.in-Err.ensures.bound);
-      idle = λ idle. absurd (let is = is_asked held entry.addr (sym (seen_held c.find-found.new.self.all c.args.held.now.all c.find-found.result.address c.args.entry.now.addr c.is_held.result c.is_held.ensures.value c.find-found.ensures.unchanged c.find-found.ensures.address) ∙ c.if-is_held.false) in cc);
+      idle = λ idle. absurd (let is = is_asked held entry.addr (sym (seen_held c.find_again-found.new.self.all c.args.held.now.all c.find_again-found.result.address c.args.entry.now.addr c.is_held.result c.is_held.ensures.value c.find_again-found.ensures.unchanged c.find_again-found.ensures.address) ∙ c.if-is_held.false) in cc);
     }

@@ -7,7 +7,6 @@ use Rattle.tlsf_heap.specs.Free.{is_live}
 use Rattle.tlsf_heap.specs.Pointer.{Pointer}
 use Rattle.tlsf_heap.specs.Realloc.{realloc}
 use Rattle.mtrace_replay.specs.declared.diagnostic.Diagnostic.{Diagnostic}
-use Rattle.mtrace_replay.specs.declared.step.Effect.{Effect}
 use Rattle.mtrace_replay.specs.Moment.{moved, without, asked_size}
 use Rattle.mtrace_replay.specs.Step.{all_given, Comes}
 use Rattle.mtrace_replay.proofs.HeapSteps.{bare_moved, bare_not_moved}
@@ -48,11 +47,11 @@ returns-in-Ok g c =
     let served = bare_moved old new ptr.place ptr.slot live given.slot c.asked_size.result given.place given.slot c.in-Ok.ensures.ok in
     let moment = moved entry.line entry.at c.args.old.now.address ptr.place entry.addr entry.size (bare old) (realloc (λ one other. true) tt (Some (ptr.place, tt)) (asked_size entry.size) (bare old)) in
     let Q : List Diagnostic → Option ℕ → Type 0 = λ notes end. Comes (bare old) (bare new) (all_given held) (all_given after) notes end moment in
-    let end = c.served.ensures.end ∙ ap (λ (n : ℕ). Some n) (c.in-Ok.ensures.end ∙ ap (λ (n : ℕ). given.place + n) (sym (size_at-renamed (λ owner. tt) given.place new.pools))) in
+    let end = ap (λ (n : ℕ). Some n) (c.in-Ok.ensures.end ∙ ap (λ (n : ℕ). given.place + n) (sym (size_at-renamed (λ owner. tt) given.place new.pools))) in
     let asked = asked_least entry.size in
     let R : Pointer → Type 0 = λ p. realloc (λ a b. a == b) given.slot (Some (p.place, p.slot)) c.asked_size.result old ≡ Ok (Some (given.place, given.slot), new) in
     record {
-      comes = subst (λ notes. Q notes c.served.result.end) (sym c.served.ensures.note) (subst (Q []) (sym end)
+      comes = subst (λ notes. Q notes (Some c.in-Ok.block.end)) (sym c.requires.none) (subst (Q []) (sym end)
           (comes_moved held after (bare old) (bare new) c.args.old.now.address ptr.place (record { entry = entry; ptr = given })
           (ap (λ n. realloc (λ one other. true) tt (Some (ptr.place, tt)) n (bare old)) (sym c.asked_size.ensures) ∙ served) c.replace.ensures.held));
       live = live_after_realloc held after old new c.keeps_good.ensures.good c.requires.live c.args.old.now.address under.0 under.1 (record { entry = entry; ptr = given }) c.asked_size.result
@@ -82,10 +81,9 @@ returns-in_ok-take-in-Err g c =
     let freed : new ≡ without ptr.place (bare old) = c.in_ok-take-in-Err.ensures.content ∙ ap (λ content. without ptr.place (bare content)) c.in-Err.ensures.unchanged in
     let moment = moved entry.line entry.at c.args.old.now.address ptr.place entry.addr entry.size (bare old) (realloc (λ one other. true) tt (Some (ptr.place, tt)) (asked_size entry.size) (bare old)) in
     let Q : List Diagnostic → Type 0 = λ notes. Comes (bare old) new (all_given held) (all_given after) notes None moment in
-    let S : Effect → Type 0 = λ effect. Comes (bare old) new (all_given held) (all_given after) effect.note.items effect.end moment in
     record {
-      comes = subst S (sym c.unserved.ensures) (subst Q (sym c.one_note.ensures) (comes_not_moved held after (bare old) new c.args.old.now.address ptr.place entry c.in-Err.refusal
-          (ap (λ n. realloc (λ one other. true) tt (Some (ptr.place, tt)) n (bare old)) (sym c.asked_size.ensures) ∙ refused) freed c.in_ok-take-in-Err.ensures.held));
+      comes = subst Q (sym c.set_one.ensures) (comes_not_moved held after (bare old) new c.args.old.now.address ptr.place entry c.in-Err.refusal
+          (ap (λ n. realloc (λ one other. true) tt (Some (ptr.place, tt)) n (bare old)) (sym c.asked_size.ensures) ∙ refused) freed c.in_ok-take-in-Err.ensures.held);
       live = c.in_ok-take-in-Err.ensures.live;
       memory = tt;
       unchanged = tt;

@@ -4,7 +4,6 @@ use Rattle.tlsf_heap.specs.Bare.{bare}
 use Rattle.tlsf_heap.specs.Pointer.{Pointer}
 use Rattle.mtrace_replay.specs.declared.diagnostic.Diagnostic.{Diagnostic}
 use Rattle.mtrace_replay.specs.Holding.{Holding}
-use Rattle.mtrace_replay.specs.declared.step.Effect.{Effect}
 use Rattle.mtrace_replay.specs.Moment.{release, without}
 use Rattle.mtrace_replay.specs.Index.{held_at}
 use Rattle.mtrace_replay.specs.Step.{all_given, found, Comes, AreLive}
@@ -18,10 +17,10 @@ returns-in_default g c =
     let content = bare heap in
     let held = c.args.held.now.all in
     let P : List Diagnostic → Type 0 = λ notes. Comes content content (all_given held) (all_given held) notes None (release c.args.number c.args.address (found (all_given held) c.args.address) content) in
-    let Q : Effect → List Holding → Type 0 = λ effect all. Comes content content (all_given held) (all_given all) effect.note.items effect.end (release c.args.number c.args.address (found (all_given held) c.args.address) content) in
+    let Q : List Diagnostic → List Holding → Type 0 = λ notes all. Comes content content (all_given held) (all_given all) notes None (release c.args.number c.args.address (found (all_given held) c.args.address) content) in
     record {
-      comes = subst (Q c.unserved.result) (sym c.find-found.ensures.unchanged)
-          (subst (λ effect. Q effect held) (sym c.unserved.ensures) (subst P (sym c.one_note.ensures) (comes_not_held held held content content c.args.number c.args.address (under_none (held_at held c.args.address) (sym (seen_block c.find-found.new.self.all c.args.held.now.all c.find-found.result.address c.args.address c.block.result c.block.ensures.value c.find-found.ensures.unchanged c.find-found.ensures.address) ∙ c.in_default.is)))));
+      comes = subst (Q c.set_one.new.self) (sym c.find-found.ensures.unchanged)
+          (subst P (sym c.set_one.ensures) (comes_not_held held held content content c.args.number c.args.address (under_none (held_at held c.args.address) (sym (seen_block c.find-found.new.self.all c.args.held.now.all c.find-found.result.address c.args.address c.block.result c.block.ensures.value c.find-found.ensures.unchanged c.find-found.ensures.address) ∙ c.in_default.is))));
       live = subst (λ all. AreLive all heap) (sym c.find-found.ensures.unchanged) c.requires.live;
       memory = tt;
       unchanged = tt;
@@ -58,11 +57,10 @@ returns g c =
     let new = c.take.new.held.all in
     let under = under_some (held_at held c.args.address) c.in-Some.ptr (sym (seen_block c.find-found.new.self.all c.args.held.now.all c.find-found.result.address c.args.address c.block.result c.block.ensures.value c.find-found.ensures.unchanged c.find-found.ensures.address) ∙ c.in-Some.is) in
     let P : List Diagnostic → Type 0 = λ notes. Comes content after (all_given held) (all_given new) notes None (release c.args.number c.args.address (found (all_given held) c.args.address) content) in
-    let Q : Effect → Type 0 = λ effect. Comes content after (all_given held) (all_given new) effect.note.items effect.end (release c.args.number c.args.address (found (all_given held) c.args.address) content) in
     record {
-      comes = subst Q (sym c.unserved-2.ensures) (subst P (sym c.no_note.ensures) (comes_released held new content after c.args.number c.args.address under.0 under.1
+      comes = subst P (sym c.requires.none) (comes_released held new content after c.args.number c.args.address under.0 under.1
           (c.in_ok-take.ensures.content ∙ ap (λ (ptr : Pointer). without ptr.place content) (sym under.2)) (λ other. c.in_ok-take.ensures.held other ∙ ap (λ all. cond (c.find-found.result.address == other) None (held_at all other)) c.find-found.ensures.unchanged
-          ∙ ap (λ (a : ℕ). cond (a == other) None (held_at held other)) c.find-found.ensures.address)));
+          ∙ ap (λ (a : ℕ). cond (a == other) None (held_at held other)) c.find-found.ensures.address));
       live = c.in_ok-take.ensures.live;
       memory = tt;
       unchanged = tt;

@@ -5,7 +5,6 @@ use Rattle.tlsf_heap.specs.Pointer.{Pointer}
 use Rattle.tlsf_heap.specs.Realloc.{realloc}
 use Rattle.mtrace_replay.specs.declared.diagnostic.Diagnostic.{Diagnostic}
 use Rattle.mtrace_replay.specs.Holding.{Holding}
-use Rattle.mtrace_replay.specs.declared.step.Effect.{Effect}
 use Rattle.mtrace_replay.specs.declared.diagnostic.Kind.TheVariants.{NotHeld, AlreadyHeld}
 use Rattle.mtrace_replay.specs.Moment.{Moment, note, unserved, noted_after, allocation, renewal, moved, asked_size}
 use Rattle.mtrace_replay.specs.Index.{held_at}
@@ -27,18 +26,18 @@ returns-in_default-block g c =
     let is = renewal_allocates held content entry.line entry.at c.args.pending old entry.addr entry.size c.in-Some.is none in
     let moment = allocation entry.line entry.at entry.addr None entry.size (found (all_given held) entry.addr) content in
     let first : Diagnostic = record { line = entry.line; kind = NotHeld old } in
-    let C : List Holding → Type 0 = λ all. Comes content after (all_given all) (all_given new) c.in_ok-more.more.note.items c.in_ok-more.more.end
+    let C : List Holding → Type 0 = λ all. Comes content after (all_given all) (all_given new) c.allocate.new.findings c.in_ok-end.end
     (allocation entry.line entry.at entry.addr None entry.size (found (all_given all) entry.addr) content) in
     let P : List Diagnostic → Option ℕ → Type 0 = λ notes end. Comes content after (all_given held) (all_given new) notes end (noted_after (first ∷ []) moment) in
     record {
-      comes = subst (Comes content after (all_given held) (all_given new) c.after_note.result.note.items c.after_note.result.end) (sym is)
-          (subst (λ notes. P notes c.after_note.result.end) (sym c.after_note.ensures.note) (subst (P (first ∷ c.in_ok-more.more.note.items)) (sym c.after_note.ensures.end)
-          (comes_after_note content after (all_given held) (all_given new) first c.in_ok-more.more.note.items c.in_ok-more.more.end moment (subst C c.find-found.ensures.unchanged c.in_ok-more.ensures.comes))));
-      live = c.in_ok-more.ensures.live;
+      comes = subst (Comes content after (all_given held) (all_given new) c.put_first.new.self c.in_ok-end.end) (sym is)
+          (subst (λ notes. P notes c.in_ok-end.end) (sym c.put_first.ensures)
+          (comes_after_note content after (all_given held) (all_given new) first c.allocate.new.findings c.in_ok-end.end moment (subst C c.find-found.ensures.unchanged c.in_ok-end.ensures.comes)));
+      live = c.in_ok-end.ensures.live;
       memory = tt;
       unchanged = tt;
       records = c.allocate.ensures.records;
-      looked = looks_up_fewer 2 1 c.args.held.now c.allocate.new.held (look_on 1 1 c.args.held.now c.find-found.new.self c.allocate.new.held c.find-found.ensures.looked c.allocate.ensures.looked);
+      looked = look_on 1 2 c.args.held.now c.find-found.new.self c.allocate.new.held c.find-found.ensures.looked c.allocate.ensures.looked;
       bound = omega (arith, c.allocate.ensures.bound);
       idle = λ idle. c.allocate.ensures.idle (ap (λ all. not (is_some (found (all_given all) entry.addr))) c.find-found.ensures.unchanged
           ∙ sym (renewal_asks_new held c.args.pending old entry.addr c.in-Some.is none) ∙ idle);
@@ -56,12 +55,11 @@ returns-then-is_held_too g c =
     let is = renewal_is_held held content entry.line entry.at c.args.pending old entry.addr entry.size c.in-Some.is under.0 under.1 (sym value ∙ c.if-is_held_too.true) in
     let notes = note entry.line (AlreadyHeld entry.addr) in
     let P : List Diagnostic → Type 0 = λ ns. Comes content content (all_given held) (all_given held) ns None (unserved notes content) in
-    let Q : Effect → Type 0 = λ effect. Comes content content (all_given held) (all_given held) effect.note.items effect.end (unserved notes content) in
-    let R : List Holding → Type 0 = λ all. Comes content content (all_given held) (all_given all) c.unserved-then-is_held_too.result.note.items c.unserved-then-is_held_too.result.end
+    let R : List Holding → Type 0 = λ all. Comes content content (all_given held) (all_given all) c.set_one-then-is_held_too.new.self None
     (renewal entry.line entry.at c.args.pending entry.addr entry.size (found (all_given held)) content) in
     record {
-      comes = subst R (sym same) (subst (Comes content content (all_given held) (all_given held) c.unserved-then-is_held_too.result.note.items c.unserved-then-is_held_too.result.end) (sym is)
-          (subst Q (sym c.unserved-then-is_held_too.ensures) (subst P (sym c.one_note-then-is_held_too.ensures) (comes_unserved content (all_given held) notes))));
+      comes = subst R (sym same) (subst (Comes content content (all_given held) (all_given held) c.set_one-then-is_held_too.new.self None) (sym is)
+          (subst P (sym c.set_one-then-is_held_too.ensures) (comes_unserved content (all_given held) notes)));
       live = subst (λ all. AreLive all (g.H.Heaped.content c.args.heap.now)) (sym same) c.requires.live;
       memory = tt;
       unchanged = tt;
@@ -86,7 +84,7 @@ returns g c =
     let there = ap (λ (ptr : Pointer). moved entry.line entry.at old ptr.place entry.addr entry.size content (realloc (λ one other. true) tt (Some (ptr.place, tt)) (asked_size entry.size) content)) under.2 in
     let by_place : ℕ → Moment = λ (a : ℕ). moved entry.line entry.at a c.in-Some-block.ptr.place entry.addr entry.size content
     (realloc (λ one other. true) tt (Some (c.in-Some-block.ptr.place, tt)) (asked_size entry.size) content) in
-    let P : Moment → List Holding → Type 0 = λ moment all. IfOk c.reallocate.result (λ effect. Comes content after (all_given all) (all_given new) effect.note.items effect.end moment) in
+    let P : Moment → List Holding → Type 0 = λ moment all. IfOk c.reallocate.result (λ end. Comes content after (all_given all) (all_given new) c.reallocate.new.findings end moment) in
     record {
       comes = subst (λ moment. P moment held) (sym (is ∙ there)) (subst (λ (a : ℕ). P (by_place a) held) c.find-found.ensures.address (subst (P (by_place c.find-found.result.address)) same c.reallocate.ensures.comes));
       live = c.reallocate.ensures.live;

@@ -24,12 +24,12 @@ invariant_of-self g c =
       lacks = c.self.invariant.lacks;
       room = c.outcome.ensures.looked.room ∙ c.self.invariant.room ∙ sym c.outcome.ensures.records;
       few = held_few c.outcome.new.held.all (g.H.Heaped.content c.outcome.new.heap) c.keeps_order.ensures c.keeps_good.ensures.good c.in-Ok.ensures.live;
-      served = served_within old c.in-Ok.done.end c.has_refusal-is_refused.result c.bytes-bytes.result c.len-blocks.result c.after-self-inside.result gone c.self.invariant.served;
-      refused = refused_within old c.in-Ok.done.end c.has_refusal-is_refused.result c.bytes-bytes.result c.len-blocks.result c.after-self-inside.result gone c.self.invariant.refused;
+      served = served_within old c.in-Ok.end c.has_refusal-is_refused.result c.bytes-bytes.result c.len-blocks.result c.after-self-inside.result gone c.self.invariant.served;
+      refused = refused_within old c.in-Ok.end c.has_refusal-is_refused.result c.bytes-bytes.result c.len-blocks.result c.after-self-inside.result gone c.self.invariant.refused;
     }
 
-pub after_half-note-requires : goal.after_half-note-requires
-after_half-note-requires g c =
+pub put_half-requires : goal.put_half-requires
+put_half-requires g c =
     let inside = c.self.inside in
     omega (
       arith,
@@ -53,19 +53,19 @@ returns-in-Ok g c =
       pending = c.old_address-next.result;
       out_of_memory = c.self.inside.out_of_memory;
     } in
-    let note : (settings : Settings) (past : List Reading) → StandsFor c.args.self.now settings past → c.after_half-note.result.items ≡ added_notes settings event past = λ settings past.
-    let P : Replayed → Type 0 = λ old. (old.out_of_memory ≡ false → number ≡ old.totals.lines + 1) → StandsFor old settings past → c.after_half-note.result.items ≡ added_notes settings event past in
+    let note : (settings : Settings) (past : List Reading) → StandsFor c.args.self.now settings past → c.put_half.new.findings ≡ added_notes settings event past = λ settings past.
+    let P : Replayed → Type 0 = λ old. (old.out_of_memory ≡ false → number ≡ old.totals.lines + 1) → StandsFor old settings past → c.put_half.new.findings ≡ added_notes settings event past in
     subst P c.self.view_is
-    (λ next stands. c.after_half-note.ensures ∙ ap (λ (notes : List Diagnostic). notes ++ c.in-Ok.done.note.items) c.half_before-half.ensures
-    ∙ notes_of_line _ new settings past event c.in-Ok.done.note.items c.in-Ok.done.end number stands (next c.if-self.false) c.in-Ok.ensures.comes)
+    (λ next stands. c.put_half.ensures ∙ ap (λ (notes : List Diagnostic). notes ++ c.outcome.new.findings) c.half_before-half.ensures
+    ∙ notes_of_line _ new settings past event c.outcome.new.findings c.in-Ok.end number stands (next c.if-self.false) c.in-Ok.ensures.comes)
     c.requires.next in
     record {
       stands = λ settings past.
           let P : Replayed → Type 0 = λ old. (old.out_of_memory ≡ false → number ≡ old.totals.lines + 1)
-          → (StandsFor old settings past → c.after_half-note.result.items ≡ added_notes settings event past)
+          → (StandsFor old settings past → c.put_half.new.findings ≡ added_notes settings event past)
           → StandsFor old settings past → StandsFor new settings (event ∷ past) in
           subst P c.self.view_is
-          (λ next told stands. stands_for_line _ new settings past event c.in-Ok.done.note.items c.in-Ok.done.end number stands (next c.if-self.false) c.in-Ok.ensures.comes
+          (λ next told stands. stands_for_line _ new settings past event c.outcome.new.findings c.in-Ok.end number stands (next c.if-self.false) c.in-Ok.ensures.comes
           heap holdings c.keeps_good.ensures.good c.in-Ok.ensures.live refl refl
           (subst IsStrictlyIncreasing (sym (addresses_given holdings)) c.keeps_order.ensures) c.old_address-next.ensures c.if-self.false
           c.bytes-bytes.result c.len-blocks.result c.has_refusal-is_refused.result c.after-self-inside.ensures

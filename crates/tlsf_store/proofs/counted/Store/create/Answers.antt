@@ -10,6 +10,7 @@ pub invariant_of-result : goal.invariant_of-result
 invariant_of-result c =
     record {
       some = omega (arith, ap length c.in-Ok.ensures, length-replicate c.args.records blank);
+      few = omega (arith, ap length c.in-Ok.ensures, length-replicate c.args.records blank);
       heads_below = All-replicate (IsBelow (length c.in-Ok.table)) classes None tt;
       level = omega arith;
       pools_below = All-replicate (IsPoolBelow (length c.in-Ok.table)) most_pools None tt;
