@@ -34,7 +34,7 @@ fn set_prev(store: &mut Store, slot: Option<Slot>, prev: Slot)
 }
 
 /// A block keeps its first bytes, and what is left is a free block of the slot `rest` behind it. At most
-/// five touches.
+/// four touches.
 pub(crate) fn split(store: &mut Store, slot: Slot, rest: Slot, bytes: u32)
     requires slot_used { IsUsed store.old.cells.records (Some slot) }
     requires rest_used { IsUsed store.old.cells.records (Some rest) }
@@ -43,7 +43,7 @@ pub(crate) fn split(store: &mut Store, slot: Slot, rest: Slot, bytes: u32)
     requires in_units { bytes % unit ≡ 0 }
     requires ends { (record_at store.old.cells.records slot).place + (record_at store.old.cells.records slot).size ≤ end_of_places }
     ensures cells { store.new.cells ≡ split_cells slot rest bytes store.old.cells }
-    ensures touches { AtMost 5 store.old.touches store.new.touches }
+    ensures touches { AtMost 4 store.old.touches store.new.touches }
 {
     let block = store.read(slot);
     let left = Record {

@@ -19,7 +19,7 @@ use crate::{Ptr, Refusal};
 use tlsf_class::class_of;
 use tlsf_store::{Slot, State, Store};
 
-/// The block becomes free, and one free block with its free neighbours in the pool. At most 50 touches.
+/// The block becomes free, and one free block with its free neighbours in the pool. At most 45 touches.
 ///
 /// # Errors
 ///
@@ -30,7 +30,7 @@ pub(crate) fn free(store: &mut Store, ptr: Ptr) -> Result<(), Refusal>
     ensures ok { OnOk result (freed (λ slot. slot == ptr.slot) ptr.place (content_of store.old.cells) ≡ Ok (content_of store.new.cells)) }
     ensures refused { IfErr result (λ refusal. freed (λ slot. slot == ptr.slot) ptr.place (content_of store.old.cells) ≡ Err refusal) }
     ensures cells { OnErr result (store.new.cells ≡ store.old.cells) }
-    ensures touches { AtMost 50 store.old.touches store.new.touches }
+    ensures touches { AtMost 45 store.old.touches store.new.touches }
 {
     if !is_live(store, ptr) {
         return Err(Refusal::BadPointer);
@@ -56,11 +56,11 @@ pub(crate) fn is_live(store: &mut Store, ptr: Ptr) -> bool
     }
 }
 
-/// The block becomes free, and one free block with its free neighbours in the pool. At most 49 touches.
+/// The block becomes free, and one free block with its free neighbours in the pool. At most 44 touches.
 pub(crate) fn release(store: &mut Store, slot: Slot)
     requires { (at : At) × StandsAt slot InUse store.old.cells at }
     ensures leads { (at : At) → StandsAt slot InUse store.old.cells at → StandsAt (at_freed at).node.slot Listed store.new.cells (at_freed at) }
-    ensures touches { AtMost 49 store.old.touches store.new.touches }
+    ensures touches { AtMost 44 store.old.touches store.new.touches }
 {
     set_state(store, slot, State::Free);
     let start = join_previous(store, slot);
@@ -79,11 +79,11 @@ pub(crate) fn is_free(state: State) -> bool
 }
 
 /// A free block before it takes in the block, which is free and in no list. The answer is where the block
-/// that is left begins. At most 18 touches.
+/// that is left begins. At most 16 touches.
 fn join_previous(store: &mut Store, slot: Slot) -> Slot
     requires { (at : At) × StandsAt slot Loose store.old.cells at }
     ensures leads { (at : At) → StandsAt slot Loose store.old.cells at → StandsAt result Loose store.new.cells (previous_joined at) }
-    ensures touches { AtMost 18 store.old.touches store.new.touches }
+    ensures touches { AtMost 16 store.old.touches store.new.touches }
 {
     let block = store.read(slot);
     let Some(previous_slot) = block.prev else {
@@ -97,11 +97,11 @@ fn join_previous(store: &mut Store, slot: Slot) -> Slot
     previous_slot
 }
 
-/// The block, which is in no list, takes in a free one after it. At most 18 touches.
+/// The block, which is in no list, takes in a free one after it. At most 16 touches.
 pub(crate) fn join_next(store: &mut Store, slot: Slot)
     requires { (status : Status) × (at : At) × (is_listed status ≡ false) × StandsAt slot status store.old.cells at }
     ensures leads { (status : Status) (at : At) → is_listed status ≡ false → StandsAt slot status store.old.cells at → StandsAt slot status store.new.cells (next_joined at) }
-    ensures touches { AtMost 18 store.old.touches store.new.touches }
+    ensures touches { AtMost 16 store.old.touches store.new.touches }
 {
     let block = store.read(slot);
     let Some(next_slot) = block.next else {
@@ -114,22 +114,22 @@ pub(crate) fn join_next(store: &mut Store, slot: Slot)
     join(store, slot, next_slot, next_slot, next.size);
 }
 
-/// One of two neighbours, `listed`, leaves its class's list, and the first takes in the other. At most 16
+/// One of two neighbours, `listed`, leaves its class's list, and the first takes in the other. At most 14
 /// touches.
 fn join(store: &mut Store, first: Slot, second: Slot, listed: Slot, size: u32)
     requires { IsJoinable first second listed size store.old.cells.records (unlinked (class size) listed store.old.cells).records }
     ensures cells { store.new.cells ≡ joined first second listed size store.old.cells }
-    ensures touches { AtMost 16 store.old.touches store.new.touches }
+    ensures touches { AtMost 14 store.old.touches store.new.touches }
 {
     unlink(store, class_of(size), listed);
     absorb(store, first, second);
 }
 
-/// The block, which is free and in no list, enters its class's list. At most 11 touches.
+/// The block, which is free and in no list, enters its class's list. At most ten touches.
 pub(crate) fn enter(store: &mut Store, slot: Slot)
     requires { (at : At) × StandsAt slot Loose store.old.cells at }
     ensures leads { (at : At) → StandsAt slot Loose store.old.cells at → StandsAt slot Listed store.new.cells (at_listed at) }
-    ensures touches { AtMost 11 store.old.touches store.new.touches }
+    ensures touches { AtMost 10 store.old.touches store.new.touches }
 {
     let block = store.read(slot);
     link(store, class_of(block.size), slot);

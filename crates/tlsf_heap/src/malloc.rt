@@ -20,7 +20,7 @@ use crate::{Ptr, Refusal};
 use tlsf_class::{class_for, class_of, round};
 use tlsf_store::{Slot, State, Store};
 
-/// A live block of `n` bytes, rounded up to the unit. At most 32 touches.
+/// A live block of `n` bytes, rounded up to the unit. At most 28 touches.
 ///
 /// # Errors
 ///
@@ -33,7 +33,7 @@ pub(crate) fn malloc(store: &mut Store, n: u64) -> Result<Ptr, Refusal>
     ensures slot_new { IfOk result (λ ptr. slot_times ptr.slot (blocks_of (content_of store.old.cells).pools) ≡ 0) }
     ensures refused { IfErr result (λ refusal. (slot : ℕ) → served slot n (content_of store.old.cells) ≡ Err refusal) }
     ensures cells { OnErr result (store.new.cells ≡ store.old.cells) }
-    ensures touches { AtMost 32 store.old.touches store.new.touches }
+    ensures touches { AtMost 28 store.old.touches store.new.touches }
 {
     if n == 0 {
         return Err(Refusal::ZeroSize);
@@ -44,7 +44,7 @@ pub(crate) fn malloc(store: &mut Store, n: u64) -> Result<Ptr, Refusal>
     allocate(store, asked)
 }
 
-/// A live block of `asked` bytes: the first of those that the block picked has. At most 32 touches.
+/// A live block of `asked` bytes: the first of those that the block picked has. At most 28 touches.
 ///
 /// # Errors
 ///
@@ -59,7 +59,7 @@ pub(crate) fn allocate(store: &mut Store, asked: u32) -> Result<Ptr, Refusal>
     ensures slot_new { IfOk result (λ ptr. slot_times ptr.slot (blocks_of (content_of store.old.cells).pools) ≡ 0) }
     ensures refused { IfErr result (λ refusal. (slot : ℕ) → malloc_rounded slot (Some asked) (content_of store.old.cells) ≡ Err refusal) }
     ensures cells { OnErr result (store.new.cells ≡ store.old.cells) }
-    ensures touches { AtMost 32 store.old.touches store.new.touches }
+    ensures touches { AtMost 28 store.old.touches store.new.touches }
 {
     let Some(slot) = pick(store, asked) else {
         return Err(Refusal::NoFit);
@@ -85,7 +85,7 @@ pub(crate) fn pick(store: &mut Store, asked: u32) -> Option<Slot>
     search(store, class)
 }
 
-/// The first `asked` bytes of the block picked are a live block. At most 28 touches.
+/// The first `asked` bytes of the block picked are a live block. At most 24 touches.
 ///
 /// # Errors
 ///
@@ -101,7 +101,7 @@ fn take(store: &mut Store, slot: Slot, asked: u32) -> Result<Ptr, Refusal>
     ensures slot { IfOk result (λ ptr. ptr.slot ≡ slot) }
     ensures refused { IfErr result (λ refusal. (owner : ℕ) → malloc_picked owner asked (Some (record_at store.old.cells.records slot).place) (content_of store.old.cells) ≡ Err refusal) }
     ensures cells { OnErr result (store.new.cells ≡ store.old.cells) }
-    ensures touches { AtMost 28 store.old.touches store.new.touches }
+    ensures touches { AtMost 24 store.old.touches store.new.touches }
 {
     let block = store.read(slot);
     if block.size == asked {
@@ -116,52 +116,52 @@ fn take(store: &mut Store, slot: Slot, asked: u32) -> Result<Ptr, Refusal>
 }
 
 /// The first bytes of a free block of `size` bytes, which leaves its class's list, are a live block. What
-/// is left is a free block of the slot `rest`, first in its class's list. At most 25 touches.
+/// is left is a free block of the slot `rest`, first in its class's list. At most 21 touches.
 fn take_part(store: &mut Store, slot: Slot, rest: Slot, bytes: u32, size: u32)
     requires stands { (at : At) × StandsAt slot Listed store.old.cells (with_slot rest at) × (size ≡ at.node.size) }
     requires some { 0 < bytes }
     requires less { bytes < size }
     requires whole { bytes % unit ≡ 0 }
     ensures leads { (at : At) → StandsAt slot Listed store.old.cells (with_slot rest at) → size ≡ at.node.size → StandsAt rest Listed store.new.cells (at_cut rest bytes (at_taken at)) }
-    ensures touches { AtMost 25 store.old.touches store.new.touches }
+    ensures touches { AtMost 21 store.old.touches store.new.touches }
 {
     take_whole(store, slot, size);
     cut(store, slot, rest, bytes, size);
 }
 
-/// A free block of `size` bytes leaves its class's list and is live. At most ten touches.
+/// A free block of `size` bytes leaves its class's list and is live. At most eight touches.
 pub(crate) fn take_whole(store: &mut Store, slot: Slot, size: u32)
     requires { (at : At) × StandsAt slot Listed store.old.cells at × (size ≡ at.node.size) }
     ensures leads { (at : At) → StandsAt slot Listed store.old.cells at → size ≡ at.node.size → StandsAt slot InUse store.new.cells (at_taken at) }
-    ensures touches { AtMost 10 store.old.touches store.new.touches }
+    ensures touches { AtMost 8 store.old.touches store.new.touches }
 {
     unlink(store, class_of(size), slot);
     set_state(store, slot, State::Live);
 }
 
 /// A live block of `size` bytes keeps its first bytes. What is left is a free block of the slot `rest`,
-/// first in its class's list. At most 15 touches.
+/// first in its class's list. At most 13 touches.
 fn cut(store: &mut Store, slot: Slot, rest: Slot, bytes: u32, size: u32)
     requires stands { (at : At) × StandsAt slot InUse store.old.cells (with_slot rest at) × (size ≡ at.node.size) }
     requires some { 0 < bytes }
     requires less { bytes < size }
     requires whole { bytes % unit ≡ 0 }
     ensures leads { (at : At) → StandsAt slot InUse store.old.cells (with_slot rest at) → size ≡ at.node.size → StandsAt rest Listed store.new.cells (at_cut rest bytes at) }
-    ensures touches { AtMost 15 store.old.touches store.new.touches }
+    ensures touches { AtMost 13 store.old.touches store.new.touches }
 {
     split(store, slot, rest, bytes);
     link(store, class_of(size - bytes), rest);
 }
 
 /// A live block keeps its first bytes. What is left, where anything is, is a free block first in its
-/// class's list. At most 18 touches.
+/// class's list. At most 16 touches.
 pub(crate) fn trim(store: &mut Store, slot: Slot, bytes: u32)
     requires stands { (at : At) × StandsAt slot InUse store.old.cells at × (bytes ≤ at.node.size) }
     requires some { 0 < bytes }
     requires whole { bytes % unit ≡ 0 }
     requires room { bytes < (record_at store.old.cells.records slot).size → 0 < vacant_count store.old.cells.records }
     ensures leads { (at : At) → StandsAt slot InUse store.old.cells at → (rest : ℕ) × StandsAt slot InUse store.new.cells (at_trimmed rest bytes at) }
-    ensures touches { AtMost 18 store.old.touches store.new.touches }
+    ensures touches { AtMost 16 store.old.touches store.new.touches }
 {
     let block = store.read(slot);
     if block.size == bytes {

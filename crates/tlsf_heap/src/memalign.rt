@@ -24,7 +24,7 @@ use tlsf_store::{Slot, State, Store};
 /// The greatest alignment, in bytes.
 const GREATEST_ALIGNMENT: u64 = 1 << 29;
 
-/// A live block of `n` bytes, rounded up to the unit, that begins at a multiple of the alignment. At most 56
+/// A live block of `n` bytes, rounded up to the unit, that begins at a multiple of the alignment. At most 50
 /// touches.
 ///
 /// # Errors
@@ -38,7 +38,7 @@ pub(crate) fn memalign(store: &mut Store, align: u64, n: u64) -> Result<Ptr, Ref
     ensures slot_new { IfOk result (λ ptr. slot_times ptr.slot (blocks_of (content_of store.old.cells).pools) ≡ 0) }
     ensures refused { IfErr result (λ refusal. (slot : ℕ) → served slot align n (content_of store.old.cells) ≡ Err refusal) }
     ensures cells { OnErr result (store.new.cells ≡ store.old.cells) }
-    ensures touches { AtMost 56 store.old.touches store.new.touches }
+    ensures touches { AtMost 50 store.old.touches store.new.touches }
 {
     if !is_alignment(align) {
         return Err(Refusal::BadAlign);
@@ -57,7 +57,7 @@ pub(crate) fn memalign(store: &mut Store, align: u64, n: u64) -> Result<Ptr, Ref
 }
 
 /// The block picked is carved: a live block of `asked` bytes begins at the least multiple of the alignment
-/// at or above its place. At most 52 touches.
+/// at or above its place. At most 46 touches.
 ///
 /// # Errors
 ///
@@ -75,7 +75,7 @@ fn carve(store: &mut Store, slot: Slot, align: u32, asked: u32) -> Result<Ptr, R
     ensures slot_new { IfOk result (λ ptr. slot_times ptr.slot (blocks_of (content_of store.old.cells).pools) ≡ 0) }
     ensures refused { IfErr result (λ refusal. (owner : ℕ) → memalign_picked owner align asked (Some (record_at store.old.cells.records slot).place) (content_of store.old.cells) ≡ Err refusal) }
     ensures cells { OnErr result (store.new.cells ≡ store.old.cells) }
-    ensures touches { AtMost 52 store.old.touches store.new.touches }
+    ensures touches { AtMost 46 store.old.touches store.new.touches }
 {
     let block = store.read(slot);
     let start = start_of(block.place, align);
@@ -133,7 +133,7 @@ pub(crate) fn start_of(place: u32, align: u32) -> u32
 }
 
 /// A live block keeps what is behind its first bytes, under another slot. These are a free block, first in
-/// its class's list; where there are none, nothing changes. The answer is the live block's slot. At most 22
+/// its class's list; where there are none, nothing changes. The answer is the live block's slot. At most 20
 /// touches.
 fn leave_gap(store: &mut Store, slot: Slot, bytes: u32) -> Slot
     requires stands { (at : At) × StandsAt slot InUse store.old.cells at × (bytes < at.node.size) }
@@ -143,7 +143,7 @@ fn leave_gap(store: &mut Store, slot: Slot, bytes: u32) -> Slot
     ensures same { bytes ≡ 0 → result ≡ slot }
     ensures vacant { 0 < bytes → record_at store.old.cells.records result ≡ blank }
     ensures below { result < length store.old.cells.records }
-    ensures touches { AtMost 22 store.old.touches store.new.touches }
+    ensures touches { AtMost 20 store.old.touches store.new.touches }
 {
     if bytes == 0 {
         return slot;

@@ -20,7 +20,7 @@ use crate::{Ptr, Refusal};
 use tlsf_class::round;
 use tlsf_store::{Slot, Store};
 
-/// The block with another size, in its place or moved; without a pointer a new block. At most 87 touches.
+/// The block with another size, in its place or moved; without a pointer a new block. At most 78 touches.
 ///
 /// # Errors
 ///
@@ -33,7 +33,7 @@ pub(crate) fn realloc(store: &mut Store, ptr: Option<Ptr>, n: u64) -> Result<Opt
     ensures slot_new { IfOk result (λ given. IfSome given (λ p. ptr ≢ Some p → slot_times p.slot (blocks_of (content_of store.old.cells).pools) ≡ 0)) }
     ensures refused { IfErr result (λ refusal. (owner : ℕ) → reallocated (λ a b. a == b) owner (place_and_slot ptr) n (content_of store.old.cells) ≡ Err refusal) }
     ensures cells { OnErr result (store.new.cells ≡ store.old.cells) }
-    ensures touches { AtMost 87 store.old.touches store.new.touches }
+    ensures touches { AtMost 78 store.old.touches store.new.touches }
 {
     match ptr {
         Some(ptr) => reallocate(store, ptr, n),
@@ -44,7 +44,7 @@ pub(crate) fn realloc(store: &mut Store, ptr: Option<Ptr>, n: u64) -> Result<Opt
     }
 }
 
-/// The block with another size; none where no byte is asked for, for then it is freed. At most 87
+/// The block with another size; none where no byte is asked for, for then it is freed. At most 78
 /// touches.
 ///
 /// # Errors
@@ -58,7 +58,7 @@ fn reallocate(store: &mut Store, ptr: Ptr, n: u64) -> Result<Option<Ptr>, Refusa
     ensures slot_new { IfOk result (λ given. IfSome given (λ p. ptr ≢ p → slot_times p.slot (blocks_of (content_of store.old.cells).pools) ≡ 0)) }
     ensures refused { IfErr result (λ refusal. (owner : ℕ) → reallocated (λ a b. a == b) owner (Some (ptr.place, ptr.slot)) n (content_of store.old.cells) ≡ Err refusal) }
     ensures cells { OnErr result (store.new.cells ≡ store.old.cells) }
-    ensures touches { AtMost 87 store.old.touches store.new.touches }
+    ensures touches { AtMost 78 store.old.touches store.new.touches }
 {
     if n == 0 {
         return match free(store, ptr) {
@@ -79,7 +79,7 @@ fn reallocate(store: &mut Store, ptr: Ptr, n: u64) -> Result<Option<Ptr>, Refusa
 }
 
 /// The live block with `asked` bytes, in its place where it can have them. A block that gets smaller and
-/// can't give back what is left stays as it is. At most 86 touches.
+/// can't give back what is left stays as it is. At most 77 touches.
 ///
 /// # Errors
 ///
@@ -95,7 +95,7 @@ fn resize(store: &mut Store, ptr: Ptr, asked: u32) -> Result<Ptr, Refusal>
     ensures slot_new { IfOk result (λ given. ptr ≢ given → slot_times given.slot (blocks_of (content_of store.old.cells).pools) ≡ 0) }
     ensures refused { IfErr result (λ refusal. (owner : ℕ) → realloc_sized owner ptr.place ptr.slot asked (content_of store.old.cells) ≡ Err refusal) }
     ensures cells { OnErr result (store.new.cells ≡ store.old.cells) }
-    ensures touches { AtMost 86 store.old.touches store.new.touches }
+    ensures touches { AtMost 77 store.old.touches store.new.touches }
 {
     let size = store.read(Slot(ptr.slot())).size;
     if asked == size {
@@ -145,7 +145,7 @@ fn free_behind(store: &mut Store, slot: Slot) -> Option<u32>
 }
 
 /// The live block takes in a free one behind it, and keeps the first `asked` bytes. What is left, where
-/// anything is, is a free block. At most 36 touches.
+/// anything is, is a free block. At most 32 touches.
 fn resize_in_place(store: &mut Store, ptr: Ptr, asked: u32)
     requires stands { Stands store.old.cells }
     requires live { is_live_in (λ slot. slot == ptr.slot) ptr.place (blocks_of (content_of store.old.cells).pools) ≡ true }
@@ -155,14 +155,14 @@ fn resize_in_place(store: &mut Store, ptr: Ptr, asked: u32)
     requires whole { asked % unit ≡ 0 }
     ensures stands { Stands store.new.cells }
     ensures content { content_of store.new.cells ≡ resized ptr.slot ptr.place asked (content_of store.old.cells) }
-    ensures touches { AtMost 36 store.old.touches store.new.touches }
+    ensures touches { AtMost 32 store.old.touches store.new.touches }
 {
     let slot = Slot(ptr.slot());
     join_next(store, slot);
     trim(store, slot, asked);
 }
 
-/// A new block, and the old one is freed. At most 81 touches.
+/// A new block, and the old one is freed. At most 72 touches.
 ///
 /// # Errors
 ///
@@ -178,7 +178,7 @@ fn relocate(store: &mut Store, ptr: Ptr, asked: u32) -> Result<Ptr, Refusal>
     ensures slot_new { IfOk result (λ given. slot_times given.slot (blocks_of (content_of store.old.cells).pools) ≡ 0) }
     ensures refused { IfErr result (λ refusal. (owner : ℕ) → moved owner ptr.place (malloc_rounded owner (Some asked) (content_of store.old.cells)) ≡ Err refusal) }
     ensures cells { OnErr result (store.new.cells ≡ store.old.cells) }
-    ensures touches { AtMost 81 store.old.touches store.new.touches }
+    ensures touches { AtMost 72 store.old.touches store.new.touches }
 {
     match allocate(store, asked) {
         Ok(given) => {

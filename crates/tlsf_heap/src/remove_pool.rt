@@ -19,7 +19,7 @@ use crate::malloc::take_whole;
 use crate::pool_entry::PoolEntry;
 use tlsf_store::{Record, Slot, Store};
 
-/// The pool that begins at `base` leaves the store, and its one free block its class's list. At most 30 touches.
+/// The pool that begins at `base` leaves the store, and its one free block its class's list. At most 28 touches.
 ///
 /// # Errors
 ///
@@ -30,7 +30,7 @@ pub(crate) fn remove_pool(store: &mut Store, base: u64) -> Result<(), Refusal>
     ensures ok { OnOk result (removed base (content_of store.old.cells) ≡ Ok (content_of store.new.cells)) }
     ensures refused { IfErr result (λ refusal. removed base (content_of store.old.cells) ≡ Err refusal) }
     ensures cells { OnErr result (store.new.cells ≡ store.old.cells) }
-    ensures touches { AtMost 30 store.old.touches store.new.touches }
+    ensures touches { AtMost 28 store.old.touches store.new.touches }
 {
     let mut entries = entries(store);
     let Some(number) = number_of(entries.as_slice(), base) else {
@@ -55,14 +55,14 @@ fn is_alone(block: Record) -> bool
 }
 
 /// The one free block of a pool, of `size` bytes, leaves its class's list, its record is vacant, and these are
-/// the entries. At most 21 touches.
+/// the entries. At most 19 touches.
 fn drop_pool(store: &mut Store, slot: Slot, size: u32, entries: &[PoolEntry])
     requires stands { (at : At) × StandsAt slot Listed store.old.cells at × (size ≡ at.node.size) }
     requires count { length store.old.cells.pools ≡ most_pools }
     requires few { length entries.now ≤ most_pools }
     requires below { All (λ entry. entry.first < length store.old.cells.records) entries.now }
     ensures leads { (at : At) → StandsAt slot Listed store.old.cells at → size ≡ at.node.size → at.position.before ≡ [] → at.nodes ≡ [] → entries.now ≡ entries_in (plug at.position.areas_before at.position.areas_behind) → Represents store.new.cells (without_area at) }
-    ensures touches { AtMost 21 store.old.touches store.new.touches }
+    ensures touches { AtMost 19 store.old.touches store.new.touches }
 {
     take_whole(store, slot, size);
     store.give_vacant(slot);

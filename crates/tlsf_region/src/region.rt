@@ -85,7 +85,7 @@ impl Region {
         Ok(Region { heap, bytes })
     }
 
-    /// A pool of `bytes` bytes from the place `base` on, as one free block. At most 29 touches.
+    /// A pool of `bytes` bytes from the place `base` on, as one free block. At most 28 touches.
     ///
     /// # Errors
     ///
@@ -100,7 +100,7 @@ impl Region {
         ensures never_memory { result ≢ Err Refusal.OutOfMemory }
         ensures unchanged { OnErr result (IsUnchanged self.old self.new) }
         ensures bytes { self.new.bytes ≡ self.old.bytes }
-        ensures bound { AtMost 29 self.old.touches self.new.touches }
+        ensures bound { AtMost 28 self.old.touches self.new.touches }
     {
         let len = self.bytes.len() as u64;
         if base > len || bytes > len - base {
@@ -109,7 +109,7 @@ impl Region {
         self.heap.add_pool(base, bytes)
     }
 
-    /// The pool that begins at the place `base` is gone; its bytes stay as they are. At most 30 touches.
+    /// The pool that begins at the place `base` is gone; its bytes stay as they are. At most 28 touches.
     ///
     /// # Errors
     ///
@@ -120,13 +120,13 @@ impl Region {
         ensures never_memory { result ≢ Err Refusal.OutOfMemory }
         ensures unchanged { OnErr result (IsUnchanged self.old self.new) }
         ensures bytes { self.new.bytes ≡ self.old.bytes }
-        ensures bound { AtMost 30 self.old.touches self.new.touches }
+        ensures bound { AtMost 28 self.old.touches self.new.touches }
     {
         self.heap.remove_pool(base)
     }
 
     /// A live block of at least `n` bytes, as `Heap::malloc` gives it. Its bytes are those that were there.
-    /// At most 32 touches.
+    /// At most 28 touches.
     ///
     /// # Errors
     ///
@@ -142,13 +142,13 @@ impl Region {
         ensures never_memory { result ≢ Err Refusal.OutOfMemory }
         ensures unchanged { OnErr result (IsUnchanged self.old self.new) }
         ensures bytes { self.new.bytes ≡ self.old.bytes }
-        ensures bound { AtMost 32 self.old.touches self.new.touches }
+        ensures bound { AtMost 28 self.old.touches self.new.touches }
     {
         self.heap.malloc(n)
     }
 
     /// A live block of at least `n` bytes that begins at a multiple of `align`, as `Heap::memalign` gives it. Its
-    /// bytes are those that were there. At most 56 touches.
+    /// bytes are those that were there. At most 50 touches.
     ///
     /// # Errors
     ///
@@ -166,12 +166,12 @@ impl Region {
         ensures never_memory { result ≢ Err Refusal.OutOfMemory }
         ensures unchanged { OnErr result (IsUnchanged self.old self.new) }
         ensures bytes { self.new.bytes ≡ self.old.bytes }
-        ensures bound { AtMost 56 self.old.touches self.new.touches }
+        ensures bound { AtMost 50 self.old.touches self.new.touches }
     {
         self.heap.memalign(align, n)
     }
 
-    /// The block becomes free, as `Heap::free` makes it. At most 50 touches.
+    /// The block becomes free, as `Heap::free` makes it. At most 45 touches.
     ///
     /// # Errors
     ///
@@ -182,13 +182,13 @@ impl Region {
         ensures never_memory { result ≢ Err Refusal.OutOfMemory }
         ensures unchanged { OnErr result (IsUnchanged self.old self.new) }
         ensures bytes { self.new.bytes ≡ self.old.bytes }
-        ensures bound { AtMost 50 self.old.touches self.new.touches }
+        ensures bound { AtMost 45 self.old.touches self.new.touches }
     {
         self.heap.free(ptr)
     }
 
     /// The block with room for `n` bytes, as `Heap::realloc` gives it. A block that moves takes its bytes
-    /// along: they are the start of the new block then. Else no byte changes. At most 89 touches.
+    /// along: they are the start of the new block then. Else no byte changes. At most 80 touches.
     ///
     /// # Errors
     ///
@@ -204,7 +204,7 @@ impl Region {
         ensures unchanged { OnErr result (IsUnchanged self.old self.new) }
         ensures bytes { IfOk result (λ given. self.new.bytes ≡ bytes_after_realloc ptr given self.old.content self.old.bytes) }
         ensures bytes_unchanged { OnErr result (self.new.bytes ≡ self.old.bytes) }
-        ensures bound { AtMost 89 self.old.touches self.new.touches }
+        ensures bound { AtMost 80 self.old.touches self.new.touches }
     {
         let Some(old) = ptr else {
             return self.heap.realloc(None, n);
