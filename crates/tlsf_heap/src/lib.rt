@@ -6,7 +6,6 @@ mod add_pool;
 mod answer;
 mod bitmaps;
 mod chains;
-mod check;
 mod cursor;
 mod entries;
 mod free;
@@ -29,8 +28,6 @@ mod request;
 mod row;
 mod runs;
 mod search;
-#[cfg(test)]
-mod tests;
 mod walk;
 
 pub use crate::answer::Answer;
