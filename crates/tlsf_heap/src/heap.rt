@@ -1,6 +1,7 @@
 //! The heap.
 
 use crate::add_pool::add_pool;
+use crate::check::check;
 use crate::entries::{entries, pool_ranges};
 use crate::free::free;
 use crate::load::stored;
@@ -15,7 +16,7 @@ use arrayvec::ArrayVec;
 use mtrace_log::{Failed, Sink};
 use std::alloc::Global;
 use std::marker::Model;
-use tlsf_image::{Image, is_whole, put_image};
+use tlsf_image::{Image, put_image};
 use tlsf_store::{MOST_POOLS, Store, StoreError};
 
 /// A heap over a table of records: pools of blocks, and a free list for each size class, found by
@@ -326,7 +327,7 @@ impl Heap {
         ensures unchanged { IsUnchanged self.old self.new }
         ensures read { self.old.touches < self.new.touches }
     {
-        is_whole(&mut self.store)
+        check(&mut self.store)
     }
 
     /// Says what every heap keeps, and does nothing. Its pools are covered by their blocks end to end, and

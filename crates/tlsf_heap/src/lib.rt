@@ -6,6 +6,7 @@ mod add_pool;
 mod answer;
 mod bitmaps;
 mod chains;
+mod check;
 mod cursor;
 mod entries;
 mod free;

@@ -2,9 +2,9 @@
 
 use super::made;
 use super::rows::has_rows;
-use tlsf_heap::*;
 use std::alloc::Global;
 use std::process::Abort;
+use tlsf_heap::*;
 
 /// Where the heads and the records begin.
 const HEADS_AT: usize = 112;

@@ -2,8 +2,8 @@
 
 use super::made;
 use super::rows::has_rows;
-use tlsf_heap::*;
 use std::alloc::{AllocError, Global};
+use tlsf_heap::*;
 
 /// How many blocks fill the pool.
 const BLOCKS: usize = 600;

@@ -1,8 +1,8 @@
 //! Long random runs over both heaps: they answer the same but for slots, and have the same rows.
 
-use tlsf_heap::*;
 use std::alloc::{AllocError, Global};
 use tlsf_class::{CLASSES, Class, low};
+use tlsf_heap::*;
 
 /// A heap of so many records, where its pools begin and how many bytes they have, and how many runs are made.
 #[derive(Clone, Copy)]

@@ -3,10 +3,10 @@
 mod blocks;
 mod pools;
 
-use tlsf_heap::*;
 use blocks::BLOCKS;
 use pools::POOLS;
 use std::alloc::Global;
+use tlsf_heap::*;
 
 /// What is asked of a heap.
 #[derive(Clone, Copy)]

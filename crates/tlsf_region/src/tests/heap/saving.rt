@@ -4,10 +4,10 @@ use super::images::{LEN, RECORDS_AT, vector};
 use super::made;
 use super::random::shifted;
 use super::rows::has_rows;
-use tlsf_heap::*;
 use mtrace_log::memory::{Full, MemorySink};
 use std::alloc::Global;
 use std::process::Abort;
+use tlsf_heap::*;
 
 /// A heap of so many records with a pool of 64 bytes.
 fn small<A: Abort>(rt: &A, alloc: Global, records: u32) -> Heap {

@@ -1,8 +1,8 @@
 //! Walks of pools.
 
 use super::made;
-use tlsf_heap::*;
 use std::alloc::Global;
+use tlsf_heap::*;
 
 /// Whether a walk of the pool gives these rows.
 fn walks(alloc: Global, heap: &mut Heap, base: u64, wanted: &[Row]) -> bool {

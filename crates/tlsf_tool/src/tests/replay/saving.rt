@@ -1,7 +1,7 @@
 //! Heaps that are saved at the end of a log.
 
-use mtrace_replay::*;
 use mtrace_log::memory::{Full, MemorySink, MemorySource};
+use mtrace_replay::*;
 use std::alloc::Global;
 use std::process::Abort;
 use tlsf_heap::{Heap, ImageFault};
