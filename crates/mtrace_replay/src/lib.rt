@@ -20,8 +20,6 @@ mod spot;
 mod start;
 mod status;
 mod step;
-#[cfg(test)]
-mod tests;
 mod totals;
 mod walk;
 

@@ -12,6 +12,5 @@ pub mod Chains
 pub mod Edits
 pub mod Entries
 pub mod States
-pub mod Checks
 pub mod Loading
 pub mod Imaged

@@ -29,8 +29,6 @@ mod request;
 mod row;
 mod runs;
 mod search;
-#[cfg(test)]
-mod tests;
 mod walk;
 
 pub use crate::answer::Answer;

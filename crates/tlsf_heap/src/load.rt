@@ -6,7 +6,7 @@ ghost use Rattle.tlsf_store.specs.declared.errors.StoreError.TheVariants.{OutOfM
 ghost use Rattle.tlsf_store.specs.Records.{vacant_count, most_records};
 ghost use Rattle.tlsf_store.specs.Cells.{head_at, empty_cells, most_pools};
 ghost use Rattle.tlsf_heap.specs.Images.{parts_of};
-ghost use Rattle.tlsf_heap.specs.Inner.Bitmaps.{AreBitmapsOf};
+ghost use Rattle.tlsf_image.specs.Bitmaps.{AreBitmapsOf};
 ghost use Rattle.tlsf_heap.specs.Inner.Loading.{CanBeStored, with_records, with_pools, HasNoHeads};
 
 use crate::bitmaps::set_class_bit;

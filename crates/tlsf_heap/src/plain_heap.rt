@@ -11,7 +11,5 @@ mod malloc;
 mod memalign;
 mod pool;
 mod realloc;
-#[cfg(test)]
-mod tests;
 
 pub use heap::PlainHeap;

@@ -3,7 +3,8 @@
 ghost use Rattle.std.specs.Prelude.{◌≡◌, ◌+◌, ◌*◌, ◌≤◌, length, drop, IfSome, IfNone};
 ghost use Rattle.tlsf_class.specs.Classes.{steps, levels, classes};
 ghost use Rattle.tlsf_heap.specs.Touches.{AtMost};
-ghost use Rattle.tlsf_heap.specs.Inner.Bitmaps.{AreBitmapsOf, HasNoBit, IsLowestFrom, first_head};
+ghost use Rattle.tlsf_image.specs.Bitmaps.{AreBitmapsOf};
+ghost use Rattle.tlsf_heap.specs.Inner.Bitmaps.{HasNoBit, IsLowestFrom, first_head};
 
 use tlsf_class::{Class, STEPS};
 use tlsf_store::{Slot, Store};

@@ -6,3 +6,5 @@ pub mod Rules
 pub mod Writing
 pub mod Findings
 pub mod Told
+pub mod Bitmaps
+pub mod Whole

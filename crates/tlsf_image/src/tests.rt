@@ -1,5 +1,7 @@
 //! Worked images, and bytes that break a rule.
 
+mod tables;
+
 use super::*;
 use std::process::Abort;
 use tlsf_class::Class;

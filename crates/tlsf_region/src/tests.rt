@@ -1,6 +1,7 @@
-//! Rows of the region.
+//! Rows of the region, and of the heaps below it.
 
 mod example;
+mod heap;
 mod hostile;
 mod sizes;
 

@@ -4,6 +4,7 @@ mod glibc_log;
 mod hostile;
 mod images;
 mod program;
+mod replay;
 mod reports;
 mod rows;
 mod words;

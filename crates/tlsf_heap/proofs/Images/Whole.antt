@@ -5,7 +5,7 @@ use Rattle.tlsf_store.specs.Cells.{Cells}
 use Rattle.tlsf_image.specs.declared.rule.Rule.TheVariants.{Pools}
 use Rattle.tlsf_image.specs.Rules.{first_of, rules_of_parts}
 use Rattle.tlsf_image.specs.Told.{told_parts}
-use Rattle.tlsf_heap.specs.Inner.Checks.{IsWhole}
+use Rattle.tlsf_image.specs.Whole.{IsWhole}
 use Rattle.tlsf_heap.specs.Inner.Following.{Stands}
 use Rattle.tlsf_heap.proofs.Images.Saved.{told_unbroken, told_ordered}
 

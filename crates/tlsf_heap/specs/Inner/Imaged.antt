@@ -8,7 +8,7 @@ use Rattle.tlsf_store.specs.Cells.{Cells, most_pools}
 use Rattle.tlsf_image.specs.Image.{parts_in}
 use Rattle.tlsf_image.specs.Rules.{present, is_used, is_free, are_pools, first_of, rules_of_parts}
 use Rattle.tlsf_heap.specs.Images.{parts_of}
-use Rattle.tlsf_heap.specs.Inner.Bitmaps.{AreBitmapsOf}
+use Rattle.tlsf_image.specs.Bitmaps.{AreBitmapsOf}
 use Rattle.tlsf_heap.specs.Inner.Entries.{entries_of, padded}
 use Rattle.tlsf_heap.specs.Inner.Represents.{pool_views, list_views}
 

@@ -7,7 +7,7 @@ use Rattle.tlsf_store.specs.Records.{blank, IsBelow, IsKept}
 use Rattle.tlsf_store.specs.Cells.{Cells, head_at}
 use Rattle.tlsf_image.specs.Image.{Parts}
 use Rattle.tlsf_image.specs.Rules.{at, is_used}
-use Rattle.tlsf_heap.specs.Inner.Bitmaps.{AreBitmapsOf}
+use Rattle.tlsf_image.specs.Bitmaps.{AreBitmapsOf}
 
 -- the cells with these records, and with these pools
 abbrev pub with_records : List Record → Cells → Cells

@@ -1,4 +1,0 @@
-use Rattle.tlsf_heap.proofs.tests.random.same_rows.Given as goal
-
-abbrev pub invariant-loop-row : goal.invariant-loop-row
-invariant-loop-row g l = g.A.Heaped.stands l.tlsf l.one × g.B.Heaped.stands l.plain l.other

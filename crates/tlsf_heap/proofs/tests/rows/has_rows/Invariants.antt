@@ -1,4 +1,0 @@
-use Rattle.tlsf_heap.proofs.tests.rows.has_rows.Given as goal
-
-abbrev pub invariant-loop-place : goal.invariant-loop-place
-invariant-loop-place g l = g.H.Heaped.stands l.heap l.cursor
