@@ -1,38 +1,137 @@
 -- The held spots alone, and vacant ones spread among them.
-use Rattle.std.proofs.Common.{◌≡◌, ℕ, zero, suc, ◌<◌, ◌≤◌, ◌+◌, ◌-◌, ◌*◌, ◌/◌, ◌^◌, min, List, [], ◌∷◌, ◌++◌, Bool, take, drop, length, replicate, slice_index_or, filter, is_some, not, arith, refl, sym, ap, ◌∙◌, subst}
-use Rattle.std.proofs.Math.Nat.{mul-zero, zero-div}
-use Rattle.std.proofs.Math.Seq.{take-suc, drop-append-add}
-use Rattle.std.proofs.lemmas.List.{length-take-le, append_assoc, take_at, take-append-le, drop-drop, drop-append-le, get_or-drop, length-drop, length-append, get_or-take}
+use Rattle.std.proofs.Common.{◌≡◌, ℕ, zero, suc, ◌<◌, ◌≤◌, ◌+◌, ◌-◌, List, [], ◌∷◌, ◌++◌, ◌⊎◌, Bool, not, inl, inr, take, drop, length, replicate, slice_index_or, slice_set, is_some, true, false, arith, refl, sym, ap, ap₂, ◌∙◌, subst}
+use Rattle.std.proofs.Math.Nat.{eq-or-lt_of_le}
+use Rattle.std.proofs.Math.Seq.{take-suc, take-suc-set, drop-append-add}
+use Rattle.std.proofs.lemmas.List.{length-take-le, append_assoc, append-nil, take_at, take-append-le, drop-drop, drop-append-le, drop-set-lt, get_or-drop, get_or-set_same, get_or-set_other, length-drop, length-append, length-set, get_or-take, set_split, set-append_left, take-append-drop}
+use Rattle.std.proofs.lemmas.List.Elements.{filter-append}
 use borrow.Rule.Slice.PartMut.{mid_of, put_mid}
 use Rattle.mtrace_replay.specs.Holding.{Holding}
 use Rattle.mtrace_replay.specs.Spot.{Spot}
 use Rattle.mtrace_replay.specs.Spot.Spot.{Held, Vacant}
 use Rattle.mtrace_replay.specs.Spot.{spot_address, least_behind, holding_of, all_held, RiseFrom}
-use Rattle.mtrace_replay.specs.Arrange.{behind_vacant}
+use Rattle.mtrace_replay.specs.Arrange.{behind_vacant, held_spots}
 use Rattle.mtrace_replay.proofs.SpotLemmas.{rise_lower, held_append}
 
--- as the code asks
-abbrev pub is_kept : Spot → Bool
-is_kept spot = not (not (is_some (holding_of spot)))
+pub alone_held : (spots : List Spot) → all_held (held_spots spots) ≡ all_held spots
+alone_held [] = refl
+alone_held (Held holding ∷ spots) = ap (λ all. holding ∷ all) (alone_held spots)
+alone_held (Vacant address ∷ spots) = alone_held spots
 
-abbrev pub kept : List Spot → List Spot
-kept spots = filter is_kept spots
+pub alone_rise : (bound : ℕ) (spots : List Spot) → RiseFrom bound spots → RiseFrom bound (held_spots spots)
+alone_rise bound [] rise = tt
+alone_rise bound (Held holding ∷ spots) rise = (rise.0, alone_rise (suc holding.entry.addr) spots rise.1)
+alone_rise bound (Vacant address ∷ spots) rise = rise_lower address bound (held_spots spots) rise.0 (alone_rise address spots rise.1)
 
-pub kept-held : (spots : List Spot) → all_held (kept spots) ≡ all_held spots
-kept-held [] = refl
-kept-held (Held holding ∷ spots) = ap (λ all. holding ∷ all) (kept-held spots)
-kept-held (Vacant address ∷ spots) = kept-held spots
+-- what was held before a place stands first; from there on all is as it was
+pub record Leaves (old now : List Spot) (at held : ℕ) : Type 0 where
+  pub fewer : held ≤ at
+  pub len : length now ≡ length old
+  pub left : take held now ≡ held_spots (take at old)
+  pub behind : drop at now ≡ drop at old
 
-pub kept-rise : (bound : ℕ) (spots : List Spot) → RiseFrom bound spots → RiseFrom bound (kept spots)
-kept-rise bound [] rise = tt
-kept-rise bound (Held holding ∷ spots) rise = (rise.0, kept-rise (suc holding.entry.addr) spots rise.1)
-kept-rise bound (Vacant address ∷ spots) rise = rise_lower address bound (kept spots) rise.0 (kept-rise address spots rise.1)
+pub is_not : (b : Bool) → not b ≡ true → b ≡ false
+is_not true is = cc
+is_not false is = refl
+
+pub is_so : (b : Bool) → not b ≡ false → b ≡ true
+is_so true is = refl
+is_so false is = cc
+
+one_held : (spot : Spot) → is_some (holding_of spot) ≡ true → held_spots (spot ∷ []) ≡ spot ∷ []
+one_held (Held holding) is = refl
+one_held (Vacant address) is = cc
+
+one_vacant : (spot : Spot) → is_some (holding_of spot) ≡ false → held_spots (spot ∷ []) ≡ []
+one_vacant (Held holding) is = cc
+one_vacant (Vacant address) is = refl
+
+next : (at : ℕ) → at + 1 ≡ suc at
+next at = omega arith
+
+one_dropped : (at : ℕ) (spots : List Spot) → drop 1 (drop at spots) ≡ drop (suc at) spots
+one_dropped at spots = drop-drop 1 at spots ∙ ap (λ n. drop n spots) (next at)
+
+-- one place on
+module _ (old now : List Spot) (at held : ℕ) (within : at < length old) (has : Leaves old now at held) (default : Spot) where
+  abbrev there : Spot
+  there = slice_index_or now at default
+
+  there_is : slice_index_or old at default ≡ there
+  there_is =
+      ap (λ n. slice_index_or old n default) (omega arith)
+      ∙ sym (get_or-drop at old 0 default)
+      ∙ ap (λ spots. slice_index_or spots 0 default) (sym has.behind)
+      ∙ get_or-drop at now 0 default
+      ∙ ap (λ n. slice_index_or now n default) (omega arith)
+
+  one_more : held_spots (take (suc at) old) ≡ held_spots (take at old) ++ held_spots (there ∷ [])
+  one_more =
+      ap held_spots (take-suc old at default within ∙ ap (λ s. take at old ++ s ∷ []) there_is)
+      ∙ filter-append (λ s. is_some (holding_of s)) (take at old) (there ∷ [])
+
+  one_on : drop (suc at) now ≡ drop (suc at) old
+  one_on = sym (one_dropped at now) ∙ ap (drop 1) has.behind ∙ one_dropped at old
+
+  pub leaves_held : is_some (holding_of (slice_index_or now at default)) ≡ true → (new : List Spot) → new ≡ slice_set now held (slice_index_or now at default) → Leaves old new (at + 1) (held + 1)
+  leaves_held is new new_is = subst (λ n. Leaves old new n (held + 1)) (sym (next at)) (subst (Leaves old new (suc at)) (sym (next held)) (record {
+    fewer = omega (arith, has.fewer);
+    len = ap (length {A = Spot}) new_is ∙ length-set now held there ∙ has.len;
+    left = ap (take (suc held)) new_is ∙ take-suc-set now held there (omega (arith, has.fewer, has.len, within)) ∙ ap (λ first. first ++ there ∷ []) has.left ∙ sym (one_more ∙ ap (λ last. held_spots (take at old) ++ last) (one_held there is));
+    behind = ap (drop (suc at)) new_is ∙ drop-set-lt (suc at) now held there (omega (arith, has.fewer)) ∙ one_on;
+  }))
+
+  pub leaves_vacant : is_some (holding_of (slice_index_or now at default)) ≡ false → Leaves old now (at + 1) held
+  leaves_vacant is = subst (λ n. Leaves old now n held) (sym (next at)) (record {
+    fewer = omega (arith, has.fewer);
+    len = has.len;
+    left = has.left ∙ sym (one_more ∙ ap (λ last. held_spots (take at old) ++ last) (one_vacant there is) ∙ append-nil (held_spots (take at old)));
+    behind = one_on;
+  })
+
+-- a spot written in the second of two parts, or in the first
+pub copied_up : (spots : List Spot) (to : ℕ) (spot : Spot) → to < length spots → take to spots ++ slice_set (drop to spots) 0 spot ≡ slice_set spots to spot
+copied_up spots to spot within =
+    ap (λ rest. take to spots ++ rest) (set_split (drop to spots) 0 spot (omega (arith, length-drop to spots, within)) ∙ ap (λ rest. spot ∷ rest) (one_dropped to spots))
+    ∙ sym (set_split spots to spot within)
+
+pub copied_down : (spots : List Spot) (from to : ℕ) (spot : Spot) → to < from → from < length spots → slice_set (take from spots) to spot ++ drop from spots ≡ slice_set spots to spot
+copied_down spots from to spot below within =
+    sym (set-append_left (take from spots) (drop from spots) to spot (omega (arith, length-take-le from spots (omega (arith, within)), below)))
+    ∙ ap (λ all. slice_set all to spot) (take-append-drop from spots)
 
 -- the first spot stands last, and vacant ones before it, so far as they are made
 pub record MovesUp (old now : List Spot) (from at : ℕ) : Type 0 where
   pub len : length now ≡ length old
   pub last : (default : Spot) → slice_index_or now (length old - 1) default ≡ slice_index_or old 0 default
   pub vacant : (k : ℕ) → from ≤ k → k < at → (default : Spot) → slice_index_or now k default ≡ Vacant (spot_address (slice_index_or old 0 default))
+
+pub starts_up : (old now : List Spot) (from : ℕ) → from < length old → ((default : Spot) → now ≡ slice_set old (length old - 1) (slice_index_or old 0 default)) → MovesUp old now from from
+starts_up old now from within copied = record {
+  len = ap (length {A = Spot}) (copied (Vacant 0)) ∙ length-set old (length old - 1) (slice_index_or old 0 (Vacant 0));
+  last = λ default. ap (λ spots. slice_index_or spots (length old - 1) default) (copied default) ∙ get_or-set_same old (length old - 1) (slice_index_or old 0 default) default (omega (arith, within));
+  vacant = λ k above below default. absurd (omega (arith, above, below));
+}
+
+pub goes_up : (old now new : List Spot) (from at address : ℕ) → at < length old - 1 → MovesUp old now from at → ((default : Spot) → address ≡ spot_address (slice_index_or old 0 default)) → new ≡ slice_set now at (Vacant address)
+    → MovesUp old new from (suc at)
+goes_up old now new from at address within moves address_is new_is = record {
+  len = ap (length {A = Spot}) new_is ∙ length-set now at (Vacant address) ∙ moves.len;
+  last = λ default.
+      ap (λ spots. slice_index_or spots (length old - 1) default) new_is
+      ∙ get_or-set_other now at (length old - 1) (Vacant address) default (λ same. omega (arith, same, within))
+      ∙ moves.last default;
+  vacant = λ k above below default. one k above default (eq-or-lt_of_le (omega (arith, below)));
+}
+  where
+    one : (k : ℕ) → from ≤ k → (default : Spot) → (k ≡ at) ⊎ (k < at) → slice_index_or new k default ≡ Vacant (spot_address (slice_index_or old 0 default))
+    one k above default (inr less) =
+        ap (λ spots. slice_index_or spots k default) new_is
+        ∙ get_or-set_other now at k (Vacant address) default (λ same. omega (arith, same, less))
+        ∙ moves.vacant k above less default
+    one k above default (inl same) =
+        ap₂ (λ spots n. slice_index_or spots n default) new_is same
+        ∙ get_or-set_same now at (Vacant address) default (omega (arith, within, moves.len))
+        ∙ ap Vacant (address_is default)
 
 -- so many times one thing, and then another
 pub filled_up : (filler last : Spot) (count : ℕ) (spots : List Spot) → length spots ≡ suc count → ((k : ℕ) → k < count → slice_index_or spots k filler ≡ filler) → slice_index_or spots count filler ≡ last
@@ -76,13 +175,6 @@ vacant_held before address count behind =
 -- the number before one that isn't zero
 pub number_before : (n : ℕ) → 0 < n → n ≡ suc (n - 1)
 number_before n some = omega (arith, some)
-
--- no vacant spot comes before the first one
-pub no_share : (vacant at held share : ℕ) → at ≡ 0 → share ≡ min (vacant * at) (2 ^ 64 - 1) → share / held ≡ 0
-no_share vacant at held share first is =
-    let none : vacant * at ≡ 0 = ap (λ n. vacant * n) first ∙ mul-zero vacant in
-    let zero_share : share ≡ 0 = omega (arith, is, none) in
-    ap (λ n. n / held) zero_share ∙ zero-div held
 
 -- one spot more stands behind those that there were
 module _ (old before : List Spot) (spot : Spot) (counter : ℕ) (first : take (length old) before ≡ old) (more : length old ≤ length before) (most : length before ≤ length old + counter) where

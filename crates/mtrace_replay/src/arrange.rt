@@ -1,11 +1,27 @@
 //! How the vacant spots of an index come to stand where new addresses are.
 
-ghost use Rattle.std.specs.Prelude.{◌≡◌, ◌+◌, ◌-◌, ◌<◌, ◌≤◌, length, take, drop, slice_index_or};
+ghost use Rattle.std.specs.Prelude.{◌≡◌, ◌+◌, ◌-◌, ◌<◌, ◌≤◌, length, take, drop, slice_index_or, slice_set};
 ghost use Rattle.std.specs.Vec.{vec_capacity};
 ghost use Rattle.mtrace_replay.specs.Spot.{Spot, all_held, RiseFrom};
-ghost use Rattle.mtrace_replay.specs.Arrange.{behind_vacant};
+ghost use Rattle.mtrace_replay.specs.Arrange.{behind_vacant, held_spots};
 
+use crate::entered::{Entered, Gaps};
 use crate::spot::Spot;
+
+/// The spot at one place comes to stand at another, too.
+fn copy_spot(spots: &mut [Spot], from: usize, to: usize)
+    requires from { from < length spots.old }
+    requires to { to < length spots.old }
+    ensures { (default : Spot) → spots.new ≡ slice_set spots.old to (slice_index_or spots.old from default) }
+{
+    if from < to {
+        let (front, back) = spots.split_at_mut(to);
+        back[0].copy(&front[from]);
+    } else if to < from {
+        let (front, back) = spots.split_at_mut(from);
+        front[to].copy(&back[0]);
+    }
+}
 
 /// Moves the first spot to the end, with vacant ones before it from there on.
 fn move_up(spots: &mut [Spot], from: usize)
@@ -15,14 +31,15 @@ fn move_up(spots: &mut [Spot], from: usize)
     ensures len { length spots.new ≡ length spots.old }
 {
     let last = spots.len() - 1;
-    spots.swap(0, last);
+    copy_spot(spots, 0, last);
+    let sign = spots[last].sign();
     for at in from..last {
-        spots[at] = spots[last].vacant_before();
+        spots[at].stand_before(&sign);
     }
 }
 
-/// Spreads the first so many spots evenly over all places, with vacant ones before them.
-fn spread(spots: &mut [Spot], held: usize)
+/// Spreads the first so many spots over all places, with vacant ones before each, as many as the gaps say.
+fn spread(spots: &mut [Spot], held: usize, gaps: &Gaps)
     requires some { 0 < held }
     requires within { held ≤ length spots.old }
     requires rise { RiseFrom 0 (take held spots.old) }
@@ -30,13 +47,11 @@ fn spread(spots: &mut [Spot], held: usize)
     ensures rise { RiseFrom 0 spots.new }
     ensures len { length spots.new ≡ length spots.old }
 {
-    let vacant = spots.len() - held;
     let mut end = spots.len();
     let mut at = held;
     while at > 0 {
         at -= 1;
-        let before = vacant.saturating_mul(at) / held;
-        let start = at.saturating_add(before).min(end - 1);
+        let start = at.saturating_add(gaps.count_before(at)).min(end - 1);
         move_up(&mut spots[at..end], start - at);
         end = start;
     }
@@ -59,9 +74,26 @@ fn grow(spots: &mut Vec<Spot>, vacant: usize)
     }
 }
 
-/// Puts the room that is left to the end; or spreads three quarters of it, or as many vacant spots as there are held ones,
-/// evenly among these, and puts the rest to the end.
-pub(crate) fn arrange(spots: &mut Vec<Spot>, room: usize, at_end: bool)
+/// Leaves the held spots alone, in their order.
+fn leave_held(spots: &mut Vec<Spot>)
+    ensures left { spots.new.items ≡ held_spots spots.old.items }
+    ensures fewer { length spots.new.items ≤ length spots.old.items }
+    ensures reserved { vec_capacity spots.new ≡ vec_capacity spots.old }
+{
+    let mut held = 0;
+    for at in 0..spots.len() {
+        if spots[at].is_vacant() {
+            continue;
+        }
+        copy_spot(spots, at, held);
+        held += 1;
+    }
+    spots.truncate(held);
+}
+
+/// Leaves the held spots, and shares the room by where new addresses came: vacant spots among the held ones, at most as many as
+/// these, and the rest at the end.
+pub(crate) fn arrange(spots: &mut Vec<Spot>, room: usize, entered: &Entered)
     requires within { length spots.old.items ≤ room }
     requires reserved { room ≤ vec_capacity spots.old }
     requires rise { RiseFrom 0 spots.old.items }
@@ -70,11 +102,12 @@ pub(crate) fn arrange(spots: &mut Vec<Spot>, room: usize, at_end: bool)
     ensures within { length spots.new.items ≤ room }
     ensures reserved { vec_capacity spots.new ≡ vec_capacity spots.old }
 {
-    spots.retain(|spot| !spot.is_vacant());
+    leave_held(spots);
     let held = spots.len();
-    if at_end || held == 0 {
+    let vacant = entered.share(room - held).min(held);
+    if vacant == 0 {
         return;
     }
-    grow(spots, ((room - held) / 4 * 3).min(held));
-    spread(spots, held);
+    grow(spots, vacant);
+    spread(spots, held, &entered.gaps(held, vacant));
 }

@@ -30,6 +30,21 @@ impl Entry<LentLocation<'_>> {
 }
 
 impl Entry {
+    /// The entry with its location lent.
+    pub(crate) fn lend(&self) -> Entry<LentLocation<'_>>
+        ensures { result ≡ self.now }
+    {
+        Entry {
+            addr: self.addr,
+            size: self.size,
+            line: self.line,
+            at: match &self.at {
+                Some(location) => Some(location.lend()),
+                None => None,
+            },
+        }
+    }
+
     /// Becomes the other entry, with its location kept.
     pub(crate) fn set(&mut self, other: &Entry<LentLocation<'_>>)
         ensures { self.new ≡ other.now }

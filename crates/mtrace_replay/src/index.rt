@@ -4,6 +4,7 @@ ghost use Rattle.std.specs.Prelude.{◌≡◌, ℕ, ◌+◌, ◌<◌, ◌≤◌,
 ghost use Rattle.mtrace_replay.specs.Index.{held_at, held_bytes, AreInOrder, LooksUp, IsFound};
 
 use crate::arrange::arrange;
+use crate::entered::Entered;
 use crate::entry::Entry;
 use crate::search::{enter, is_last_of, search};
 use crate::spot::Spot;
@@ -30,7 +31,7 @@ pub(crate) struct Index {
     room: usize,
     blocks: u64,
     bytes: u64,
-    moved: usize,
+    entered: Entered,
     // Where the spot is that was vacated last, unless spots have moved since: a hint.
     vacated: u32,
     comparisons: GhostCount,
@@ -48,10 +49,10 @@ impl Model for Index {
     ghost invariant = { λ index. IsIndex index.spots.items (vec_capacity index.spots) index.room index.blocks index.bytes };
 }
 
-/// Whether more than half of so many spots are vacant, but for a few. So where addresses rise, the spots stay few, and a search
-/// stays among those that it looked at before.
-fn is_sparse(spots: usize, blocks: u64) -> bool {
-    spots as u64 / 2 > blocks.saturating_add(64)
+/// Whether room at the end is to be made anew: a new address there moved many of so many spots, or most of them are vacant. So
+/// where addresses rise, the spots stay few, and a search stays among those that it looked at before.
+fn is_end_spent(spots: usize, blocks: u64, moved: usize) -> bool {
+    moved > spots / 64 || spots as u64 / 2 > blocks.saturating_add(64)
 }
 
 impl Index {
@@ -69,7 +70,7 @@ impl Index {
             room,
             blocks: 0,
             bytes: 0,
-            moved: 0,
+            entered: Entered::new(),
             vacated: 0,
             comparisons: GhostCount::new(),
         })
@@ -158,16 +159,17 @@ impl Index {
                 self.spots[at].hold(entry, ptr);
             }
             Err(at) => {
-                let at_end = at == self.spots.len();
+                let before = self.spots.len();
                 self.blocks += 1;
                 self.bytes += size;
                 let moved = enter(&mut self.spots, self.room, at, entry, ptr);
-                self.moved = self.moved.saturating_add(moved);
-                if self.moved > self.spots.len()
-                    || at_end && is_sparse(self.spots.len(), self.blocks)
+                self.entered.add(at, before, moved);
+                let now = self.spots.len();
+                if self.entered.moved() > now
+                    || at == before && is_end_spent(now, self.blocks, moved)
                 {
-                    self.moved = 0;
-                    arrange(&mut self.spots, self.room, at_end);
+                    arrange(&mut self.spots, self.room, &self.entered);
+                    self.entered = Entered::new();
                 }
             }
         }

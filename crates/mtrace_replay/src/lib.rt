@@ -4,6 +4,7 @@
 
 mod arrange;
 mod diagnostic;
+mod entered;
 mod entry;
 mod findings;
 mod free_blocks;

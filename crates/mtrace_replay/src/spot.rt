@@ -30,6 +30,12 @@ impl Model for Spot {
     ghost view = { λ spot. spot_of spot.entry spot.block };
 }
 
+/// The address of a spot, for vacant ones that come to stand before it.
+#[derive(Clone, Copy)]
+pub(crate) struct Sign {
+    address: Addr,
+}
+
 /// How a spot stands to an address.
 #[derive(Clone, Copy)]
 pub(crate) struct Standing {
@@ -69,6 +75,14 @@ impl Spot {
         self.block = Some(ptr);
     }
 
+    /// Becomes the other spot. So of a location only the bytes that it has are copied.
+    pub(crate) fn copy(&mut self, other: &Spot)
+        ensures { self.new ≡ other.now }
+    {
+        self.entry.set(&other.entry.lend());
+        self.block = other.block;
+    }
+
     /// Nothing is held here any more. It keeps the hint where the spot was that was vacated before.
     pub(crate) fn vacate(&mut self, vacated_before: u32)
         ensures { self.new ≡ Vacant (spot_address self.old) }
@@ -96,6 +110,23 @@ impl Spot {
             vacated_before: 0,
             block: None,
         }
+    }
+
+    /// Its address, for vacant spots that come to stand before it.
+    pub(crate) fn sign(&self) -> Sign
+        ensures { result.address ≡ spot_address self.now }
+    {
+        Sign {
+            address: self.address(),
+        }
+    }
+
+    /// Comes to be a vacant spot before the one of this sign.
+    pub(crate) fn stand_before(&mut self, sign: &Sign)
+        ensures { self.new ≡ Vacant sign.now.address }
+    {
+        self.entry.addr = sign.address;
+        self.block = None;
     }
 
     /// The address, for `compare` and a spot before this one.

@@ -43,8 +43,8 @@ arrange-requires-clause-rise c =
     let fits = subst (λ a. FitsAt c.self.inside.spots.items a c.in-Err.at) c.requires.address (found_fits c.self.inside.spots.items c.args.self.now (ap (λ (index : Indexed). index.spots) c.self.view_is) c.args.found.now c.requires.found c.in-Err.at c.in-Err.is) in
     enters_rise c.self.inside.spots.items c.args.entry.now.addr c.in-Err.at c.self.invariant.rise fits (Held (record { entry = c.args.entry.now; ptr = c.args.ptr })) refl c.enter-moved.new.spots.items c.enter-moved.ensures.enters
 
-pub invariant_of-self-then-self-len : goal.invariant_of-self-then-self-len
-invariant_of-self-then-self-len c =
+pub invariant_of-self-then-moved-now : goal.invariant_of-self-then-moved-now
+invariant_of-self-then-moved-now c =
     let address = c.args.entry.now.addr in
     let fits = subst (λ a. FitsAt c.self.inside.spots.items a c.in-Err.at) c.requires.address (found_fits c.self.inside.spots.items c.args.self.now (ap (λ (index : Indexed). index.spots) c.self.view_is) c.args.found.now c.requires.found c.in-Err.at c.in-Err.is) in
     arranged_keeps c.enter-moved.new.spots.items c.arrange.new.spots.items (vec_capacity c.self.inside.spots) (vec_capacity c.arrange.new.spots) c.self.inside.room (c.self.inside.blocks + 1) (c.self.inside.bytes + c.args.entry.now.size)
@@ -53,8 +53,8 @@ invariant_of-self-then-self-len c =
     (omega arith) (omega (arith)))
     c.arrange.ensures.same c.arrange.ensures.rise c.arrange.ensures.within (c.arrange.ensures.reserved ∙ c.enter-moved.ensures.reserved)
 
-pub invariant_of-self-else-is_sparse : goal.invariant_of-self-else-is_sparse
-invariant_of-self-else-is_sparse c =
+pub invariant_of-self-else-is_end_spent : goal.invariant_of-self-else-is_end_spent
+invariant_of-self-else-is_end_spent c =
     let address = c.args.entry.now.addr in
     let fits = subst (λ a. FitsAt c.self.inside.spots.items a c.in-Err.at) c.requires.address (found_fits c.self.inside.spots.items c.args.self.now (ap (λ (index : Indexed). index.spots) c.self.view_is) c.args.found.now c.requires.found c.in-Err.at c.in-Err.is) in
     subst (λ memory. IsIndex c.enter-moved.new.spots.items memory c.self.inside.room (c.self.inside.blocks + 1) (c.self.inside.bytes + c.args.entry.now.size)) (sym c.enter-moved.ensures.reserved)
@@ -62,16 +62,16 @@ invariant_of-self-else-is_sparse c =
     (vec_capacity c.self.inside.spots) c.self.inside.room c.self.inside.blocks c.self.inside.bytes (c.self.inside.blocks + 1) (c.self.inside.bytes + c.args.entry.now.size) c.self.invariant c.enter-moved.ensures.within
     (omega arith) (omega (arith)))
 
-pub returns-then-self-len-clause-held : goal.returns-then-self-len-clause-held
-returns-then-self-len-clause-held c other =
+pub returns-then-moved-now-clause-held : goal.returns-then-moved-now-clause-held
+returns-then-moved-now-clause-held c other =
     let address = c.args.entry.now.addr in
     let fits = subst (λ a. FitsAt c.self.inside.spots.items a c.in-Err.at) c.requires.address (found_fits c.self.inside.spots.items c.args.self.now (ap (λ (index : Indexed). index.spots) c.self.view_is) c.args.found.now c.requires.found c.in-Err.at c.in-Err.is) in
     ap (λ all. held_at all other) c.arrange.ensures.same
     ∙ enters_held c.self.inside.spots.items address c.in-Err.at c.self.invariant.rise fits (Held (record { entry = c.args.entry.now; ptr = c.args.ptr })) refl c.enter-moved.new.spots.items c.enter-moved.ensures.enters other
     ∙ ap (λ (index : Indexed). cond (address == other) (Some (record { entry = c.args.entry.now; ptr = c.args.ptr })) (held_at index.all other)) c.self.view_is
 
-pub returns-else-is_sparse-clause-held : goal.returns-else-is_sparse-clause-held
-returns-else-is_sparse-clause-held c other =
+pub returns-else-is_end_spent-clause-held : goal.returns-else-is_end_spent-clause-held
+returns-else-is_end_spent-clause-held c other =
     let address = c.args.entry.now.addr in
     let fits = subst (λ a. FitsAt c.self.inside.spots.items a c.in-Err.at) c.requires.address (found_fits c.self.inside.spots.items c.args.self.now (ap (λ (index : Indexed). index.spots) c.self.view_is) c.args.found.now c.requires.found c.in-Err.at c.in-Err.is) in
     enters_held c.self.inside.spots.items address c.in-Err.at c.self.invariant.rise fits (Held (record { entry = c.args.entry.now; ptr = c.args.ptr })) refl c.enter-moved.new.spots.items c.enter-moved.ensures.enters other
