@@ -60,8 +60,9 @@ impl Entered {
         let mut came = 0_usize;
         for part in 0..PARTS {
             came = came.saturating_add(self.parts[part]);
-            before[part + 1] = (evenly.saturating_mul(part + 1) / PARTS)
-                .saturating_add(others.saturating_mul(came) / self.between.max(1));
+            before[part + 1] = (evenly.saturating_mul(part + 1) / PARTS).saturating_add(
+                others.saturating_mul(came) / self.between.max(1),
+            );
         }
         Gaps { before, held }
     }

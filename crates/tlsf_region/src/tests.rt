@@ -83,6 +83,24 @@ fn counts_up_to(block: &[u8], count: usize) -> bool {
     true
 }
 
+/// Fills the block of a pointer, which has so many bytes, with bytes that count up.
+fn fill(rt: &impl Abort, region: &mut Region, ptr: Ptr, bytes: usize) {
+    let Some(block) = region.bytes_mut(ptr) else {
+        panic!(rt; "no bytes");
+    };
+    assert_eq!(rt; block.len(), bytes);
+    count_up(block);
+}
+
+/// Compares how many bytes the block of a pointer has, and that so many of them count up.
+fn expect_filled(rt: &impl Abort, region: &mut Region, ptr: Ptr, bytes: usize, filled: usize) {
+    let Some(block) = region.bytes(ptr) else {
+        panic!(rt; "no bytes");
+    };
+    assert_eq!(rt; block.len(), bytes);
+    assert!(rt; counts_up_to(block, filled));
+}
+
 /// A block that moves takes its bytes along, and its old pointer lends none.
 #[test]
 fn bytes_move(rt: HostRuntime) {
@@ -91,21 +109,13 @@ fn bytes_move(rt: HostRuntime) {
     let Ok(p) = region.malloc(100) else {
         panic!(rt; "no block");
     };
-    let Some(block) = region.bytes_mut(p) else {
-        panic!(rt; "no bytes");
-    };
-    assert_eq!(rt; block.len(), 112);
-    count_up(block);
+    fill(&rt, &mut region, p, 112);
     assert!(rt; region.malloc(1).is_ok());
     let Ok(Some(q)) = region.realloc(Some(p), 200) else {
         panic!(rt; "not moved");
     };
     assert_eq!(rt; q.place(), 128);
-    let Some(block) = region.bytes(q) else {
-        panic!(rt; "no bytes");
-    };
-    assert_eq!(rt; block.len(), 208);
-    assert!(rt; counts_up_to(block, 112));
+    expect_filled(&rt, &mut region, q, 208, 112);
     assert!(rt; region.bytes(p).is_none());
     assert!(rt; region.bytes_mut(p).is_none());
 }

@@ -3,7 +3,7 @@ use Rattle.std.proofs.Common.{arith, ◌≡◌, ◌∙◌, ◌⊎◌, ◌<◌, �
 use Rattle.std.specs.Prelude.{Box, IfSome, IfNone, String, string_bytes, slice_index}
 use Rattle.std.specs.declared.alloc.Global.{Global}
 use Rattle.std.specs.Str.Parse.{ParsesUnsigned, digits_value, without_leading_plus}
-use Rattle.clap.specs.Words.{App, HasMatchesOf, HasKind, IsAmong, Kinds, ReadsOne, Row, Text, fault_of, first_of, is_simple, is_simple_and_free, kind_of, one_text, rows_of, subcommand_name_of, subcommand_of, subcommand_rows, subcommand_rows_of}
+use Rattle.clap.specs.Words.{App, HasMatchesOf, HasKind, IsAmong, Kinds, ReadsOne, Row, Text, fault_of, first_of, is_simple, is_simple_and_free, kind_of, one_text, rows_of, with_subcommand, subcommand_name_of, subcommand_of, subcommand_rows, subcommand_rows_of}
 use Rattle.clap.specs.declared.parser.matches.ArgMatches.{ArgMatches}
 use Rattle.clap.specs.declared.parser.matches.ArgMatches.TheViews.{out-ArgMatches, out-SubCommand}
 use Rattle.clap.specs.declared.parser.matches.SubCommand.{SubCommand}
@@ -22,7 +22,7 @@ use Rattle.tlsf_tool.specs.declared.asked.Name.{Name}
 use Rattle.tlsf_tool.specs.declared.asked.Name.TheVariants.{Leaks, Peak, Walk}
 use Rattle.tlsf_tool.specs.declared.asked.ToolFault.{ToolFault}
 use Rattle.tlsf_tool.specs.declared.asked.ToolFault.TheVariants.{Help, Usage, CannotOpen, Run}
-use Rattle.tlsf_tool.specs.CommandLine.{AskFor, HasNumber, HasSettings, HasNoLog, MatchesAskFor, name_text, texts_of, tlsf_line, wrong_with}
+use Rattle.tlsf_tool.specs.CommandLine.{AskFor, HasNumber, HasSettings, HasNoLog, MatchesAskFor, bare_line, report_line, save_line, check_line, name_text, texts_of, tlsf_line, wrong_with}
 use Rattle.tlsf_tool.specs.Faults.{ExplainsKind, ExplainsWords, IsUsage}
 
 pub line_is_simple : is_simple tlsf_line ≡ true
@@ -32,6 +32,19 @@ line_is_simple = refl
 pub line_is_free : is_simple_and_free tlsf_line ≡ true
 unfolding clap_on_literals
 line_is_free = refl
+
+-- the lines of the subcommands, put to the bare one one after the other
+pub line_of : (none leaks peak walk save check one two three four five : App) → none ≡ bare_line → leaks ≡ report_line (codes "leaks") → peak ≡ report_line (codes "peak")
+    → walk ≡ report_line (codes "walk") → save ≡ save_line → check ≡ check_line
+    → one ≡ with_subcommand none leaks.top → two ≡ with_subcommand one peak.top → three ≡ with_subcommand two walk.top
+    → four ≡ with_subcommand three save.top → five ≡ with_subcommand four check.top → five ≡ tlsf_line
+line_of none leaks peak walk save check one two three four five none_is leaks_is peak_is walk_is save_is check_is one_is two_is three_is four_is five_is =
+    let first : one ≡ with_subcommand bare_line (report_line (codes "leaks")).top = one_is ∙ ap₂ (λ (a b : App). with_subcommand a b.top) none_is leaks_is in
+    let second : two ≡ with_subcommand (with_subcommand bare_line (report_line (codes "leaks")).top) (report_line (codes "peak")).top =
+    two_is ∙ ap₂ (λ (a b : App). with_subcommand a b.top) first peak_is in
+    let third : three ≡ with_subcommand (with_subcommand (with_subcommand bare_line (report_line (codes "leaks")).top) (report_line (codes "peak")).top) (report_line (codes "walk")).top =
+    three_is ∙ ap₂ (λ (a b : App). with_subcommand a b.top) second walk_is in
+    five_is ∙ ap₂ (λ (a b : App). with_subcommand a b.top) (four_is ∙ ap₂ (λ (a b : App). with_subcommand a b.top) third save_is) check_is
 
 -- ---- numbers
 

@@ -67,8 +67,12 @@ fn write_rows<W: Write>(rt: &impl Abort, out: &mut W, region: &mut Region) -> Re
     written
 }
 
-/// Uses a region of 1,024 bytes, and writes what it is after each step.
-fn use_region<W: Write>(rt: &impl Abort, out: &mut W, region: &mut Region) -> Result<(), Error> {
+/// Takes a block for the text, and one of 100 bytes at a multiple of 64.
+fn take_blocks<W: Write>(
+    rt: &impl Abort,
+    out: &mut W,
+    region: &mut Region,
+) -> Result<(Ptr, Ptr), Error> {
     assert_eq!(rt; region.add_pool(0, 1024), Ok(()));
     let text = region.malloc(TEXT.len() as u64).expect(rt, "a block");
     put_text(rt, region, text);
@@ -80,20 +84,44 @@ fn use_region<W: Write>(rt: &impl Abort, out: &mut W, region: &mut Region) -> Re
         buffer.place()
     )?;
     write_rows(rt, out, region)?;
+    Ok((text, buffer))
+}
 
+/// Makes the text's block one of 100 bytes, for which it has to move.
+fn move_text<W: Write>(
+    rt: &impl Abort,
+    out: &mut W,
+    region: &mut Region,
+    text: Ptr,
+) -> Result<Ptr, Error> {
     let moved = region.realloc(Some(text), 100).expect(rt, "a block");
     let moved = moved.expect(rt, "a pointer");
     writeln!(out, "text moved to {}", moved.place())?;
     write_text(rt, out, region, moved)?;
     write_rows(rt, out, region)?;
+    Ok(moved)
+}
 
+/// Frees a block.
+fn give_back<W: Write>(
+    rt: &impl Abort,
+    out: &mut W,
+    region: &mut Region,
+    name: &str,
+    ptr: Ptr,
+) -> Result<(), Error> {
+    assert_eq!(rt; region.free(ptr), Ok(()));
+    writeln!(out, "{name} freed")?;
+    write_rows(rt, out, region)
+}
+
+/// Uses a region of 1,024 bytes, and writes what it is after each step.
+fn use_region<W: Write>(rt: &impl Abort, out: &mut W, region: &mut Region) -> Result<(), Error> {
+    let (text, buffer) = take_blocks(rt, out, region)?;
+    let moved = move_text(rt, out, region, text)?;
     writeln!(out, "free of the old pointer: {:?}", region.free(text))?;
-    assert_eq!(rt; region.free(buffer), Ok(()));
-    writeln!(out, "buffer freed")?;
-    write_rows(rt, out, region)?;
-    assert_eq!(rt; region.free(moved), Ok(()));
-    writeln!(out, "text freed")?;
-    write_rows(rt, out, region)?;
+    give_back(rt, out, region, "buffer", buffer)?;
+    give_back(rt, out, region, "text", moved)?;
     writeln!(out, "check: {}", region.check())
 }
 

@@ -3,9 +3,9 @@
 use super::rows::{SMALL, WHOLE};
 use crate::asked::Name;
 use mtrace_log::memory::{Full, MemorySink, MemorySource};
-use mtrace_log::{Sink, Source};
 use mtrace_replay::{RunFault, Status, run_leaks, run_peak, run_walk};
 use std::alloc::Global;
+use std::process::Abort;
 
 /// A line that is none, one that is served, one without effect, and half of a reallocation with no newline.
 const HALF: &[u8] = b"+ 0x01000 0x10\n+ 0x1000 0\n- 0x2000\n< 0x1000";
@@ -36,18 +36,23 @@ const READ: [(u64, &[u8]); 3] = [
     (35, b"line 1: not a line\nline 3: 0x2000 is not held\n"),
 ];
 
-/// One report of what the reader gives.
-fn run_one<R: Source, W: Sink>(
+/// Makes one report of what the reader gives, and compares its answer and the text that it wrote.
+fn expect_one(
+    rt: &impl Abort,
     alloc: Global,
     report: Name,
-    reader: &mut R,
-    writer: &mut W,
-) -> Result<Status, RunFault> {
-    match report {
-        Name::Leaks => run_leaks(alloc, reader, writer, SMALL),
-        Name::Peak => run_peak(alloc, reader, writer, SMALL),
-        Name::Walk => run_walk(alloc, reader, writer, SMALL),
-    }
+    mut reader: MemorySource<'_>,
+    mut writer: MemorySink,
+    wanted: Result<Status, RunFault>,
+    text: &[u8],
+) {
+    let answer = match report {
+        Name::Leaks => run_leaks(alloc, &mut reader, &mut writer, SMALL),
+        Name::Peak => run_peak(alloc, &mut reader, &mut writer, SMALL),
+        Name::Walk => run_walk(alloc, &mut reader, &mut writer, SMALL),
+    };
+    assert_eq!(rt; answer, wanted, "{report:?}");
+    assert_eq!(rt; writer.bytes(), text, "{report:?}");
 }
 
 #[test]
@@ -60,11 +65,17 @@ fn reader_fails_at_each_byte(rt: HostRuntime) {
                     text = from_first;
                 }
             }
-            let mut reader = MemorySource::failing_after(HALF, 1, bytes);
-            let mut writer = MemorySink::in_pieces(rt.alloc(), WHOLE);
-            let answer = run_one(rt.alloc(), report, &mut reader, &mut writer);
-            assert_eq!(rt; answer, Err(RunFault::Read), "{report:?} {bytes}");
-            assert_eq!(rt; writer.bytes(), text, "{report:?} {bytes}");
+            let reader = MemorySource::failing_after(HALF, 1, bytes);
+            let writer = MemorySink::in_pieces(rt.alloc(), WHOLE);
+            expect_one(
+                &rt,
+                rt.alloc(),
+                report,
+                reader,
+                writer,
+                Err(RunFault::Read),
+                text,
+            );
         }
     }
 }
@@ -74,11 +85,17 @@ fn writer_fails_at_each_byte(rt: HostRuntime) {
     for (report, text) in TEXTS {
         for room in 0..text.len() {
             for full in [Full::Fails, Full::TakesNone] {
-                let mut reader = MemorySource::in_pieces(HALF, WHOLE);
-                let mut writer = MemorySink::with_room(rt.alloc(), WHOLE, room, full);
-                let answer = run_one(rt.alloc(), report, &mut reader, &mut writer);
-                assert_eq!(rt; answer, Err(RunFault::Write), "{report:?} {room} {full:?}");
-                assert_eq!(rt; writer.bytes(), &text[..room], "{report:?} {room} {full:?}");
+                let reader = MemorySource::in_pieces(HALF, WHOLE);
+                let writer = MemorySink::with_room(rt.alloc(), WHOLE, room, full);
+                expect_one(
+                    &rt,
+                    rt.alloc(),
+                    report,
+                    reader,
+                    writer,
+                    Err(RunFault::Write),
+                    &text[..room],
+                );
             }
         }
     }
@@ -88,36 +105,50 @@ fn writer_fails_at_each_byte(rt: HostRuntime) {
 #[test]
 fn flush_fails_behind_the_text(rt: HostRuntime) {
     for (report, text) in TEXTS {
-        let mut reader = MemorySource::in_pieces(HALF, WHOLE);
-        let mut writer = MemorySink::with_room(
+        let reader = MemorySource::in_pieces(HALF, WHOLE);
+        let writer = MemorySink::with_room(
             rt.alloc(),
             WHOLE,
             text.len(),
             Full::Fails,
         ).failing_flush();
-        let answer = run_one(rt.alloc(), report, &mut reader, &mut writer);
-        assert_eq!(rt; answer, Err(RunFault::Write), "{report:?}");
-        assert_eq!(rt; writer.bytes(), text, "{report:?}");
+        expect_one(
+            &rt,
+            rt.alloc(),
+            report,
+            reader,
+            writer,
+            Err(RunFault::Write),
+            text,
+        );
 
-        let mut reader = MemorySource::in_pieces(HALF, WHOLE);
-        let mut writer = MemorySink::with_room(rt.alloc(), WHOLE, text.len(), Full::Fails);
-        let answer = run_one(rt.alloc(), report, &mut reader, &mut writer);
-        assert_eq!(rt; answer, Ok(Status::Found), "{report:?}");
-        assert_eq!(rt; writer.bytes(), text, "{report:?}");
+        let reader = MemorySource::in_pieces(HALF, WHOLE);
+        let writer = MemorySink::with_room(rt.alloc(), WHOLE, text.len(), Full::Fails);
+        expect_one(
+            &rt,
+            rt.alloc(),
+            report,
+            reader,
+            writer,
+            Ok(Status::Found),
+            text,
+        );
     }
 }
 
 #[test]
 fn read_fault_before_flush_fault(rt: HostRuntime) {
     for report in REPORTS {
-        let mut reader = MemorySource::failing_after(HALF, 1, 15);
-        let mut writer = MemorySink::in_pieces(rt.alloc(), WHOLE).failing_flush();
-        let answer = run_one(rt.alloc(), report, &mut reader, &mut writer);
-        assert_eq!(rt; answer, Err(RunFault::Read), "{report:?}");
-        assert_eq!(rt;
-            writer.bytes(),
+        let reader = MemorySource::failing_after(HALF, 1, 15);
+        let writer = MemorySink::in_pieces(rt.alloc(), WHOLE).failing_flush();
+        expect_one(
+            &rt,
+            rt.alloc(),
+            report,
+            reader,
+            writer,
+            Err(RunFault::Read),
             b"line 1: not a line\n".as_slice(),
-            "{report:?}"
         );
     }
 }
@@ -125,11 +156,17 @@ fn read_fault_before_flush_fault(rt: HostRuntime) {
 #[test]
 fn pending_half_at_read_fault(rt: HostRuntime) {
     for report in REPORTS {
-        let mut reader = MemorySource::failing_after(b"< 0x10\n", WHOLE, 1);
-        let mut writer = MemorySink::in_pieces(rt.alloc(), WHOLE);
-        let answer = run_one(rt.alloc(), report, &mut reader, &mut writer);
-        assert_eq!(rt; answer, Err(RunFault::Read), "{report:?}");
-        assert_eq!(rt; writer.bytes(), b"".as_slice(), "{report:?}");
+        let reader = MemorySource::failing_after(b"< 0x10\n", WHOLE, 1);
+        let writer = MemorySink::in_pieces(rt.alloc(), WHOLE);
+        expect_one(
+            &rt,
+            rt.alloc(),
+            report,
+            reader,
+            writer,
+            Err(RunFault::Read),
+            b"".as_slice(),
+        );
     }
 }
 
@@ -149,11 +186,17 @@ fn carriage_return(rt: HostRuntime) {
     ];
     for (report, text) in texts {
         for log in [b"= Start\r".as_slice(), b"= Start\r\n"] {
-            let mut reader = MemorySource::in_pieces(log, WHOLE);
-            let mut writer = MemorySink::in_pieces(rt.alloc(), WHOLE);
-            let answer = run_one(rt.alloc(), report, &mut reader, &mut writer);
-            assert_eq!(rt; answer, Ok(Status::Found), "{report:?}");
-            assert_eq!(rt; writer.bytes(), text, "{report:?}");
+            let reader = MemorySource::in_pieces(log, WHOLE);
+            let writer = MemorySink::in_pieces(rt.alloc(), WHOLE);
+            expect_one(
+                &rt,
+                rt.alloc(),
+                report,
+                reader,
+                writer,
+                Ok(Status::Found),
+                text,
+            );
         }
     }
 }

@@ -92,6 +92,26 @@ fn expect_same_held(rt: &impl Abort, one: &Replay<Heap>, other: &Replay<PlainHea
     assert!(rt; held.next().is_none(), "line {line}: too many are held");
 }
 
+/// Feeds one line to each heap, and compares what comes of it. Answers whether it was refused for its alignment.
+fn expect_same_line(
+    rt: &impl Abort,
+    line: u64,
+    one: &mut Fed<Heap>,
+    other: &mut Fed<PlainHeap>,
+    events: (Result<Event, LineFault>, Result<Event, LineFault>),
+) -> bool {
+    let (Ok(note), Ok(other_note)) = (one.feed_event(rt, events.0), other.feed_event(rt, events.1))
+    else {
+        panic!(rt; "no memory");
+    };
+    assert!(rt; note == other_note, "line {line}: {note:?} {other_note:?}");
+    assert_eq!(rt; one.replay.totals(), other.replay.totals(), "line {line}");
+    expect_same_held(rt, &one.replay, &other.replay, line);
+    note.as_slice()
+        .iter()
+        .any(|d| matches!(d.kind, Kind::Refused(_, Refusal::BadAlign)))
+}
+
 /// Feeds so many lines to each heap, and answers how many were refused for their alignment.
 fn expect_same(rt: &impl Abort, alloc: Global, seed: u64, count: u64) -> u64 {
     let (Ok(mut one), Ok(mut other)) = (
@@ -104,20 +124,8 @@ fn expect_same(rt: &impl Abort, alloc: Global, seed: u64, count: u64) -> u64 {
     let mut same = Random { state: seed };
     let mut misaligned: u64 = 0;
     for line in 0..count {
-        let (Ok(note), Ok(other_note)) = (
-            one.feed_event(rt, random_line(rt, &mut random)),
-            other.feed_event(rt, random_line(rt, &mut same)),
-        ) else {
-            panic!(rt; "no memory");
-        };
-        assert!(rt; note == other_note, "line {line}: {note:?} {other_note:?}");
-        assert_eq!(rt; one.replay.totals(), other.replay.totals(), "line {line}");
-        expect_same_held(rt, &one.replay, &other.replay, line);
-        if note
-            .as_slice()
-            .iter()
-            .any(|d| matches!(d.kind, Kind::Refused(_, Refusal::BadAlign)))
-        {
+        let events = (random_line(rt, &mut random), random_line(rt, &mut same));
+        if expect_same_line(rt, line, &mut one, &mut other, events) {
             misaligned = misaligned.saturating_add(1);
         }
     }

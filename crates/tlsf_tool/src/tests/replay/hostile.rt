@@ -32,35 +32,47 @@ const TEXTS: [(Report, &[u8]); 4] = [
     ),
 ];
 
+/// Makes one report of what the reader has, or saves.
+fn run_one(
+    alloc: Global,
+    report: Report,
+    reader: &mut MemorySource<'_>,
+    writer: &mut MemorySink,
+) -> Result<Status, RunFault> {
+    match report {
+        Report::Leaks => run_leaks(alloc, reader, writer, SETTINGS),
+        Report::Peak => run_peak(alloc, reader, writer, SETTINGS),
+        Report::Walk => run_walk(alloc, reader, writer, SETTINGS),
+        Report::Notes => {
+            let mut image = MemorySink::in_pieces(alloc, 4096);
+            run_save(alloc, reader, writer, &mut image, SETTINGS)
+        }
+    }
+}
+
 /// Where a run is refused memory, nothing is read or written.
+fn expect_one(rt: &impl Abort, alloc: Global, report: Report, text: &[u8]) {
+    let mut reader = MemorySource::in_pieces(LOG, 4096);
+    let mut writer = MemorySink::in_pieces(alloc, 4096);
+    match run_one(alloc, report, &mut reader, &mut writer) {
+        Ok(status) => {
+            assert_eq!(rt; status, Status::Found, "{report:?}");
+            assert_eq!(rt; writer.bytes(), text, "{report:?}");
+        }
+        // A writer was refused memory.
+        Err(RunFault::Image) => assert_eq!(rt; writer.bytes(), text, "{report:?}"),
+        Err(RunFault::Write) => assert!(rt; text.starts_with(writer.bytes()), "{report:?}"),
+        Err(fault) => {
+            assert_eq!(rt; fault, RunFault::OutOfMemory, "{report:?}");
+            assert!(rt; reader.pull(&mut [0; 4096]) == Ok(LOG.len()), "{report:?}");
+            assert!(rt; writer.bytes().is_empty(), "{report:?}");
+        }
+    }
+}
+
 #[test]
 fn each_report_with_refused_memory(rt: HostRuntime) {
-    let alloc = rt.alloc();
     for (report, text) in TEXTS {
-        let mut reader = MemorySource::in_pieces(LOG, 4096);
-        let mut writer = MemorySink::in_pieces(alloc, 4096);
-        let answer = match report {
-            Report::Leaks => run_leaks(alloc, &mut reader, &mut writer, SETTINGS),
-            Report::Peak => run_peak(alloc, &mut reader, &mut writer, SETTINGS),
-            Report::Walk => run_walk(alloc, &mut reader, &mut writer, SETTINGS),
-            Report::Notes => {
-                let mut image = MemorySink::in_pieces(alloc, 4096);
-                run_save(alloc, &mut reader, &mut writer, &mut image, SETTINGS)
-            }
-        };
-        match answer {
-            Ok(status) => {
-                assert_eq!(rt; status, Status::Found, "{report:?}");
-                assert_eq!(rt; writer.bytes(), text, "{report:?}");
-            }
-            // A writer was refused memory.
-            Err(RunFault::Image) => assert_eq!(rt; writer.bytes(), text, "{report:?}"),
-            Err(RunFault::Write) => assert!(rt; text.starts_with(writer.bytes()), "{report:?}"),
-            Err(fault) => {
-                assert_eq!(rt; fault, RunFault::OutOfMemory, "{report:?}");
-                assert!(rt; reader.pull(&mut [0; 4096]) == Ok(LOG.len()), "{report:?}");
-                assert!(rt; writer.bytes().is_empty(), "{report:?}");
-            }
-        }
+        expect_one(&rt, rt.alloc(), report, text);
     }
 }

@@ -59,6 +59,20 @@ fn expect_held_after<H: Heaped>(rt: &impl Abort, replay: &Replay<H>, lines: u64)
     assert!(rt; held.next().is_none(), "too many are held after {lines}");
 }
 
+/// Whether a line or the end was taken, with nothing wrong; else memory was refused.
+fn is_taken(rt: &impl Abort, text: &str, answer: Result<Note, ReplayFault>) -> bool {
+    match answer {
+        Ok(note) => {
+            assert!(rt; note.is_empty(), "{text}");
+            true
+        }
+        Err(fault) => {
+            assert_eq!(rt; fault, ReplayFault::OutOfMemory, "{text}");
+            false
+        }
+    }
+}
+
 /// Feeds all of the lines. Where memory is refused at one of them, which only a heap that lacks some can do, each call
 /// behind it is refused too.
 fn sees_refused_memory<H: Heaped>(rt: &impl Abort, alloc: Global, may_lack: bool) {
@@ -72,32 +86,16 @@ fn sees_refused_memory<H: Heaped>(rt: &impl Abort, alloc: Global, may_lack: bool
     let mut served = 0;
     let mut is_refused = false;
     for text in LINES {
-        let answer = fed.feed(rt, text);
-        if is_refused {
-            assert!(rt; answer.err() == Some(ReplayFault::OutOfMemory), "{text}");
+        if is_taken(rt, text, fed.feed(rt, text)) {
+            assert!(rt; !is_refused, "{text}");
+            served = fed.lines;
         } else {
-            match answer {
-                Ok(note) => {
-                    assert!(rt; note.is_empty(), "{text}");
-                    served = fed.lines;
-                }
-                Err(fault) => {
-                    assert_eq!(rt; fault, ReplayFault::OutOfMemory, "{text}");
-                    assert!(rt; may_lack, "{text}");
-                    is_refused = true;
-                }
-            }
+            assert!(rt; may_lack, "{text}");
+            is_refused = true;
         }
         expect_held_after(rt, &fed.replay, served);
     }
-    match fed.replay.finish() {
-        Ok(note) => {
-            assert!(rt; !is_refused && note.is_empty());
-        }
-        Err(fault) => {
-            assert!(rt; is_refused && fault == ReplayFault::OutOfMemory);
-        }
-    }
+    assert!(rt; is_taken(rt, "the end", fed.replay.finish()) != is_refused);
 }
 
 #[test]
