@@ -1,14 +1,16 @@
 -- The rules at worked images.
-use Rattle.std.proofs.Common.{◌≡◌, ℕ, ◌+◌, ◌*◌, ◌-◌, List, [], ◌∷◌, ◌++◌, refl, replicate, Some, None}
-use Rattle.std.specs.Prelude.{Bool, nat_lt, if◌then◌else◌, slice_set, codes}
+use Rattle.std.proofs.Common.{◌≡◌, ℕ, ◌+◌, ◌*◌, ◌-◌, List, [], ◌∷◌, ◌++◌, refl, replicate, Option, Some, None}
+use Rattle.std.specs.Prelude.{Bool, nat_lt, if◌then◌else◌, slice_set, codes, take}
 use Rattle.tlsf_class.specs.Classes.{class, low}
 use Rattle.tlsf_image.specs.declared.rule.Rule.{Rule}
 use Rattle.tlsf_image.specs.declared.rule.Rule.TheVariants.{Magic, Length, Pools, UnusedPools, States, Links, Chains, Cover, OnChains, Merged, Lists, OnLists}
 use Rattle.std.specs.List.{flat_map}
+use Rattle.tlsf_store.specs.declared.records.State.{State}
 use Rattle.tlsf_store.specs.declared.records.State.TheVariants.{Free, Live}
+use Rattle.tlsf_store.specs.declared.records.Record.{Record}
 use Rattle.tlsf_store.specs.Records.{blank}
-use Rattle.tlsf_image.specs.Image.{Parts}
-use Rattle.tlsf_image.specs.Rules.{first_broken, rules}
+use Rattle.tlsf_image.specs.Image.{Parts, parts_in}
+use Rattle.tlsf_image.specs.Rules.{first_of, first_broken, rules, rules_of_parts}
 use Rattle.tlsf_image.specs.Writing.{record_bytes, image_of}
 
 -- all rules whose test says no
@@ -18,6 +20,13 @@ broken_of (rule ∷ more) = if rule.1 then broken_of more else rule.0 ∷ broken
 
 abbrev broken : List ℕ → List Rule
 broken bytes = broken_of (rules bytes)
+
+-- of the rules of the bytes themselves, and of those of what they describe
+abbrev broken_in_bytes : List ℕ → List Rule
+broken_in_bytes bytes = broken_of (take 5 (rules bytes))
+
+abbrev broken_in_parts : Parts → List Rule
+broken_in_parts parts = broken_of (rules_of_parts parts)
 
 -- bytes in hexadecimal
 abbrev digit : ℕ → ℕ
@@ -35,71 +44,95 @@ image numbers entry class first records =
 
 -- one record and one pool of 64 bytes, all free
 abbrev vector : List ℕ
-vector = image (of_digits (codes "0100010000000000")) (of_digits (codes "000000004000000000000000")) 4 (of_digits (codes "0000")) (of_digits (codes "0000000041000000ffffffffffffffff"))
+vector = image (of_digits (codes "0100010000000000")) (of_digits (codes "000000004000000000000000")) 4 (of_digits (codes "0000"))
+    (of_digits (codes "0000000041000000ffffffffffffffff"))
+
+-- its first byte changed, and a byte behind its end
+another_magic : broken_in_bytes (slice_set vector 0 0x55) ≡ Magic ∷ []
+another_magic = refl
+
+a_byte_behind : broken_in_bytes (vector ++ 0 ∷ []) ≡ Length ∷ []
+a_byte_behind = refl
+
+-- a byte that is to be zero: behind the numbers, in the entry and behind it
+a_byte_of_no_number : broken_in_bytes (slice_set vector 12 1) ≡ Length ∷ []
+a_byte_of_no_number = refl
+
+an_end_of_an_entry : broken_in_bytes (slice_set vector 27 1) ≡ Pools ∷ []
+an_end_of_an_entry = refl
+
+an_unused_entry : broken_in_bytes (slice_set vector 28 1) ≡ UnusedPools ∷ []
+an_unused_entry = refl
+
+-- a state of 3
+another_state : broken_in_bytes (slice_set vector 1524 0x43) ≡ States ∷ []
+another_state = refl
+
+-- what such images describe: one pool of so many bytes from 0 on, and one head of a class
+abbrev parts_of : ℕ → ℕ → Option ℕ → List Record → Parts
+parts_of bytes class first records = record {
+  pools = Some (record { base = 0; bytes = bytes; first = 0 }) ∷ replicate 7 None;
+  heads = replicate class None ++ (first ∷ replicate (703 - class) None);
+  records = records;
+}
+
+-- a block that is alone in its list, if it is in one
+abbrev block : ℕ → ℕ → State → Option ℕ → Option ℕ → Record
+block place size state prev next = record { place = place; size = size; state = state; prev = prev; next = next; prev_free = None; next_free = None }
+
+-- the vector's parts, and their bytes
+abbrev its_parts : Parts
+its_parts = parts_of 64 4 (Some 0) (block 0 64 Free None None ∷ [])
+
+written : image_of its_parts ≡ vector
+written = refl
+
+read : parts_in vector ≡ its_parts
+read = refl
 
 vector_holds : first_broken vector ≡ None
 unfolding class low
 vector_holds = refl
 
--- its first byte changed, a byte behind its end, its head of none
-another_magic : broken (slice_set vector 0 0x55) ≡ Magic ∷ []
-unfolding class low
-another_magic = refl
-
-a_byte_behind : broken (vector ++ 0 ∷ []) ≡ Length ∷ []
-unfolding class low
-a_byte_behind = refl
-
-in_no_list : broken (slice_set (slice_set vector 120 255) 121 255) ≡ OnLists ∷ []
+-- the head of none; a head of no record; the list of another class
+in_no_list : broken_in_parts (parts_of 64 4 None (block 0 64 Free None None ∷ [])) ≡ OnLists ∷ []
 unfolding class low
 in_no_list = refl
 
--- a byte that is to be zero: behind the numbers, in the entry and behind it
-a_byte_of_no_number : broken (slice_set vector 12 1) ≡ Length ∷ []
-unfolding class low
-a_byte_of_no_number = refl
-
-an_unused_entry : broken (slice_set vector 28 1) ≡ UnusedPools ∷ []
-unfolding class low
-an_unused_entry = refl
-
-an_end_of_an_entry : broken (slice_set vector 27 1) ≡ Pools ∷ []
-unfolding class low
-an_end_of_an_entry = refl
-
--- a state of 3; a link to no record; a link back to itself; a size below the pool's, in its list; the list of another class
-another_state : first_broken (slice_set vector 1524 0x43) ≡ Some States
-unfolding class low
-another_state = refl
-
-another_slot : broken (slice_set (slice_set vector 114 1) 115 0) ≡ Links ∷ Lists ∷ []
+another_slot : broken_in_parts (parts_of 64 4 (Some 1) (block 0 64 Free None None ∷ [])) ≡ Links ∷ Lists ∷ OnLists ∷ []
 unfolding class low
 another_slot = refl
 
-linked_back_to_itself : broken (slice_set (slice_set vector 1528 0) 1529 0) ≡ Chains ∷ []
-unfolding class low
-linked_back_to_itself = refl
-
-a_ring : first_broken (slice_set (slice_set vector 1530 0) 1531 0) ≡ Some Chains
-unfolding class low
-a_ring = refl
-
-another_base : broken (slice_set vector 1520 16) ≡ Cover ∷ []
-unfolding class low
-another_base = refl
-
-another_list : broken (slice_set (slice_set (slice_set (slice_set vector 120 255) 121 255) 122 0) 123 0) ≡ Lists ∷ []
+another_list : broken_in_parts (parts_of 64 5 (Some 0) (block 0 64 Free None None ∷ [])) ≡ Lists ∷ []
 unfolding class low
 another_list = refl
 
--- both rules are broken, and the one that stands first is named
-two_broken : broken (slice_set (slice_set vector 1520 16) 121 255) ≡ Links ∷ Cover ∷ Lists ∷ OnLists ∷ []
+-- a link back to itself; a ring; another place
+linked_back_to_itself : broken_in_parts (parts_of 64 4 (Some 0) (block 0 64 Free (Some 0) None ∷ [])) ≡ Chains ∷ []
+unfolding class low
+linked_back_to_itself = refl
+
+a_ring : first_of (rules_of_parts (parts_of 64 4 (Some 0) (block 0 64 Free None (Some 0) ∷ []))) ≡ Some Chains
+unfolding class low
+a_ring = refl
+
+another_base : broken_in_parts (parts_of 64 4 (Some 0) (block 16 64 Free None None ∷ [])) ≡ Cover ∷ []
+unfolding class low
+another_base = refl
+
+-- rules of both are broken, and the one that stands first is named
+two_broken : broken_in_parts (parts_of 64 4 (Some 65280) (block 16 64 Free None None ∷ [])) ≡ Links ∷ Cover ∷ Lists ∷ OnLists ∷ []
 unfolding class low
 two_broken = refl
 
-first_of_two : first_broken (slice_set (slice_set vector 1520 16) 121 255) ≡ Some Links
+first_of_two : first_of (rules_of_parts (parts_of 64 4 (Some 65280) (block 16 64 Free None None ∷ []))) ≡ Some Links
 unfolding class low
 first_of_two = refl
+
+-- a block of no chain
+another_block : broken_in_parts (parts_of 64 4 (Some 0) (block 0 64 Free None None ∷ block 0 16 Live None None ∷ [])) ≡ OnChains ∷ []
+unfolding class low
+another_block = refl
 
 -- free-neighbours: two free blocks of 32 bytes side by side
 free_neighbours : broken (image (of_digits (codes "0200010000000000")) (of_digits (codes "000000004000000000000000")) 2 (of_digits (codes "0000"))
@@ -113,28 +146,11 @@ detached_ring : broken (image (of_digits (codes "0400010000000000")) (of_digits 
 unfolding class low
 detached_ring = refl
 
--- a block of no chain
-another_block : broken (image (of_digits (codes "0200010000000000")) (of_digits (codes "000000004000000000000000")) 4 (of_digits (codes "0000"))
-    (of_digits (codes "0000000041000000ffffffffffffffff0000000012000000ffffffffffffffff"))) ≡ OnChains ∷ []
-unfolding class low
-another_block = refl
-
 -- loaded-pointers: a live block of 16 bytes and a free one of 48, of two records
 a_live_block : first_broken (image (of_digits (codes "0200010000000000")) (of_digits (codes "000000004000000000000000")) 3 (of_digits (codes "0100"))
     (of_digits (codes "0000000012000000ffff0100ffffffff10000000310000000000ffffffffffff"))) ≡ None
 unfolding class low
 a_live_block = refl
-
--- the vector's parts, and their bytes
-abbrev its_parts : Parts
-its_parts = record {
-  pools = Some (record { base = 0; bytes = 64; first = 0 }) ∷ replicate 7 None;
-  heads = replicate 4 None ++ (Some 0 ∷ replicate 699 None);
-  records = record { place = 0; size = 64; state = Free; prev = None; next = None; prev_free = None; next_free = None } ∷ [];
-}
-
-written : image_of its_parts ≡ vector
-written = refl
 
 -- a vacant record, and a live one with links
 written_records : flat_map record_bytes (blank ∷ record { place = 0x12345670; size = 48; state = Live; prev = Some 1; next = Some 515; prev_free = None; next_free = None } ∷ [])

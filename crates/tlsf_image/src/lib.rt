@@ -13,8 +13,6 @@ mod ranges;
 mod rule;
 mod rules;
 mod table;
-#[cfg(test)]
-mod tests;
 mod told;
 mod whole;
 mod writing;

@@ -2,9 +2,12 @@
 
 mod glibc_log;
 mod hostile;
+mod image_bytes;
 mod images;
 mod program;
+mod reading_images;
 mod replay;
 mod reports;
 mod rows;
+mod tables;
 mod words;

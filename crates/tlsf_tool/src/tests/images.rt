@@ -2,6 +2,7 @@
 
 use crate::check::check_image;
 use crate::service::serve_save;
+use crate::tests::image_bytes::{Bytes, HEADS_AT, RECORDS_AT, vector};
 use mtrace_log::memory::{Full, MemorySink, MemorySource};
 use mtrace_replay::Settings;
 use std::alloc::Global;
@@ -13,70 +14,6 @@ const LEAST: Settings = Settings {
     pools: 1,
     records: 1,
 };
-
-/// Where the heads begin, and the records.
-const HEADS_AT: usize = 112;
-
-const RECORDS_AT: usize = 1_520;
-
-/// How many bytes an image of four records has, and one byte more.
-const ROOM: usize = RECORDS_AT + 65;
-
-/// An image of four records at most, and a byte behind them.
-#[derive(Clone, Copy)]
-struct Bytes {
-    bytes: [u8; ROOM],
-    len: usize,
-}
-
-impl Bytes {
-    /// So many records below 5, one pool from 0 on of so many bytes below 256, and no list.
-    fn new(records: u8, pool: u8) -> Bytes {
-        let mut image = Bytes {
-            bytes: [0; ROOM],
-            len: RECORDS_AT + 16 * usize::from(records.min(4)),
-        };
-        image.put(0, b"TLSFIMG1");
-        image.put(8, &[records, 0, 1, 0]);
-        image.put(20, &[pool]);
-        for class in 0..704 {
-            image.put(HEADS_AT + 2 * class, &[0xff, 0xff]);
-        }
-        image
-    }
-
-    /// Writes bytes from an offset on.
-    fn put(&mut self, offset: usize, bytes: &[u8]) {
-        let mut at = offset;
-        for byte in bytes {
-            if at < ROOM {
-                self.bytes[at] = *byte;
-                at += 1;
-            }
-        }
-    }
-
-    /// The same with one byte changed.
-    fn with(mut self, offset: usize, byte: u8) -> Bytes {
-        self.put(offset, &[byte]);
-        self
-    }
-
-    fn as_slice(&self) -> &[u8] {
-        &self.bytes[..self.len.min(ROOM)]
-    }
-}
-
-/// One record and one pool of 64 bytes, all free.
-fn vector() -> Bytes {
-    let mut image = Bytes::new(1, 64);
-    image.put(HEADS_AT + 2 * 4, &[0, 0]);
-    image.put(
-        RECORDS_AT,
-        b"\x00\x00\x00\x00\x41\x00\x00\x00\xff\xff\xff\xff\xff\xff\xff\xff",
-    );
-    image
-}
 
 /// Two free blocks of 32 bytes side by side, both in one list.
 fn free_neighbours() -> Bytes {
@@ -105,10 +42,7 @@ fn detached_ring() -> Bytes {
 
 /// One free block of 64 bytes, and a live one of 16 bytes that is on no chain.
 fn stray() -> Bytes {
-    let mut image = Bytes {
-        len: RECORDS_AT + 32,
-        ..vector().with(8, 2)
-    };
+    let mut image = vector().with(8, 2).of_len(RECORDS_AT + 32);
     image.put(
         RECORDS_AT + 16,
         b"\x00\x00\x00\x00\x12\x00\x00\x00\xff\xff\xff\xff\xff\xff\xff\xff",
@@ -181,14 +115,8 @@ fn faults_of_saving(rt: HostRuntime) {
 
 #[test]
 fn checked_images(rt: HostRuntime) {
-    let longer = Bytes {
-        len: RECORDS_AT + 17,
-        ..vector()
-    };
-    let shorter = Bytes {
-        len: RECORDS_AT - 1,
-        ..vector()
-    };
+    let longer = vector().of_len(RECORDS_AT + 17);
+    let shorter = vector().of_len(RECORDS_AT - 1);
     let unlisted = vector().with(HEADS_AT + 8, 0xff).with(HEADS_AT + 9, 0xff);
     for (image, status, line) in [
         (vector(), 0, b"ok\n".as_slice()),

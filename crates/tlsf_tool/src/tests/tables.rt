@@ -4,10 +4,10 @@ ghost use Rattle.std.specs.Prelude.{◌≡◌, ◌≢◌, true};
 ghost use Rattle.tlsf_store.specs.declared.records.State.TheVariants.{Vacant};
 ghost use Rattle.tlsf_store.specs.Records.{IsBelow, IsKept};
 
-use crate::is_whole;
 use std::alloc::Global;
 use std::process::Abort;
 use tlsf_class::{UNIT, class_of};
+use tlsf_image::is_whole;
 use tlsf_store::{Pool, Record, Slot, State, Store};
 
 /// The slots of the four blocks of a filled store.

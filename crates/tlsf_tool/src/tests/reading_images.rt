@@ -1,74 +1,16 @@
-//! Worked images, and bytes that break a rule.
+//! Worked images that are read, and bytes that break a rule.
 
-mod tables;
-
-use super::*;
+use crate::tests::image_bytes::vector;
 use std::process::Abort;
 use tlsf_class::Class;
+use tlsf_image::{Image, Rule, Table, can_be_pool};
 use tlsf_store::{Slot, State};
-
-/// Where heads and records begin.
-const HEADS_AT: usize = 112;
-
-const RECORDS_AT: usize = 1_520;
-
-/// An image of four records at most. Images of each rule are in the tests of tlsf_tool.
-#[derive(Drop)]
-struct Bytes {
-    bytes: [u8; 1_585],
-    len: usize,
-}
-
-impl Bytes {
-    /// The magic, so many records, one pool from 0 on of so many bytes below 256, and no list.
-    fn new(records: u8, pool: u8) -> Bytes {
-        let mut image = Bytes {
-            bytes: [0; 1_585],
-            len: 1_520 + 16 * usize::from(records.min(4)),
-        };
-        image.put(0, b"TLSFIMG1");
-        image.put(8, &[records, 0, 1, 0]);
-        image.put(20, &[pool]);
-        for class in 0..704 {
-            image.put(HEADS_AT + 2 * class, &[0xff, 0xff]);
-        }
-        image
-    }
-
-    /// Writes bytes from an offset on.
-    fn put(&mut self, offset: usize, bytes: &[u8]) {
-        let mut at = offset;
-        for byte in bytes {
-            if at < 1_585 {
-                self.bytes[at] = *byte;
-                at += 1;
-            }
-        }
-    }
-
-    /// The first rule that the bytes break.
-    fn broken(&self) -> Option<Rule> {
-        match self.bytes.get(..self.len.min(1_585)) {
-            Some(bytes) => Image::read(bytes).err(),
-            None => None,
-        }
-    }
-}
-
-/// One record and one pool of 64 bytes, all free.
-fn vector() -> Bytes {
-    let mut image = Bytes::new(1, 64);
-    image.put(HEADS_AT + 2 * 4, &[0, 0]);
-    image.put(RECORDS_AT + 4, &[0x41]);
-    image.put(RECORDS_AT + 8, &[0xff; 8]);
-    image
-}
 
 #[test]
 fn vector_and_what_it_says(rt: HostRuntime) {
     let vector = vector();
     assert_eq!(rt; vector.broken(), None);
-    let Ok(mut image) = Image::read(&vector.bytes[..1_536]) else {
+    let Ok(mut image) = Image::read(vector.as_slice()) else {
         panic!(rt; "no image");
     };
     assert_eq!(rt; image.count(), 1);
@@ -149,15 +91,13 @@ fn first_of_two(rt: HostRuntime) {
 #[test]
 fn wrong_lengths(rt: HostRuntime) {
     assert_eq!(rt; Image::read(&[]).err(), Some(Rule::Magic));
-    let mut image = vector();
     for (len, rule) in [
         (1_519, Rule::Magic),
         (1_520, Rule::Length),
         (1_535, Rule::Length),
         (1_537, Rule::Length),
     ] {
-        image.len = len;
-        assert_eq!(rt; image.broken(), Some(rule), "of {len}");
+        assert_eq!(rt; vector().of_len(len).broken(), Some(rule), "of {len}");
     }
 }
 
