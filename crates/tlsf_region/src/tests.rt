@@ -7,8 +7,14 @@ mod sizes;
 
 use super::*;
 use std::alloc::Global;
+use std::fmt::Debug;
 use std::process::Abort;
 use tlsf_heap::{Ptr, Refusal, Row};
+
+/// Compares two values, by one call: a proof goes over `assert_eq!` once here, and not at each place again.
+pub(crate) fn expect_eq<T: PartialEq + Debug + Drop>(rt: &impl Abort, found: T, wanted: T) {
+    assert_eq!(rt; found, wanted);
+}
 
 /// A region of so many bytes and records, where memory isn't refused.
 fn made(rt: &impl Abort, alloc: Global, len: u64, records: u32) -> Region {
@@ -27,23 +33,26 @@ fn refused(alloc: Global, len: u64, records: u32) -> Option<RegionError> {
 fn errors_in_order(rt: HostRuntime) {
     let above = (1 << 32) + 1;
     for records in [0, 65_536] {
-        assert_eq!(rt;
+        expect_eq(
+            &rt,
             refused(rt.alloc(), 8, records),
-            Some(RegionError::BadCount)
+            Some(RegionError::BadCount),
         );
-        assert_eq!(rt;
+        expect_eq(
+            &rt,
             refused(rt.alloc(), above, records),
-            Some(RegionError::BadCount)
+            Some(RegionError::BadCount),
         );
     }
     for records in [1, 65_535] {
-        assert_eq!(rt;
+        expect_eq(
+            &rt,
             refused(rt.alloc(), above, records),
-            Some(RegionError::BadLength)
+            Some(RegionError::BadLength),
         );
-        assert_eq!(rt; refused(rt.alloc(), 8, records), None);
+        expect_eq(&rt, refused(rt.alloc(), 8, records), None);
     }
-    assert_eq!(rt; refused(rt.alloc(), 0, 1), None);
+    expect_eq(&rt, refused(rt.alloc(), 0, 1), None);
 }
 
 /// A pool ends at the region's bytes at most.
@@ -59,10 +68,10 @@ fn pools_within_the_bytes(rt: HostRuntime) {
         (16, u64::MAX),
     ];
     for (base, bytes) in rows {
-        assert_eq!(rt; region.add_pool(base, bytes), Err(Refusal::BadPool));
+        expect_eq(&rt, region.add_pool(base, bytes), Err(Refusal::BadPool));
     }
-    assert_eq!(rt; region.add_pool(0, 16), Ok(()));
-    assert_eq!(rt; region.add_pool(16, 1008), Ok(()));
+    expect_eq(&rt, region.add_pool(0, 16), Ok(()));
+    expect_eq(&rt, region.add_pool(16, 1008), Ok(()));
 }
 
 /// Writes 0, 1, 2 and so on over the bytes of a block.
@@ -88,7 +97,7 @@ fn fill(rt: &impl Abort, region: &mut Region, ptr: Ptr, bytes: usize) {
     let Some(block) = region.bytes_mut(ptr) else {
         panic!(rt; "no bytes");
     };
-    assert_eq!(rt; block.len(), bytes);
+    expect_eq(rt, block.len(), bytes);
     count_up(block);
 }
 
@@ -97,7 +106,7 @@ fn expect_filled(rt: &impl Abort, region: &mut Region, ptr: Ptr, bytes: usize, f
     let Some(block) = region.bytes(ptr) else {
         panic!(rt; "no bytes");
     };
-    assert_eq!(rt; block.len(), bytes);
+    expect_eq(rt, block.len(), bytes);
     assert!(rt; counts_up_to(block, filled));
 }
 
@@ -105,7 +114,7 @@ fn expect_filled(rt: &impl Abort, region: &mut Region, ptr: Ptr, bytes: usize, f
 #[test]
 fn bytes_move(rt: HostRuntime) {
     let mut region = made(&rt, rt.alloc(), 1024, 4);
-    assert_eq!(rt; region.add_pool(0, 1024), Ok(()));
+    expect_eq(&rt, region.add_pool(0, 1024), Ok(()));
     let Ok(p) = region.malloc(100) else {
         panic!(rt; "no block");
     };
@@ -114,7 +123,7 @@ fn bytes_move(rt: HostRuntime) {
     let Ok(Some(q)) = region.realloc(Some(p), 200) else {
         panic!(rt; "not moved");
     };
-    assert_eq!(rt; q.place(), 128);
+    expect_eq(&rt, q.place(), 128);
     expect_filled(&rt, &mut region, q, 208, 112);
     assert!(rt; region.bytes(p).is_none());
     assert!(rt; region.bytes_mut(p).is_none());
@@ -124,7 +133,7 @@ fn bytes_move(rt: HostRuntime) {
 #[test]
 fn another_slot(rt: HostRuntime) {
     let mut region = made(&rt, rt.alloc(), 64, 4);
-    assert_eq!(rt; region.add_pool(0, 64), Ok(()));
+    expect_eq(&rt, region.add_pool(0, 64), Ok(()));
     let Ok(p) = region.malloc(8) else {
         panic!(rt; "no block");
     };
@@ -132,7 +141,7 @@ fn another_slot(rt: HostRuntime) {
     assert!(rt; region.bytes(p).is_some());
     assert!(rt; region.bytes(other).is_none());
     assert!(rt; region.bytes_mut(other).is_none());
-    assert_eq!(rt; region.block_size(other), Err(Refusal::BadPointer));
+    expect_eq(&rt, region.block_size(other), Err(Refusal::BadPointer));
 }
 
 /// Whether these are the region's pools.
@@ -144,12 +153,12 @@ fn has_pools(region: &mut Region, ranges: &[(u64, u64)]) -> bool {
 #[test]
 fn readings(rt: HostRuntime) {
     let mut region = made(&rt, rt.alloc(), 64, 4);
-    assert_eq!(rt; region.add_pool(0, 64), Ok(()));
+    expect_eq(&rt, region.add_pool(0, 64), Ok(()));
     assert!(rt; has_pools(&mut region, &[(0, 64)]));
     let Ok(p) = region.malloc(8) else {
         panic!(rt; "no block");
     };
-    assert_eq!(rt; region.block_size(p), Ok(16));
+    expect_eq(&rt, region.block_size(p), Ok(16));
     let Ok(cursor) = region.first(0) else {
         panic!(rt; "no pool");
     };
@@ -161,11 +170,11 @@ fn readings(rt: HostRuntime) {
         size: 16,
         used: true,
     };
-    assert_eq!(rt; row, wanted);
+    expect_eq(&rt, row, wanted);
     assert!(rt; region.row(next).is_some());
-    assert_eq!(rt; region.free(p), Ok(()));
+    expect_eq(&rt, region.free(p), Ok(()));
     assert!(rt; region.bytes(p).is_none());
-    assert_eq!(rt; region.free(p), Err(Refusal::BadPointer));
+    expect_eq(&rt, region.free(p), Err(Refusal::BadPointer));
 }
 
 /// The rows that a walk of the pool gives: how many, and the place of the last one.
@@ -183,21 +192,21 @@ fn walked(region: &mut Region, base: u64) -> Result<(usize, u32), Refusal> {
 #[test]
 fn aligned_block_and_pool_that_goes(rt: HostRuntime) {
     let mut region = made(&rt, rt.alloc(), 1024, 4);
-    assert_eq!(rt; region.add_pool(16, 256), Ok(()));
-    assert_eq!(rt; region.memalign(3, 0), Err(Refusal::BadAlign));
-    assert_eq!(rt; region.memalign(8, 0), Err(Refusal::ZeroSize));
+    expect_eq(&rt, region.add_pool(16, 256), Ok(()));
+    expect_eq(&rt, region.memalign(3, 0), Err(Refusal::BadAlign));
+    expect_eq(&rt, region.memalign(8, 0), Err(Refusal::ZeroSize));
     let Ok(p) = region.memalign(64, 32) else {
         panic!(rt; "no block");
     };
-    assert_eq!(rt; p.place(), 64);
-    assert_eq!(rt; walked(&mut region, 16), Ok((3, 96)));
-    assert_eq!(rt; walked(&mut region, 0), Err(Refusal::NoPool));
+    expect_eq(&rt, p.place(), 64);
+    expect_eq(&rt, walked(&mut region, 16), Ok((3, 96)));
+    expect_eq(&rt, walked(&mut region, 0), Err(Refusal::NoPool));
     assert!(rt; region.check());
-    assert_eq!(rt; region.remove_pool(0), Err(Refusal::NoPool));
-    assert_eq!(rt; region.remove_pool(16), Err(Refusal::PoolInUse));
-    assert_eq!(rt; region.free(p), Ok(()));
-    assert_eq!(rt; walked(&mut region, 16), Ok((1, 16)));
-    assert_eq!(rt; region.remove_pool(16), Ok(()));
+    expect_eq(&rt, region.remove_pool(0), Err(Refusal::NoPool));
+    expect_eq(&rt, region.remove_pool(16), Err(Refusal::PoolInUse));
+    expect_eq(&rt, region.free(p), Ok(()));
+    expect_eq(&rt, walked(&mut region, 16), Ok((1, 16)));
+    expect_eq(&rt, region.remove_pool(16), Ok(()));
     assert!(rt; has_pools(&mut region, &[]));
     assert!(rt; region.check());
 }
@@ -207,19 +216,19 @@ fn aligned_block_and_pool_that_goes(rt: HostRuntime) {
 #[test]
 fn memory_taken_twice(rt: HostRuntime) {
     let mut region = made(&rt, rt.alloc(), 1024, 5);
-    assert_eq!(rt; region.add_pool(0, 1024), Ok(()));
+    expect_eq(&rt, region.add_pool(0, 1024), Ok(()));
     let first = region.malloc(100).expect(&rt, "a block");
     let second = region.memalign(64, 1).expect(&rt, "a block");
     assert!(rt; region.bytes(first).is_some());
     let moved = region.realloc(Some(first), 200).expect(&rt, "a block");
     let third = moved.expect(&rt, "a pointer");
     assert!(rt; region.bytes_mut(third).is_some());
-    assert_eq!(rt; region.block_size(third), Ok(208));
-    assert_eq!(rt; walked(&mut region, 0), Ok((4, 352)));
+    expect_eq(&rt, region.block_size(third), Ok(208));
+    expect_eq(&rt, walked(&mut region, 0), Ok((4, 352)));
     assert!(rt; has_pools(&mut region, &[(0, 1024)]));
     assert!(rt; region.first(0).is_ok() && region.check());
-    assert_eq!(rt; region.free(second), Ok(()));
-    assert_eq!(rt; region.free(third), Ok(()));
-    assert_eq!(rt; region.remove_pool(0), Ok(()));
+    expect_eq(&rt, region.free(second), Ok(()));
+    expect_eq(&rt, region.free(third), Ok(()));
+    expect_eq(&rt, region.remove_pool(0), Ok(()));
     drop(made(&rt, rt.alloc(), 16, 1));
 }

@@ -11,3 +11,11 @@ mod reports;
 mod rows;
 mod tables;
 mod words;
+
+use std::fmt::Debug;
+use std::process::Abort;
+
+/// Compares two values, by one call: a proof goes over `assert_eq!` once here, and not at each place again.
+pub(crate) fn expect_eq<T: PartialEq + Debug + Drop>(rt: &impl Abort, found: T, wanted: T) {
+    assert_eq!(rt; found, wanted);
+}

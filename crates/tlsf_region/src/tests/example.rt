@@ -2,6 +2,7 @@
 
 use super::made;
 use crate::Region;
+use crate::tests::expect_eq;
 use arrayvec::ArrayString;
 use std::fmt::{Error, Write};
 use std::process::Abort;
@@ -63,7 +64,7 @@ fn write_rows<W: Write>(rt: &impl Abort, out: &mut W, region: &mut Region) -> Re
             written = writeln!(out, "  {}: {} bytes, {word}", row.place, row.size);
         }
     });
-    assert_eq!(rt; walked, Ok(()));
+    expect_eq(rt, walked, Ok(()));
     written
 }
 
@@ -73,7 +74,7 @@ fn take_blocks<W: Write>(
     out: &mut W,
     region: &mut Region,
 ) -> Result<(Ptr, Ptr), Error> {
-    assert_eq!(rt; region.add_pool(0, 1024), Ok(()));
+    expect_eq(rt, region.add_pool(0, 1024), Ok(()));
     let text = region.malloc(TEXT.len() as u64).expect(rt, "a block");
     put_text(rt, region, text);
     let buffer = region.memalign(64, 100).expect(rt, "a block");
@@ -110,7 +111,7 @@ fn give_back<W: Write>(
     name: &str,
     ptr: Ptr,
 ) -> Result<(), Error> {
-    assert_eq!(rt; region.free(ptr), Ok(()));
+    expect_eq(rt, region.free(ptr), Ok(()));
     writeln!(out, "{name} freed")?;
     write_rows(rt, out, region)
 }
@@ -129,6 +130,6 @@ fn use_region<W: Write>(rt: &impl Abort, out: &mut W, region: &mut Region) -> Re
 fn example(rt: HostRuntime) {
     let mut region = made(&rt, rt.alloc(), 1024, 8);
     let mut text: ArrayString<512> = ArrayString::new();
-    assert_eq!(rt; use_region(&rt, &mut text, &mut region), Ok(()));
-    assert_eq!(rt; text.as_str(), WRITTEN);
+    expect_eq(&rt, use_region(&rt, &mut text, &mut region), Ok(()));
+    expect_eq(&rt, text.as_str(), WRITTEN);
 }

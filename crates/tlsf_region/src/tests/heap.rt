@@ -9,6 +9,7 @@ mod rows;
 mod saving;
 mod walking;
 
+use crate::tests::expect_eq;
 use mtrace_log::ToWrite;
 use std::alloc::Global;
 use std::io;
@@ -43,7 +44,7 @@ fn bad_counts(rt: HostRuntime) {
 /// Blocks of the least size are given one behind another, one fewer than there can be records.
 fn fill(rt: &impl Abort, heap: &mut Heap) {
     for number in 0..65_534 {
-        assert_eq!(rt; heap.malloc(8).map(|ptr| ptr.place()), Ok(number * 16));
+        expect_eq(rt, heap.malloc(8).map(|ptr| ptr.place()), Ok(number * 16));
     }
 }
 
@@ -52,11 +53,11 @@ fn fill(rt: &impl Abort, heap: &mut Heap) {
 #[test]
 fn greatest_table_filled(rt: HostRuntime) {
     let mut heap: Heap = made(&rt, rt.alloc(), 65_535);
-    assert_eq!(rt; heap.add_pool(0, 1_048_576), Ok(()));
+    expect_eq(&rt, heap.add_pool(0, 1_048_576), Ok(()));
     fill(&rt, &mut heap);
-    assert_eq!(rt; heap.malloc(8), Err(Refusal::TableFull));
-    assert_eq!(rt; heap.malloc(32).map(|ptr| ptr.place()), Ok(1_048_544));
-    assert_eq!(rt; heap.malloc(8), Err(Refusal::NoFit));
+    expect_eq(&rt, heap.malloc(8), Err(Refusal::TableFull));
+    expect_eq(&rt, heap.malloc(32).map(|ptr| ptr.place()), Ok(1_048_544));
+    expect_eq(&rt, heap.malloc(8), Err(Refusal::NoFit));
 }
 
 /// The pools of 64 bytes that touch, from 0 on, begin at the multiples of 64.
@@ -74,7 +75,7 @@ fn first_of_each_pool<H: Heaped>(rt: &impl Abort, alloc: Global) {
     let mut heap: H = made(rt, alloc, 8);
     assert!(rt; has_firsts(&mut heap, 0));
     for number in 0..8 {
-        assert_eq!(rt; heap.add_pool(number * 64, 64), Ok(()));
+        expect_eq(rt, heap.add_pool(number * 64, 64), Ok(()));
     }
     assert!(rt; has_firsts(&mut heap, 8));
 }
@@ -111,16 +112,16 @@ fn refused_runs(rt: HostRuntime) {
 #[test]
 fn pointers(rt: HostRuntime) {
     let ptr = Ptr::new(112, 9);
-    assert_eq!(rt; ptr.place(), 112);
-    assert_eq!(rt; ptr.slot(), 9);
+    expect_eq(&rt, ptr.place(), 112);
+    expect_eq(&rt, ptr.slot(), 9);
 }
 
 /// Two blocks, of which the first shrinks in place.
 fn two_blocks(rt: &impl Abort, heap: &mut Heap) -> (Ptr, Ptr) {
     let first = heap.malloc(100).expect(rt, "a block");
     let second = heap.memalign(64, 1).expect(rt, "a block");
-    assert_eq!(rt; (first.place(), second.place()), (0, 128));
-    assert_eq!(rt; heap.realloc(Some(first), 8), Ok(Some(first)));
+    expect_eq(rt, (first.place(), second.place()), (0, 128));
+    expect_eq(rt, heap.realloc(Some(first), 8), Ok(Some(first)));
     (first, second)
 }
 
@@ -141,15 +142,15 @@ fn reads(heap: &mut Heap, block: Ptr) -> bool {
 #[test]
 fn memory_taken_once(rt: HostRuntime) {
     let mut heap: Heap = made(&rt, rt.alloc(), 4);
-    assert_eq!(rt; heap.add_pool(0, 1024), Ok(()));
+    expect_eq(&rt, heap.add_pool(0, 1024), Ok(()));
     let (first, second) = two_blocks(&rt, &mut heap);
     assert!(rt; reads(&mut heap, first));
     let mut writer = ToWrite::new(io::sink());
     assert!(rt; heap.save_image(&mut writer).is_ok());
-    assert_eq!(rt; heap.remove_pool(0), Err(Refusal::PoolInUse));
-    assert_eq!(rt; heap.free(first), Ok(()));
-    assert_eq!(rt; heap.free(second), Ok(()));
-    assert_eq!(rt; heap.remove_pool(0), Ok(()));
+    expect_eq(&rt, heap.remove_pool(0), Err(Refusal::PoolInUse));
+    expect_eq(&rt, heap.free(first), Ok(()));
+    expect_eq(&rt, heap.free(second), Ok(()));
+    expect_eq(&rt, heap.remove_pool(0), Ok(()));
     assert!(rt; Heap::create(rt.alloc(), 1).is_ok());
 }
 

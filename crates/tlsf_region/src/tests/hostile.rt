@@ -1,13 +1,14 @@
 //! Pointers that no block has, and arguments at the ends of their ranges, through the region.
 
 use super::*;
+use crate::tests::expect_eq;
 
 #[test]
 fn wrong_pointers(rt: HostRuntime) {
     let mut region = made(&rt, rt.alloc(), 64, 2);
-    assert_eq!(rt; region.add_pool(0, 64), Ok(()));
+    expect_eq(&rt, region.add_pool(0, 64), Ok(()));
     let first = region.malloc(64).expect(&rt, "a block");
-    assert_eq!(rt; region.free(first), Ok(()));
+    expect_eq(&rt, region.free(first), Ok(()));
     let q = region.malloc(64).expect(&rt, "a block");
     let other_slot = if q.slot() == 0 { 1 } else { 0 };
     for wrong in [
@@ -19,20 +20,25 @@ fn wrong_pointers(rt: HostRuntime) {
         assert!(rt; region.bytes(wrong).is_none(), "{wrong:?}");
         assert!(rt; region.bytes_mut(wrong).is_none(), "{wrong:?}");
     }
-    assert_eq!(rt; region.realloc(Some(q), u64::MAX), Err(Refusal::NoFit));
-    assert_eq!(rt; region.free(q), Ok(()));
+    expect_eq(&rt, region.realloc(Some(q), u64::MAX), Err(Refusal::NoFit));
+    expect_eq(&rt, region.free(q), Ok(()));
 }
 
 fn refuses_greatest(rt: &impl Abort, region: &mut Region) {
-    assert_eq!(rt; region.malloc(u64::MAX), Err(Refusal::NoFit));
-    assert_eq!(rt; region.memalign(1 << 29, u64::MAX), Err(Refusal::NoFit));
-    assert_eq!(rt;
+    expect_eq(rt, region.malloc(u64::MAX), Err(Refusal::NoFit));
+    expect_eq(rt, region.memalign(1 << 29, u64::MAX), Err(Refusal::NoFit));
+    expect_eq(
+        rt,
         region.memalign(1 << 29, (1 << 30) - 16),
-        Err(Refusal::NoFit)
+        Err(Refusal::NoFit),
     );
-    assert_eq!(rt; region.memalign(1 << 63, 1), Err(Refusal::BadAlign));
-    assert_eq!(rt; region.add_pool(u64::MAX - 63, 64), Err(Refusal::BadPool));
-    assert_eq!(rt; region.remove_pool(u64::MAX), Err(Refusal::NoPool));
+    expect_eq(rt, region.memalign(1 << 63, 1), Err(Refusal::BadAlign));
+    expect_eq(
+        rt,
+        region.add_pool(u64::MAX - 63, 64),
+        Err(Refusal::BadPool),
+    );
+    expect_eq(rt, region.remove_pool(u64::MAX), Err(Refusal::NoPool));
 }
 
 /// With no pool, and with one over all of the bytes.
@@ -40,7 +46,7 @@ fn refuses_greatest(rt: &impl Abort, region: &mut Region) {
 fn greatest_arguments(rt: HostRuntime) {
     let mut region = made(&rt, rt.alloc(), 1024, 4);
     refuses_greatest(&rt, &mut region);
-    assert_eq!(rt; region.add_pool(0, 1024), Ok(()));
+    expect_eq(&rt, region.add_pool(0, 1024), Ok(()));
     refuses_greatest(&rt, &mut region);
 }
 
@@ -50,10 +56,10 @@ fn refused_memory(rt: HostRuntime) {
     let mut region = match Region::create(rt.alloc(), 1024, 4) {
         Ok(region) => region,
         Err(error) => {
-            assert_eq!(rt; error, RegionError::OutOfMemory);
+            expect_eq(&rt, error, RegionError::OutOfMemory);
             made(&rt, rt.alloc(), 1024, 4)
         }
     };
-    assert_eq!(rt; region.add_pool(0, 1024), Ok(()));
-    assert_eq!(rt; region.malloc(100).map(|ptr| ptr.place()), Ok(0));
+    expect_eq(&rt, region.add_pool(0, 1024), Ok(()));
+    expect_eq(&rt, region.malloc(100).map(|ptr| ptr.place()), Ok(0));
 }

@@ -2,15 +2,16 @@
 
 use super::made;
 use crate::Region;
+use crate::tests::expect_eq;
 use std::process::Abort;
 
 /// A pool of so many bytes from the start on has a block of this size, and all bytes of it are 0.
 fn lends_zeros(rt: &impl Abort, region: &mut Region, bytes: u64, size: u64) {
-    assert_eq!(rt; region.add_pool(0, bytes), Ok(()));
+    expect_eq(rt, region.add_pool(0, bytes), Ok(()));
     let ptr = region.malloc(size).expect(rt, "a block");
-    assert_eq!(rt; ptr.place(), 0);
+    expect_eq(rt, ptr.place(), 0);
     let block = region.bytes(ptr).expect(rt, "bytes");
-    assert_eq!(rt; block.len() as u64, size);
+    expect_eq(rt, block.len() as u64, size);
     assert!(rt; block.iter().all(|byte| *byte == 0));
 }
 

@@ -2,6 +2,7 @@
 
 use crate::check::check_image;
 use crate::service::serve_save;
+use crate::tests::expect_eq;
 use crate::tests::image_bytes::{Bytes, HEADS_AT, RECORDS_AT, vector};
 use mtrace_log::memory::{Full, MemorySink, MemorySource};
 use mtrace_replay::Settings;
@@ -81,8 +82,8 @@ fn saved_vector(rt: HostRuntime) {
         &mut image,
         &mut errors,
     );
-    assert_eq!(rt; status, 0);
-    assert_eq!(rt; image.bytes(), vector().as_slice());
+    expect_eq(&rt, status, 0);
+    expect_eq(&rt, image.bytes(), vector().as_slice());
     assert!(rt; writer.bytes().is_empty() && errors.bytes().is_empty());
     assert!(rt; is_checked(alloc, image.bytes(), 0, b"ok\n"));
 }
@@ -107,9 +108,9 @@ fn faults_of_saving(rt: HostRuntime) {
             &mut image,
             &mut errors,
         );
-        assert_eq!(rt; answer, status);
-        assert_eq!(rt; errors.bytes(), line);
-        assert_eq!(rt; image.bytes().len(), if status == 3 { room } else { 0 });
+        expect_eq(&rt, answer, status);
+        expect_eq(&rt, errors.bytes(), line);
+        expect_eq(&rt, image.bytes().len(), if status == 3 { room } else { 0 });
     }
 }
 
@@ -187,10 +188,11 @@ fn longest_file(rt: HostRuntime) -> Result<(), Fail> {
     let mut reader = MemorySource::in_pieces(b"TLSFIMG1", 4_096);
     let mut full = MemorySink::with_room(rt.alloc(), 4_096, 4, Full::TakesNone);
     let mut errors = MemorySink::in_pieces(rt.alloc(), 4_096);
-    assert_eq!(rt;
+    expect_eq(
+        &rt,
         check_image(rt.alloc(), &mut reader, &mut full, &mut errors),
-        3
+        3,
     );
-    assert_eq!(rt; errors.bytes(), b"tlsf: write failed\n".as_slice());
+    expect_eq(&rt, errors.bytes(), b"tlsf: write failed\n".as_slice());
     Ok(())
 }

@@ -3,6 +3,7 @@
 use super::rows::SMALL;
 use crate::asked::{Command, Name, ToolFault};
 use crate::service::serve;
+use crate::tests::expect_eq;
 use crate::words::command;
 use mtrace_log::memory::{Full, MemorySink, MemorySource};
 use mtrace_replay::{RunFault, Settings};
@@ -29,12 +30,13 @@ fn first_leak_through_command_and_serve(rt: HostRuntime) -> Result<(), Fail> {
     let mut writer = MemorySink::in_pieces(alloc, 4096);
     let mut errors = MemorySink::in_pieces(alloc, 4096);
     let status = serve(alloc, name, settings, &mut reader, &mut writer, &mut errors);
-    assert_eq!(rt; status, 1);
-    assert_eq!(rt;
+    expect_eq(&rt, status, 1);
+    expect_eq(
+        &rt,
         writer.bytes(),
-        b"Memory not freed:\n0x10 100 line 2 at a\nTotal: 1 blocks, 100 bytes.\n".as_slice()
+        b"Memory not freed:\n0x10 100 line 2 at a\nTotal: 1 blocks, 100 bytes.\n".as_slice(),
     );
-    assert_eq!(rt; errors.bytes(), b"".as_slice());
+    expect_eq(&rt, errors.bytes(), b"".as_slice());
     Ok(())
 }
 
@@ -53,22 +55,27 @@ fn full_standard_error_changes_nothing_else(rt: HostRuntime) {
         &mut writer,
         &mut errors,
     );
-    assert_eq!(rt; status, 2);
-    assert_eq!(rt; errors.bytes(), b"tlsf:".as_slice());
-    assert_eq!(rt; writer.bytes(), b"".as_slice());
+    expect_eq(&rt, status, 2);
+    expect_eq(&rt, errors.bytes(), b"tlsf:".as_slice());
+    expect_eq(&rt, writer.bytes(), b"".as_slice());
 }
 
 #[test]
 fn texts_and_statuses_of_faults(rt: HostRuntime) -> Result<(), Fail> {
     let alloc = rt.alloc();
     let memory = ToolFault::Run(RunFault::OutOfMemory);
-    assert_eq!(rt; memory.status(), 4);
-    assert_eq!(rt; memory.to_string(alloc)?.as_str(), "tlsf: out of memory");
+    expect_eq(&rt, memory.status(), 4);
+    expect_eq(
+        &rt,
+        memory.to_string(alloc)?.as_str(),
+        "tlsf: out of memory",
+    );
     let missing = ToolFault::CannotOpen(String::from_str(alloc, "no.log")?);
-    assert_eq!(rt; missing.status(), 3);
-    assert_eq!(rt;
+    expect_eq(&rt, missing.status(), 3);
+    expect_eq(
+        &rt,
         missing.to_string(alloc)?.as_str(),
-        "tlsf: cannot open no.log"
+        "tlsf: cannot open no.log",
     );
     Ok(())
 }

@@ -1,5 +1,6 @@
 //! Worked images that are read, and bytes that break a rule.
 
+use crate::tests::expect_eq;
 use crate::tests::image_bytes::vector;
 use std::process::Abort;
 use tlsf_class::Class;
@@ -9,25 +10,27 @@ use tlsf_store::{Slot, State};
 #[test]
 fn vector_and_what_it_says(rt: HostRuntime) {
     let vector = vector();
-    assert_eq!(rt; vector.broken(), None);
+    expect_eq(&rt, vector.broken(), None);
     let Ok(mut image) = Image::read(vector.as_slice()) else {
         panic!(rt; "no image");
     };
-    assert_eq!(rt; image.count(), 1);
-    assert_eq!(rt; image.head(Class::new(4)), Some(Slot(0)));
-    assert_eq!(rt; image.head(Class::new(5)), None);
+    expect_eq(&rt, image.count(), 1);
+    expect_eq(&rt, image.head(Class::new(4)), Some(Slot(0)));
+    expect_eq(&rt, image.head(Class::new(5)), None);
     let pool = image.pool(0).expect(&rt, "a pool");
-    assert_eq!(rt; (pool.base, pool.bytes, pool.first), (0, 64, Slot(0)));
-    assert_eq!(rt; image.pool(1), None);
+    expect_eq(&rt, (pool.base, pool.bytes, pool.first), (0, 64, Slot(0)));
+    expect_eq(&rt, image.pool(1), None);
     assert!(rt; u32::from(Slot(0).0) < image.count());
     let block = image.record(Slot(0));
-    assert_eq!(rt;
+    expect_eq(
+        &rt,
         (block.place, block.size, block.state),
-        (0, 64, State::Free)
+        (0, 64, State::Free),
     );
-    assert_eq!(rt;
+    expect_eq(
+        &rt,
         (block.prev, block.next, block.prev_free, block.next_free),
-        (None, None, None, None)
+        (None, None, None, None),
     );
 }
 
@@ -70,27 +73,27 @@ fn first_of_two(rt: HostRuntime) {
     let mut image = vector();
     image.put(120, &[0xff, 0xff]);
     image.put(1_520, &[16]);
-    assert_eq!(rt; image.broken(), Some(Rule::Cover));
+    expect_eq(&rt, image.broken(), Some(Rule::Cover));
     image.put(1_528, &[0, 0]);
-    assert_eq!(rt; image.broken(), Some(Rule::Chains));
+    expect_eq(&rt, image.broken(), Some(Rule::Chains));
     image.put(1_534, &[9, 0]);
-    assert_eq!(rt; image.broken(), Some(Rule::Links));
+    expect_eq(&rt, image.broken(), Some(Rule::Links));
     image.put(1_524, &[0x43]);
-    assert_eq!(rt; image.broken(), Some(Rule::States));
+    expect_eq(&rt, image.broken(), Some(Rule::States));
     image.put(40, &[1]);
-    assert_eq!(rt; image.broken(), Some(Rule::UnusedPools));
+    expect_eq(&rt, image.broken(), Some(Rule::UnusedPools));
     image.put(16, &[1]);
-    assert_eq!(rt; image.broken(), Some(Rule::Pools));
+    expect_eq(&rt, image.broken(), Some(Rule::Pools));
     image.put(13, &[1]);
-    assert_eq!(rt; image.broken(), Some(Rule::Length));
+    expect_eq(&rt, image.broken(), Some(Rule::Length));
     image.put(3, &[1]);
-    assert_eq!(rt; image.broken(), Some(Rule::Magic));
+    expect_eq(&rt, image.broken(), Some(Rule::Magic));
 }
 
 /// Nothing, one byte too few in front of the records, and too few and too many for one record.
 #[test]
 fn wrong_lengths(rt: HostRuntime) {
-    assert_eq!(rt; Image::read(&[]).err(), Some(Rule::Magic));
+    expect_eq(&rt, Image::read(&[]).err(), Some(Rule::Magic));
     for (len, rule) in [
         (1_519, Rule::Magic),
         (1_520, Rule::Length),

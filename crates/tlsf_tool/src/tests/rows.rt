@@ -3,6 +3,7 @@
 
 use crate::asked::Name;
 use crate::service::serve;
+use crate::tests::expect_eq;
 use mtrace_log::memory::{Full, MemorySink, MemorySource};
 use mtrace_log::{LONGEST_LINE, LONGEST_LOCATION, Sink, Source};
 use mtrace_replay::{RunFault, Settings, run_leaks};
@@ -294,7 +295,7 @@ const GREATEST_ALIGNED: &[u8] = b" * 0xffffffffffffffff 0xffffffffffffffff 0xfff
 #[test]
 fn longest_line(rt: HostRuntime) -> Result<(), Fail> {
     let longest = long_line(rt.alloc(), LONGEST_LOCATION, GREATEST)?;
-    assert_eq!(rt; longest.len(), 297);
+    expect_eq(&rt, longest.len(), 297);
     let longer = long_line(rt.alloc(), LONGEST_LOCATION + 1, GREATEST)?;
     for piece in PIECES {
         expect_report(
@@ -324,7 +325,7 @@ fn longest_line(rt: HostRuntime) -> Result<(), Fail> {
 #[test]
 fn longest_aligned_line(rt: HostRuntime) -> Result<(), Fail> {
     let longest = long_line(rt.alloc(), LONGEST_LOCATION, GREATEST_ALIGNED)?;
-    assert_eq!(rt; longest.len(), LONGEST_LINE);
+    expect_eq(&rt, longest.len(), LONGEST_LINE);
     let longer = long_line(rt.alloc(), LONGEST_LOCATION + 1, GREATEST_ALIGNED)?;
     for piece in PIECES {
         expect_report(
@@ -426,7 +427,7 @@ fn flush_fails(rt: HostRuntime) {
             3,
             b"tlsf: write failed\n",
         );
-        assert_eq!(rt; writer.bytes(), text);
+        expect_eq(&rt, writer.bytes(), text);
     }
 }
 
@@ -471,7 +472,7 @@ fn reader_fails_behind_a_half(rt: HostRuntime) {
         3,
         b"tlsf: read failed\n",
     );
-    assert_eq!(rt; writer.bytes(), b"".as_slice());
+    expect_eq(&rt, writer.bytes(), b"".as_slice());
 }
 
 #[test]
@@ -480,20 +481,20 @@ fn faults_of_run_leaks(rt: HostRuntime) {
     let mut reader = MemorySource::failing_after(b"- 0x1\n- 0x2", 1, 11);
     let mut writer = MemorySink::in_pieces(alloc, WHOLE);
     let answer = run_leaks(alloc, &mut reader, &mut writer, SMALL);
-    assert_eq!(rt; answer, Err(RunFault::Read));
-    assert_eq!(rt; writer.bytes(), b"line 1: 0x1 is not held\n".as_slice());
+    expect_eq(&rt, answer, Err(RunFault::Read));
+    expect_eq(&rt, writer.bytes(), b"line 1: 0x1 is not held\n".as_slice());
 
     let mut reader = MemorySource::failing_after(b"< 0x10\n", 1, 7);
     let mut writer = MemorySink::in_pieces(alloc, WHOLE);
     let answer = run_leaks(alloc, &mut reader, &mut writer, SMALL);
-    assert_eq!(rt; answer, Err(RunFault::Read));
-    assert_eq!(rt; writer.bytes(), b"".as_slice());
+    expect_eq(&rt, answer, Err(RunFault::Read));
+    expect_eq(&rt, writer.bytes(), b"".as_slice());
 
     let mut reader = MemorySource::in_pieces(b"", WHOLE);
     let mut writer = MemorySink::with_room(alloc, WHOLE, 5, Full::Fails);
     let answer = run_leaks(alloc, &mut reader, &mut writer, SMALL);
-    assert_eq!(rt; answer, Err(RunFault::Write));
-    assert_eq!(rt; writer.bytes(), b"No me".as_slice());
+    expect_eq(&rt, answer, Err(RunFault::Write));
+    expect_eq(&rt, writer.bytes(), b"No me".as_slice());
 }
 
 /// Appends `+ ADDR SIZE`, a line for each number from `first` to `last`, its address 16 times the number.

@@ -4,6 +4,7 @@ ghost use Rattle.std.specs.Prelude.{◌≡◌, ◌≢◌, true};
 ghost use Rattle.tlsf_store.specs.declared.records.State.TheVariants.{Vacant};
 ghost use Rattle.tlsf_store.specs.Records.{IsBelow, IsKept};
 
+use crate::tests::expect_eq;
 use std::alloc::Global;
 use std::process::Abort;
 use tlsf_class::{UNIT, class_of};
@@ -89,7 +90,7 @@ fn filled(rt: &impl Abort, alloc: Global) -> Store {
         Err(_) => panic!(rt; "no store"),
     };
     for (slot, block) in blocks() {
-        assert_eq!(rt; store.take_vacant(), Some(slot));
+        expect_eq(rt, store.take_vacant(), Some(slot));
         write(rt, &mut store, slot, block);
     }
     assert!(rt; u32::from(FIRST.0) < store.records() && u32::from(LAST.0) < store.records());

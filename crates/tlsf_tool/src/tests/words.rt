@@ -2,6 +2,7 @@
 
 use super::program::strings;
 use crate::asked::{Command, Name, ToolFault};
+use crate::tests::expect_eq;
 use crate::words::command;
 use mtrace_replay::Settings;
 use std::test::Fail;
@@ -207,19 +208,20 @@ fn words_of_images(rt: HostRuntime) -> Result<(), Fail> {
     else {
         panic!(rt; "not asked to save");
     };
-    assert_eq!(rt;
+    expect_eq(
+        &rt,
         settings,
         Settings {
             records: 2,
             ..DEFAULT
-        }
+        },
     );
-    assert_eq!(rt; (log.as_str(), image.as_str()), ("a.log", "an.image"));
+    expect_eq(&rt, (log.as_str(), image.as_str()), ("a.log", "an.image"));
     let words = strings(alloc, &["tlsf", "check", "-"])?;
     let Command::Check { image } = command(alloc, words.as_slice())? else {
         panic!(rt; "not asked to check");
     };
-    assert_eq!(rt; image.as_str(), "-");
+    expect_eq(&rt, image.as_str(), "-");
     Ok(())
 }
 

@@ -2,6 +2,7 @@
 
 use super::rows::has_rows;
 use super::*;
+use crate::tests::expect_eq;
 use std::alloc::AllocError;
 
 /// Whether a free of each of these is refused.
@@ -27,12 +28,12 @@ fn none_of(ptr: Ptr) -> [Ptr; 3] {
 /// The block of a pool is freed and given again. Its pointer is the only one that frees it.
 fn refuses_pointers<H: Heaped>(rt: &impl Abort, alloc: Global) {
     let mut heap: H = made(rt, alloc, 2);
-    assert_eq!(rt; heap.add_pool(0, 64), Ok(()));
+    expect_eq(rt, heap.add_pool(0, 64), Ok(()));
     let first = heap.malloc(64).expect(rt, "a block");
-    assert_eq!(rt; heap.free(first), Ok(()));
+    expect_eq(rt, heap.free(first), Ok(()));
     let ptr = heap.malloc(64).expect(rt, "a block");
     assert!(rt; refuses(&mut heap, &none_of(ptr)));
-    assert_eq!(rt; heap.free(ptr), Ok(()));
+    expect_eq(rt, heap.free(ptr), Ok(()));
 }
 
 #[test]
@@ -68,11 +69,11 @@ fn free_each_second(rt: &impl Abort, heap: &mut Heap, given: &[Ptr]) {
 #[test]
 fn every_second_freed(rt: HostRuntime) {
     let mut heap: Heap = made(&rt, rt.alloc(), 20_000);
-    assert_eq!(rt; heap.add_pool(0, 320_000), Ok(()));
+    expect_eq(&rt, heap.add_pool(0, 320_000), Ok(()));
     let blocks = given(&rt, rt.alloc(), &mut heap, 20_000).expect(&rt, "memory");
     free_each_second(&rt, &mut heap, blocks.as_slice());
-    assert_eq!(rt; heap.malloc(16).map(|ptr| ptr.place()), Ok(319_968));
-    assert_eq!(rt; heap.malloc(32), Err(Refusal::NoFit));
+    expect_eq(&rt, heap.malloc(16).map(|ptr| ptr.place()), Ok(319_968));
+    expect_eq(&rt, heap.malloc(32), Err(Refusal::NoFit));
 }
 
 /// The requests of one run.
@@ -163,8 +164,8 @@ fn runs_at_once<H: Heaped>(alloc: Global) -> Result<bool, StoreError> {
 
 #[test]
 fn run_of_requests(rt: HostRuntime) {
-    assert_eq!(rt; runs_at_once::<Heap>(rt.alloc()), Ok(true));
-    assert_eq!(rt; runs_at_once::<PlainHeap>(rt.alloc()), Ok(true));
+    expect_eq(&rt, runs_at_once::<Heap>(rt.alloc()), Ok(true));
+    expect_eq(&rt, runs_at_once::<PlainHeap>(rt.alloc()), Ok(true));
 }
 
 /// It passes whichever allocation is refused, and where none is.
@@ -173,7 +174,7 @@ fn plain_heap_refusals(rt: HostRuntime) {
     let mut heap = match PlainHeap::create(rt.alloc(), 4) {
         Ok(heap) => heap,
         Err(error) => {
-            assert_eq!(rt; error, StoreError::OutOfMemory);
+            expect_eq(&rt, error, StoreError::OutOfMemory);
             return;
         }
     };
@@ -184,7 +185,7 @@ fn plain_heap_refusals(rt: HostRuntime) {
             "{answers:?}"
         ),
         Err(error) => {
-            assert_eq!(rt; error, StoreError::OutOfMemory);
+            expect_eq(&rt, error, StoreError::OutOfMemory);
             assert!(rt; has_pools(&mut heap, &[]));
             let again = run(rt.alloc(), &mut heap, &requests()).expect(&rt, "answers");
             assert!(rt; say(again.as_slice(), &SERVED));

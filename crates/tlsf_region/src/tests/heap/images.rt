@@ -2,6 +2,7 @@
 
 use super::made;
 use super::rows::has_rows;
+use crate::tests::expect_eq;
 use std::alloc::Global;
 use std::process::Abort;
 use tlsf_heap::*;
@@ -71,13 +72,13 @@ fn loaded_pointers(rt: HostRuntime) {
     let mut heap = Heap::load_image(rt.alloc(), &two_blocks()).expect(&rt, "a heap");
     assert!(rt; heap.check());
     assert!(rt; has_rows(&mut heap, 0, &[(0, 16, true), (16, 48, false)]));
-    assert_eq!(rt; heap.free(Ptr::new(0, 1)), Err(Refusal::BadPointer));
-    assert_eq!(rt; heap.malloc(8), Err(Refusal::TableFull));
-    assert_eq!(rt; heap.malloc(48).map(|ptr| ptr.place()), Ok(16));
-    assert_eq!(rt; heap.free(Ptr::new(16, 1)), Ok(()));
-    assert_eq!(rt; heap.free(Ptr::new(0, 0)), Ok(()));
+    expect_eq(&rt, heap.free(Ptr::new(0, 1)), Err(Refusal::BadPointer));
+    expect_eq(&rt, heap.malloc(8), Err(Refusal::TableFull));
+    expect_eq(&rt, heap.malloc(48).map(|ptr| ptr.place()), Ok(16));
+    expect_eq(&rt, heap.free(Ptr::new(16, 1)), Ok(()));
+    expect_eq(&rt, heap.free(Ptr::new(0, 0)), Ok(()));
     assert!(rt; has_rows(&mut heap, 0, &[(0, 64, false)]));
-    assert_eq!(rt; heap.malloc(8).map(|ptr| ptr.place()), Ok(0));
+    expect_eq(&rt, heap.malloc(8).map(|ptr| ptr.place()), Ok(0));
     assert!(rt; heap.check());
 }
 
@@ -89,29 +90,34 @@ fn fault(alloc: Global, image: &[u8]) -> Option<ImageFault> {
 #[test]
 fn broken_images(rt: HostRuntime) {
     let mut image = two_blocks();
-    assert_eq!(rt;
+    expect_eq(
+        &rt,
         fault(rt.alloc(), &[]),
-        Some(ImageFault::Broken(Rule::Magic))
+        Some(ImageFault::Broken(Rule::Magic)),
     );
     put(&mut image, HEADS_AT + 2 * 3, &[0xff, 0xff]);
-    assert_eq!(rt;
+    expect_eq(
+        &rt,
         fault(rt.alloc(), &image),
-        Some(ImageFault::Broken(Rule::OnLists))
+        Some(ImageFault::Broken(Rule::OnLists)),
     );
     put(&mut image, HEADS_AT + 2 * 4, &[1, 0]);
-    assert_eq!(rt;
+    expect_eq(
+        &rt,
         fault(rt.alloc(), &image),
-        Some(ImageFault::Broken(Rule::Lists))
+        Some(ImageFault::Broken(Rule::Lists)),
     );
     put(&mut image, RECORDS_AT + 4, &[0x11]);
-    assert_eq!(rt;
+    expect_eq(
+        &rt,
         fault(rt.alloc(), &image),
-        Some(ImageFault::Broken(Rule::Merged))
+        Some(ImageFault::Broken(Rule::Merged)),
     );
     put(&mut image, RECORDS_AT + 16, &[32]);
-    assert_eq!(rt;
+    expect_eq(
+        &rt,
         fault(rt.alloc(), &image),
-        Some(ImageFault::Broken(Rule::Cover))
+        Some(ImageFault::Broken(Rule::Cover)),
     );
 }
 
@@ -122,7 +128,7 @@ fn refused_memory_of_loading(rt: HostRuntime) {
     let image = two_blocks();
     match fault(rt.alloc(), &image) {
         Some(fault) => {
-            assert_eq!(rt; fault, ImageFault::OutOfMemory);
+            expect_eq(&rt, fault, ImageFault::OutOfMemory);
             assert!(rt; Heap::load_image(rt.alloc(), &image).is_ok());
         }
         None => {

@@ -2,6 +2,7 @@
 
 use super::made;
 use super::rows::has_rows;
+use crate::tests::expect_eq;
 use std::alloc::{AllocError, Global};
 use tlsf_heap::*;
 
@@ -74,7 +75,7 @@ fn fills_and_frees<H: Heaped>(alloc: Global, heap: &mut H) -> Result<bool, Store
 #[test]
 fn long_runs(rt: HostRuntime) {
     let mut heap: Heap = made(&rt, rt.alloc(), BLOCKS as u32);
-    assert_eq!(rt; fills_and_frees(rt.alloc(), &mut heap), Ok(true));
+    expect_eq(&rt, fills_and_frees(rt.alloc(), &mut heap), Ok(true));
     let mut heap: PlainHeap = made(&rt, rt.alloc(), BLOCKS as u32);
-    assert_eq!(rt; fills_and_frees(rt.alloc(), &mut heap), Ok(true));
+    expect_eq(&rt, fills_and_frees(rt.alloc(), &mut heap), Ok(true));
 }

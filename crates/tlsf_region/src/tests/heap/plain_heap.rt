@@ -1,5 +1,6 @@
 //! Rows of the plain heap.
 
+use crate::tests::expect_eq;
 use std::alloc::Global;
 use std::process::Abort;
 use tlsf_heap::{Cursor, Heaped, PlainHeap, Ptr, Refusal, Row, StoreError};
@@ -59,7 +60,7 @@ fn made_at_last(rt: &impl Abort, alloc: Global) -> PlainHeap {
     };
     if heap.add_pool(0, 1024) == Err(Refusal::OutOfMemory) {
         assert!(rt; has_pools(&mut heap, &[]));
-        assert_eq!(rt; heap.add_pool(0, 1024), Ok(()));
+        expect_eq(rt, heap.add_pool(0, 1024), Ok(()));
     }
     heap
 }
@@ -86,7 +87,7 @@ fn refused_memory(rt: HostRuntime) {
     assert!(rt; has_rows(&mut heap, 0, 112, 112, 912));
     if heap.free(ptr) == Err(Refusal::OutOfMemory) {
         assert!(rt; has_rows(&mut heap, 0, 112, 112, 912));
-        assert_eq!(rt; heap.free(ptr), Ok(()));
+        expect_eq(&rt, heap.free(ptr), Ok(()));
     }
     assert!(rt; has_row(&mut heap, 0, 1024, false));
 }
@@ -103,16 +104,16 @@ fn refused_memory_of_others(rt: HostRuntime) {
     let ptr = given.expect(&rt, "a block");
     if heap.realloc(Some(ptr), 200) == Err(Refusal::OutOfMemory) {
         assert!(rt; has_rows(&mut heap, 0, 112, 112, 912));
-        assert_eq!(rt; heap.realloc(Some(ptr), 200), Ok(Some(ptr)));
+        expect_eq(&rt, heap.realloc(Some(ptr), 200), Ok(Some(ptr)));
     }
     assert!(rt; has_rows(&mut heap, 0, 208, 208, 816));
     if heap.realloc(Some(ptr), 0) == Err(Refusal::OutOfMemory) {
         assert!(rt; has_rows(&mut heap, 0, 208, 208, 816));
-        assert_eq!(rt; heap.realloc(Some(ptr), 0), Ok(None));
+        expect_eq(&rt, heap.realloc(Some(ptr), 0), Ok(None));
     }
     if heap.remove_pool(0) == Err(Refusal::OutOfMemory) {
         assert!(rt; has_row(&mut heap, 0, 1024, false));
-        assert_eq!(rt; heap.remove_pool(0), Ok(()));
+        expect_eq(&rt, heap.remove_pool(0), Ok(()));
     }
     assert!(rt; has_pools(&mut heap, &[]));
 }
@@ -125,13 +126,13 @@ fn refused_memory_of_a_move(rt: HostRuntime) {
     let second = given_at_last(&rt, &mut heap, 1);
     let mut moved = heap.realloc(Some(first), 200);
     if moved == Err(Refusal::OutOfMemory) {
-        assert_eq!(rt; heap.block_size(first), Ok(112));
-        assert_eq!(rt; heap.block_size(second), Ok(16));
+        expect_eq(&rt, heap.block_size(first), Ok(112));
+        expect_eq(&rt, heap.block_size(second), Ok(16));
         moved = heap.realloc(Some(first), 200);
     }
     let Ok(Some(ptr)) = moved else {
         panic!(rt; "no block");
     };
-    assert_eq!(rt; ptr.place(), 128);
-    assert_eq!(rt; heap.block_size(first), Err(Refusal::BadPointer));
+    expect_eq(&rt, ptr.place(), 128);
+    expect_eq(&rt, heap.block_size(first), Err(Refusal::BadPointer));
 }

@@ -4,6 +4,7 @@ use super::images::{LEN, RECORDS_AT, vector};
 use super::made;
 use super::random::shifted;
 use super::rows::has_rows;
+use crate::tests::expect_eq;
 use mtrace_log::memory::{Full, MemorySink};
 use std::alloc::Global;
 use std::process::Abort;
@@ -21,17 +22,17 @@ fn small<A: Abort>(rt: &A, alloc: Global, records: u32) -> Heap {
 fn saved_images(rt: HostRuntime) {
     let mut heap = small(&rt, rt.alloc(), 1);
     let mut image = MemorySink::in_pieces(rt.alloc(), usize::MAX);
-    assert_eq!(rt; heap.save_image(&mut image), Ok(()));
-    assert_eq!(rt; image.bytes().len(), RECORDS_AT + 16);
+    expect_eq(&rt, heap.save_image(&mut image), Ok(()));
+    expect_eq(&rt, image.bytes().len(), RECORDS_AT + 16);
     assert!(rt; vector().starts_with(image.bytes()));
     let mut heap = small(&rt, rt.alloc(), 2);
     let ptr = heap.malloc(8).expect(&rt, "a block");
     let mut image = MemorySink::in_pieces(rt.alloc(), 100);
-    assert_eq!(rt; heap.save_image(&mut image), Ok(()));
-    assert_eq!(rt; image.bytes().len(), LEN);
+    expect_eq(&rt, heap.save_image(&mut image), Ok(()));
+    expect_eq(&rt, image.bytes().len(), LEN);
     let mut loaded = Heap::load_image(rt.alloc(), image.bytes()).expect(&rt, "a heap");
     assert!(rt; has_rows(&mut loaded, 0, &[(0, 16, true), (16, 48, false)]));
-    assert_eq!(rt; loaded.free(ptr), Ok(()));
+    expect_eq(&rt, loaded.free(ptr), Ok(()));
     assert!(rt; has_rows(&mut loaded, 0, &[(0, 64, false)]));
 }
 
@@ -46,11 +47,11 @@ fn image_writer_fails(rt: HostRuntime) {
             Full::TakesNone
         };
         let mut image = MemorySink::with_room(rt.alloc(), 1_000, room, full);
-        assert_eq!(rt; heap.save_image(&mut image), Err(ImageFault::Write));
-        assert_eq!(rt; image.bytes(), &vector()[..room.min(LEN)]);
+        expect_eq(&rt, heap.save_image(&mut image), Err(ImageFault::Write));
+        expect_eq(&rt, image.bytes(), &vector()[..room.min(LEN)]);
     }
     let mut image = MemorySink::with_room(rt.alloc(), 1_000, RECORDS_AT + 16, Full::Fails);
-    assert_eq!(rt; heap.save_image(&mut image), Ok(()));
+    expect_eq(&rt, heap.save_image(&mut image), Ok(()));
 }
 
 /// The pointers that two heaps gave for one request, while their block is live.
@@ -119,7 +120,7 @@ fn saved_and_loaded(rt: HostRuntime) {
         let mut live = [None; LIVE];
         assert!(rt; go_alike(&mut plain, &mut heap, &mut live, seed, 300));
         let mut image = MemorySink::in_pieces(rt.alloc(), 4_096);
-        assert_eq!(rt; heap.save_image(&mut image), Ok(()));
+        expect_eq(&rt, heap.save_image(&mut image), Ok(()));
         let mut loaded = Heap::load_image(rt.alloc(), image.bytes()).expect(&rt, "a heap");
         assert!(rt; heap.check() && loaded.check());
         assert!(rt; go_alike(&mut plain, &mut loaded, &mut live, seed + 100, 1_000));

@@ -1,6 +1,7 @@
 //! Walks of pools.
 
 use super::made;
+use crate::tests::expect_eq;
 use std::alloc::Global;
 use tlsf_heap::*;
 
@@ -28,11 +29,11 @@ fn row(place: u32, size: u32, used: bool) -> Row {
 fn rows_of_each_pool(rt: HostRuntime) {
     let mut heap: Heap = made(&rt, rt.alloc(), 8);
     assert!(rt; refuses(&mut heap, 0));
-    assert_eq!(rt; heap.add_pool(0, 1024), Ok(()));
+    expect_eq(&rt, heap.add_pool(0, 1024), Ok(()));
     let first = heap.malloc(100).expect(&rt, "a block");
-    assert_eq!(rt; heap.malloc(1).map(|ptr| ptr.place()), Ok(112));
-    assert_eq!(rt; heap.free(first), Ok(()));
-    assert_eq!(rt; heap.add_pool(1024, 64), Ok(()));
+    expect_eq(&rt, heap.malloc(1).map(|ptr| ptr.place()), Ok(112));
+    expect_eq(&rt, heap.free(first), Ok(()));
+    expect_eq(&rt, heap.add_pool(1024, 64), Ok(()));
     let rows = [row(0, 112, false), row(112, 16, true), row(128, 896, false)];
     assert!(rt; walks(rt.alloc(), &mut heap, 0, &rows));
     assert!(rt; walks(rt.alloc(), &mut heap, 1024, &[row(1024, 64, false)]));

@@ -1,6 +1,7 @@
 //! Random lines over both heaps: what is held is compared after each, with a list of all addresses.
 
 use super::*;
+use crate::tests::expect_eq;
 use mtrace_log::{Addr, Event};
 
 /// A table of eight records: full now and then, so that each spot of the index is taken and left.
@@ -38,8 +39,8 @@ fn expect_lines<H: Heaped>(rt: &impl Abort, replay: &Replay<H>, lines: &[u64; AD
         if *line > 0 {
             match held.next() {
                 Some(entry) => {
-                    assert_eq!(rt; entry.addr.value(), address);
-                    assert_eq!(rt; entry.line, *line);
+                    expect_eq(rt, entry.addr.value(), address);
+                    expect_eq(rt, entry.line, *line);
                 }
                 None => panic!(rt; "{address} is not held"),
             }

@@ -1,6 +1,7 @@
 //! Memory is refused at any call. Each test passes whichever allocation is refused, and where none is.
 
 use super::*;
+use crate::tests::expect_eq;
 use mtrace_log::memory::{MemorySink, MemorySource};
 use mtrace_log::{Source, ToWrite};
 use std::io;
@@ -37,7 +38,7 @@ const LINES: [&str; 19] = [
 /// Compares the line of the next entry that is held.
 fn expect_next(rt: &impl Abort, held: &mut Entries<'_>, line: u64) {
     match held.next() {
-        Some(entry) => assert_eq!(rt; entry.line, line),
+        Some(entry) => expect_eq(rt, entry.line, line),
         None => panic!(rt; "line {line} is not held"),
     }
 }
@@ -79,7 +80,7 @@ fn sees_refused_memory<H: Heaped>(rt: &impl Abort, alloc: Global, may_lack: bool
     let mut fed = match Fed::<H>::create(alloc, SETTINGS) {
         Ok(fed) => fed,
         Err(fault) => {
-            assert_eq!(rt; fault, ReplayFault::OutOfMemory);
+            expect_eq(rt, fault, ReplayFault::OutOfMemory);
             return;
         }
     };
@@ -129,14 +130,14 @@ fn run_with_refused_memory(rt: HostRuntime) {
     let mut writer = MemorySink::in_pieces(rt.alloc(), 4096);
     match run_leaks(rt.alloc(), &mut reader, &mut writer, SETTINGS) {
         Ok(status) => {
-            assert_eq!(rt; status, Status::Found);
-            assert_eq!(rt; writer.bytes(), TEXT);
+            expect_eq(&rt, status, Status::Found);
+            expect_eq(&rt, writer.bytes(), TEXT);
         }
         // The writer was refused memory.
         Err(RunFault::Write) => assert!(rt; TEXT.starts_with(writer.bytes())),
         Err(fault) => {
-            assert_eq!(rt; fault, RunFault::OutOfMemory);
-            assert_eq!(rt; bytes_left(&rt, &mut reader), LOG.len());
+            expect_eq(&rt, fault, RunFault::OutOfMemory);
+            expect_eq(&rt, bytes_left(&rt, &mut reader), LOG.len());
             assert!(rt; writer.bytes().is_empty());
         }
     }

@@ -1,5 +1,6 @@
 //! Heaps that are saved at the end of a log.
 
+use crate::tests::expect_eq;
 use mtrace_log::memory::{Full, MemorySink, MemorySource};
 use mtrace_replay::*;
 use std::alloc::Global;
@@ -81,9 +82,9 @@ fn free_writer(alloc: Global) -> MemorySink {
 fn saved_vector(rt: HostRuntime) {
     let (notes, image) = (free_writer(rt.alloc()), free_writer(rt.alloc()));
     let saved = save_log(rt.alloc(), b"", LEAST, notes, image);
-    assert_eq!(rt; saved.answer, Ok(Status::Clean));
-    assert_eq!(rt; saved.notes.bytes(), b"".as_slice());
-    assert_eq!(rt; saved.image.bytes(), vector().as_slice());
+    expect_eq(&rt, saved.answer, Ok(Status::Clean));
+    expect_eq(&rt, saved.notes.bytes(), b"".as_slice());
+    expect_eq(&rt, saved.image.bytes(), vector().as_slice());
 }
 
 /// The diagnostics go to one writer, and the heap that is loaded from the other holds what the log holds.
@@ -101,15 +102,16 @@ fn loaded_pointers(rt: HostRuntime) {
         notes,
         image,
     );
-    assert_eq!(rt; saved.answer, Ok(Status::Found));
-    assert_eq!(rt;
+    expect_eq(&rt, saved.answer, Ok(Status::Found));
+    expect_eq(
+        &rt,
         saved.notes.bytes(),
-        b"line 2: 0x20 is not held\nline 3: half of a reallocation\n".as_slice()
+        b"line 2: 0x20 is not held\nline 3: half of a reallocation\n".as_slice(),
     );
-    assert_eq!(rt; saved.image.bytes().len(), 1_552);
+    expect_eq(&rt, saved.image.bytes().len(), 1_552);
     let mut heap = Heap::load_image(rt.alloc(), saved.image.bytes()).expect(&rt, "a heap");
-    assert_eq!(rt; heap.malloc(49).err(), Some(tlsf_heap::Refusal::NoFit));
-    assert_eq!(rt; heap.malloc(48).map(|ptr| ptr.place()), Ok(16));
+    expect_eq(&rt, heap.malloc(49).err(), Some(tlsf_heap::Refusal::NoFit));
+    expect_eq(&rt, heap.malloc(48).map(|ptr| ptr.place()), Ok(16));
 }
 
 /// The image's writer fails behind each number of bytes, or at its flush.
@@ -118,14 +120,14 @@ fn image_writer_fails(rt: HostRuntime) {
     for room in 0..LEN {
         let image = MemorySink::with_room(rt.alloc(), 1_000, room, Full::TakesNone);
         let saved = save_log(rt.alloc(), b"", LEAST, free_writer(rt.alloc()), image);
-        assert_eq!(rt; saved.answer, Err(RunFault::Image));
-        assert_eq!(rt; saved.image.bytes().len(), room);
+        expect_eq(&rt, saved.answer, Err(RunFault::Image));
+        expect_eq(&rt, saved.image.bytes().len(), room);
         assert!(rt; vector().starts_with(saved.image.bytes()));
     }
     let image = free_writer(rt.alloc()).failing_flush();
     let saved = save_log(rt.alloc(), b"", LEAST, free_writer(rt.alloc()), image);
-    assert_eq!(rt; saved.answer, Err(RunFault::Image));
-    assert_eq!(rt; saved.image.bytes(), vector().as_slice());
+    expect_eq(&rt, saved.answer, Err(RunFault::Image));
+    expect_eq(&rt, saved.image.bytes(), vector().as_slice());
 }
 
 /// After a fault of the run nothing is put to the image's writer.
@@ -134,15 +136,15 @@ fn faults_before_the_image(rt: HostRuntime) {
     let log = b"- 0x20\n";
     let full = MemorySink::with_room(rt.alloc(), 1_000, 3, Full::Fails);
     let one = save_log(rt.alloc(), log, LEAST, full, free_writer(rt.alloc()));
-    assert_eq!(rt; one.answer, Err(RunFault::Write));
-    assert_eq!(rt; one.image.bytes(), b"".as_slice());
+    expect_eq(&rt, one.answer, Err(RunFault::Write));
+    expect_eq(&rt, one.image.bytes(), b"".as_slice());
     let unflushed = free_writer(rt.alloc()).failing_flush();
     let two = save_log(rt.alloc(), log, LEAST, unflushed, free_writer(rt.alloc()));
-    assert_eq!(rt; two.answer, Err(RunFault::Write));
-    assert_eq!(rt; two.image.bytes(), b"".as_slice());
+    expect_eq(&rt, two.answer, Err(RunFault::Write));
+    expect_eq(&rt, two.image.bytes(), b"".as_slice());
     let bad = Settings { pool: 24, ..LEAST };
     let (notes, image) = (free_writer(rt.alloc()), free_writer(rt.alloc()));
     let three = save_log(rt.alloc(), log, bad, notes, image);
-    assert_eq!(rt; three.answer, Err(RunFault::BadSettings));
-    assert_eq!(rt; three.image.bytes(), b"".as_slice());
+    expect_eq(&rt, three.answer, Err(RunFault::BadSettings));
+    expect_eq(&rt, three.image.bytes(), b"".as_slice());
 }

@@ -1,6 +1,7 @@
 //! Lines, and what they come to in sum, over both heaps. Other totals are rows of whole reports, in the tests of the tool.
 
 use super::*;
+use crate::tests::expect_eq;
 
 /// Lines, and what they come to.
 struct Row {
@@ -65,7 +66,7 @@ fn expect_totals<H: Heaped>(rt: &impl Abort, alloc: Global, row: &Row) {
     for text in row.lines {
         assert!(rt; fed.feed(rt, text).is_ok(), "{text}");
     }
-    assert_eq!(rt; fed.replay.totals(), row.totals);
+    expect_eq(rt, fed.replay.totals(), row.totals);
 }
 
 #[test]
