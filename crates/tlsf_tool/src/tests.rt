@@ -19,3 +19,13 @@ use std::process::Abort;
 pub(crate) fn expect_eq<T: PartialEq + Debug + Drop>(rt: &impl Abort, found: T, wanted: T) {
     assert_eq!(rt; found, wanted);
 }
+
+/// The same, of a row or a round that is told where they differ.
+pub(crate) fn expect_eq_at<At: Debug + Drop, T: PartialEq + Debug + Drop>(
+    rt: &impl Abort,
+    at: At,
+    found: T,
+    wanted: T,
+) {
+    assert_eq!(rt; found, wanted, "{at:?}");
+}

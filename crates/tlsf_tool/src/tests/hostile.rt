@@ -2,6 +2,7 @@
 
 use super::rows::{SMALL, WHOLE};
 use crate::asked::Name;
+use crate::tests::expect_eq_at;
 use mtrace_log::memory::{Full, MemorySink, MemorySource};
 use mtrace_replay::{RunFault, Status, run_leaks, run_peak, run_walk};
 use std::alloc::Global;
@@ -36,11 +37,12 @@ const READ: [(u64, &[u8]); 3] = [
     (35, b"line 1: not a line\nline 3: 0x2000 is not held\n"),
 ];
 
-/// Makes one report of what the reader gives, and compares its answer and the text that it wrote.
+/// Makes one report of what the reader gives, and compares its answer and the text that it wrote. The number tells the
+/// round.
 fn expect_one(
     rt: &impl Abort,
     alloc: Global,
-    report: Name,
+    (report, at): (Name, usize),
     mut reader: MemorySource<'_>,
     mut writer: MemorySink,
     wanted: Result<Status, RunFault>,
@@ -51,8 +53,8 @@ fn expect_one(
         Name::Peak => run_peak(alloc, &mut reader, &mut writer, SMALL),
         Name::Walk => run_walk(alloc, &mut reader, &mut writer, SMALL),
     };
-    assert_eq!(rt; answer, wanted, "{report:?}");
-    assert_eq!(rt; writer.bytes(), text, "{report:?}");
+    expect_eq_at(rt, (report, at), answer, wanted);
+    expect_eq_at(rt, (report, at), writer.bytes(), text);
 }
 
 #[test]
@@ -70,7 +72,7 @@ fn reader_fails_at_each_byte(rt: HostRuntime) {
             expect_one(
                 &rt,
                 rt.alloc(),
-                report,
+                (report, bytes as usize),
                 reader,
                 writer,
                 Err(RunFault::Read),
@@ -90,7 +92,7 @@ fn writer_fails_at_each_byte(rt: HostRuntime) {
                 expect_one(
                     &rt,
                     rt.alloc(),
-                    report,
+                    (report, room),
                     reader,
                     writer,
                     Err(RunFault::Write),
@@ -115,7 +117,7 @@ fn flush_fails_behind_the_text(rt: HostRuntime) {
         expect_one(
             &rt,
             rt.alloc(),
-            report,
+            (report, text.len()),
             reader,
             writer,
             Err(RunFault::Write),
@@ -127,7 +129,7 @@ fn flush_fails_behind_the_text(rt: HostRuntime) {
         expect_one(
             &rt,
             rt.alloc(),
-            report,
+            (report, text.len()),
             reader,
             writer,
             Ok(Status::Found),
@@ -144,7 +146,7 @@ fn read_fault_before_flush_fault(rt: HostRuntime) {
         expect_one(
             &rt,
             rt.alloc(),
-            report,
+            (report, 0),
             reader,
             writer,
             Err(RunFault::Read),
@@ -161,7 +163,7 @@ fn pending_half_at_read_fault(rt: HostRuntime) {
         expect_one(
             &rt,
             rt.alloc(),
-            report,
+            (report, 0),
             reader,
             writer,
             Err(RunFault::Read),
@@ -191,7 +193,7 @@ fn carriage_return(rt: HostRuntime) {
             expect_one(
                 &rt,
                 rt.alloc(),
-                report,
+                (report, log.len()),
                 reader,
                 writer,
                 Ok(Status::Found),

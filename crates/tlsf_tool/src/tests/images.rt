@@ -6,8 +6,8 @@ use crate::tests::expect_eq;
 use crate::tests::image_bytes::{Bytes, HEADS_AT, RECORDS_AT, vector};
 use mtrace_log::memory::{Full, MemorySink, MemorySource};
 use mtrace_replay::Settings;
-use std::alloc::Global;
-use std::test::Fail;
+use std::alloc::{AllocError, Global};
+use std::process::Abort;
 
 /// One pool of 64 bytes and one record.
 const LEAST: Settings = Settings {
@@ -114,37 +114,56 @@ fn faults_of_saving(rt: HostRuntime) {
     }
 }
 
+/// Checks an image of which this line is told.
+fn expect_broken(rt: &impl Abort, alloc: Global, image: &Bytes, line: &[u8]) {
+    assert!(rt; is_checked(alloc, image.as_slice(), 1, line), "{line:?}");
+}
+
+/// Images that break a rule of the bytes.
+#[test]
+fn checked_bytes(rt: HostRuntime) {
+    let alloc = rt.alloc();
+    assert!(rt; is_checked(alloc, vector().as_slice(), 0, b"ok\n"));
+    assert!(rt; is_checked(alloc, b"", 1, b"broken: V1\n"));
+    expect_broken(&rt, alloc, &vector().with(0, 0x55), b"broken: V1\n");
+    expect_broken(
+        &rt,
+        alloc,
+        &vector().of_len(RECORDS_AT - 1),
+        b"broken: V1\n",
+    );
+    expect_broken(
+        &rt,
+        alloc,
+        &vector().of_len(RECORDS_AT + 17),
+        b"broken: V2\n",
+    );
+    expect_broken(&rt, alloc, &vector().with(12, 1), b"broken: V2\n");
+    expect_broken(&rt, alloc, &vector().with(24, 1), b"broken: V3\n");
+    expect_broken(&rt, alloc, &vector().with(28, 1), b"broken: V4\n");
+    expect_broken(
+        &rt,
+        alloc,
+        &vector().with(RECORDS_AT + 4, 0x43),
+        b"broken: V5\n",
+    );
+}
+
+/// Images that break a rule of the heap.
 #[test]
 fn checked_images(rt: HostRuntime) {
-    let longer = vector().of_len(RECORDS_AT + 17);
-    let shorter = vector().of_len(RECORDS_AT - 1);
+    let alloc = rt.alloc();
     let unlisted = vector().with(HEADS_AT + 8, 0xff).with(HEADS_AT + 9, 0xff);
-    for (image, status, line) in [
-        (vector(), 0, b"ok\n".as_slice()),
-        (vector().with(0, 0x55), 1, b"broken: V1\n"),
-        (shorter, 1, b"broken: V1\n"),
-        (longer, 1, b"broken: V2\n"),
-        (vector().with(12, 1), 1, b"broken: V2\n"),
-        (vector().with(24, 1), 1, b"broken: V3\n"),
-        (vector().with(28, 1), 1, b"broken: V4\n"),
-        (vector().with(RECORDS_AT + 4, 0x43), 1, b"broken: V5\n"),
-        (vector().with(HEADS_AT, 0), 1, b"broken: V6\n"),
-        (own_neighbour(8), 1, b"broken: V7\n"),
-        (own_neighbour(10), 1, b"broken: V7\n"),
-        (vector().with(RECORDS_AT, 16), 1, b"broken: V8\n"),
-        (stray(), 1, b"broken: V9\n"),
-        (own_neighbour(12), 1, b"broken: V11\n"),
-        (own_neighbour(14), 1, b"broken: V11\n"),
-        (free_neighbours(), 1, b"broken: V10\n"),
-        (detached_ring(), 1, b"broken: V12\n"),
-        (unlisted, 1, b"broken: V12\n"),
-    ] {
-        assert!(rt;
-            is_checked(rt.alloc(), image.as_slice(), status, line),
-            "{line:?}"
-        );
-    }
-    assert!(rt; is_checked(rt.alloc(), b"", 1, b"broken: V1\n"));
+    expect_broken(&rt, alloc, &vector().with(HEADS_AT, 0), b"broken: V6\n");
+    expect_broken(&rt, alloc, &own_neighbour(8), b"broken: V7\n");
+    expect_broken(&rt, alloc, &own_neighbour(10), b"broken: V7\n");
+    expect_broken(&rt, alloc, &vector().with(RECORDS_AT, 16), b"broken: V8\n");
+    expect_broken(&rt, alloc, &stray(), b"broken: V9\n");
+    expect_broken(&rt, alloc, &free_neighbours(), b"broken: V10\n");
+    expect_broken(&rt, alloc, &own_neighbour(12), b"broken: V11\n");
+    expect_broken(&rt, alloc, &own_neighbour(14), b"broken: V11\n");
+    expect_broken(&rt, alloc, &detached_ring(), b"broken: V12\n");
+    expect_broken(&rt, alloc, &unlisted, b"broken: V12\n");
 }
 
 /// Of the rules that an image breaks, the first is named: each line breaks one more, in front of those before.
@@ -169,30 +188,33 @@ fn first_rule_named(rt: HostRuntime) {
         (3, b"\x01", b"broken: V1\n"),
     ] {
         image.put(offset, bytes);
-        assert!(rt;
-            is_checked(rt.alloc(), image.as_slice(), 1, line),
-            "{line:?}"
-        );
+        expect_broken(&rt, rt.alloc(), &image, line);
     }
 }
 
 /// A file that is longer than any image, and begins as one.
-#[test]
-fn longest_file(rt: HostRuntime) -> Result<(), Fail> {
-    let mut bytes = Vec::new(rt.alloc());
+fn longer_than_any(alloc: Global) -> Result<Vec<u8>, AllocError> {
+    let mut bytes = Vec::new(alloc);
     bytes.extend_from_slice(b"TLSFIMG1")?;
     for _index in 8..1_050_081 {
         bytes.push(0)?;
     }
+    Ok(bytes)
+}
+
+#[test]
+fn longest_file(rt: HostRuntime) {
+    let bytes = longer_than_any(rt.alloc()).expect(&rt, "memory");
     assert!(rt; is_checked(rt.alloc(), bytes.as_slice(), 1, b"broken: V2\n"));
+}
+
+/// The writer takes four bytes of the line, and no more.
+#[test]
+fn writer_of_a_check_fails(rt: HostRuntime) {
     let mut reader = MemorySource::in_pieces(b"TLSFIMG1", 4_096);
     let mut full = MemorySink::with_room(rt.alloc(), 4_096, 4, Full::TakesNone);
     let mut errors = MemorySink::in_pieces(rt.alloc(), 4_096);
-    expect_eq(
-        &rt,
-        check_image(rt.alloc(), &mut reader, &mut full, &mut errors),
-        3,
-    );
+    let status = check_image(rt.alloc(), &mut reader, &mut full, &mut errors);
+    expect_eq(&rt, status, 3);
     expect_eq(&rt, errors.bytes(), b"tlsf: write failed\n".as_slice());
-    Ok(())
 }

@@ -1,7 +1,7 @@
 //! Worked images that are read, and bytes that break a rule.
 
-use crate::tests::expect_eq;
 use crate::tests::image_bytes::vector;
+use crate::tests::{expect_eq, expect_eq_at};
 use std::process::Abort;
 use tlsf_class::Class;
 use tlsf_image::{Image, Rule, Table, can_be_pool};
@@ -63,7 +63,7 @@ fn a_byte_changed(rt: HostRuntime) {
     for (offset, byte, rule) in CHANGED {
         let mut image = vector();
         image.put(offset, &[byte]);
-        assert_eq!(rt; image.broken(), Some(rule), "at {offset}");
+        expect_eq_at(&rt, offset, image.broken(), Some(rule));
     }
 }
 
@@ -100,7 +100,7 @@ fn wrong_lengths(rt: HostRuntime) {
         (1_535, Rule::Length),
         (1_537, Rule::Length),
     ] {
-        assert_eq!(rt; vector().of_len(len).broken(), Some(rule), "of {len}");
+        expect_eq_at(&rt, len, vector().of_len(len).broken(), Some(rule));
     }
 }
 

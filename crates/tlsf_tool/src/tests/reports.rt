@@ -3,6 +3,7 @@
 use super::rows::{PIECES, SMALL, WHOLE};
 use crate::asked::Name;
 use crate::service::serve;
+use crate::tests::expect_eq_at;
 use mtrace_log::memory::{MemorySink, MemorySource};
 use mtrace_replay::Settings;
 use std::alloc::Global;
@@ -132,9 +133,9 @@ fn expect_row(rt: &impl Abort, alloc: Global, row: &Row, piece: usize) {
         &mut writer,
         &mut errors,
     );
-    assert_eq!(rt; writer.bytes(), row.text, "{}", row.name);
-    assert_eq!(rt; status, row.status, "{}", row.name);
-    assert_eq!(rt; errors.bytes(), b"".as_slice(), "{}", row.name);
+    expect_eq_at(rt, row.name, writer.bytes(), row.text);
+    expect_eq_at(rt, row.name, status, row.status);
+    expect_eq_at(rt, row.name, errors.bytes(), b"".as_slice());
 }
 
 #[test]

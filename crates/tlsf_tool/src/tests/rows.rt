@@ -3,7 +3,7 @@
 
 use crate::asked::Name;
 use crate::service::serve;
-use crate::tests::expect_eq;
+use crate::tests::{expect_eq, expect_eq_at};
 use mtrace_log::memory::{Full, MemorySink, MemorySource};
 use mtrace_log::{LONGEST_LINE, LONGEST_LOCATION, Sink, Source};
 use mtrace_replay::{RunFault, Settings, run_leaks};
@@ -227,8 +227,8 @@ pub fn expect_status<R: Source, W: Sink>(
 ) {
     let mut errors = MemorySink::in_pieces(alloc, WHOLE);
     let answer = serve(alloc, Name::Leaks, settings, reader, writer, &mut errors);
-    assert_eq!(rt; answer, status, "{name}");
-    assert_eq!(rt; errors.bytes(), error, "{name}");
+    expect_eq_at(rt, name, answer, status);
+    expect_eq_at(rt, name, errors.bytes(), error);
 }
 
 /// Serves a log in pieces of at most `piece` bytes, and compares text and status. Nothing goes to standard
@@ -255,7 +255,7 @@ pub fn expect_report(
         status,
         b"",
     );
-    assert_eq!(rt; writer.bytes(), text, "{name}");
+    expect_eq_at(rt, name, writer.bytes(), text);
 }
 
 #[test]
@@ -406,7 +406,7 @@ fn writer_fails_at_each_byte(rt: HostRuntime) {
                     3,
                     b"tlsf: write failed\n",
                 );
-                assert_eq!(rt; writer.bytes(), &text[..room], "{room}");
+                expect_eq_at(&rt, room, writer.bytes(), &text[..room]);
             }
         }
     }
@@ -454,7 +454,7 @@ fn reader_fails(rt: HostRuntime) {
         } else {
             b"line 1: 0x1 is not held\nline 2: 0x2 is not held\n"
         };
-        assert_eq!(rt; writer.bytes(), text, "{calls}");
+        expect_eq_at(&rt, calls, writer.bytes(), text);
     }
 }
 

@@ -2,7 +2,7 @@
 
 use super::program::strings;
 use crate::asked::{Command, Name, ToolFault};
-use crate::tests::expect_eq;
+use crate::tests::{expect_eq, expect_eq_at};
 use crate::words::command;
 use mtrace_replay::Settings;
 use std::test::Fail;
@@ -185,9 +185,9 @@ fn words_that_are_taken(rt: HostRuntime) -> Result<(), Fail> {
         else {
             panic!(rt; "no report");
         };
-        assert_eq!(rt; name, row.name, "{:?}", row.words);
-        assert_eq!(rt; settings, row.settings, "{:?}", row.words);
-        assert_eq!(rt; log.as_str(), row.log, "{:?}", row.words);
+        expect_eq_at(&rt, row.words, name, row.name);
+        expect_eq_at(&rt, row.words, settings, row.settings);
+        expect_eq_at(&rt, row.words, log.as_str(), row.log);
     }
     Ok(())
 }

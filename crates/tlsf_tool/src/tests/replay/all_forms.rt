@@ -3,6 +3,7 @@
 
 use super::random_lines::Random;
 use super::*;
+use crate::tests::expect_eq_at;
 use mtrace_log::{Addr, Location};
 
 /// Little place and few records, so that lines are refused for want of either.
@@ -85,7 +86,7 @@ fn expect_same_held(rt: &impl Abort, one: &Replay<Heap>, other: &Replay<PlainHea
     let mut held = other.held();
     for entry in one.held() {
         match held.next() {
-            Some(same) => assert!(rt; entry == same, "line {line}: {entry:?} {same:?}"),
+            Some(same) => expect_eq_at(rt, line, entry, same),
             None => panic!(rt; "line {line}: too few are held"),
         }
     }
@@ -104,8 +105,8 @@ fn expect_same_line(
     else {
         panic!(rt; "no memory");
     };
-    assert!(rt; note == other_note, "line {line}: {note:?} {other_note:?}");
-    assert_eq!(rt; one.replay.totals(), other.replay.totals(), "line {line}");
+    expect_eq_at(rt, line, &note, &other_note);
+    expect_eq_at(rt, line, one.replay.totals(), other.replay.totals());
     expect_same_held(rt, &one.replay, &other.replay, line);
     note.as_slice()
         .iter()

@@ -1,6 +1,7 @@
 //! Memory refused to each of the reports. The test passes whichever allocation is refused, and where none is.
 
 use super::*;
+use crate::tests::expect_eq_at;
 use mtrace_log::Source;
 use mtrace_log::memory::{MemorySink, MemorySource};
 
@@ -56,14 +57,14 @@ fn expect_one(rt: &impl Abort, alloc: Global, report: Report, text: &[u8]) {
     let mut writer = MemorySink::in_pieces(alloc, 4096);
     match run_one(alloc, report, &mut reader, &mut writer) {
         Ok(status) => {
-            assert_eq!(rt; status, Status::Found, "{report:?}");
-            assert_eq!(rt; writer.bytes(), text, "{report:?}");
+            expect_eq_at(rt, report, status, Status::Found);
+            expect_eq_at(rt, report, writer.bytes(), text);
         }
         // A writer was refused memory.
-        Err(RunFault::Image) => assert_eq!(rt; writer.bytes(), text, "{report:?}"),
+        Err(RunFault::Image) => expect_eq_at(rt, report, writer.bytes(), text),
         Err(RunFault::Write) => assert!(rt; text.starts_with(writer.bytes()), "{report:?}"),
         Err(fault) => {
-            assert_eq!(rt; fault, RunFault::OutOfMemory, "{report:?}");
+            expect_eq_at(rt, report, fault, RunFault::OutOfMemory);
             assert!(rt; reader.pull(&mut [0; 4096]) == Ok(LOG.len()), "{report:?}");
             assert!(rt; writer.bytes().is_empty(), "{report:?}");
         }

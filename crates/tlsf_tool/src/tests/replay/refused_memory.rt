@@ -1,7 +1,7 @@
 //! Memory is refused at any call. Each test passes whichever allocation is refused, and where none is.
 
 use super::*;
-use crate::tests::expect_eq;
+use crate::tests::{expect_eq, expect_eq_at};
 use mtrace_log::memory::{MemorySink, MemorySource};
 use mtrace_log::{Source, ToWrite};
 use std::io;
@@ -68,7 +68,7 @@ fn is_taken(rt: &impl Abort, text: &str, answer: Result<Note, ReplayFault>) -> b
             true
         }
         Err(fault) => {
-            assert_eq!(rt; fault, ReplayFault::OutOfMemory, "{text}");
+            expect_eq_at(rt, text, fault, ReplayFault::OutOfMemory);
             false
         }
     }

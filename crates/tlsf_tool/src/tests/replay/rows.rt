@@ -1,6 +1,7 @@
 //! Lines, with what is wrong with each of them and what is held at the end.
 
 use super::*;
+use crate::tests::expect_eq_at;
 
 /// What is wrong with a line, the addresses as numbers.
 #[derive(Clone, Copy, Debug, PartialEq, Eq)]
@@ -73,8 +74,8 @@ fn expect_note(rt: &impl Abort, name: &str, note: &Note, at: u64, wanted: &[Told
         if *told_at == at {
             match found.next() {
                 Some(diagnostic) => {
-                    assert_eq!(rt; diagnostic.line, *line, "{name}");
-                    assert_eq!(rt; Wrong::of(diagnostic.kind), *wrong, "{name}");
+                    expect_eq_at(rt, name, diagnostic.line, *line);
+                    expect_eq_at(rt, name, Wrong::of(diagnostic.kind), *wrong);
                 }
                 None => panic!(rt; "{name}: too few diagnostics at {at}"),
             }
