@@ -22,8 +22,6 @@ mod output;
 mod pieces;
 mod sink;
 mod source;
-#[cfg(test)]
-mod tests;
 mod to_write;
 mod trace;
 

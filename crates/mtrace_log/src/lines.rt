@@ -13,9 +13,6 @@ use crate::pieces::{Stop, read_piece};
 use crate::source::Source;
 use std::marker::Model;
 
-#[cfg(test)]
-mod tests;
-
 /// What has become of the stream.
 #[derive(Clone, Copy)]
 enum State {

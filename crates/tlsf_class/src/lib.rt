@@ -7,8 +7,6 @@ pub mod laws;
 mod rounding;
 mod size_class;
 mod sizes;
-#[cfg(test)]
-mod tests;
 
 pub use rounding::round;
 pub use size_class::Class;

@@ -10,8 +10,6 @@ mod pools;
 mod records;
 mod slots;
 mod table;
-#[cfg(test)]
-mod tests;
 
 pub use counted::{MOST_POOLS, MOST_RECORDS, Store};
 pub use errors::StoreError;

@@ -1,14 +1,17 @@
-//! Rows of whole runs: logs, faults of reader and writer, and words.
+//! Rows of whole runs: logs, faults of reader and writer, and words; and the tests of the crates below but for the heap's.
 
+mod classes;
 mod glibc_log;
 mod hostile;
 mod image_bytes;
 mod images;
+mod log;
 mod program;
 mod reading_images;
 mod replay;
 mod reports;
 mod rows;
+mod store;
 mod tables;
 mod words;
 

@@ -3,10 +3,9 @@
 ghost use Rattle.std.specs.Prelude.{◌↔◌, IsTrue, length};
 ghost use Rattle.tlsf_store.specs.Records.{IsBelow};
 
-use super::packed::Packed;
-use super::*;
 use std::process::Abort;
 use tlsf_class::{Class, UNIT};
+use tlsf_store::{MOST_RECORDS, Pool, Record, Slot, State, Store, StoreError};
 
 /// Makes a record vacant of which the caller knows that it isn't.
 fn give(rt: &impl Abort, store: &mut Store, slot: Slot) {
@@ -267,12 +266,6 @@ fn pools_are_kept(rt: HostRuntime) {
     store.set_pool(7, pool);
     assert_eq!(rt; store.pool(7), pool);
     assert_eq!(rt; store.pool(0), None);
-}
-
-/// A packed record has sixteen bytes: two words and four links of half a word.
-#[test]
-fn size_of_a_packed_record(rt: HostRuntime) {
-    assert_eq!(rt; size_of::<Packed>(), 16);
 }
 
 /// A record is read as it was written, and as a vacant one when it is given back.

@@ -1,5 +1,5 @@
-use crate::memory::{Full, MemorySink, MemorySource};
-use crate::{Failed, Sink, Source};
+use mtrace_log::memory::{Full, MemorySink, MemorySource};
+use mtrace_log::{Failed, Sink, Source};
 
 #[test]
 fn gives_pieces(rt: HostRuntime) {

@@ -1,4 +1,4 @@
-use crate::{Event, Failed, FromRead, Lines, Sink, Source, ToWrite};
+use mtrace_log::{Event, Failed, FromRead, Lines, Sink, Source, ToWrite};
 use std::alloc::Global;
 use std::io;
 use std::io::{ErrorKind, Read, Write};

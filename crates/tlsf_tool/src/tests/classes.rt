@@ -1,6 +1,8 @@
 //! The worked sizes, and each class's neighbourhood against a scan of the lowest sizes.
 
-use super::*;
+use tlsf_class::{
+    CLASSES, Class, GREATEST_SIZE, LEVELS, STEPS, UNIT, class_for, class_of, low, round,
+};
 
 /// First levels, as the format's table gives them: the number, the lowest size, the step, and the highest
 /// multiple of the unit.

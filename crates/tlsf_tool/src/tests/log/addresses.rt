@@ -1,4 +1,4 @@
-use crate::{Addr, LONGEST_LOCATION, Location};
+use mtrace_log::{Addr, LONGEST_LOCATION, Location};
 
 #[test]
 fn spells_addresses(rt: HostRuntime) {

@@ -1,5 +1,5 @@
-use crate::memory::MemorySource;
-use crate::{Event, LineFault, Lines, ReadFault, Source};
+use mtrace_log::memory::MemorySource;
+use mtrace_log::{Event, LineFault, Lines, ReadFault, Source};
 use std::process::Abort;
 
 /// What a reader gives at most in one call: less than a buffer, a buffer, more, or all at once.

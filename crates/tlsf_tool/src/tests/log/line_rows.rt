@@ -1,4 +1,4 @@
-use crate::{Event, LONGEST_LINE, LONGEST_LOCATION, LineFault, Location, read_line};
+use mtrace_log::{Event, LONGEST_LINE, LONGEST_LOCATION, LineFault, Location, read_line};
 use std::process::Abort;
 
 /// That an event's place is the one wanted, or none where none is.
