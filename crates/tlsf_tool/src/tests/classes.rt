@@ -1,5 +1,6 @@
 //! The worked sizes, and each class's neighbourhood against a scan of the lowest sizes.
 
+use crate::tests::{expect_eq, expect_eq_at};
 use tlsf_class::{
     CLASSES, Class, GREATEST_SIZE, LEVELS, STEPS, UNIT, class_for, class_of, low, round,
 };
@@ -50,20 +51,21 @@ const ROUNDED: [(u64, Option<u32>); 5] = [
 
 #[test]
 fn how_many_classes(rt: HostRuntime) {
-    assert_eq!(rt; (LEVELS, STEPS, CLASSES), (22, 32, 704));
+    expect_eq(&rt, (LEVELS, STEPS, CLASSES), (22, 32, 704));
 }
 
 #[test]
 fn lowest_sizes_and_steps_of_the_first_levels(rt: HostRuntime) {
     for (level, lowest, step, _highest) in FIRST_LEVELS {
         assert!(rt; level < LEVELS);
-        assert_eq!(rt; low(Class::new(STEPS * level)), lowest, "at level {level}");
+        expect_eq_at(&rt, level, low(Class::new(STEPS * level)), lowest);
         for number in 1..STEPS {
             let below = low(Class::new(STEPS * level + number - 1));
-            assert_eq!(rt;
+            expect_eq_at(
+                &rt,
+                level,
                 low(Class::new(STEPS * level + number)).checked_sub(below),
                 Some(step),
-                "at level {level}"
             );
         }
     }
@@ -76,11 +78,11 @@ fn highest_sizes_of_the_first_levels(rt: HostRuntime) {
         assert!(rt; level < LEVELS && highest % UNIT == 0 && highest >= UNIT);
         assert!(rt; highest <= GREATEST_SIZE);
         let next = STEPS * (level + 1);
-        assert_eq!(rt; class_of(highest).number(), next - 1, "at level {level}");
+        expect_eq_at(&rt, level, class_of(highest).number(), next - 1);
         if highest < GREATEST_SIZE {
             let more = highest + UNIT;
             assert!(rt; more % UNIT == 0 && more <= GREATEST_SIZE);
-            assert_eq!(rt; class_of(more).number(), next, "at level {level}");
+            expect_eq_at(&rt, level, class_of(more).number(), next);
         }
     }
 }
@@ -89,7 +91,7 @@ fn highest_sizes_of_the_first_levels(rt: HostRuntime) {
 fn classes_of_worked_sizes(rt: HostRuntime) {
     for (size, number) in CLASSES_OF {
         assert!(rt; size % UNIT == 0 && size >= UNIT && size <= GREATEST_SIZE);
-        assert_eq!(rt; class_of(size).number(), number, "at {size}");
+        expect_eq_at(&rt, size, class_of(size).number(), number);
     }
 }
 
@@ -97,10 +99,11 @@ fn classes_of_worked_sizes(rt: HostRuntime) {
 fn classes_for_worked_sizes(rt: HostRuntime) {
     for (size, number) in CLASSES_FOR {
         assert!(rt; size % UNIT == 0 && size > 0);
-        assert_eq!(rt;
+        expect_eq_at(
+            &rt,
+            size,
             class_for(size).map(|class| class.number()),
             number,
-            "at {size}"
         );
     }
 }
@@ -108,7 +111,7 @@ fn classes_for_worked_sizes(rt: HostRuntime) {
 #[test]
 fn rounded_numbers(rt: HostRuntime) {
     for (n, size) in ROUNDED {
-        assert_eq!(rt; round(n), size, "at {n}");
+        expect_eq_at(&rt, n, round(n), size);
     }
 }
 
@@ -143,13 +146,9 @@ fn each_class_is_that_of_a_scan(rt: HostRuntime) {
             lowest.saturating_add(UNIT),
         ] {
             if size % UNIT == 0 && size >= UNIT && size <= GREATEST_SIZE {
-                assert_eq!(rt;
-                    class_of(size).number(),
-                    scanned_class_of(size),
-                    "at {size}"
-                );
+                expect_eq_at(&rt, size, class_of(size).number(), scanned_class_of(size));
                 let found = class_for(size).map(|class| class.number());
-                assert_eq!(rt; found, scanned_class_for(size), "at {size}");
+                expect_eq_at(&rt, size, found, scanned_class_for(size));
             }
         }
     }

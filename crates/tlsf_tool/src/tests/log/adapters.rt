@@ -1,3 +1,4 @@
+use crate::tests::expect_eq_at;
 use mtrace_log::{Event, Failed, FromRead, Lines, Sink, Source, ToWrite};
 use std::alloc::Global;
 use std::io;
@@ -136,7 +137,7 @@ fn expect_pulls(rt: &impl Abort, kind: ErrorKind, failing: u32, calls: u32) {
             }
         }
     }
-    assert_eq!(rt; reader.calls, calls, "{kind:?}");
+    expect_eq_at(rt, kind, reader.calls, calls);
 }
 
 /// Puts bytes and flushes in turn, so many times; each call comes to what the writer's call comes to.
@@ -161,7 +162,7 @@ fn expect_puts_and_flushes(rt: &impl Abort, kind: ErrorKind, failing: u32, calls
             }
         }
     }
-    assert_eq!(rt; writer.calls, calls, "{kind:?}");
+    expect_eq_at(rt, kind, writer.calls, calls);
 }
 
 #[test]

@@ -1,3 +1,4 @@
+use crate::tests::expect_eq;
 use mtrace_log::{Addr, LONGEST_LOCATION, Location};
 
 #[test]
@@ -11,7 +12,7 @@ fn spells_addresses(rt: HostRuntime) {
     ];
     for (number, text) in rows {
         let address = Addr::new(number).expect(&rt, "an address");
-        assert_eq!(rt; address.value(), number);
+        expect_eq(&rt, address.value(), number);
         assert!(rt; address.text().as_slice() == text, "{number}");
     }
     assert!(rt; Addr::new(0).is_none());

@@ -1,3 +1,4 @@
+use crate::tests::{expect_eq, expect_eq_at};
 use mtrace_log::{Event, LONGEST_LINE, LONGEST_LOCATION, LineFault, Location, read_line};
 use std::process::Abort;
 
@@ -24,8 +25,8 @@ fn expect_alloc(
     };
     expect_place(rt, line, at, place);
     let value = addr.as_ref().map(|a| a.value());
-    assert_eq!(rt; value, address, "{line:?}");
-    assert_eq!(rt; *size, bytes, "{line:?}");
+    expect_eq_at(rt, line, value, address);
+    expect_eq_at(rt, line, *size, bytes);
 }
 
 /// What a line says of a free: its place and its address.
@@ -35,7 +36,7 @@ fn expect_free(rt: &impl Abort, line: &[u8], place: Option<&[u8]>, address: u64)
         panic!(rt; "no free: {line:?}");
     };
     expect_place(rt, line, at, place);
-    assert_eq!(rt; addr.value(), address, "{line:?}");
+    expect_eq_at(rt, line, addr.value(), address);
 }
 
 /// What a line says of a block being reallocated: its place and its address.
@@ -45,7 +46,7 @@ fn expect_old(rt: &impl Abort, line: &[u8], place: Option<&[u8]>, address: u64) 
         panic!(rt; "no old block: {line:?}");
     };
     expect_place(rt, line, at, place);
-    assert_eq!(rt; addr.value(), address, "{line:?}");
+    expect_eq_at(rt, line, addr.value(), address);
 }
 
 /// What a line says of a reallocation's new block: its place, its address and its size.
@@ -55,8 +56,8 @@ fn expect_new(rt: &impl Abort, line: &[u8], place: Option<&[u8]>, address: u64, 
         panic!(rt; "no new block: {line:?}");
     };
     expect_place(rt, line, at, place);
-    assert_eq!(rt; addr.value(), address, "{line:?}");
-    assert_eq!(rt; *size, bytes, "{line:?}");
+    expect_eq_at(rt, line, addr.value(), address);
+    expect_eq_at(rt, line, *size, bytes);
 }
 
 /// What a line says of a reallocation that failed: its place, its address and its size.
@@ -73,8 +74,8 @@ fn expect_failed(
     };
     expect_place(rt, line, at, place);
     let value = addr.as_ref().map(|a| a.value());
-    assert_eq!(rt; value, address, "{line:?}");
-    assert_eq!(rt; *size, bytes, "{line:?}");
+    expect_eq_at(rt, line, value, address);
+    expect_eq_at(rt, line, *size, bytes);
 }
 
 /// What a line says of an aligned allocation: its place, its address, its alignment and its size.
@@ -99,9 +100,9 @@ fn expect_aligned(
         panic!(rt; "no aligned allocation: {line:?}");
     };
     expect_place(rt, line, at, place);
-    assert_eq!(rt; addr.value(), address, "{line:?}");
-    assert_eq!(rt; align.value(), alignment, "{line:?}");
-    assert_eq!(rt; *size, bytes, "{line:?}");
+    expect_eq_at(rt, line, addr.value(), address);
+    expect_eq_at(rt, line, align.value(), alignment);
+    expect_eq_at(rt, line, *size, bytes);
 }
 
 #[test]
@@ -366,8 +367,8 @@ fn reads_the_longest_line(rt: HostRuntime) {
     for _ in 0..LONGEST_LOCATION {
         place.push(b'a').expect(&rt, "memory");
     }
-    assert_eq!(rt; longest.len(), 316);
-    assert_eq!(rt; LONGEST_LINE, 316);
+    expect_eq(&rt, longest.len(), 316);
+    expect_eq(&rt, LONGEST_LINE, 316);
     expect_aligned(
         &rt,
         longest.as_slice(),
@@ -391,7 +392,7 @@ fn reads_the_longest_line_of_the_tracer(rt: HostRuntime) {
     for _ in 0..LONGEST_LOCATION {
         place.push(b'a').expect(&rt, "memory");
     }
-    assert_eq!(rt; longest.len(), 297);
+    expect_eq(&rt, longest.len(), 297);
     expect_alloc(
         &rt,
         longest.as_slice(),

@@ -1,3 +1,4 @@
+use crate::tests::expect_eq;
 use mtrace_log::memory::MemorySource;
 use mtrace_log::{Event, LineFault, Lines, ReadFault, Source};
 use std::process::Abort;
@@ -34,7 +35,7 @@ fn expect_line<R: Source>(
     let Ok(Some(line)) = lines.next(reader) else {
         panic!(rt; "no line {number}");
     };
-    assert_eq!(rt; line.number, number);
+    expect_eq(rt, line.number, number);
     match (&line.event, said) {
         (Ok(Event::Start), Said::Start) => {}
         (Ok(Event::End), Said::End) => {}
@@ -47,7 +48,7 @@ fn expect_line<R: Source>(
                 },
             ),
             Said::Size(bytes),
-        ) => assert_eq!(rt; *size, *bytes),
+        ) => expect_eq(rt, *size, *bytes),
         (
             Ok(
                 Event::Aligned {
@@ -58,7 +59,7 @@ fn expect_line<R: Source>(
                 },
             ),
             Said::Aligned(bytes),
-        ) => assert_eq!(rt; *size, *bytes),
+        ) => expect_eq(rt, *size, *bytes),
         (Err(LineFault::TooLong), Said::TooLong) => {}
         (Err(LineFault::NotALine), Said::NotALine) => {}
         _ => panic!(rt; "line {number}"),
