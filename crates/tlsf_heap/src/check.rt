@@ -1,7 +1,7 @@
 //! check: whether the store of a heap is one.
 
-ghost use Rattle.std.specs.Prelude.{◌≡◌, ◌<◌, true};
-ghost use Rattle.tlsf_heap.specs.Inner.Following.{Stands};
+ghost use Rattle.std.specs.Prelude.{◌≡◌, ◌+◌, ◌<◌, true};
+ghost use Rattle.tlsf_heap.specs.Inner.Following.{Stands, content_of};
 
 use tlsf_image::is_whole;
 use tlsf_store::Store;
@@ -10,7 +10,7 @@ use tlsf_store::Store;
 pub(crate) fn check(store: &mut Store) -> bool
     ensures sound { Stands store.old.cells → result ≡ true }
     ensures cells { store.new.cells ≡ store.old.cells }
-    ensures read { store.old.touches < store.new.touches }
+    ensures each_read { Stands store.old.cells → store.old.touches + (content_of store.old.cells).records < store.new.touches }
 {
     is_whole(store)
 }

@@ -107,7 +107,7 @@ impl Heap {
     }
 
     /// Puts an image of the heap, in pieces of 4,096 bytes and a last one: `load_image` makes the heap of it again. It takes
-    /// no memory.
+    /// no memory. How many touches it takes isn't promised.
     ///
     /// # Errors
     ///
@@ -116,6 +116,7 @@ impl Heap {
         ensures saved { Saves W.taken W.trace result self.old.content writer.old writer.new }
         ensures fault { IfErr result (λ fault. fault ≡ Write) }
         ensures unchanged { IsUnchanged self.old self.new }
+        ensures floor { self.old.touches ≤ self.new.touches }
     {
         match put_image(&mut self.store, writer) {
             Ok(()) => Ok(()),
@@ -300,8 +301,25 @@ impl Heap {
         row(&mut self.store, cursor)
     }
 
-    /// Calls `visit` at each row of the pool that begins at the place `base`, once and in order. At most four
-    /// touches, and one more for each row.
+    /// Calls the `visit` that is lent at each row of the pool that begins at the place `base`, once and in order, and at no
+    /// other time: it is left as these visits leave it. At most four touches, and one more for each row.
+    ///
+    /// # Errors
+    ///
+    /// `NoPool` where no pool begins there: `visit` isn't called then, and is left as it was.
+    pub fn walk_with<F: FnMut(Row)>(&mut self, base: u64, visit: &mut F) -> Result<(), Refusal>
+        requires { F.IsAlwaysCallable visit.old }
+        ensures ok { OnOk result (IsWalk (λ p x q. F.step p x tt q) base self.old.content.pools visit.old visit.new) }
+        ensures refused { IfErr result (λ refusal. rows_from base self.old.content.pools ≡ Err refusal) }
+        ensures unvisited { OnErr result (visit.new ≡ visit.old) }
+        ensures unchanged { IsUnchanged self.old self.new }
+        ensures bound { AtMost (walk_touches (rows_from base self.old.content.pools)) self.old.touches self.new.touches }
+    {
+        walk(&mut self.store, base, visit)
+    }
+
+    /// `walk_with` of a `visit` that is given away: it is called at each row of the pool that begins at the place `base`, once
+    /// and in order. At most four touches, and one more for each row.
     ///
     /// # Errors
     ///
@@ -313,19 +331,19 @@ impl Heap {
         ensures unchanged { IsUnchanged self.old self.new }
         ensures bound { AtMost (walk_touches (rows_from base self.old.content.pools)) self.old.touches self.new.touches }
     {
-        walk(&mut self.store, base, &mut visit)
+        self.walk_with(base, &mut visit)
     }
 
     /// Whether the table of records is that of a heap: it always is, and the answer is `true`. The pools are in order and
     /// apart; each block's links are of records; the blocks of each pool are linked both ways and cover it end to end,
     /// with no two free ones side by side; the list of each class is linked both ways and has free blocks of that class
-    /// alone; each block is of a pool, and each free one in a list; the bitmaps agree with the lists. Those are the rules
-    /// that an image is tested by, and the bitmaps. Each record, list, bitmap word and pool entry is read: how many
-    /// touches that takes isn't promised, but it is some.
+    /// alone; each block is of a pool, and each free one in a list; the bitmaps agree with the lists; each vacant record is
+    /// once on the chain of vacant records. Those are the rules that an image is tested by, the bitmaps and that chain. There
+    /// are more touches than records.
     pub fn check(&mut self) -> bool
         ensures whole { result ≡ true }
         ensures unchanged { IsUnchanged self.old self.new }
-        ensures read { self.old.touches < self.new.touches }
+        ensures each_read { self.old.touches + self.old.content.records < self.new.touches }
     {
         check(&mut self.store)
     }

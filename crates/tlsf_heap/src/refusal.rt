@@ -27,6 +27,19 @@ pub enum Refusal {
     NoPool = 10,
 }
 
+const _: () = prove!(
+    Refusal::ZeroSize as u32 == 1
+        && Refusal::NoFit as u32 == 2
+        && Refusal::TableFull as u32 == 3
+        && Refusal::BadPointer as u32 == 4
+        && Refusal::BadAlign as u32 == 5
+        && Refusal::BadPool as u32 == 6
+        && Refusal::PoolsFull as u32 == 7
+        && Refusal::PoolInUse as u32 == 8
+        && Refusal::OutOfMemory as u32 == 9
+        && Refusal::NoPool as u32 == 10
+);
+
 impl From<AllocError> for Refusal {
     ghost use Rattle.std.specs.Prelude.{◌≡◌};
     ghost use Rattle.tlsf_heap.specs.declared.refusal.Refusal.TheVariants.{OutOfMemory};

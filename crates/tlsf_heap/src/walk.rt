@@ -10,7 +10,7 @@ use crate::readings::{first, row};
 use crate::{Refusal, Row};
 use tlsf_store::Store;
 
-/// Visits each row of the pool that begins at `base`, in order. At most four touches, and four more for each
+/// Visits each row of the pool that begins at `base`, in order. At most four touches, and one more for each
 /// row.
 ///
 /// # Errors

@@ -31,3 +31,18 @@ pub enum Rule {
     /// Each free block is on the list of a class.
     OnLists = 12,
 }
+
+const _: () = prove!(
+    Rule::Magic as u32 == 1
+        && Rule::Length as u32 == 2
+        && Rule::Pools as u32 == 3
+        && Rule::UnusedPools as u32 == 4
+        && Rule::States as u32 == 5
+        && Rule::Links as u32 == 6
+        && Rule::Chains as u32 == 7
+        && Rule::Cover as u32 == 8
+        && Rule::OnChains as u32 == 9
+        && Rule::Merged as u32 == 10
+        && Rule::Lists as u32 == 11
+        && Rule::OnLists as u32 == 12
+);

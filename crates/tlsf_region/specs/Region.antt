@@ -26,6 +26,11 @@ pub record IsWithin (content : Content ℕ) (bytes : List ℕ) : Type 0 where
   pub places : length bytes ≤ end_of_places
   pub pools : EndBelow (length bytes) (map range_of content.pools)
 
+-- a region: its pools are within its bytes, and the memory of these has room for them and no more, so that none is kept beside
+pub record IsRegion (content : Content ℕ) (room : ℕ) (bytes : List ℕ) : Type 0 where
+  pub within : IsWithin content bytes
+  pub exact : room ≡ length bytes
+
 -- the heap's content is as it was, and each cursor stands where it stood, with the rows that are to come
 pub record IsUnchanged (old new : CountedRegion) : Type 0 where
   pub content : new.content ≡ old.content

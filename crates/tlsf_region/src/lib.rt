@@ -7,6 +7,7 @@ mod region;
 mod region_error;
 #[cfg(test)]
 mod tests;
+mod zeros;
 
 pub use crate::region::Region;
 pub use crate::region_error::RegionError;

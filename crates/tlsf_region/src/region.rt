@@ -2,6 +2,7 @@
 
 use crate::RegionError;
 use crate::copied::take_along;
+use crate::zeros::zeros;
 use arrayvec::ArrayVec;
 use std::alloc::Global;
 use std::marker::Model;
@@ -19,13 +20,14 @@ pub struct Region {
 }
 
 impl Model for Region {
-    ghost use Rattle.tlsf_region.specs.Region.{CountedRegion, counted_region, IsWithin};
+    ghost use Rattle.std.specs.Prelude.{vec_capacity};
+    ghost use Rattle.tlsf_region.specs.Region.{CountedRegion, counted_region, IsRegion};
 
     ghost Value = { CountedRegion };
 
     ghost view = { λ r. counted_region r.heap r.bytes.items };
 
-    ghost invariant = { λ r. IsWithin r.heap.content r.bytes.items };
+    ghost invariant = { λ r. IsRegion r.heap.content (vec_capacity r.bytes) r.bytes.items };
 }
 
 impl Region {
@@ -79,7 +81,7 @@ impl Region {
         let Ok(heap) = Heap::create(alloc, records) else {
             return Err(RegionError::OutOfMemory);
         };
-        let Ok(bytes) = vec![in alloc; 0; len as usize] else {
+        let Ok(bytes) = zeros(alloc, len as usize) else {
             return Err(RegionError::OutOfMemory);
         };
         Ok(Region { heap, bytes })
@@ -337,13 +339,31 @@ impl Region {
         self.heap.row(cursor)
     }
 
-    /// Calls `visit` at each row of the pool that begins at the place `base`, once and in order. At most four
-    /// touches, and one more for each row.
+    /// Calls the `visit` that is lent at each row of the pool that begins at the place `base`, once and in order, and at no
+    /// other time, as `Heap::walk_with` does. At most four touches, and one more for each row.
+    ///
+    /// # Errors
+    ///
+    /// `NoPool` where no pool begins there: `visit` isn't called then, and is left as it was.
+    pub fn walk_with<F: FnMut(Row)>(&mut self, base: u64, visit: &mut F) -> Result<(), Refusal>
+        requires { F.IsAlwaysCallable visit.old }
+        ensures ok { OnOk result (IsWalk (λ p x q. F.step p x tt q) base self.old.content.pools visit.old visit.new) }
+        ensures refused { IfErr result (λ refusal. rows_from base self.old.content.pools ≡ Err refusal) }
+        ensures unvisited { OnErr result (visit.new ≡ visit.old) }
+        ensures unchanged { IsUnchanged self.old self.new }
+        ensures bytes { self.new.bytes ≡ self.old.bytes }
+        ensures bound { AtMost (walk_touches (rows_from base self.old.content.pools)) self.old.touches self.new.touches }
+    {
+        self.heap.walk_with(base, visit)
+    }
+
+    /// `walk_with` of a `visit` that is given away: it is called at each row of the pool that begins at the place `base`, once
+    /// and in order. At most four touches, and one more for each row.
     ///
     /// # Errors
     ///
     /// `NoPool` where no pool begins there: `visit` isn't called then.
-    pub fn walk<F: FnMut(Row)>(&mut self, base: u64, visit: F) -> Result<(), Refusal>
+    pub fn walk<F: FnMut(Row)>(&mut self, base: u64, mut visit: F) -> Result<(), Refusal>
         requires { F.IsAlwaysCallable visit }
         ensures ok { OnOk result ((last : F) × IsWalk (λ p x q. F.step p x tt q) base self.old.content.pools visit last) }
         ensures refused { IfErr result (λ refusal. rows_from base self.old.content.pools ≡ Err refusal) }
@@ -351,16 +371,16 @@ impl Region {
         ensures bytes { self.new.bytes ≡ self.old.bytes }
         ensures bound { AtMost (walk_touches (rows_from base self.old.content.pools)) self.old.touches self.new.touches }
     {
-        self.heap.walk(base, visit)
+        self.walk_with(base, &mut visit)
     }
 
     /// Whether the heap's table of records is that of a heap, as `Heap::check` finds it: it always is, and the
-    /// answer is `true`. How many touches that takes isn't promised, but it is some.
+    /// answer is `true`. There are more touches than records.
     pub fn check(&mut self) -> bool
         ensures whole { result ≡ true }
         ensures unchanged { IsUnchanged self.old self.new }
         ensures bytes { self.new.bytes ≡ self.old.bytes }
-        ensures read { self.old.touches < self.new.touches }
+        ensures each_read { self.old.touches + self.old.content.records < self.new.touches }
     {
         self.heap.check()
     }

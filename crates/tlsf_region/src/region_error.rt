@@ -10,3 +10,9 @@ pub enum RegionError {
     /// Memory for the table or the bytes was refused.
     OutOfMemory = 3,
 }
+
+const _: () = prove!(
+    RegionError::BadCount as u32 == 1
+        && RegionError::BadLength as u32 == 2
+        && RegionError::OutOfMemory as u32 == 3
+);

@@ -188,6 +188,24 @@ fn walked(region: &mut Region, base: u64) -> Result<(usize, u32), Refusal> {
     Ok((count, last))
 }
 
+/// Whether a walk is refused for want of a pool, and gives no row.
+fn refuses(region: &mut Region, base: u64) -> bool {
+    let mut called = false;
+    let refused = region.walk(base, |_row| called = true);
+    refused == Err(Refusal::NoPool) && !called
+}
+
+/// No row is given of a pool that isn't there, wherever that would be.
+#[test]
+fn walks_at_high_bases(rt: HostRuntime) {
+    let mut region = made(&rt, rt.alloc(), 1_048_592, 4);
+    for base in [1 << 20, 1 << 31, (1 << 32) - 16, u64::MAX] {
+        assert!(rt; refuses(&mut region, base));
+    }
+    expect_eq(&rt, region.add_pool(1 << 20, 16), Ok(()));
+    expect_eq(&rt, walked(&mut region, 1 << 20), Ok((1, 1_048_576)));
+}
+
 /// A block at a multiple of its alignment, between a gap and a rest; a pool goes when it is one free block.
 #[test]
 fn aligned_block_and_pool_that_goes(rt: HostRuntime) {

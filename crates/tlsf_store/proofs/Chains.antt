@@ -1,5 +1,5 @@
 -- Chains of vacant slots: how long one is, and what leaves it as it was.
-use Rattle.std.proofs.Common.{◌≡◌, ◌≢◌, ℕ, zero, suc, ◌-◌, ◌<◌, ◌≤◌, Option, Some, None, sym, ap, subst, refl, arith}
+use Rattle.std.proofs.Common.{◌≡◌, ◌≢◌, ◌↔◌, ℕ, zero, suc, ◌-◌, ◌<◌, ◌≤◌, Option, Some, None, sym, ap, subst, refl, arith}
 use Rattle.std.proofs.lemmas.Option.{same_Some}
 use Rattle.tlsf_store.specs.VacantChain.{IsChain}
 
@@ -60,3 +60,13 @@ chain_away_from_first vacant next count slot chain k most again =
 pub chain_away_from_used : (vacant : ℕ → Type 0) (next : ℕ → Option ℕ) (count slot : ℕ) → (vacant slot → ⊥) →
     (k : ℕ) → k ≤ count → IsChain vacant next k (Some slot) → ⊥
 chain_away_from_used vacant next count slot used k most chain = used (chain_begins vacant next k slot chain).first
+
+-- where a slot is vacant, what its link leads on to is a chain exactly where the slot begins one
+pub chain_follows : (vacant : ℕ → Type 0) (next : ℕ → Option ℕ) (count slot : ℕ) → 0 < count → vacant slot →
+    IsChain vacant next (count - 1) (next slot) ↔ IsChain vacant next count (Some slot)
+chain_follows vacant next zero slot some first = let never : ⊥ = omega (arith, some) in absurd never
+chain_follows vacant next (suc count) slot some first =
+    let less : suc count - 1 ≡ count = omega arith in (
+      λ rest. (slot, refl, first, subst (λ n. IsChain vacant next n (next slot)) less rest),
+      λ chain. (chain_begins vacant next (suc count) slot chain).rest,
+    )

@@ -21,6 +21,11 @@ IsVacantAt records slot = (slot < length records) × (is_vacant (record_at recor
 abbrev pub next_at : List Record → ℕ → Option ℕ
 next_at records slot = (record_at records slot).next
 
+-- each vacant record is on the chain once, and they are so many: a chain that ends has no slot twice
+pub record IsWholeChain (records : List Record) (first : Option ℕ) (vacant : ℕ) : Type 0 where
+  pub counted : vacant_count records ≡ vacant
+  pub chained : IsChain (IsVacantAt records) (next_at records) vacant first
+
 -- the records of a table, with the first vacant slot and how many records are vacant
 pub record IsTable (records : List Record) (first : Option ℕ) (vacant : ℕ) : Type 0 where
   pub few : length records ≤ most_records

@@ -1,6 +1,6 @@
 //! The store.
 
-ghost use Rattle.std.specs.Prelude.{◌≡◌, ◌≢◌, ◌+◌, ◌<◌, ◌≤◌, ◌%◌, ◌^◌, ◌⊎◌, ◌↔◌, IfOk, IfSome, IfNone, length, slice_index, Err};
+ghost use Rattle.std.specs.Prelude.{◌≡◌, ◌≢◌, true, ◌+◌, ◌<◌, ◌≤◌, ◌%◌, ◌^◌, ◌⊎◌, ◌↔◌, IfOk, IfSome, IfNone, length, slice_index, Err};
 ghost use Rattle.tlsf_class.specs.Classes.{unit, levels, classes};
 ghost use Rattle.tlsf_store.specs.declared.errors.StoreError.TheVariants.{BadCount};
 ghost use Rattle.tlsf_store.specs.declared.records.State.TheVariants.{Vacant};
@@ -37,6 +37,8 @@ pub struct Store {
     pools: [Option<Pool>; MOST_POOLS],
     touches: GhostCount,
 }
+
+const _: () = prove!(size_of::<Store>() == 1_664);
 
 impl Model for Store {
     ghost use Rattle.tlsf_store.specs.Cells.{AreCells};
@@ -287,6 +289,18 @@ impl Store {
     {
         self.touches.tick();
         self.table.vacant()
+    }
+
+    /// Whether the chain of vacant records is whole: each vacant record is on it once, and they are as many as are counted.
+    /// It always is, and the answer is `true`. One touch for the vacant mark, one for each record, and one more for each
+    /// vacant one.
+    pub fn has_whole_vacant_chain(&mut self) -> bool
+        ensures whole { result ≡ true }
+        ensures cells { self.new.cells ≡ self.old.cells }
+        ensures touch { self.new.touches ≡ self.old.touches + 1 + length self.old.cells.records + vacant_count self.old.cells.records }
+    {
+        self.touches.tick();
+        self.table.has_whole_chain(&mut self.touches)
     }
 
     /// Takes a vacant record for a free block, with no place, size or links yet; `None` exactly where

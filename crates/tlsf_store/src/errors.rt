@@ -8,3 +8,5 @@ pub enum StoreError {
     /// Memory for the table was refused.
     OutOfMemory = 2,
 }
+
+const _: () = prove!(StoreError::BadCount as u32 == 1 && StoreError::OutOfMemory as u32 == 2);

@@ -10,6 +10,7 @@ mod pools;
 mod records;
 mod slots;
 mod table;
+mod vacant_chain;
 
 pub use counted::{MOST_POOLS, MOST_RECORDS, Store};
 pub use errors::StoreError;

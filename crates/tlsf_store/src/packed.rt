@@ -2,7 +2,7 @@
 
 ghost use Rattle.std.specs.Prelude.{◌≡◌, ◌%◌};
 ghost use Rattle.tlsf_class.specs.Classes.{unit};
-ghost use Rattle.tlsf_store.specs.Records.{most_records, IsBelow, IsKept};
+ghost use Rattle.tlsf_store.specs.Records.{most_records, is_vacant, IsBelow, IsKept};
 ghost use Rattle.tlsf_store.specs.Packed.{link_of};
 
 use super::{Record, Slot, State};
@@ -72,6 +72,13 @@ impl Packed {
             prev_free: link(self.prev_free),
             next_free: link(self.next_free),
         }
+    }
+
+    /// Whether the record is of no block.
+    pub(crate) fn is_vacant(&self) -> bool
+        ensures { result ≡ is_vacant self.now.state }
+    {
+        self.size_word % UNIT == 0
     }
 
     /// The record's link `next`.

@@ -1,11 +1,13 @@
 //! The table of records, and the chain of those that are vacant.
 
-ghost use Rattle.std.specs.Prelude.{◌≡◌, ◌<◌, ◌≤◌, ◌≢◌, ◌%◌, IfOk, MatchOption, length, replicate, slice_set, Some};
+ghost use Rattle.std.specs.Prelude.{◌≡◌, ◌+◌, ◌<◌, ◌≤◌, ◌≢◌, ◌%◌, true, IfOk, MatchOption, length, replicate, slice_set, Some};
 ghost use Rattle.tlsf_class.specs.Classes.{unit};
 ghost use Rattle.tlsf_store.specs.declared.records.State.TheVariants.{Vacant, Free};
 ghost use Rattle.tlsf_store.specs.Records.{most_records, blank, blank_in, record_at, vacant_count, IsBelow, IsKept};
 
+use super::ghost_count::GhostCount;
 use super::packed::Packed;
+use super::vacant_chain::is_whole_chain;
 use super::{Record, Slot, State};
 use std::alloc::{AllocError, Global};
 use std::marker::Model;
@@ -135,6 +137,15 @@ impl Table {
         ensures { result ≡ vacant_count self.now }
     {
         self.vacant
+    }
+
+    /// Whether the chain has each vacant record once, and they are as many as are counted: so it is. A touch for each
+    /// record, and one more for each vacant one.
+    pub(crate) fn has_whole_chain(&self, touches: &mut GhostCount) -> bool
+        ensures whole { result ≡ true }
+        ensures touched { touches.new.count ≡ touches.old.count + length self.now + vacant_count self.now }
+    {
+        is_whole_chain(&self.items, self.first, self.vacant, touches)
     }
 
     /// Takes a vacant record, if there is one, for a block to come: free, with no place, size or links.

@@ -40,3 +40,19 @@ fn rows_of_each_pool(rt: HostRuntime) {
     assert!(rt; refuses(&mut heap, 112));
     assert!(rt; refuses(&mut heap, 1088));
 }
+
+/// A walk is refused wherever no pool begins, as far up as a base can be told, and gives the rows of pools far up.
+#[test]
+fn rows_at_high_bases(rt: HostRuntime) {
+    let mut heap: Heap = made(&rt, rt.alloc(), 8);
+    for (base, place) in [
+        (1 << 20, 1 << 20),
+        (1 << 31, 1 << 31),
+        ((1 << 32) - 16, 4_294_967_280),
+    ] {
+        assert!(rt; refuses(&mut heap, base));
+        expect_eq(&rt, heap.add_pool(base, 16), Ok(()));
+        assert!(rt; walks(rt.alloc(), &mut heap, base, &[row(place, 16, false)]));
+    }
+    assert!(rt; refuses(&mut heap, u64::MAX));
+}

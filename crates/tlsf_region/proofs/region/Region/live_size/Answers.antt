@@ -6,7 +6,7 @@ returns-clause-some c = rw (← c.self.view_is) (size_told c.block_size.result c
 
 pub returns-clause-within : goal.returns-clause-within
 returns-clause-within c =
-    rw (← c.self.view_is) (size_is_below c.block_size.result c.args.ptr c.self.inside.heap.content c.self.inside.bytes.items c.keeps_good.ensures.good c.self.invariant c.block_size.ensures.ok c.ok.result c.ok.ensures.value)
+    rw (← c.self.view_is) (size_is_below c.block_size.result c.args.ptr c.self.inside.heap.content c.self.inside.bytes.items c.keeps_good.ensures.good c.self.invariant.within c.block_size.ensures.ok c.ok.result c.ok.ensures.value)
 
 pub returns-clause-positive : goal.returns-clause-positive
 returns-clause-positive c =

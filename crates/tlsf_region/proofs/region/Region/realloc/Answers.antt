@@ -11,9 +11,13 @@ pub invariant_of-self : goal.invariant_of-self
 invariant_of-self c =
     let old = c.self.inside.heap.content in
     let new = c.realloc.new.self.content in
-    still_within c.realloc.result c.self.inside.heap c.realloc.new.self c.self.inside.bytes.items
-    (IfOk-weaker c.realloc.result _ _ (λ given e. reallocated_ranges (slot_of given) None c.args.n old new (place_and_slot given) e) c.realloc.ensures.ok)
-    c.realloc.ensures.unchanged c.self.invariant
+    record {
+      within =
+          still_within c.realloc.result c.self.inside.heap c.realloc.new.self c.self.inside.bytes.items
+          (IfOk-weaker c.realloc.result _ _ (λ given e. reallocated_ranges (slot_of given) None c.args.n old new (place_and_slot given) e) c.realloc.ensures.ok)
+          c.realloc.ensures.unchanged c.self.invariant.within;
+      exact = c.self.invariant.exact;
+    }
 
 pub returns-in_err-new-clause-refused : goal.returns-in_err-new-clause-refused
 returns-in_err-new-clause-refused c =
@@ -25,14 +29,17 @@ pub invariant_of-self-in_default-2 : goal.invariant_of-self-in_default-2
 invariant_of-self-in_default-2 c =
     let old = c.self-2.inside.heap.content in
     let new = c.realloc-2.new.self.content in
-    within_kept old new c.self-2.inside.bytes.items (reallocated_ranges _ (Some (c.in-Some.old.place, c.in-Some.old.slot)) c.args.n old new _ c.in_ok-new.ensures.ok) c.self-2.invariant
+    record {
+      within = within_kept old new c.self-2.inside.bytes.items (reallocated_ranges _ (Some (c.in-Some.old.place, c.in-Some.old.slot)) c.args.n old new _ c.in_ok-new.ensures.ok) c.self-2.invariant.within;
+      exact = c.self-2.invariant.exact;
+    }
 
 pub take_along-requires-clause-room : goal.take_along-requires-clause-room
 take_along-requires-clause-room c =
     let bytes = c.self-2.inside.bytes in
     let same = ap (λ region. region.content) c.self-2.view_is ∙ c.live_size.ensures.read.content in
     λ elsewhere. rw bytes.ok.0 (
-    room_there c.in-Some.old c.in-Some-2.new c.args.n c.in-Some-live_size.size c.args.self.now.content c.self-2.inside.heap.content c.realloc-2.new.self.content bytes.items same c.live_size.ensures.good c.self-2.invariant c.in-Some-live_size.ensures.some (Some c.in-Some.old) _ refl c.in-Some-2.is c.in_ok-new.ensures.ok elsewhere)
+    room_there c.in-Some.old c.in-Some-2.new c.args.n c.in-Some-live_size.size c.args.self.now.content c.self-2.inside.heap.content c.realloc-2.new.self.content bytes.items same c.live_size.ensures.good c.self-2.invariant.within c.in-Some-live_size.ensures.some (Some c.in-Some.old) _ refl c.in-Some-2.is c.in_ok-new.ensures.ok elsewhere)
 
 pub invariant_of-self-2 : goal.invariant_of-self-2
 invariant_of-self-2 c =
@@ -40,5 +47,10 @@ invariant_of-self-2 c =
     let new = c.realloc-2.new.self.content in
     let bytes = c.self-2.inside.bytes in
     let more = c.take_along.new.bytes in
-    within_kept old new more.items (reallocated_ranges _ (Some (c.in-Some.old.place, c.in-Some.old.slot)) c.args.n old new _ c.in_ok-new.ensures.ok)
-    (within_long old bytes.items more.items (sym more.ok.0 ∙ c.take_along.ensures.len ∙ bytes.ok.0) c.self-2.invariant)
+    let same_length = sym more.ok.0 ∙ c.take_along.ensures.len ∙ bytes.ok.0 in
+    record {
+      within =
+          within_kept old new more.items (reallocated_ranges _ (Some (c.in-Some.old.place, c.in-Some.old.slot)) c.args.n old new _ c.in_ok-new.ensures.ok)
+          (within_long old bytes.items more.items same_length c.self-2.invariant.within);
+      exact = c.take_along.ensures.memory ∙ c.self-2.invariant.exact ∙ sym same_length;
+    }
