@@ -285,7 +285,7 @@ static void enough(uint32_t lives, uint32_t pools)
 static void enough_records(void)
 {
     enough(2, 1);
-    enough(1, 1);
+    enough(3, 2);
     enough(5, 3);
     enough(20, 8);
 }
