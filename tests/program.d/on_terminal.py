@@ -18,8 +18,9 @@ NOTICE = rb"\r\x1b\[Ktlsf: (\d+) lines read"
 PIECE = 4096
 
 # Five pieces of lines of several lengths: with no effect, and with a diagnostic each, which are more than one buffer of output.
-QUIET = b"".join(b"@ ./prog:[0x%x] ! 0x10 0x8\n" % (7 ** (k % 20)) for k in range(700))[:4 * PIECE + 1000]
-LOUD = b"".join(b"x" * (k % 7 + 1) + b"\n" for k in range(4000))[:4 * PIECE + 1000]
+QUIET = b"".join(b"@ ./prog:[0x%x] ! 0x10 0x8\n" % (7 ** (k % 20)) for k in range(540))
+LOUD = b"".join(b"x" * (k % 7 + 1) + b"\n" for k in range(3500))
+assert all(4 * PIECE < len(log) < 5 * PIECE for log in (QUIET, LOUD)), (len(QUIET), len(LOUD))
 
 
 def diagnostics(log):
