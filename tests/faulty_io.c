@@ -1,23 +1,40 @@
-/* The calls of the C library that read and write, which fail or move one byte where the environment tells them
-   to. Each read and each write counts as one call, from 1 on. tests/faults preloads them.
+/* The calls of the C library that read and write, which fail, move one byte or wait where the environment tells them
+   to. Each read and each write counts as one call, from 1 on. tests/faults and tests/program.d/progress preload them.
    IO_FAIL=N       call N fails
+   IO_FAIL_READ=N  the N-th read fails
    IO_SHORT=N      call N moves one byte at most
    IO_ERROR=E      the error of a call that fails; else 5, a fault of the device
-   IO_COUNT=FILE   at the end FILE gets the number of calls
+   IO_WAIT=N,N..   the N-th read begins 1.2 seconds later
+   IO_COUNT=FILE   at the end FILE gets the number of reads and the number of writes
    IO_GROW=FILE    behind call IO_GROW_AT a line is appended to FILE */
 #define _GNU_SOURCE
 #include <dlfcn.h>
 #include <errno.h>
+#include <stdbool.h>
 #include <stdio.h>
 #include <stdlib.h>
 #include <string.h>
+#include <time.h>
 #include <unistd.h>
 
-static long calls;
+static long calls, reads, writes;
 
 static long number_of(const char *name) {
     const char *number = getenv(name);
     return number == NULL ? 0 : strtol(number, NULL, 10);
+}
+
+/* Waits where this read is one of those that do. */
+static void wait_where_asked(void) {
+    const char *rest = getenv("IO_WAIT");
+    int error = errno;
+    while (rest != NULL && *rest != 0) {
+        char *end;
+        if (strtol(rest, &end, 10) == reads)
+            nanosleep(&(struct timespec){1, 200000000}, NULL);
+        rest = *end == ',' ? end + 1 : end;
+    }
+    errno = error;
 }
 
 static void append_line(const char *name) {
@@ -27,9 +44,11 @@ static void append_line(const char *name) {
 }
 
 /* The call with this many bytes: how many of them it may move, or -1 where it fails. */
-static ssize_t begin(size_t count) {
+static ssize_t begin(size_t count, bool is_read) {
     calls++;
-    if (calls == number_of("IO_FAIL")) {
+    reads += is_read;
+    writes += !is_read;
+    if (calls == number_of("IO_FAIL") || (is_read && reads == number_of("IO_FAIL_READ"))) {
         errno = getenv("IO_ERROR") == NULL ? EIO : (int)number_of("IO_ERROR");
         return -1;
     }
@@ -46,7 +65,8 @@ static void end(void) {
 
 ssize_t read(int file, void *bytes, size_t count) {
     static ssize_t (*next)(int, void *, size_t);
-    ssize_t most = begin(count);
+    ssize_t most = begin(count, true);
+    wait_where_asked();
     if (next == NULL)
         next = dlsym(RTLD_NEXT, "read");
     if (most >= 0)
@@ -57,7 +77,7 @@ ssize_t read(int file, void *bytes, size_t count) {
 
 ssize_t write(int file, const void *bytes, size_t count) {
     static ssize_t (*next)(int, const void *, size_t);
-    ssize_t most = begin(count);
+    ssize_t most = begin(count, false);
     if (next == NULL)
         next = dlsym(RTLD_NEXT, "write");
     if (most >= 0)
@@ -70,7 +90,7 @@ __attribute__((destructor)) static void tell_count(void) {
     const char *name = getenv("IO_COUNT");
     FILE *file = name == NULL ? NULL : fopen(name, "w");
     if (file != NULL) {
-        fprintf(file, "%ld\n", calls);
+        fprintf(file, "%ld %ld\n", reads, writes);
         fclose(file);
     }
 }

@@ -45,13 +45,6 @@ struct tried rattle_alloc(size_t bytes, size_t align)
     return given;
 }
 
-struct tried rattle_realloc(unsigned char *p, size_t kept, size_t bytes, size_t align)
-{
-    struct tried none = {false, table};
-    (void)p, (void)kept, (void)bytes, (void)align;
-    return none;
-}
-
 void rattle_dealloc(unsigned char *p)
 {
     (void)p;

@@ -1,12 +1,14 @@
 /* Memory: tlsf_create and tlsf_load take it twice, no other call takes any, tlsf_destroy gives both back, and where it is
- * refused they say so. The library's three functions stand here over an array, as an embedded program would write them. */
+ * refused they say so. The library's two functions stand here over an array, as an embedded program would write them. */
 #include <string.h>
 
 #include "cases.h"
 #include "tlsf.h"
 
+enum { RECORD = 16, HEAP = 1664, MOST_RECORDS = 65535 };
+
 static _Alignas(16) unsigned char memory[4u << 20];
-static size_t taken;
+static size_t taken, greatest, least;
 static unsigned takes, returns, live, refuse_at;
 
 /* What the library is told of a request: whether there is memory, and where. */
@@ -25,18 +27,10 @@ struct tried rattle_alloc(size_t bytes, size_t align)
         return none;
     }
     taken += (bytes + 15) / 16 * 16;
+    greatest = bytes > greatest ? bytes : greatest;
+    least = bytes < least ? bytes : least;
     live++;
     return some;
-}
-
-/* The block at p, whose first `kept` bytes stay, gets so many bytes. A heap never asks for it. */
-struct tried rattle_realloc(unsigned char *p, size_t kept, size_t bytes, size_t align)
-{
-    struct tried moved = rattle_alloc(bytes, align);
-    if (moved.ok) {
-        memcpy(moved.p, p, kept);
-    }
-    return moved;
 }
 
 void rattle_dealloc(unsigned char *p)
@@ -48,7 +42,8 @@ void rattle_dealloc(unsigned char *p)
 
 static void start(unsigned refused)
 {
-    taken = 0;
+    taken = greatest = 0;
+    least = SIZE_MAX;
     takes = returns = live = 0;
     refuse_at = refused;
 }
@@ -94,6 +89,66 @@ static void loads(void)
     expect(tlsf_load(image, sizeof image, &heap) == TLSF_BROKEN_MAGIC && takes == 0, "bytes that are no image take no memory");
 }
 
+/* The two that a heap takes: a table of so many records, and the heap itself. */
+static bool has_taken(uint32_t records)
+{
+    size_t table = (size_t)RECORD * records;
+    return takes == 2 && live == 2 && taken == table + HEAP && greatest == (table > HEAP ? table : HEAP) && least == (table > HEAP ? HEAP : table);
+}
+
+/* Each count of records there is: a heap comes of it, with what it takes of memory, and gives that back. */
+static void each_count(void)
+{
+    bool made = true, whole = true, returned = true;
+    for (uint32_t records = 1; records <= MOST_RECORDS; records++) {
+        tlsf_heap heap = {0};
+        start(0);
+        made = made && tlsf_create(records, &heap) == TLSF_OK && has_taken(records);
+        if (!made) {
+            printf("note: not with %u records\n", (unsigned)records);
+            break;
+        }
+        whole = whole && (records % 1000 != 0 || tlsf_check(&heap));
+        tlsf_destroy(heap);
+        returned = returned && live == 0 && returns == 2;
+    }
+    expect(made, "a heap of each count of records from 1 to 65,535 takes 16 bytes a record and 1,664 bytes");
+    expect(whole, "its table is whole");
+    expect(returned, "it gives both back");
+}
+
+/* Images of heaps of many counts, with as many pools as there can be: a heap comes of each. */
+static void many_loads(void)
+{
+    static unsigned char image[TLSF_IMAGE_BYTES(MOST_RECORDS)], again[TLSF_IMAGE_BYTES(MOST_RECORDS)];
+    static const uint32_t counts[] = {1, 2, 7, 8, 9, 999, 1000, 8191, 8192, 8193, 12345, 20001, 32767, 32768, 65534, 65535};
+    for (size_t k = 0; k < sizeof counts / sizeof counts[0]; k++) {
+        uint32_t records = counts[k], pools = records < 8 ? records : 8;
+        tlsf_heap heap = {0}, other = {0};
+        uint64_t length = 0;
+        start(0);
+        bool served = tlsf_create(records, &heap) == TLSF_OK;
+        for (uint32_t pool = 0; pool < pools; pool++) {
+            served = served && tlsf_add_pool(&heap, 4096u * pool, 1024) == TLSF_OK;
+        }
+        tlsf_block block;
+        served = served && tlsf_malloc(&heap, 1024, &block) == TLSF_OK;
+        served = served && tlsf_save(&heap, image, sizeof image, &length) == TLSF_OK && length == TLSF_IMAGE_BYTES(records);
+        tlsf_destroy(heap);
+        start(0);
+        served = served && tlsf_load(image, length, &other) == TLSF_OK && has_taken(records) && tlsf_check(&other);
+        served = served && tlsf_save(&other, again, sizeof again, &length) == TLSF_OK && memcmp(image, again, length) == 0;
+        served = served && tlsf_free(&other, block) == TLSF_OK;
+        for (uint32_t pool = 0; pool < pools; pool++) {
+            served = served && tlsf_remove_pool(&other, 4096u * pool) == TLSF_OK;
+        }
+        char name[64];
+        snprintf(name, sizeof name, "a heap of %u records with %u pools, saved and loaded", (unsigned)records, (unsigned)pools);
+        expect(served, name);
+        tlsf_destroy(other);
+    }
+}
+
 int main(void)
 {
     tlsf_heap heap = {0};
@@ -113,11 +168,13 @@ int main(void)
     }
     start(3);
     expect(tlsf_create(65535, &heap) == TLSF_OK, "create, where a third would be refused");
-    printf("note: a heap of 65,535 records takes %zu bytes\n", taken);
+    expect(taken == 1050224, "a heap of 65,535 records takes 1,050,224 bytes");
     tlsf_destroy(heap);
     expect(live == 0, "and its end");
     start(0);
     expect(tlsf_create(0, &heap) == TLSF_BAD_COUNT && takes == 0, "a bad count takes no memory");
     loads();
+    each_count();
+    many_loads();
     return cases_end();
 }

@@ -239,6 +239,57 @@ static void wrong_pointers(void)
     end();
 }
 
+/* A heap of so many records, and of 2 * live + pools blocks: live ones of 16 bytes, each between free ones of 16, in a pool with
+ * a rest of at least 512 bytes behind them; and pools of 16 bytes. */
+static tlsf_block between_holes(uint32_t records, uint32_t lives, uint32_t pools)
+{
+    tlsf_block blocks[64];
+    begin(records);
+    bool served = tlsf_add_pool(&heap, 0, 4096) == TLSF_OK;
+    for (uint32_t k = 0; k < 2 * lives; k++) {
+        served = malloc_is(16, 16 * k) && served;
+        blocks[k] = last;
+    }
+    for (uint32_t k = 0; k < 2 * lives; k += 2) {
+        served = tlsf_free(&heap, blocks[k]) == TLSF_OK && served;
+    }
+    for (uint32_t k = 1; k < pools; k++) {
+        served = tlsf_add_pool(&heap, 8192u * k, 16) == TLSF_OK && served;
+    }
+    expect(served, "live blocks between holes");
+    return blocks[1];
+}
+
+/* The least of records with which a call is served, where there are so many live blocks and pools. */
+static void enough(uint32_t lives, uint32_t pools)
+{
+    for (uint32_t more = 0; more <= 2; more++) {
+        uint32_t records = 2 * lives + pools + more;
+        tlsf_block block = between_holes(records, lives, pools), moved = {4711, 12};
+        uint32_t wanted = more >= 1 ? TLSF_OK : TLSF_TABLE_FULL;
+        expect(tlsf_realloc(&heap, block, 100, &moved) == wanted && (wanted == TLSF_OK || moved.place == 4711), more >= 1 ? "a block moves with 2 L + P + 1 records" : "no block moves with one less");
+        end();
+        between_holes(records, lives, pools);
+        expect(wanted == TLSF_OK ? tlsf_malloc(&heap, 32, &last) == TLSF_OK : malloc_refused(32, wanted), more >= 1 ? "a block is given with 2 L + P + 1 records" : "none is given with one less");
+        end();
+        between_holes(records, lives, pools);
+        expect(tlsf_add_pool(&heap, 1048576, 16) == (pools == 8 ? TLSF_POOLS_FULL : wanted), more >= 1 ? "a pool is added with 2 L + P + 1 records" : "none is added with one less");
+        end();
+        between_holes(records, lives, pools);
+        wanted = more == 2 ? TLSF_OK : TLSF_TABLE_FULL;
+        expect(tlsf_memalign(&heap, 2048, 32, &moved) == wanted, more == 2 ? "an aligned block is given with 2 L + P + 2 records" : "none is given with one less");
+        end();
+    }
+}
+
+static void enough_records(void)
+{
+    enough(2, 1);
+    enough(3, 2);
+    enough(5, 3);
+    enough(20, 8);
+}
+
 static void helpers(void)
 {
     static _Alignas(16) unsigned char bytes[1024];
@@ -265,6 +316,7 @@ int main(void)
     walks();
     counts();
     wrong_pointers();
+    enough_records();
     helpers();
     return cases_end();
 }

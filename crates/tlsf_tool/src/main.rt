@@ -19,12 +19,17 @@ use crate::words::command;
 use mtrace_log::{FromRead, ToWrite};
 use mtrace_replay::{RunFault, Settings};
 use std::alloc::Global;
+use std::fs::File;
 use std::io::{BufWriter, IsTerminal, Read};
+use std::os::fd::AsRawFd;
 use std::process::ExitCode;
 use std::{env, fs, io};
 
 /// The line on words that aren't text.
 const NOT_TEXT: &str = "tlsf: a word is no text; for more, try 'tlsf --help'\n";
+
+/// The descriptor of standard error, the last of the standard streams.
+const LAST_STREAM: i32 = 2;
 
 /// The words in a list. To collect them would ask for its memory again where that is refused.
 fn listed_words(rt: &HostRuntime, all: env::Args<Global>) -> Result<Vec<String>, ToolFault> {
@@ -46,6 +51,25 @@ fn asked_words(rt: &HostRuntime) -> Result<Vec<String>, ToolFault> {
         }
         Err(_) => Err(ToolFault::usage(rt.alloc(), NOT_TEXT)),
     }
+}
+
+/// The file, under a descriptor that is no standard stream's. Where one of these is closed a file that is opened takes its
+/// number, and what goes to the stream would land in the file; a clone is always above them.
+fn above_streams(file: File) -> io::Result<File> {
+    if file.as_raw_fd() > LAST_STREAM {
+        return Ok(file);
+    }
+    file.try_clone()
+}
+
+/// Opens a file to read it.
+fn open_file(rt: &HostRuntime, name: &str) -> io::Result<File> {
+    above_streams(fs::open(rt, name)?)
+}
+
+/// Makes a file to write it, or empties the one that there is.
+fn make_file(rt: &HostRuntime, name: &str) -> io::Result<File> {
+    above_streams(fs::create(rt, name)?)
 }
 
 /// Serves a log that is open, with standard output and standard error.
@@ -80,7 +104,7 @@ fn report_log(
         let notice = Notice::new(rt, rt.stdin().is_terminal());
         return serve_log(rt, &notice, name, settings, rt.stdin());
     }
-    match fs::open(rt, log.as_str()) {
+    match open_file(rt, log.as_str()) {
         Ok(file) => serve_log(rt, &Notice::new(rt, false), name, settings, file),
         Err(_) => Err(ToolFault::CannotOpen(log)),
     }
@@ -94,7 +118,7 @@ fn save_open<R: Read + Drop>(
     log: R,
     image: String,
 ) -> Result<u8, ToolFault> {
-    let Ok(file) = fs::create(rt, image.as_str()) else {
+    let Ok(file) = make_file(rt, image.as_str()) else {
         return Err(ToolFault::CannotOpen(image));
     };
     let Ok(writer) = BufWriter::new(rt.alloc(), Cleared::new(notice, rt.stdout())) else {
@@ -121,7 +145,7 @@ fn save_log(
         let notice = Notice::new(rt, rt.stdin().is_terminal());
         return save_open(rt, &notice, settings, rt.stdin(), image);
     }
-    match fs::open(rt, log.as_str()) {
+    match open_file(rt, log.as_str()) {
         Ok(file) => save_open(rt, &Notice::new(rt, false), settings, file, image),
         Err(_) => Err(ToolFault::CannotOpen(log)),
     }
@@ -129,7 +153,7 @@ fn save_log(
 
 /// Opens an image and checks it.
 fn check_file(rt: &HostRuntime, image: String) -> Result<u8, ToolFault> {
-    match fs::open(rt, image.as_str()) {
+    match open_file(rt, image.as_str()) {
         Ok(file) => Ok(check_image(
             rt.alloc(),
             &mut FromRead::new(file),

@@ -35,6 +35,16 @@ fn lengths(rt: HostRuntime) {
     }
 }
 
+/// A hundred lengths from 2,000,000 on, with each rest that there is by 16 and by 100.
+#[test]
+fn large_lengths(rt: HostRuntime) {
+    for number in 0..100 {
+        let len = 2_000_000 + 40_009 * number;
+        let mut region = made(&rt, rt.alloc(), len, 1);
+        expect_eq(&rt, region.add_pool(0, len / 16 * 16), Ok(()));
+    }
+}
+
 #[test]
 fn counts_of_records(rt: HostRuntime) {
     for records in [1, 2, 3, 10, 999, 1_000, 1_001, 4_096, 8_192, 65_534, 65_535] {

@@ -1,4 +1,4 @@
-//! Runs of more than a thousand requests.
+//! Runs of more than a thousand requests, and of each number up to that.
 
 use super::made;
 use super::rows::has_rows;
@@ -70,6 +70,41 @@ fn fills_and_frees<H: Heaped>(alloc: Global, heap: &mut H) -> Result<bool, Store
             && gone
             && has_rows(heap, 0, &rows),
     )
+}
+
+/// How many requests the longest of the runs has that are made of each length.
+const LONGEST: usize = 1_200;
+
+/// Whether a run is answered, request by request: there is no pool.
+fn is_answered<H: Heaped>(alloc: Global, heap: &mut H, requests: &[Request]) -> bool {
+    match run(alloc, heap, requests) {
+        Ok(answers) => {
+            answers.len() == requests.len()
+                && answers
+                    .iter()
+                    .all(|answer| *answer == Answer::Refused(Refusal::NoFit))
+        }
+        Err(_) => false,
+    }
+}
+
+/// A run of each length, none included.
+fn answers_each_length<H: Heaped>(alloc: Global, heap: &mut H) -> bool {
+    let requests = [Request::Malloc(8); LONGEST];
+    for count in 0..LONGEST + 1 {
+        if !is_answered(alloc, heap, &requests[..count]) {
+            return false;
+        }
+    }
+    true
+}
+
+#[test]
+fn runs_of_each_length(rt: HostRuntime) {
+    let mut heap: Heap = made(&rt, rt.alloc(), 1);
+    assert!(rt; answers_each_length(rt.alloc(), &mut heap));
+    let mut heap: PlainHeap = made(&rt, rt.alloc(), 1);
+    assert!(rt; answers_each_length(rt.alloc(), &mut heap));
 }
 
 #[test]

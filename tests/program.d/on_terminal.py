@@ -1,0 +1,183 @@
+"""Runs of the program with standard error on a terminal, for tests/program.d/progress: on_terminal.py PROGRAM PRELOADED.
+
+Reads of the log wait where a case says so: the second one ends in the second second of the run, the fourth one in the third. What
+the terminal was told is taken apart: each notice with its number has to be cleared by what comes next, and what is left
+is the text that the case wants there. The last line is `N passed, M failed`."""
+import os
+import pty
+import re
+import subprocess
+import sys
+import tempfile
+import termios
+from concurrent.futures import ThreadPoolExecutor
+from pathlib import Path
+
+PROGRAM, PRELOADED = sys.argv[1:3]
+NOTICE = rb"\r\x1b\[Ktlsf: (\d+) lines read"
+PIECE = 4096
+
+# Five pieces of lines of several lengths: with no effect, and with a diagnostic each, which are more than one buffer of output.
+QUIET = b"".join(b"@ ./prog:[0x%x] ! 0x10 0x8\n" % (7 ** (k % 20)) for k in range(540))
+LOUD = b"".join(b"x" * (k % 7 + 1) + b"\n" for k in range(3500))
+assert all(4 * PIECE < len(log) < 5 * PIECE for log in (QUIET, LOUD)), (len(QUIET), len(LOUD))
+
+
+def diagnostics(log):
+    return b"".join(b"line %d: not a line\n" % (k + 1) for k in range(len(log.splitlines())))
+
+
+REPORTS = {
+    "leaks": b"No memory leaks.\n",
+    "walk": b"pool 0: 16777216 bytes\n0 16777216 free\n",
+    "save": b"",
+}
+
+
+def lines_in(log, pieces):
+    return log[:PIECE * pieces].count(b"\n")
+
+
+def new_terminal():
+    """A terminal that shows nothing of what is typed, and adds no byte to what is written."""
+    terminal, end = pty.openpty()
+    modes = termios.tcgetattr(end)
+    modes[1] &= ~termios.OPOST
+    modes[3] &= ~termios.ECHO
+    termios.tcsetattr(end, termios.TCSANOW, modes)
+    return terminal, end
+
+
+def read_all(terminal):
+    """What was written to a terminal whose other end is closed by all."""
+    said = b""
+    try:
+        while some := os.read(terminal, 65536):
+            said += some
+    except OSError:
+        pass
+    return said
+
+
+def words_of(case):
+    """The words, and the file that is standard input."""
+    log = "-" if case["log"] in ("-", "pipe", "typed") else case["log"]
+    if case["word"] == "check":
+        return ["check", case["log"]]
+    return [case["word"], log] + ([case.get("image", "image")] if case["word"] == "save" else [])
+
+
+def started(case, folder, end):
+    """The run of a case, in a folder of its own."""
+    environment = {"LD_PRELOAD": PRELOADED, **case.get("how", {})}
+    stdin = {"pipe": subprocess.PIPE, "typed": end}.get(case["log"], subprocess.DEVNULL)
+    if case["log"] == "-":
+        stdin = open(folder / "file", "rb")
+    to = case.get("stdout", "stdout")
+    stdout = end if to == "terminal" else open(folder / to if to == "stdout" else to, "wb")
+    stderr = end if case.get("stderr", "terminal") == "terminal" else open(folder / "stderr", "wb")
+    return subprocess.Popen([PROGRAM, *words_of(case)], cwd=folder, env=environment, stdin=stdin, stdout=stdout, stderr=stderr)
+
+
+def fed(case, folder, run, terminal):
+    """Gives the log where it is no file."""
+    if case["log"] == "pipe":
+        run.stdin.write(case["text"])
+        run.stdin.close()
+    elif case["log"] == "fifo":
+        (folder / "fifo").write_bytes(case["text"])
+    elif case["log"] == "typed":
+        os.write(terminal, case["text"] + b"\4")
+
+
+def wrong(case):
+    """What is wrong with the run of a case, or nothing."""
+    with tempfile.TemporaryDirectory() as name:
+        folder = Path(name)
+        (folder / "file").write_bytes(case["text"])
+        os.mkfifo(folder / "fifo")
+        terminal, end = new_terminal()
+        run = started(case, folder, end)
+        os.close(end)
+        fed(case, folder, run, terminal)
+        said = read_all(terminal)
+        status = run.wait()
+        written = (folder / "stdout").read_bytes() if (folder / "stdout").exists() else b""
+        errors = (folder / "stderr").read_bytes() if (folder / "stderr").exists() else b""
+    told = [int(number) for number in re.findall(NOTICE, said)]
+    cleared = len(re.findall(NOTICE + rb"(?=\r\x1b\[K)", said))
+    clears = len(re.findall(rb"\r\x1b\[K(?!tlsf: \d+ lines read)", said))
+    rest = re.sub(rb"\r\x1b\[K", b"", re.sub(NOTICE, b"", said))
+    for what, is_so, wanted in (
+        ("status", status, case["status"]),
+        ("notices", told, case.get("told", [])),
+        ("notices cleared", cleared, len(told)),
+        ("clears without a notice", max(clears - len(told), 0), 0),
+        ("on the terminal", rest, case.get("on_terminal", b"")),
+        ("standard output", written, case.get("written", b"")),
+        ("standard error in a file", errors, b""),
+    ):
+        if is_so != wanted:
+            return f"{what}: {is_so!r:.200}, wanted {wanted!r:.200}"
+    return None
+
+
+def slow(text, **more):
+    """A run in which the second and the fourth read wait."""
+    return {"text": text, "how": {"IO_WAIT": "2,4"}, "told": [lines_in(text, 2), lines_in(text, 4)], **more}
+
+
+def served(word, text, noted, **more):
+    """A slow run that ends well, with its output in a file or on the terminal."""
+    output = noted + REPORTS[word]
+    to = "on_terminal" if more.get("stdout") == "terminal" else "written"
+    return slow(text, word=word, status=1 if noted else 0, **{to: output}, **more)
+
+
+def slow_cases():
+    """Each word and each kind of log; and where standard output is the terminal, too."""
+    for word in REPORTS:
+        for log in ("file", "fifo", "pipe", "-"):
+            yield f"{word} of a slow {log}", served(word, QUIET, b"", log=log)
+    yield "a slow log with diagnostics", served("leaks", LOUD, diagnostics(LOUD), log="file")
+    yield "a slow log with diagnostics, saved", served("save", LOUD, diagnostics(LOUD), log="fifo")
+    for word in REPORTS:
+        yield f"{word}, all on the terminal", served(word, LOUD, diagnostics(LOUD), log="pipe", stdout="terminal")
+
+
+def quiet_cases():
+    """Nothing is told: of what is typed, of a quick run, where standard error is a file, and of an image."""
+    typed = b"= Start\nx\n= End\n"
+    noted = b"line 2: not a line\n"
+    for word in ("leaks", "save"):
+        yield f"{word} of a typed log", {
+            "word": word, "log": "typed", "text": typed, "status": 1, "written": noted + REPORTS[word], "how": {"IO_WAIT": "2,3"}}
+    for log in ("file", "fifo", "pipe", "-"):
+        yield f"a quick {log}", {"word": "leaks", "log": log, "text": LOUD, "status": 1, "written": diagnostics(LOUD) + REPORTS["leaks"]}
+    yield "standard error in a file", {**served("leaks", QUIET, b"", log="file", stdout="terminal", stderr="file"), "told": []}
+    yield "a slow image", {
+        "word": "check", "log": "file", "text": QUIET, "status": 1, "written": b"broken: V1\n", "how": {"IO_WAIT": "2,4"}}
+
+
+def failing_cases():
+    """A notice is cleared before the line of a fault."""
+    for word in ("leaks", "save"):
+        yield f"{word} of a log that breaks off", {
+            **slow(QUIET, word=word, log="file", status=3, on_terminal=b"tlsf: read failed\n"), "how": {"IO_WAIT": "2,4", "IO_FAIL_READ": "5"}}
+        yield f"{word} of a log and a full disk", {
+            **slow(b"= Start\n" * 1024 + LOUD, word=word, log="file", status=3, on_terminal=b"tlsf: write failed\n", stdout="/dev/full"),
+            "told": [1024], "how": {"IO_WAIT": "2"}}
+    yield "an image on a full disk", slow(QUIET, word="save", log="file", image="/dev/full", status=3, on_terminal=b"tlsf: write failed\n")
+
+
+def main():
+    cases = [*slow_cases(), *quiet_cases(), *failing_cases()]
+    with ThreadPoolExecutor(len(cases)) as pool:
+        answers = list(pool.map(wrong, (case for _, case in cases)))
+    failures = [(name, answer) for (name, _), answer in zip(cases, answers) if answer]
+    for name, answer in failures:
+        print(f"FAILED: with standard error on a terminal: {name}: {answer}")
+    print(f"{len(cases) - len(failures)} passed, {len(failures)} failed")
+
+
+main()
