@@ -66,6 +66,7 @@ impl Buffer {
     }
 
     /// Takes the unread bytes before the first newline as a line, and passes over the newline; false where there is none.
+    #[inline(always)]
     pub(crate) fn take_line(&mut self) -> bool
         ensures { TakesLine result self.old self.new }
     {

@@ -42,6 +42,7 @@ impl LineBuffer {
     }
 
     /// What the line says.
+    #[inline(never)]
     pub(crate) fn read(&self) -> Result<Event<LentLocation<'_>>, LineFault>
         ensures { Says (kept_bytes self.now) result }
     {

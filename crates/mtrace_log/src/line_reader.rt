@@ -207,6 +207,7 @@ fn behind_at(bytes: &[u8]) -> Option<&[u8]>
 }
 
 /// A line that isn't too long, and not behind `@ `.
+#[inline(never)]
 fn read_unlocated(bytes: &[u8]) -> Lent<'_>
     requires short { length bytes.now ≤ LONGEST_LINE }
     requires unlocated { (rest : List ℕ) → bytes.now ≢ codes "@ " ++ rest }
@@ -229,6 +230,7 @@ fn read_unlocated(bytes: &[u8]) -> Lent<'_>
 /// # Errors
 ///
 /// As [`read_line`].
+#[inline(always)]
 pub fn read_lent(bytes: &[u8]) -> Result<Event<LentLocation<'_>>, LineFault>
     // The event whose spelling the line is; or too long; or no event's spelling.
     ensures reads { Reads bytes.now result }

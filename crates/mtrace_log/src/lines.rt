@@ -111,6 +111,7 @@ impl Lines {
     /// # Errors
     ///
     /// As [`Lines::next`].
+    #[inline(always)]
     pub fn advance<R: Source>(&mut self, reader: &mut R) -> Result<Option<u64>, ReadFault>
         ensures line { IfOk result (λ found. IfSome found (λ number. PassesLine self.old self.new
             (to_come self.old (R.left reader.old)) (to_come self.new (R.left reader.new)) number)) }
@@ -131,6 +132,7 @@ impl Lines {
     }
 
     /// What the line says that was passed last, with its location where it lies; before the first, what an empty line says.
+    #[inline(always)]
     pub fn event(&self) -> Result<Event<LentLocation<'_>>, LineFault>
         ensures { Says self.now.last result }
     {
@@ -142,6 +144,7 @@ impl Lines {
     }
 
     /// Passes over the next line, while lines are read.
+    #[inline(always)]
     fn read_next<R: Source>(&mut self, reader: &mut R) -> Result<Option<u64>, ReadFault>
         requires { self.old.status ≡ Reading }
         ensures reads { ReadsOn R.left R.trace self.old self.new reader.old reader.new result }
@@ -159,6 +162,7 @@ impl Lines {
     }
 
     /// Passes over the next line, where its newline isn't in the buffer.
+    #[inline(never)]
     fn read_across<R: Source>(&mut self, reader: &mut R) -> Result<Option<u64>, ReadFault>
         requires reading { self.old.status ≡ Reading }
         requires room { self.old.count < greatest_number }
@@ -186,6 +190,7 @@ impl Lines {
     }
 
     /// Where no number is left for a line: the end, or a fault.
+    #[inline(never)]
     fn find_end<R: Source>(&mut self, reader: &mut R) -> Result<Option<u64>, ReadFault>
         requires reading { self.old.status ≡ Reading }
         requires full { self.old.count ≡ greatest_number }

@@ -93,6 +93,7 @@ fn leave_held(spots: &mut Vec<Spot>)
 
 /// Leaves the held spots, and shares the room by where new addresses came: vacant spots among the held ones, at most as many as
 /// these, and the rest at the end.
+#[inline(never)]
 pub(crate) fn arrange(spots: &mut Vec<Spot>, room: usize, entered: &Entered)
     requires within { length spots.old.items ≤ room }
     requires reserved { room ≤ vec_capacity spots.old }

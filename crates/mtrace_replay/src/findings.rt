@@ -63,7 +63,16 @@ impl Findings {
         }
     }
 
+    /// Nothing is wrong any more.
+    pub(crate) fn clear(&mut self)
+        ensures { self.new ≡ [] }
+    {
+        self.first = None;
+        self.second = None;
+    }
+
     /// Becomes one diagnostic.
+    #[inline(never)]
     pub(crate) fn set_one(&mut self, line: u64, kind: Kind)
         ensures { self.new ≡ record { line = line; kind = kind } ∷ [] }
     {
@@ -72,6 +81,7 @@ impl Findings {
     }
 
     /// Puts a diagnostic before what is there, which is at most one.
+    #[inline(never)]
     pub(crate) fn put_first(&mut self, first: Diagnostic)
         requires { length self.old ≤ 1 }
         ensures { self.new ≡ first ∷ self.old }

@@ -49,10 +49,10 @@ impl Model for Index {
     ghost invariant = { λ index. IsIndex index.spots.items (vec_capacity index.spots) index.room index.blocks index.bytes };
 }
 
-/// Whether room at the end is to be made anew: a new address there moved many of so many spots, or most of them are vacant. So
-/// where addresses rise, the spots stay few, and a search stays among those that it looked at before.
+/// Whether room at the end is to be made anew: a new address there moved many of so many spots, or three quarters of them are
+/// vacant. So where addresses rise, the spots stay few, and a search stays among those that it looked at before.
 fn is_end_spent(spots: usize, blocks: u64, moved: usize) -> bool {
-    moved > spots / 64 || spots as u64 / 2 > blocks.saturating_add(64)
+    moved > spots / 64 || spots as u64 / 4 > blocks.saturating_add(64)
 }
 
 impl Index {
@@ -78,6 +78,7 @@ impl Index {
 
     /// Where the address stands. That is where the spot was vacated last, if the address is its own, or else as `find`
     /// says: an allocator gives the address that was freed last again.
+    #[inline(always)]
     pub fn find_again(&mut self, address: Addr) -> Found
         ensures found { IsFound self.old.spots result }
         ensures address { result.address ≡ address }
@@ -138,6 +139,7 @@ impl Index {
     }
 
     /// Holds the address that was found for an entry, under this block, in place of what it was held under.
+    #[inline(always)]
     pub fn insert(&mut self, found: &Found, entry: &Entry<LentLocation<'_>>, ptr: Ptr)
         requires found { IsFound self.old.spots found.now }
         requires address { found.now.address ≡ entry.now.addr }
@@ -191,6 +193,7 @@ impl Index {
     }
 
     /// Holds the address that was found no more: its spot stays, vacant.
+    #[inline(always)]
     pub fn remove(&mut self, found: &Found)
         requires found { IsFound self.old.spots found.now }
         ensures held { (other : ℕ) → held_at self.new.all other ≡ (if found.now.address == other then None else held_at self.old.all other) }

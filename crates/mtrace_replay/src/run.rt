@@ -22,6 +22,7 @@ use std::alloc::Global;
 use tlsf_heap::{Heap, Heaped};
 
 /// Puts a line for each diagnostic.
+#[inline(never)]
 fn put_note<W: Sink>(writer: &mut W, note: &Note) -> Result<(), Failed>
     ensures { Puts W.taken W.trace result (notes_text note.now.items) writer.old writer.new }
 {
@@ -31,17 +32,33 @@ fn put_note<W: Sink>(writer: &mut W, note: &Note) -> Result<(), Failed>
     Ok(())
 }
 
-/// Replays one line and puts what is wrong with it. Answers whether anything is.
+/// Puts what is wrong with a line; then nothing is.
+#[inline(never)]
+fn put_findings<W: Sink>(writer: &mut W, findings: &mut Findings) -> Result<(), Failed>
+    ensures put { Puts W.taken W.trace result (notes_text findings.old) writer.old writer.new }
+    ensures cleared { findings.new ≡ [] }
+{
+    let note = findings.note();
+    findings.clear();
+    put_note(writer, &note)
+}
+
+/// Replays one line and puts what is wrong with it. Answers whether anything is. The findings are empty before and after, so one
+/// serves all lines.
+#[inline(always)]
 fn replay_line<H: Heaped, W: Sink>(
     writer: &mut W,
     replay: &mut Replay<H>,
     number: u64,
     event: Result<Event<LentLocation<'_>>, LineFault>,
+    findings: &mut Findings,
 ) -> Result<bool, RunFault>
     requires next { replay.old.out_of_memory ≡ false → number ≡ replay.old.totals.lines + 1 }
+    requires none { findings.old ≡ [] }
     ensures done { IfOk result (λ noted. (settings : Settings) (past : List Reading) → StandsFor replay.old settings past
         → LineGives replay.new settings event.entry past (W.taken writer.old) (W.taken writer.new) noted) }
     ensures counted { OnOk result (replay.new.totals.lines ≡ number) }
+    ensures cleared { OnOk result (findings.new ≡ []) }
     ensures took { result ≢ Err RunFault.Write → HasTaken (W.trace writer.old) (W.trace writer.new) }
     ensures write { IsErrOf result RunFault.Write → (settings : Settings) (past : List Reading) → StandsFor replay.old settings past
         → LineBegins replay.new settings event.entry past (W.taken writer.old) (W.taken writer.new) }
@@ -51,14 +68,13 @@ fn replay_line<H: Heaped, W: Sink>(
     ensures no_settings { result ≢ Err RunFault.BadSettings }
     ensures no_image { result ≢ Err RunFault.Image }
 {
-    let mut findings = Findings::none();
-    let Ok(()) = replay.feed_lent(number, event, &mut findings) else {
+    let Ok(()) = replay.feed_lent(number, event, findings) else {
         return Err(RunFault::OutOfMemory);
     };
     if findings.is_empty() {
         return Ok(false);
     }
-    match put_note(writer, &findings.note()) {
+    match put_findings(writer, findings) {
         Ok(()) => Ok(true),
         Err(_) => Err(RunFault::Write),
     }
@@ -88,13 +104,14 @@ fn replay_lines<H: Heaped, R: Source, W: Sink>(
 {
     let mut lines = Lines::new();
     let mut noted = false;
+    let mut findings = Findings::none();
     loop {
         let number = match lines.advance(reader) {
             Ok(Some(number)) => number,
             Ok(None) => return Ok(noted),
             Err(_) => return Err(RunFault::Read),
         };
-        match replay_line(writer, replay, number, lines.event()) {
+        match replay_line(writer, replay, number, lines.event(), &mut findings) {
             Ok(more) => noted |= more,
             Err(fault) => return Err(fault),
         }

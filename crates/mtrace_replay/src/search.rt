@@ -23,6 +23,7 @@ fn so_many_if(many: usize, one: usize) -> usize
 /// Where the last spot of the address is, held or vacant; or else where it would be, in order of address. It halves what is left, and
 /// compares as many addresses as the number of spots has binary digits. What a comparison tells is added and not tested,
 /// so that there is no branch to guess. An address that was seen is that of the last spot that reaches it.
+#[inline(never)]
 pub(crate) fn search(
     spots: &[Spot],
     comparisons: &mut GhostCount,
@@ -115,6 +116,7 @@ fn enter_above(spots: &mut [Spot], gap: usize, at: usize, entry: &Entry<LentLoca
 
 /// The entry comes to be held between the first so many spots and the others. It takes the nearest vacant spot, so that only what
 /// lies between moves, or else one more place at the end. Answers how many spots moved.
+#[inline(never)]
 pub(crate) fn enter(
     spots: &mut Vec<Spot>,
     room: usize,

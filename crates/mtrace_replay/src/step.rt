@@ -26,6 +26,7 @@ fn asked_size(size: u64) -> u64
 }
 
 /// Where the live block ends, as a place.
+#[inline(always)]
 fn end_of_block<H: Heaped>(heap: &mut H, ptr: Ptr) -> u64
     requires live { is_live (λ slot. slot == ptr.slot) ptr.place (blocks_of (H.content heap.old).pools) ≡ true }
     ensures end { result ≡ ptr.place + size_at ptr.place (blocks_of (H.content heap.old).pools) }
@@ -46,6 +47,7 @@ struct Block {
 }
 
 /// Asks for a block of at least `n` bytes, at a multiple of an alignment where there is one.
+#[inline(always)]
 fn ask_block<H: Heaped>(heap: &mut H, align: Option<Addr>, n: u64) -> Result<Ptr, Refusal>
     ensures ok { IfOk result (λ ptr. asked_block ptr.slot align n (H.content heap.old) ≡ Ok (ptr.place, H.content heap.new)) }
     ensures refused { IfErr result (λ refusal. refusal ≢ Refusal.OutOfMemory → (slot : ℕ) → asked_block slot align n (H.content heap.old) ≡ Err refusal) }
@@ -60,6 +62,7 @@ fn ask_block<H: Heaped>(heap: &mut H, align: Option<Addr>, n: u64) -> Result<Ptr
 }
 
 /// The block that was asked for, and where it ends.
+#[inline(always)]
 fn new_block<H: Heaped>(heap: &mut H, align: Option<Addr>, n: u64) -> Result<Block, Refusal>
     ensures ok { IfOk result (λ given. asked_block given.ptr.slot align n (H.content heap.old) ≡ Ok (given.ptr.place, H.content heap.new)) }
     ensures end { IfOk result (λ given. given.end ≡ given.ptr.place + size_at given.ptr.place (blocks_of (H.content heap.new).pools)) }
@@ -241,6 +244,7 @@ fn is_held_too(held: &mut Index, address: Addr, old: Addr) -> bool
 }
 
 /// `> address size`: reallocates the block of the address of the line before, where that is `<`.
+#[inline(never)]
 fn renew<H: Heaped>(
     heap: &mut H,
     held: &mut Index,

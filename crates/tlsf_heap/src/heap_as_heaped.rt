@@ -30,14 +30,17 @@ impl Heaped for Heap {
         Heap::remove_pool(self, base)
     }
 
+    #[inline(always)]
     fn malloc(&mut self, n: u64) -> Result<Ptr, Refusal> {
         Heap::malloc(self, n)
     }
 
+    #[inline(never)]
     fn memalign(&mut self, align: u64, n: u64) -> Result<Ptr, Refusal> {
         Heap::memalign(self, align, n)
     }
 
+    #[inline(always)]
     fn free(&mut self, ptr: Ptr) -> Result<(), Refusal> {
         Heap::free(self, ptr)
     }

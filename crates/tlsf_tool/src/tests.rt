@@ -1,5 +1,6 @@
 //! Rows of whole runs: logs, faults of reader and writer, and words; and the tests of the crates below but for the heap's.
 
+mod buffer;
 mod classes;
 mod glibc_log;
 mod hostile;

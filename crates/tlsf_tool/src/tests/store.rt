@@ -102,10 +102,16 @@ fn memory_taken_once(rt: HostRuntime) {
     assert_eq!(rt; store.level_word(), 1);
     store.set_step_word(21, 1);
     assert_eq!(rt; store.step_word(21), 1);
-    store.set_pool(7, None);
-    assert_eq!(rt; store.pool(7), None);
+    let pool = Some(Pool {
+        base: 64,
+        bytes: 1_024,
+        first: Slot(1),
+    });
+    store.set_pool(7, pool);
+    assert_eq!(rt; store.pool(7), pool);
     give(&rt, &mut store, slot);
     assert_eq!(rt; (store.vacant(), store.records()), (3, 3));
+    assert!(rt; store.has_whole_vacant_chain());
     assert!(rt; Store::create(rt.alloc(), 1).is_ok(), "no second store");
 }
 

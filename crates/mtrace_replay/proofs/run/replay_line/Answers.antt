@@ -23,12 +23,12 @@ returns-then-is_empty-clause-done g c = λ settings past stands.
 pub returns-then-is_empty-clause-took : goal.returns-then-is_empty-clause-took
 returns-then-is_empty-clause-took g c = λ other. moved_none Took (g.W.Sink.trace c.args.writer.now)
 
-pub returns-in-Ok-put_note-clause-done : goal.returns-in-Ok-put_note-clause-done
-returns-in-Ok-put_note-clause-done g c = λ settings past stands.
+pub returns-in-Ok-put_findings-clause-done : goal.returns-in-Ok-put_findings-clause-done
+returns-in-Ok-put_findings-clause-done g c = λ settings past stands.
     let is = c.in-Ok.ensures.note settings past stands in
-    let P : List Diagnostic → Type 0 = λ notes. Wrote (g.W.Sink.taken c.args.writer.now) (g.W.Sink.taken c.put_note.new.writer) (notes_text notes) in
+    let P : List Diagnostic → Type 0 = λ notes. Wrote (g.W.Sink.taken c.args.writer.now) (g.W.Sink.taken c.put_findings.new.writer) (notes_text notes) in
     record {
       stands = c.in-Ok.ensures.stands settings past stands;
-      wrote = subst P (c.note.ensures ∙ is) c.in-Ok-put_note.ensures.wrote;
+      wrote = subst P is c.in-Ok-put_findings.ensures.put.wrote;
       noted_is = sym (ap not (sym c.is_empty.ensures ∙ c.if-is_empty.false)) ∙ some_note-is c.feed_lent.new.findings ∙ ap is_some_note is;
     }

@@ -16,6 +16,7 @@ loop-number-init g c =
           let P : Progress → Type 0 = λ lines. IsUnderWay settings lines c.args.replay.now false left left taken taken in
           subst P (sym c.new-lines.ensures) (underway_start settings c.args.replay.now left taken stands));
       counted = c.requires.start ∙ sym (ap (λ (lines : Progress). lines.count) c.new-lines.ensures);
+      none = c.none-findings.ensures;
       gave = (let P : Progress → Type 0 = λ lines. CallsFor lines.status gave gave in subst P (sym c.new-lines.ensures) (moved_none Gave gave));
       took = moved_none Took (g.W.Sink.trace c.args.writer.now);
     }
@@ -46,7 +47,7 @@ pub replay_line-requires : goal.replay_line-requires
 replay_line-requires g c =
     let passed = rw c.in-Ok-Some.field-0-is at c.in-Ok-Some.ensures.line in
     let given = passed c.event.result c.event.ensures in
-    record { next = (λ works. given.number ∙ ap (λ n. n + 1) (sym c.loop-number.invariant.counted)) }
+    record { next = (λ works. given.number ∙ ap (λ n. n + 1) (sym c.loop-number.invariant.counted)); none = c.loop-number.invariant.none }
 
 pub loop-number-preserved : goal.loop-number-preserved
 loop-number-preserved g c =
@@ -58,6 +59,7 @@ loop-number-preserved g c =
           (g.W.Sink.taken c.args.writer.now) (g.W.Sink.taken c.loop-number.writer) (g.W.Sink.taken c.replay_line.new.writer) (record { number = c.in-Ok-Some.number; event = c.event.result })
           under given (c.in-Ok.ensures.done settings (reverse under.lines) under.stands));
       counted = c.in-Ok.ensures.counted ∙ sym given.count;
+      none = c.in-Ok.ensures.cleared;
       gave = calls_more c.loop-number.lines.status c.advance.new.self.status _ _ _ given.was_reading c.loop-number.invariant.gave c.in-Ok-Some.ensures.calls;
       took = moved_append Took _ _ _ c.loop-number.invariant.took (c.in-Ok.ensures.took (λ e. cc));
     }

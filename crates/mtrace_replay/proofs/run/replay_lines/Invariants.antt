@@ -15,6 +15,7 @@ invariant-loop-number g l =
       under_way : (settings : Settings) → StandsFor l.initial.replay settings []
           → IsUnderWay settings l.lines l.replay l.noted (left l.initial.reader) (left l.reader) (taken l.initial.writer) (taken l.writer);
       counted : l.replay.totals.lines ≡ l.lines.count;
+      none : l.findings ≡ [];
       gave : CallsFor l.lines.status (g.R.Source.trace l.initial.reader) (g.R.Source.trace l.reader);
       took : HasTaken (g.W.Sink.trace l.initial.writer) (g.W.Sink.trace l.writer);
     }

@@ -5,7 +5,7 @@ use mtrace_log::memory::{Full, MemorySink, MemorySource};
 use mtrace_replay::*;
 use std::alloc::Global;
 use std::process::Abort;
-use tlsf_heap::{Heap, ImageFault};
+use tlsf_heap::{Heap, Ptr, Refusal, Row};
 
 /// One pool of 64 bytes and one record.
 const LEAST: Settings = Settings {
@@ -47,6 +47,10 @@ fn vector() -> [u8; LEN] {
         image[index] = 0xff;
     }
     image
+}
+
+fn row(place: u32, size: u32, used: bool) -> Row {
+    Row { place, size, used }
 }
 
 /// What a run came to, and the bytes that its two writers took.
@@ -110,8 +114,50 @@ fn loaded_pointers(rt: HostRuntime) {
     );
     expect_eq(&rt, saved.image.bytes().len(), 1_552);
     let mut heap = Heap::load_image(rt.alloc(), saved.image.bytes()).expect(&rt, "a heap");
-    expect_eq(&rt, heap.malloc(49).err(), Some(tlsf_heap::Refusal::NoFit));
+    expect_eq(&rt, heap.malloc(49).err(), Some(Refusal::NoFit));
     expect_eq(&rt, heap.malloc(48).map(|ptr| ptr.place()), Ok(16));
+}
+
+/// The slot of the live block of an image of two records: in the word of its size the state is 2.
+fn live_slot(image: &[u8]) -> u16 {
+    match image.get(1_524) {
+        Some(word) if word % 16 == 2 => 0,
+        _ => 1,
+    }
+}
+
+/// Whether the pool at 0 has these rows.
+fn has_rows(alloc: Global, heap: &mut Heap, wanted: &[Row]) -> bool {
+    let mut rows = Vec::new(alloc);
+    let walked = heap.walk(0, |row| {
+        let _ = rows.push(row);
+    });
+    walked == Ok(()) && rows.as_slice() == wanted
+}
+
+/// A block that a log holds is live in the heap that is loaded, under the slot that the image tells.
+#[test]
+fn loaded_block_is_freed(rt: HostRuntime) {
+    let settings = Settings {
+        records: 2,
+        ..LEAST
+    };
+    let (notes, image) = (free_writer(rt.alloc()), free_writer(rt.alloc()));
+    let saved = save_log(rt.alloc(), b"+ 0x10 0x8", settings, notes, image);
+    expect_eq(&rt, saved.answer, Ok(Status::Found));
+    expect_eq(&rt, saved.image.bytes().len(), 1_552);
+    let mut heap = Heap::load_image(rt.alloc(), saved.image.bytes()).expect(&rt, "a heap");
+    assert!(rt;
+        has_rows(
+            rt.alloc(),
+            &mut heap,
+            &[row(0, 16, true), row(16, 48, false)]
+        )
+    );
+    let block = Ptr::new(0, live_slot(saved.image.bytes()));
+    expect_eq(&rt, heap.free(block), Ok(()));
+    assert!(rt; has_rows(rt.alloc(), &mut heap, &[row(0, 64, false)]));
+    expect_eq(&rt, heap.free(block), Err(Refusal::BadPointer));
 }
 
 /// The image's writer fails behind each number of bytes, or at its flush.

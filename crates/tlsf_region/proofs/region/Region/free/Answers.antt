@@ -16,6 +16,5 @@ invariant_of-self c =
       exact = c.self.invariant.exact;
     }
 
-
 pub returns-clause-refused : goal.returns-clause-refused
 returns-clause-refused c = rw (← c.self.view_is) c.free.ensures.refused
