@@ -138,8 +138,10 @@ uint32_t tlsf_block_size(tlsf_heap *heap, tlsf_block block, uint32_t *out);
  * 0, or TLSF_NO_POOL where no pool begins there. Where room is 0, rows still points to a tlsf_row. */
 uint32_t tlsf_walk(tlsf_heap *heap, uint64_t base, tlsf_row *rows, size_t room, uint64_t *count);
 
-/* Whether the table is whole. It always is, as is proved; where this is false, something wrote over the table. It
- * reads all of it: no call for a path that has to be quick. */
+/* Whether the table is whole: its blocks, lists, bitmaps and pools, and the chain of its vacant records. It always is, as is
+ * proved; where this is false, something wrote over it, and no call but tlsf_destroy is to be made. Bytes that mean nothing, as
+ * those of a vacant record but for its link, aren't looked at. It trusts the heap's own bytes for where the table is and how long.
+ * It reads each record: no call for a path that has to be quick. */
 bool tlsf_check(tlsf_heap *heap);
 
 /* Puts an image of the heap into the `room` bytes at bytes, as much of it as there is room for, and into *count how many
