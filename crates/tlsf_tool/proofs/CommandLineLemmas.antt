@@ -34,17 +34,16 @@ unfolding clap_on_literals
 line_is_free = refl
 
 -- the lines of the subcommands, put to the bare one one after the other
-pub line_of : (none leaks peak walk save check one two three four five : App) → none ≡ bare_line → leaks ≡ report_line (codes "leaks") → peak ≡ report_line (codes "peak")
-    → walk ≡ report_line (codes "walk") → save ≡ save_line → check ≡ check_line
-    → one ≡ with_subcommand none leaks.top → two ≡ with_subcommand one peak.top → three ≡ with_subcommand two walk.top
-    → four ≡ with_subcommand three save.top → five ≡ with_subcommand four check.top → five ≡ tlsf_line
-line_of none leaks peak walk save check one two three four five none_is leaks_is peak_is walk_is save_is check_is one_is two_is three_is four_is five_is =
-    let first : one ≡ with_subcommand bare_line (report_line (codes "leaks")).top = one_is ∙ ap₂ (λ (a b : App). with_subcommand a b.top) none_is leaks_is in
-    let second : two ≡ with_subcommand (with_subcommand bare_line (report_line (codes "leaks")).top) (report_line (codes "peak")).top =
-    two_is ∙ ap₂ (λ (a b : App). with_subcommand a b.top) first peak_is in
-    let third : three ≡ with_subcommand (with_subcommand (with_subcommand bare_line (report_line (codes "leaks")).top) (report_line (codes "peak")).top) (report_line (codes "walk")).top =
-    three_is ∙ ap₂ (λ (a b : App). with_subcommand a b.top) second walk_is in
-    five_is ∙ ap₂ (λ (a b : App). with_subcommand a b.top) (four_is ∙ ap₂ (λ (a b : App). with_subcommand a b.top) third save_is) check_is
+pub line_of : (bare leaks peak walk save saving check last : App) → bare ≡ bare_line → leaks ≡ with_subcommand bare (report_line (codes "leaks")).top
+    → peak ≡ with_subcommand leaks (report_line (codes "peak")).top → walk ≡ with_subcommand peak (report_line (codes "walk")).top
+    → save ≡ save_line → saving ≡ with_subcommand walk save.top → check ≡ check_line → last ≡ with_subcommand saving check.top → last ≡ tlsf_line
+line_of bare leaks peak walk save saving check last bare_is leaks_is peak_is walk_is save_is saving_is check_is last_is =
+    let one : leaks ≡ with_subcommand bare_line (report_line (codes "leaks")).top = leaks_is ∙ ap (λ (a : App). with_subcommand a (report_line (codes "leaks")).top) bare_is in
+    let two : peak ≡ with_subcommand (with_subcommand bare_line (report_line (codes "leaks")).top) (report_line (codes "peak")).top =
+    peak_is ∙ ap (λ (a : App). with_subcommand a (report_line (codes "peak")).top) one in
+    let three : walk ≡ with_subcommand (with_subcommand (with_subcommand bare_line (report_line (codes "leaks")).top) (report_line (codes "peak")).top) (report_line (codes "walk")).top =
+    walk_is ∙ ap (λ (a : App). with_subcommand a (report_line (codes "walk")).top) two in
+    last_is ∙ ap₂ (λ (a b : App). with_subcommand a b.top) (saving_is ∙ ap₂ (λ (a b : App). with_subcommand a b.top) three save_is) check_is
 
 -- ---- numbers
 

@@ -1,9 +1,9 @@
 //! The command line, described to clap.
 
 ghost use Rattle.std.specs.Prelude.{◌≡◌, IfOk, false};
-ghost use Rattle.clap.specs.Words.{app_of, rule_of};
+ghost use Rattle.clap.specs.Words.{app_of, rule_of, with_subcommand};
 ghost use Rattle.clap.specs.declared.builder.command.Command.TheViews.{out-Command};
-ghost use Rattle.tlsf_tool.specs.CommandLine.{log_rule, image_rule, pool_rule, pools_rule, records_rule, report_line, save_line, check_line, tlsf_line};
+ghost use Rattle.tlsf_tool.specs.CommandLine.{log_rule, image_rule, pool_rule, pools_rule, records_rule, report_line, save_line, check_line, bare_line, tlsf_line};
 
 use clap::{Arg, Command, value_parser};
 use std::alloc::{AllocError, Global};
@@ -148,24 +148,43 @@ fn check_command<'a>(alloc: Global) -> Result<Command<'a>, AllocError>
         .arg(image_word(alloc))
 }
 
+/// The command line, with no subcommand yet.
+fn bare_command<'a>(alloc: Global) -> Result<Command<'a>, AllocError>
+    ensures { IfOk result (λ command. app_of command ≡ bare_line) }
+{
+    let named = Command::new(alloc, NAME).bin_name(NAME)?;
+    Ok(
+        named
+            .version(VERSION)
+            .about(ABOUT)
+            .after_help(EXAMPLES)
+            .subcommand_required(true),
+    )
+}
+
+/// A command line with the subcommand of one report more.
+fn with_report<'a>(
+    line: Command<'a>,
+    alloc: Global,
+    name: &'a str,
+    about: &'a str,
+) -> Result<Command<'a>, AllocError>
+    ensures { IfOk result (λ command. app_of command ≡ with_subcommand (app_of line.entry) (report_line name.entry.now).top) }
+{
+    let report = report_command(alloc, name, about)?;
+    line.subcommand(report)
+}
+
 /// The whole command line.
 pub fn tlsf_command<'a>(alloc: Global) -> Result<Command<'a>, AllocError>
     ensures { IfOk result (λ command. app_of command ≡ tlsf_line) }
 {
-    let leaks = report_command(alloc, "leaks", LEAKS)?;
-    let peak = report_command(alloc, "peak", PEAK)?;
-    let walk = report_command(alloc, "walk", WALK)?;
+    let bare = bare_command(alloc)?;
+    let leaks = with_report(bare, alloc, "leaks", LEAKS)?;
+    let peak = with_report(leaks, alloc, "peak", PEAK)?;
+    let walk = with_report(peak, alloc, "walk", WALK)?;
     let save = save_command(alloc)?;
+    let saving = walk.subcommand(save)?;
     let check = check_command(alloc)?;
-    Command::new(alloc, NAME)
-        .bin_name(NAME)?
-        .version(VERSION)
-        .about(ABOUT)
-        .after_help(EXAMPLES)
-        .subcommand_required(true)
-        .subcommand(leaks)?
-        .subcommand(peak)?
-        .subcommand(walk)?
-        .subcommand(save)?
-        .subcommand(check)
+    saving.subcommand(check)
 }
