@@ -93,10 +93,11 @@ static void loads(void)
 static bool has_taken(uint32_t records)
 {
     size_t table = (size_t)RECORD * records;
-    return takes == 2 && live == 2 && taken == table + HEAP && greatest == (table > HEAP ? table : HEAP) && least == (table > HEAP ? HEAP : table);
+    size_t more = table > HEAP ? table : HEAP, less = table > HEAP ? HEAP : table;
+    return takes == 2 && live == 2 && taken == more + less && greatest == more && least == less;
 }
 
-/* Each count of records there is: a heap comes of it, with what it takes of memory, and gives that back. */
+/* Each count of records that there can be: a heap comes of it, takes its memory, and gives it back. */
 static void each_count(void)
 {
     bool made = true, whole = true, returned = true;
@@ -112,40 +113,60 @@ static void each_count(void)
         tlsf_destroy(heap);
         returned = returned && live == 0 && returns == 2;
     }
-    expect(made, "a heap of each count of records from 1 to 65,535 takes 16 bytes a record and 1,664 bytes");
+    expect(made, "each count of records, 1 to 65,535: 16 bytes a record, and 1,664");
     expect(whole, "its table is whole");
     expect(returned, "it gives both back");
 }
 
-/* Images of heaps of many counts, with as many pools as there can be: a heap comes of each. */
+/* A heap of so many records with a block, in a pool that it fills, and with other pools. */
+static bool make_saved(tlsf_heap *heap, uint32_t records, uint32_t pools, tlsf_block *block)
+{
+    bool served = tlsf_create(records, heap) == TLSF_OK;
+    for (uint32_t pool = 0; pool < pools; pool++) {
+        served = served && tlsf_add_pool(heap, 4096u * pool, 1024) == TLSF_OK;
+    }
+    return served && tlsf_malloc(heap, 1024, block) == TLSF_OK;
+}
+
+/* Images of heaps of many counts of records, with up to eight pools: a heap comes of each, and has the
+ * same image and the same block. */
+static bool loads_what_is_saved(uint32_t records, uint32_t pools)
+{
+    static unsigned char image[TLSF_IMAGE_BYTES(MOST_RECORDS)];
+    static unsigned char again[TLSF_IMAGE_BYTES(MOST_RECORDS)];
+    tlsf_heap heap = {0}, other = {0};
+    tlsf_block block = {0, 0};
+    uint64_t length = 0, other_length = 0;
+    start(0);
+    bool served = make_saved(&heap, records, pools, &block);
+    served = served && tlsf_save(&heap, image, sizeof image, &length) == TLSF_OK;
+    if (heap.at != NULL) {
+        tlsf_destroy(heap);
+    }
+    start(0);
+    if (!served || length != TLSF_IMAGE_BYTES(records) || tlsf_load(image, length, &other) != TLSF_OK) {
+        return false;
+    }
+    served = has_taken(records) && tlsf_check(&other);
+    served = served && tlsf_save(&other, again, sizeof again, &other_length) == TLSF_OK;
+    served = served && other_length == length && memcmp(image, again, length) == 0;
+    served = served && tlsf_free(&other, block) == TLSF_OK;
+    for (uint32_t pool = 0; pool < pools; pool++) {
+        served = served && tlsf_remove_pool(&other, 4096u * pool) == TLSF_OK;
+    }
+    tlsf_destroy(other);
+    return served;
+}
+
 static void many_loads(void)
 {
-    static unsigned char image[TLSF_IMAGE_BYTES(MOST_RECORDS)], again[TLSF_IMAGE_BYTES(MOST_RECORDS)];
-    static const uint32_t counts[] = {1, 2, 7, 8, 9, 999, 1000, 8191, 8192, 8193, 12345, 20001, 32767, 32768, 65534, 65535};
+    static const uint32_t counts[] = {1, 2, 7, 8, 9, 999, 1000, 8191, 8192, 8193, 12345, 20001,
+                                      32767, 32768, 65534, 65535};
     for (size_t k = 0; k < sizeof counts / sizeof counts[0]; k++) {
-        uint32_t records = counts[k], pools = records < 8 ? records : 8;
-        tlsf_heap heap = {0}, other = {0};
-        uint64_t length = 0;
-        start(0);
-        bool served = tlsf_create(records, &heap) == TLSF_OK;
-        for (uint32_t pool = 0; pool < pools; pool++) {
-            served = served && tlsf_add_pool(&heap, 4096u * pool, 1024) == TLSF_OK;
-        }
-        tlsf_block block;
-        served = served && tlsf_malloc(&heap, 1024, &block) == TLSF_OK;
-        served = served && tlsf_save(&heap, image, sizeof image, &length) == TLSF_OK && length == TLSF_IMAGE_BYTES(records);
-        tlsf_destroy(heap);
-        start(0);
-        served = served && tlsf_load(image, length, &other) == TLSF_OK && has_taken(records) && tlsf_check(&other);
-        served = served && tlsf_save(&other, again, sizeof again, &length) == TLSF_OK && memcmp(image, again, length) == 0;
-        served = served && tlsf_free(&other, block) == TLSF_OK;
-        for (uint32_t pool = 0; pool < pools; pool++) {
-            served = served && tlsf_remove_pool(&other, 4096u * pool) == TLSF_OK;
-        }
+        uint32_t pools = counts[k] < 8 ? counts[k] : 8;
         char name[64];
-        snprintf(name, sizeof name, "a heap of %u records with %u pools, saved and loaded", (unsigned)records, (unsigned)pools);
-        expect(served, name);
-        tlsf_destroy(other);
+        snprintf(name, sizeof name, "%u records, %u pools: saved and loaded", (unsigned)counts[k], (unsigned)pools);
+        expect(loads_what_is_saved(counts[k], pools), name);
     }
 }
 

@@ -239,8 +239,9 @@ static void wrong_pointers(void)
     end();
 }
 
-/* A heap of so many records, and of 2 * live + pools blocks: live ones of 16 bytes, each between free ones of 16, in a pool with
- * a rest of at least 512 bytes behind them; and pools of 16 bytes. */
+/* A heap of so many records, and of 2 * lives + pools blocks: live ones of 16 bytes, each behind a
+ * free one of 16, in a pool with a large rest behind them; and free pools of 16 bytes. Answers the
+ * first live one. */
 static tlsf_block between_holes(uint32_t records, uint32_t lives, uint32_t pools)
 {
     tlsf_block blocks[64];
@@ -260,25 +261,35 @@ static tlsf_block between_holes(uint32_t records, uint32_t lives, uint32_t pools
     return blocks[1];
 }
 
-/* The least of records with which a call is served, where there are so many live blocks and pools. */
+/* A call that wants one more block, two for an aligned one, was answered with this status: it is
+ * served where there are records enough, and else refused. */
+static void expect_enough(uint32_t status, bool is_enough, const char *call)
+{
+    char name[64];
+    snprintf(name, sizeof name, "%s %s", call, is_enough ? "with records enough" : "with one less");
+    expect(status == (is_enough ? TLSF_OK : TLSF_TABLE_FULL), name);
+    end();
+}
+
+/* The least number of records with which each call is served where there are so many live blocks
+ * and pools, and one less. */
 static void enough(uint32_t lives, uint32_t pools)
 {
     for (uint32_t more = 0; more <= 2; more++) {
         uint32_t records = 2 * lives + pools + more;
-        tlsf_block block = between_holes(records, lives, pools), moved = {4711, 12};
-        uint32_t wanted = more >= 1 ? TLSF_OK : TLSF_TABLE_FULL;
-        expect(tlsf_realloc(&heap, block, 100, &moved) == wanted && (wanted == TLSF_OK || moved.place == 4711), more >= 1 ? "a block moves with 2 L + P + 1 records" : "no block moves with one less");
-        end();
+        tlsf_block given = {4711, 12};
+        tlsf_block block = between_holes(records, lives, pools);
+        uint32_t status = tlsf_realloc(&heap, block, 100, &given);
+        expect((given.place == 4711) == (status != TLSF_OK), "a refused block stays");
+        expect_enough(status, more >= 1, "2 L + P + 1: a block moves");
         between_holes(records, lives, pools);
-        expect(wanted == TLSF_OK ? tlsf_malloc(&heap, 32, &last) == TLSF_OK : malloc_refused(32, wanted), more >= 1 ? "a block is given with 2 L + P + 1 records" : "none is given with one less");
-        end();
+        expect_enough(tlsf_malloc(&heap, 32, &given), more >= 1, "2 L + P + 1: malloc");
         between_holes(records, lives, pools);
-        expect(tlsf_add_pool(&heap, 1048576, 16) == (pools == 8 ? TLSF_POOLS_FULL : wanted), more >= 1 ? "a pool is added with 2 L + P + 1 records" : "none is added with one less");
-        end();
-        between_holes(records, lives, pools);
-        wanted = more == 2 ? TLSF_OK : TLSF_TABLE_FULL;
-        expect(tlsf_memalign(&heap, 2048, 32, &moved) == wanted, more == 2 ? "an aligned block is given with 2 L + P + 2 records" : "none is given with one less");
-        end();
+        expect_enough(tlsf_memalign(&heap, 2048, 32, &given), more == 2, "2 L + P + 2: memalign");
+        if (pools < 8) {
+            between_holes(records, lives, pools);
+            expect_enough(tlsf_add_pool(&heap, 1048576, 16), more >= 1, "2 L + P + 1: a pool");
+        }
     }
 }
 

@@ -17,7 +17,8 @@ PROGRAM, PRELOADED = sys.argv[1:3]
 NOTICE = rb"\r\x1b\[Ktlsf: (\d+) lines read"
 PIECE = 4096
 
-# Five pieces of lines of several lengths: with no effect, and with a diagnostic each, which are more than one buffer of output.
+# Five pieces of lines of several lengths: with no effect, and with a diagnostic each, which are
+# more than one buffer of output.
 QUIET = b"".join(b"@ ./prog:[0x%x] ! 0x10 0x8\n" % (7 ** (k % 20)) for k in range(540))
 LOUD = b"".join(b"x" * (k % 7 + 1) + b"\n" for k in range(3500))
 assert all(4 * PIECE < len(log) < 5 * PIECE for log in (QUIET, LOUD)), (len(QUIET), len(LOUD))
@@ -170,12 +171,21 @@ def failing_cases():
     yield "an image on a full disk", slow(QUIET, word="save", log="file", image="/dev/full", status=3, on_terminal=b"tlsf: write failed\n")
 
 
+def failures_of(cases):
+    """Those of the cases that fail, side by side, each with what is wrong."""
+    with ThreadPoolExecutor(len(cases) or 1) as pool:
+        answers = pool.map(wrong, (case for _, case in cases))
+        return [(name, case, answer) for (name, case), answer in zip(cases, answers) if answer]
+
+
 def main():
     cases = [*slow_cases(), *quiet_cases(), *failing_cases()]
-    with ThreadPoolExecutor(len(cases)) as pool:
-        answers = list(pool.map(wrong, (case for _, case in cases)))
-    failures = [(name, answer) for (name, _), answer in zip(cases, answers) if answer]
-    for name, answer in failures:
+    failures = failures_of(cases)
+    # A machine that is busy can hold a run up until the next second begins: what failed is tried
+    # twice more.
+    for _ in range(2):
+        failures = failures_of([(name, case) for name, case, _ in failures])
+    for name, _, answer in failures:
         print(f"FAILED: with standard error on a terminal: {name}: {answer}")
     print(f"{len(cases) - len(failures)} passed, {len(failures)} failed")
 
