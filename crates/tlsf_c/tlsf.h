@@ -87,9 +87,10 @@ enum tlsf_status {
 /* How many bytes the image of a heap of so many records has: at most 1,050,080. */
 #define TLSF_IMAGE_BYTES(records) (1520u + 16u * (size_t)(records))
 
-/* Fills *out with a heap of so many records, from 1 to 65,535, with no pool. Each block takes a record, live or free.
- * L live blocks in P pools have at most L + P free ones between them. So with 2 * L + P + 1 records the next call is never
- * refused for want of one, nor with one more if it is tlsf_memalign.
+/* Fills *out with a heap of so many records, from 1 to 65,535, with no pool. Each block takes a
+ * record, live or free, and L live blocks in P pools have at most L + P free ones between them. So
+ * where L blocks are live no call is refused for want of a record with 2 * L + P + 1 of them;
+ * tlsf_memalign can take one more, so that it needs 2 * L + P + 2.
  * 0, TLSF_BAD_COUNT exactly where the number isn't from 1 to 65,535, or TLSF_OUT_OF_MEMORY.
  * What *out held before is forgotten: a heap in use would be lost. */
 uint32_t tlsf_create(uint32_t records, tlsf_heap *out);
