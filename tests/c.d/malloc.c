@@ -13,7 +13,7 @@
 #include <string.h>
 #include <unistd.h>
 
-#include "tlsf.h"
+#include "tlsf_heap.h"
 
 enum { RECORDS = 65535, FRONT = 16, MOST_ALIGN = 4096 };
 
@@ -21,7 +21,7 @@ static _Alignas(MOST_ALIGN) unsigned char array[1u << 29];
 
 /* What stands in the 16 bytes in front of an address: the block that it is in. */
 struct front {
-    tlsf_block block;
+    tlsf_heap_block block;
 };
 
 static tlsf_heap heap;
@@ -56,8 +56,8 @@ static void begin(void)
     while (atomic_flag_test_and_set(&locked)) {
     }
     calls++;
-    if (heap.at == NULL && tlsf_create(RECORDS, &heap) == TLSF_OK) {
-        tlsf_add_pool(&heap, 0, sizeof array);
+    if (heap.at == NULL && tlsf_heap_create(RECORDS, &heap) == TLSF_OK) {
+        tlsf_heap_add_pool(&heap, 0, sizeof array);
     }
 }
 
@@ -72,23 +72,23 @@ static struct front *front_of(void *address)
 }
 
 /* An address in a block, so many bytes behind its start, or a null pointer where the call was refused. */
-static void *give(uint32_t status, tlsf_block block, size_t behind)
+static void *give(uint32_t status, tlsf_heap_block block, size_t behind)
 {
     if (status != TLSF_OK) {
         refused++;
         errno = ENOMEM;
         return NULL;
     }
-    unsigned char *address = (unsigned char *)tlsf_address(array, block) + behind;
+    unsigned char *address = (unsigned char *)tlsf_heap_address(array, block) + behind;
     front_of(address)->block = block;
     return address;
 }
 
 static void *allocate(size_t bytes)
 {
-    tlsf_block block = {0, 0};
+    tlsf_heap_block block = {0, 0};
     begin();
-    void *address = give(bytes > sizeof array ? TLSF_NO_FIT : tlsf_malloc(&heap, bytes + FRONT, &block), block, FRONT);
+    void *address = give(bytes > sizeof array ? TLSF_NO_FIT : tlsf_heap_malloc(&heap, bytes + FRONT, &block), block, FRONT);
     end();
     return address;
 }
@@ -102,7 +102,7 @@ void free(void *address)
 {
     if (address != NULL) {
         begin();
-        refused += tlsf_free(&heap, front_of(address)->block) != TLSF_OK;
+        refused += tlsf_heap_free(&heap, front_of(address)->block) != TLSF_OK;
         end();
     }
 }
@@ -121,10 +121,10 @@ void *calloc(size_t count, size_t size)
 /* The bytes of the block that aren't in front of the address. */
 static size_t room_of(void *address)
 {
-    tlsf_block block = front_of(address)->block;
+    tlsf_heap_block block = front_of(address)->block;
     uint32_t bytes = 0;
-    tlsf_block_size(&heap, block, &bytes);
-    return bytes - (size_t)((unsigned char *)address - (unsigned char *)tlsf_address(array, block));
+    tlsf_heap_block_size(&heap, block, &bytes);
+    return bytes - (size_t)((unsigned char *)address - (unsigned char *)tlsf_heap_address(array, block));
 }
 
 void *realloc(void *address, size_t bytes)
@@ -137,9 +137,9 @@ void *realloc(void *address, size_t bytes)
         return NULL;
     }
     begin();
-    tlsf_block old = front_of(address)->block, block = {0, 0};
-    size_t behind = (size_t)((unsigned char *)address - (unsigned char *)tlsf_address(array, old)), room = room_of(address);
-    uint32_t status = bytes > sizeof array ? TLSF_NO_FIT : tlsf_realloc(&heap, old, bytes + behind, &block);
+    tlsf_heap_block old = front_of(address)->block, block = {0, 0};
+    size_t behind = (size_t)((unsigned char *)address - (unsigned char *)tlsf_heap_address(array, old)), room = room_of(address);
+    uint32_t status = bytes > sizeof array ? TLSF_NO_FIT : tlsf_heap_realloc(&heap, old, bytes + behind, &block);
     void *other = give(status, block, behind);
     if (other != NULL && other != address) {
         memcpy(other, address, room < bytes ? room : bytes);
@@ -150,11 +150,11 @@ void *realloc(void *address, size_t bytes)
 
 void *memalign(size_t align, size_t bytes)
 {
-    tlsf_block block = {0, 0};
+    tlsf_heap_block block = {0, 0};
     size_t behind = align < FRONT ? FRONT : align;
     bool fits = align <= MOST_ALIGN && bytes <= sizeof array;
     begin();
-    void *address = give(fits ? tlsf_memalign(&heap, behind, bytes + behind, &block) : TLSF_BAD_ALIGN, block, behind);
+    void *address = give(fits ? tlsf_heap_memalign(&heap, behind, bytes + behind, &block) : TLSF_BAD_ALIGN, block, behind);
     end();
     return address;
 }
@@ -211,7 +211,7 @@ __attribute__((destructor)) static void report(void)
     }
     begin();
     char line[120];
-    int length = snprintf(line, sizeof line, "%s, %lu calls, %lu refused\n", tlsf_check(&heap) ? "whole" : "broken", calls, refused);
+    int length = snprintf(line, sizeof line, "%s, %lu calls, %lu refused\n", tlsf_heap_check(&heap) ? "whole" : "broken", calls, refused);
     end();
     int file = open(name, O_WRONLY | O_APPEND | O_CREAT, 0666);
     if (file >= 0) {

@@ -1,27 +1,27 @@
-/* tlsf.h: a heap with bounded calls (Two-Level Segregated Fit), for C programs.
+/* tlsf_heap.h: a heap with bounded calls (Two-Level Segregated Fit), for C programs.
  *
  * The calls are those of a proved library: docs/C.md says what is proved, how to link it, and has an example.
  *
  * A heap hands out places, not memory: a number of bytes from a base that the program chooses. A program that owns
- * an array adds its address (tlsf_address below). The heap never reads or writes these bytes: its own table holds all
+ * an array adds its address (tlsf_heap_address below). The heap never reads or writes these bytes: its own table holds all
  * that it knows. So a pool may also be memory of a device, of a file, or of no machine at all.
  *
  * Units: places, sizes and bounds are in bytes. A block begins at a multiple of 16 and has a multiple of 16 bytes.
  * A place is from 0 to 2^32 - 1. A block has at most 1,073,741,808 bytes (2^30 - 16).
  *
  * Bounds: each call says how often it touches the table, at most, whatever the heap holds, and refused or not. Only
- * tlsf_create and tlsf_load take memory, twice: for the table, and for the heap itself. tlsf_destroy gives both back.
+ * tlsf_heap_create and tlsf_heap_load take memory, twice: for the table, and for the heap itself. tlsf_heap_destroy gives both back.
  *
  * Who may call: a heap belongs to the thread that made it. One call at a time; none from a signal handler, nor from
  * the forked child of a process with threads. A program that wants a heap in several threads puts a lock around it
  * at its own risk: that a heap may pass from thread to thread isn't proved.
  *
- * What the program owes: it passes a tlsf_heap that tlsf_create or tlsf_load filled and tlsf_destroy didn't end, doesn't
+ * What the program owes: it passes a tlsf_heap that tlsf_heap_create or tlsf_heap_load filled and tlsf_heap_destroy didn't end, doesn't
  * use two copies of it, and doesn't write it; and each pointer points to an object of its type, and two of them in one
- * call to different ones. Nothing checks this. What a tlsf_block holds is checked: a wrong one is refused.
+ * call to different ones. Nothing checks this. What a tlsf_heap_block holds is checked: a wrong one is refused.
  */
-#ifndef TLSF_H
-#define TLSF_H
+#ifndef TLSF_HEAP_H
+#define TLSF_HEAP_H
 
 #include <stdbool.h>
 #include <stddef.h>
@@ -31,27 +31,27 @@
 extern "C" {
 #endif
 
-/* A heap. Start it with zeros (tlsf_heap heap = {0};) and fill it with tlsf_create or tlsf_load. */
+/* A heap. Start it with zeros (tlsf_heap heap = {0};) and fill it with tlsf_heap_create or tlsf_heap_load. */
 typedef struct tlsf_heap {
     unsigned char *at;
 } tlsf_heap;
 
 /* A live block: the place where it begins, and its slot. A later block may have the same place and another slot, so
  * a stale one is mostly refused; it isn't where both are the same. */
-typedef struct tlsf_block {
+typedef struct tlsf_heap_block {
     uint32_t place;
     uint16_t slot;
-} tlsf_block;
+} tlsf_heap_block;
 
 /* A block of a pool as a reading gives it: where it begins and its size, and whether it is live. */
-typedef struct tlsf_row {
+typedef struct tlsf_heap_row {
     uint32_t place;
     uint32_t size;
     bool used;
-} tlsf_row;
+} tlsf_heap_row;
 
 /* What a call answers: 0 where it is served, else why it is refused. A refused call leaves the heap's content and what
- * its out parameter points to as they were; only tlsf_save puts as much as there is room for. */
+ * its out parameter points to as they were; only tlsf_heap_save puts as much as there is room for. */
 enum tlsf_status {
     TLSF_OK = 0,
     TLSF_ZERO_SIZE = 1,      /* no byte was asked for */
@@ -90,36 +90,36 @@ enum tlsf_status {
 /* Fills *out with a heap of so many records, from 1 to 65,535, with no pool. Each block takes a
  * record, live or free, and L live blocks in P pools have at most L + P free ones between them. So
  * where L blocks are live no call is refused for want of a record with 2 * L + P + 1 of them;
- * tlsf_memalign can take one more, so that it needs 2 * L + P + 2.
+ * tlsf_heap_memalign can take one more, so that it needs 2 * L + P + 2.
  * 0, TLSF_BAD_COUNT exactly where the number isn't from 1 to 65,535, or TLSF_OUT_OF_MEMORY.
  * What *out held before is forgotten: a heap in use would be lost. */
-uint32_t tlsf_create(uint32_t records, tlsf_heap *out);
+uint32_t tlsf_heap_create(uint32_t records, tlsf_heap *out);
 
 /* Ends the heap, and gives its memory back. The heap isn't used after it. */
-void tlsf_destroy(tlsf_heap heap);
+void tlsf_heap_destroy(tlsf_heap heap);
 
 /* A pool of so many bytes from the place base on, as one free block. At most 28 touches.
  * 0, TLSF_BAD_POOL where base or bytes isn't a multiple of 16, bytes isn't from 16 to 1,073,741,808, the end is above
  * 2^32, or the pool overlaps another; TLSF_POOLS_FULL or TLSF_TABLE_FULL. Pools are never merged. */
-uint32_t tlsf_add_pool(tlsf_heap *heap, uint64_t base, uint64_t bytes);
+uint32_t tlsf_heap_add_pool(tlsf_heap *heap, uint64_t base, uint64_t bytes);
 
 /* The pool that begins at the place base is gone. At most 28 touches.
  * 0, TLSF_NO_POOL where none begins there, or TLSF_POOL_IN_USE unless it is one free block. */
-uint32_t tlsf_remove_pool(tlsf_heap *heap, uint64_t base);
+uint32_t tlsf_heap_remove_pool(tlsf_heap *heap, uint64_t base);
 
 /* Gives *out a live block of at least so many bytes, rounded up to 16. At most 28 touches.
  * 0, TLSF_ZERO_SIZE, TLSF_NO_FIT or TLSF_TABLE_FULL.
  * It is the first block of the first list that isn't empty, at or above the class from which each block holds the
  * bytes: so TLSF_NO_FIT says that each free block is smaller than that class, not that none would do. */
-uint32_t tlsf_malloc(tlsf_heap *heap, uint64_t bytes, tlsf_block *out);
+uint32_t tlsf_heap_malloc(tlsf_heap *heap, uint64_t bytes, tlsf_heap_block *out);
 
 /* The same at a place that is a multiple of align, a power of two from 1 to 2^29. At most 50 touches.
  * 0, TLSF_BAD_ALIGN, TLSF_ZERO_SIZE, TLSF_NO_FIT or TLSF_TABLE_FULL. */
-uint32_t tlsf_memalign(tlsf_heap *heap, uint64_t align, uint64_t bytes, tlsf_block *out);
+uint32_t tlsf_heap_memalign(tlsf_heap *heap, uint64_t align, uint64_t bytes, tlsf_heap_block *out);
 
 /* The block becomes free, and is one with its free neighbours in the pool. At most 45 touches.
  * 0, or TLSF_BAD_POINTER unless a live block has both its place and its slot. */
-uint32_t tlsf_free(tlsf_heap *heap, tlsf_block block);
+uint32_t tlsf_heap_free(tlsf_heap *heap, tlsf_heap_block block);
 
 /* Gives *out the block with room for so many bytes: where it is, or another. A program that has bytes in the block copies
  * them where the place is another, before its next call: the new block was given before the old one became free, so
@@ -127,30 +127,30 @@ uint32_t tlsf_free(tlsf_heap *heap, tlsf_block block);
  * Where bytes is 0 the block becomes free, and *out stays.
  * 0, TLSF_BAD_POINTER unless a live block has both its place and its slot, TLSF_NO_FIT or TLSF_TABLE_FULL: then the old
  * block is as it was. */
-uint32_t tlsf_realloc(tlsf_heap *heap, tlsf_block block, uint64_t bytes, tlsf_block *out);
+uint32_t tlsf_heap_realloc(tlsf_heap *heap, tlsf_heap_block block, uint64_t bytes, tlsf_heap_block *out);
 
 /* Gives *out the bytes that a live block has, a multiple of 16. At most 2 touches.
  * 0, or TLSF_BAD_POINTER unless a live block has both its place and its slot. */
-uint32_t tlsf_block_size(tlsf_heap *heap, tlsf_block block, uint32_t *out);
+uint32_t tlsf_heap_block_size(tlsf_heap *heap, tlsf_heap_block block, uint32_t *out);
 
 /* Puts the blocks of the pool that begins at the place base into rows, in order of place, as many as `room` has room for,
  * and into *count how many the pool has. So a first call with room 0 tells how much room a second one needs; a heap has
  * at most as many blocks as records. At most 4 touches, and one more for each block of the pool.
- * 0, or TLSF_NO_POOL where no pool begins there. Where room is 0, rows still points to a tlsf_row. */
-uint32_t tlsf_walk(tlsf_heap *heap, uint64_t base, tlsf_row *rows, size_t room, uint64_t *count);
+ * 0, or TLSF_NO_POOL where no pool begins there. Where room is 0, rows still points to a tlsf_heap_row. */
+uint32_t tlsf_heap_walk(tlsf_heap *heap, uint64_t base, tlsf_heap_row *rows, size_t room, uint64_t *count);
 
 /* Whether the table is whole: its blocks, lists, bitmaps and pools, and the chain of its vacant records. It always is, as is
- * proved; where this is false, something wrote over it, and no call but tlsf_destroy is to be made. Bytes that mean nothing, as
+ * proved; where this is false, something wrote over it, and no call but tlsf_heap_destroy is to be made. Bytes that mean nothing, as
  * those of a vacant record but for its link, aren't looked at. It trusts the heap's own bytes for where the table is and how long.
  * It reads each record: no call for a path that has to be quick. */
-bool tlsf_check(tlsf_heap *heap);
+bool tlsf_heap_check(tlsf_heap *heap);
 
 /* Puts an image of the heap into the `room` bytes at bytes, as much of it as there is room for, and into *count how many
  * bytes that is. The bytes behind them stay as they were. The heap is unchanged, and no memory is taken. It reads the whole
  * table: no call for a path that has to be quick.
  * 0 where the whole image is put, or TLSF_NO_ROOM exactly where it has more bytes than `room`. Where room is 0, bytes still
  * points to a byte. TLSF_IMAGE_BYTES tells the room that is needed. */
-uint32_t tlsf_save(tlsf_heap *heap, unsigned char *bytes, size_t room, uint64_t *count);
+uint32_t tlsf_heap_save(tlsf_heap *heap, unsigned char *bytes, size_t room, uint64_t *count);
 
 /* Fills *out with the heap of which the `length` bytes at bytes are an image: each block that was live is live, with its
  * place and its slot. The bytes need not be trusted: *out is filled exactly where they break none of the twelve rules, unless
@@ -158,10 +158,10 @@ uint32_t tlsf_save(tlsf_heap *heap, unsigned char *bytes, size_t room, uint64_t 
  * 0, TLSF_BROKEN_MAGIC to TLSF_BROKEN_ON_LISTS for the first rule that is broken, and then no memory was asked for; or
  * TLSF_OUT_OF_MEMORY. Where length is 0, bytes still points to a byte.
  * What *out held before is forgotten where it is filled: a heap in use would be lost. */
-uint32_t tlsf_load(const unsigned char *bytes, size_t length, tlsf_heap *out);
+uint32_t tlsf_heap_load(const unsigned char *bytes, size_t length, tlsf_heap *out);
 
 /* The name of a status. */
-static inline const char *tlsf_status_name(uint32_t status)
+static inline const char *tlsf_heap_status_name(uint32_t status)
 {
     switch (status) {
     case TLSF_OK: return "served";
@@ -194,16 +194,16 @@ static inline const char *tlsf_status_name(uint32_t status)
 }
 
 /* For a program that owns an array whose place 0 is at base: where a block begins. An address is a multiple of 16, or
- * of what tlsf_memalign was asked for, where base is one. */
-static inline void *tlsf_address(void *base, tlsf_block block)
+ * of what tlsf_heap_memalign was asked for, where base is one. */
+static inline void *tlsf_heap_address(void *base, tlsf_heap_block block)
 {
     return (unsigned char *)base + block.place;
 }
 
 /* The block at an address of that array, with the slot that the program kept. */
-static inline tlsf_block tlsf_block_at(const void *base, const void *address, uint16_t slot)
+static inline tlsf_heap_block tlsf_heap_block_at(const void *base, const void *address, uint16_t slot)
 {
-    tlsf_block block;
+    tlsf_heap_block block;
     block.place = (uint32_t)((const unsigned char *)address - (const unsigned char *)base);
     block.slot = slot;
     return block;
