@@ -38,7 +38,7 @@ static void the_bytes(void)
     tlsf_heap heap = {0};
     uint64_t count = 0;
     vector(wanted);
-    expect(TLSF_IMAGE_BYTES(1) == SMALL && TLSF_IMAGE_BYTES(65535) == 1050080, "how many bytes an image has");
+    expect(TLSF_HEAP_IMAGE_BYTES(1) == SMALL && TLSF_HEAP_IMAGE_BYTES(65535) == 1050080, "how many bytes an image has");
     expect(tlsf_heap_create(1, &heap) == TLSF_OK && tlsf_heap_add_pool(&heap, 0, 64) == TLSF_OK, "a heap of one record");
     memset(bytes, 0xa5, sizeof bytes);
     expect(tlsf_heap_save(&heap, bytes, sizeof bytes, &count) == TLSF_OK && count == SMALL, "its image is put");

@@ -11,16 +11,10 @@ static _Alignas(16) unsigned char memory[4u << 20];
 static size_t taken, greatest, least;
 static unsigned takes, returns, live, refuse_at;
 
-/* What the library is told of a request: whether there is memory, and where. */
-struct tried {
-    bool ok;
-    unsigned char *p;
-};
-
 /* So many bytes at a multiple of align, which is at most 16. */
-struct tried rattle_alloc(size_t bytes, size_t align)
+struct rattle_tried rattle_alloc(size_t bytes, size_t align)
 {
-    struct tried none = {false, memory}, some = {true, memory + taken};
+    struct rattle_tried none = {false, memory}, some = {true, memory + taken};
     (void)align;
     takes++;
     if (takes == refuse_at || bytes > sizeof memory - taken) {
@@ -54,7 +48,7 @@ static void calls(tlsf_heap *heap)
     tlsf_heap_row rows[4];
     uint32_t bytes;
     uint64_t count;
-    static unsigned char image[TLSF_IMAGE_BYTES(1000)];
+    static unsigned char image[TLSF_HEAP_IMAGE_BYTES(1000)];
     bool served = tlsf_heap_add_pool(heap, 0, 4096) == TLSF_OK && tlsf_heap_add_pool(heap, 8192, 64) == TLSF_OK;
     served = tlsf_heap_malloc(heap, 100, &one) == TLSF_OK && tlsf_heap_memalign(heap, 256, 40, &other) == TLSF_OK && served;
     served = tlsf_heap_realloc(heap, one, 2000, &third) == TLSF_OK && tlsf_heap_block_size(heap, third, &bytes) == TLSF_OK && served;
@@ -67,7 +61,7 @@ static void calls(tlsf_heap *heap)
 
 static void loads(void)
 {
-    static unsigned char image[TLSF_IMAGE_BYTES(1000)];
+    static unsigned char image[TLSF_HEAP_IMAGE_BYTES(1000)];
     tlsf_heap heap = {0};
     uint64_t count;
     start(0);
@@ -132,8 +126,8 @@ static bool make_saved(tlsf_heap *heap, uint32_t records, uint32_t pools, tlsf_h
  * same image and the same block. */
 static bool loads_what_is_saved(uint32_t records, uint32_t pools)
 {
-    static unsigned char image[TLSF_IMAGE_BYTES(MOST_RECORDS)];
-    static unsigned char again[TLSF_IMAGE_BYTES(MOST_RECORDS)];
+    static unsigned char image[TLSF_HEAP_IMAGE_BYTES(MOST_RECORDS)];
+    static unsigned char again[TLSF_HEAP_IMAGE_BYTES(MOST_RECORDS)];
     tlsf_heap heap = {0}, other = {0};
     tlsf_heap_block block = {0, 0};
     uint64_t length = 0, other_length = 0;
@@ -144,7 +138,7 @@ static bool loads_what_is_saved(uint32_t records, uint32_t pools)
         tlsf_heap_destroy(heap);
     }
     start(0);
-    if (!served || length != TLSF_IMAGE_BYTES(records) || tlsf_heap_load(image, length, &other) != TLSF_OK) {
+    if (!served || length != TLSF_HEAP_IMAGE_BYTES(records) || tlsf_heap_load(image, length, &other) != TLSF_OK) {
         return false;
     }
     served = has_taken(records) && tlsf_heap_check(&other);

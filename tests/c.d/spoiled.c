@@ -11,14 +11,9 @@ enum { RECORDS = 80, RECORD = 16, CALLS = 200, MOST_HELD = 32 };
 static _Alignas(16) unsigned char memory[8192], kept[8192];
 static size_t taken;
 
-struct tried {
-    bool ok;
-    unsigned char *p;
-};
-
-struct tried rattle_alloc(size_t bytes, size_t align)
+struct rattle_tried rattle_alloc(size_t bytes, size_t align)
 {
-    struct tried some = {true, memory + taken};
+    struct rattle_tried some = {true, memory + taken};
     (void)align;
     taken += (bytes + 15) / 16 * 16;
     return some;
