@@ -34,6 +34,8 @@ struct front {
 };
 
 static pthread_mutex_t lock = PTHREAD_MUTEX_INITIALIZER;
+static bool forking;
+static pthread_t forker;
 static tlsf_heap heap;
 static bool tried;
 static int report_to = -1;
@@ -42,8 +44,6 @@ static unsigned long long held_blocks, held_bytes, most_bytes, refused;
 /* Where place 0 stands: a multiple of 2^29, so that a place is a multiple of an alignment exactly
  * where its address is. The pool is the bytes from `first` to `end`. */
 static uintptr_t origin, first, end;
-
-/* ---- how it begins ---- */
 
 static void say(int to, const char *what)
 {
@@ -82,15 +82,43 @@ static void *map(size_t bytes)
     return memory == MAP_FAILED ? NULL : memory;
 }
 
+/* ---- the lock ---- */
+
+/* While a thread forks it has the lock, and calls all the same: so do handlers of the program that
+ * come behind before_fork or in front of after_fork, and ask for memory. */
+static bool is_forker(void)
+{
+    return __atomic_load_n(&forking, __ATOMIC_ACQUIRE) && pthread_equal(pthread_self(), forker);
+}
+
+static void take_lock(void)
+{
+    if (!is_forker()) {
+        pthread_mutex_lock(&lock);
+    }
+}
+
+static void give_lock(void)
+{
+    if (!is_forker()) {
+        pthread_mutex_unlock(&lock);
+    }
+}
+
 static void before_fork(void)
 {
     pthread_mutex_lock(&lock);
+    forker = pthread_self();
+    __atomic_store_n(&forking, true, __ATOMIC_RELEASE);
 }
 
-static void behind_fork(void)
+static void after_fork(void)
 {
+    __atomic_store_n(&forking, false, __ATOMIC_RELEASE);
     pthread_mutex_unlock(&lock);
 }
+
+/* ---- how it begins ---- */
 
 /* The first call of all makes the heap. */
 static void make(void)
@@ -113,23 +141,18 @@ static void make(void)
     end = first + pool;
     origin = first / POOL * POOL;
     tlsf_heap_add_pool(&heap, first - origin, pool);
-    pthread_atfork(before_fork, behind_fork, behind_fork);
+    pthread_atfork(before_fork, after_fork, after_fork);
 }
 
 /* Whether there is a heap; the lock is taken. */
 static bool begin(void)
 {
-    pthread_mutex_lock(&lock);
+    take_lock();
     if (!tried) {
         tried = true;
         make();
     }
     return heap.at != NULL;
-}
-
-static void finish(void)
-{
-    pthread_mutex_unlock(&lock);
 }
 
 /* ---- blocks and addresses, under the lock ---- */
@@ -199,7 +222,7 @@ static void *allocate(size_t align, size_t bytes)
     } else {
         address = refuse(ENOMEM);
     }
-    finish();
+    give_lock();
     return address;
 }
 
@@ -251,7 +274,7 @@ EXPORT void free(void *address)
     if (address != NULL) {
         begin();
         refused += !release(address);
-        finish();
+        give_lock();
     }
 }
 
@@ -279,7 +302,7 @@ EXPORT void *realloc(void *address, size_t bytes)
     }
     begin();
     other = is_given(address) ? resize(address, bytes) : refuse(ENOMEM);
-    finish();
+    give_lock();
     return other;
 }
 
@@ -339,7 +362,7 @@ EXPORT size_t malloc_usable_size(void *address)
     size_t room;
     begin();
     room = address != NULL && is_given(address) ? room_of(address) : 0;
-    finish();
+    give_lock();
     return room;
 }
 
@@ -353,7 +376,7 @@ __attribute__((destructor)) static void report(void)
                  "%llu blocks held, %llu bytes held, %llu bytes at most, %llu refused, table %s",
                  held_blocks, held_bytes, most_bytes, refused,
                  heap.at != NULL && tlsf_heap_check(&heap) ? "whole" : "broken");
-        finish();
+        give_lock();
         say(report_to, line);
     }
 }

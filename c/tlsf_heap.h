@@ -41,16 +41,17 @@ extern "C" {
 #define TLSF_HEAP_VERSION "0.1.0"
 
 /* Limits: what places and sizes are multiples of, the greatest block and pool, how many pools and
- * records a heap has at most. */
+ * records a heap has at most. tlsf_heap_malloc serves up to 1,056,964,608 bytes, from which on each
+ * block of the last class holds them; by tlsf_heap_realloc a block grows to the greatest. */
 #define TLSF_HEAP_UNIT 16u
 #define TLSF_HEAP_GREATEST 1073741808u
 #define TLSF_HEAP_POOLS 8u
 #define TLSF_HEAP_RECORDS_MOST 65535u
 
 /* With so many records no call is refused for want of one while at most `blocks` blocks are live in
- * `pools` pools: each block takes one, live or free, and there is at most one more free block than
- * live ones in a pool. A realloc that moves holds one more. Where blocks are asked of
- * tlsf_heap_memalign it is one more again. */
+ * `pools` pools, a new one counted. Each block takes one, live or free, and a pool has at most one
+ * free block more than live ones; a realloc that moves holds one block more. Where `blocks` are
+ * live and tlsf_heap_memalign is asked for another, it can take one record more. */
 #define TLSF_HEAP_RECORDS(blocks, pools) (2u * (blocks) + (pools) + 1u)
 
 /* How many bytes tlsf_heap_create_in and tlsf_heap_load_in take for a heap of so many records: 16
