@@ -1,7 +1,7 @@
 /* Each call of malloc's family, for a program on libtlsf_malloc.so: what it answers, errno, threads,
  * and forks while threads ask. With the word `refused` pointers that are no live block's are freed,
  * which the C library's own malloc wouldn't bear. With the word `served` it tells how many times one
- * byte is served. */
+ * byte is served, with `alone` there are no threads and no forks. */
 #define _GNU_SOURCE
 #include <errno.h>
 #include <malloc.h>
@@ -243,6 +243,8 @@ int main(int count, char **words)
     plain();
     moves();
     aligned();
-    forks();
+    if (count == 1) {
+        forks();
+    }
     return cases_end();
 }
