@@ -15,7 +15,7 @@
 static plain_heap heap;
 #else
 #include "tlsf_heap.h"
-#define CALL(name) tlsf_##name
+#define CALL(name) tlsf_heap_##name
 static tlsf_heap heap;
 #endif
 
