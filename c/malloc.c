@@ -34,16 +34,17 @@ struct front {
 };
 
 static pthread_mutex_t lock = PTHREAD_MUTEX_INITIALIZER;
-static bool forking;
 static pthread_t forker;
+static bool forking, begun;
 static tlsf_heap heap;
-static bool tried;
 static int report_to = -1;
 static unsigned long long held_blocks, held_bytes, most_bytes, refused;
 
 /* Where place 0 stands: a multiple of 2^29, so that a place is a multiple of an alignment exactly
  * where its address is. The pool is the bytes from `first` to `end`. */
 static uintptr_t origin, first, end;
+
+/* ---- how it begins, and the lock ---- */
 
 static void say(int to, const char *what)
 {
@@ -54,22 +55,20 @@ static void say(int to, const char *what)
 }
 
 /* The number that a variable of the environment is, in digits, from 1 to most; else the default. */
-static unsigned long setting(const char *name, unsigned long most, unsigned long otherwise)
+static size_t setting(const char *name, unsigned most, unsigned otherwise)
 {
     const char *text = getenv(name);
-    unsigned long long number = 0;
-    size_t digits = text == NULL ? 0 : strspn(text, "0123456789");
     char what[120];
+    size_t digits, number;
     if (text == NULL) {
         return otherwise;
     }
-    if (digits > 0 && digits <= 18 && text[digits] == '\0') {
-        number = strtoull(text, NULL, 10);
-    }
+    digits = strspn(text, "0123456789");
+    number = digits <= 18 && text[digits] == '\0' ? strtoul(text, NULL, 10) : 0;
     if (number >= 1 && number <= most) {
-        return (unsigned long)number;
+        return number;
     }
-    snprintf(what, sizeof what, "%s is no number from 1 to %lu: it is taken as %lu", name, most,
+    snprintf(what, sizeof what, "%s is no number from 1 to %u: it is taken as %u", name, most,
              otherwise);
     say(STDERR_FILENO, what);
     return otherwise;
@@ -82,27 +81,11 @@ static void *map(size_t bytes)
     return memory == MAP_FAILED ? NULL : memory;
 }
 
-/* ---- the lock ---- */
-
-/* While a thread forks it has the lock, and calls all the same: so do handlers of the program that
- * come behind before_fork or in front of after_fork, and ask for memory. */
-static bool is_forker(void)
+/* While a thread forks it has the lock, and calls all the same: handlers of the program come behind
+ * before_fork or in front of after_fork, and may ask for memory. */
+static bool has_lock(void)
 {
     return __atomic_load_n(&forking, __ATOMIC_ACQUIRE) && pthread_equal(pthread_self(), forker);
-}
-
-static void take_lock(void)
-{
-    if (!is_forker()) {
-        pthread_mutex_lock(&lock);
-    }
-}
-
-static void give_lock(void)
-{
-    if (!is_forker()) {
-        pthread_mutex_unlock(&lock);
-    }
 }
 
 static void before_fork(void)
@@ -118,22 +101,18 @@ static void after_fork(void)
     pthread_mutex_unlock(&lock);
 }
 
-/* ---- how it begins ---- */
-
-/* The first call of all makes the heap. */
 static void make(void)
 {
     const char *report = getenv("TLSF_REPORT");
-    const uint32_t most = TLSF_HEAP_RECORDS_MOST, unit = TLSF_HEAP_UNIT;
-    uint32_t records = (uint32_t)setting("TLSF_RECORDS", most, most);
-    size_t pool = (setting("TLSF_POOL", TLSF_HEAP_GREATEST, POOL) + unit - 1) / unit * unit;
+    size_t records = setting("TLSF_RECORDS", TLSF_HEAP_RECORDS_MOST, TLSF_HEAP_RECORDS_MOST);
+    size_t pool = (setting("TLSF_POOL", TLSF_HEAP_GREATEST, POOL) + 15) / 16 * 16;
     size_t bytes = TLSF_HEAP_TABLE_BYTES(records);
     void *memory = map(pool), *table = map(bytes);
     if (report != NULL && strcmp(report, "1") == 0) {
         /* A program may close its own before it ends. */
         report_to = fcntl(STDERR_FILENO, F_DUPFD_CLOEXEC, 100);
     }
-    if (memory == NULL || tlsf_heap_create_in(table, bytes, records, &heap) != TLSF_OK) {
+    if (memory == NULL || tlsf_heap_create_in(table, bytes, (uint32_t)records, &heap) != TLSF_OK) {
         say(STDERR_FILENO, "there is no memory for the pool or the table");
         return;
     }
@@ -144,15 +123,24 @@ static void make(void)
     pthread_atfork(before_fork, after_fork, after_fork);
 }
 
-/* Whether there is a heap; the lock is taken. */
+/* Takes the lock; the first call of all makes the heap. Whether there is one. */
 static bool begin(void)
 {
-    take_lock();
-    if (!tried) {
-        tried = true;
+    if (!has_lock()) {
+        pthread_mutex_lock(&lock);
+    }
+    if (!begun) {
+        begun = true;
         make();
     }
     return heap.at != NULL;
+}
+
+static void finish(void)
+{
+    if (!has_lock()) {
+        pthread_mutex_unlock(&lock);
+    }
 }
 
 /* ---- blocks and addresses, under the lock ---- */
@@ -167,7 +155,7 @@ static struct front *front_of(void *address)
 static bool is_given(void *address)
 {
     uintptr_t at = (uintptr_t)address;
-    return at % TLSF_HEAP_UNIT == 0 && at >= first + FRONT && at < end &&
+    return at % FRONT == 0 && at >= first + FRONT && at < end &&
            at - origin == (uintptr_t)front_of(address)->block.place + front_of(address)->behind;
 }
 
@@ -179,29 +167,11 @@ static size_t room_of(void *address)
     return live ? bytes - front_of(address)->behind : 0;
 }
 
-static void count(uint32_t bytes)
-{
-    held_blocks++;
-    held_bytes += bytes;
-    most_bytes = held_bytes > most_bytes ? held_bytes : most_bytes;
-}
-
-static void *refuse(int error)
+static void *refuse(void)
 {
     refused++;
-    errno = error;
+    errno = ENOMEM;
     return NULL;
-}
-
-/* An address in a block, so many bytes behind its start. */
-static void *give(tlsf_heap_block block, size_t behind, size_t bytes)
-{
-    unsigned char *address = (unsigned char *)(origin + block.place + behind);
-    front_of(address)->block = block;
-    front_of(address)->bytes = (uint32_t)bytes;
-    front_of(address)->behind = (uint32_t)behind;
-    count((uint32_t)bytes);
-    return address;
 }
 
 /* Whether so many bytes can be asked for behind a front. */
@@ -210,36 +180,42 @@ static bool fits(size_t behind, size_t bytes)
     return behind <= TLSF_HEAP_GREATEST && bytes <= TLSF_HEAP_GREATEST - behind;
 }
 
+/* An address in a block, so far behind its start. */
+static void *give(tlsf_heap_block block, size_t behind, size_t bytes)
+{
+    void *address = (void *)(origin + block.place + behind);
+    struct front front = {block, (uint32_t)bytes, (uint32_t)behind};
+    *front_of(address) = front;
+    held_blocks++;
+    held_bytes += bytes;
+    most_bytes = held_bytes > most_bytes ? held_bytes : most_bytes;
+    return address;
+}
+
 static void *allocate(size_t align, size_t bytes)
 {
     tlsf_heap_block block = {0, 0};
     size_t behind = align < FRONT ? FRONT : align;
-    void *address;
-    if (begin() && fits(behind, bytes) &&
-        (behind == FRONT ? tlsf_heap_malloc(&heap, bytes + behind, &block)
-                         : tlsf_heap_memalign(&heap, align, bytes + behind, &block)) == TLSF_OK) {
-        address = give(block, behind, bytes);
-    } else {
-        address = refuse(ENOMEM);
+    bool served = begin() && fits(behind, bytes);
+    if (served && behind == FRONT) {
+        served = tlsf_heap_malloc(&heap, bytes + behind, &block) == TLSF_OK;
+    } else if (served) {
+        served = tlsf_heap_memalign(&heap, align, bytes + behind, &block) == TLSF_OK;
     }
-    give_lock();
+    void *address = served ? give(block, behind, bytes) : refuse();
+    finish();
     return address;
 }
 
-/* The block of an address becomes free. */
-static bool release(void *address)
+static void release(void *address)
 {
-    uint32_t bytes;
-    if (!is_given(address)) {
-        return false;
-    }
-    bytes = front_of(address)->bytes;
-    if (tlsf_heap_free(&heap, front_of(address)->block) != TLSF_OK) {
-        return false;
+    struct front front = is_given(address) ? *front_of(address) : (struct front){{0, 0}, 0, 0};
+    if (front.behind == 0 || tlsf_heap_free(&heap, front.block) != TLSF_OK) {
+        refused++;
+        return;
     }
     held_blocks--;
-    held_bytes -= bytes;
-    return true;
+    held_bytes -= front.bytes;
 }
 
 /* The block of an address gets room for so many bytes, and what it held moves along. */
@@ -248,18 +224,17 @@ static void *resize(void *address, size_t bytes)
     tlsf_heap_block block = {0, 0};
     struct front old = *front_of(address);
     size_t room = room_of(address);
-    void *other;
     if (!fits(old.behind, bytes) ||
         tlsf_heap_realloc(&heap, old.block, bytes + old.behind, &block) != TLSF_OK) {
-        return refuse(ENOMEM);
-    }
-    other = (void *)(origin + block.place + old.behind);
-    if (other != address) {
-        memcpy(other, address, room < bytes ? room : bytes);
+        return refuse();
     }
     held_blocks--;
     held_bytes -= old.bytes;
-    return give(block, old.behind, bytes);
+    void *other = give(block, old.behind, bytes);
+    if (other != address) {
+        memcpy(other, address, room < bytes ? room : bytes);
+    }
+    return other;
 }
 
 /* ---- the calls ---- */
@@ -273,26 +248,26 @@ EXPORT void free(void *address)
 {
     if (address != NULL) {
         begin();
-        refused += !release(address);
-        give_lock();
+        release(address);
+        finish();
     }
 }
 
-static bool product(size_t count_of, size_t size, size_t *bytes)
-{
-    return !__builtin_mul_overflow(count_of, size, bytes);
-}
-
-EXPORT void *calloc(size_t count_of, size_t size)
+/* A product that is too much is more than there can be. */
+static size_t product(size_t count, size_t size)
 {
     size_t bytes;
-    void *address = allocate(FRONT, product(count_of, size, &bytes) ? bytes : SIZE_MAX);
-    return address == NULL ? NULL : memset(address, 0, bytes);
+    return __builtin_mul_overflow(count, size, &bytes) ? SIZE_MAX : bytes;
+}
+
+EXPORT void *calloc(size_t count, size_t size)
+{
+    void *address = allocate(FRONT, product(count, size));
+    return address == NULL ? NULL : memset(address, 0, count * size);
 }
 
 EXPORT void *realloc(void *address, size_t bytes)
 {
-    void *other;
     if (address == NULL) {
         return allocate(FRONT, bytes);
     }
@@ -301,15 +276,14 @@ EXPORT void *realloc(void *address, size_t bytes)
         return NULL;
     }
     begin();
-    other = is_given(address) ? resize(address, bytes) : refuse(ENOMEM);
-    give_lock();
+    void *other = is_given(address) ? resize(address, bytes) : refuse();
+    finish();
     return other;
 }
 
-EXPORT void *reallocarray(void *address, size_t count_of, size_t size)
+EXPORT void *reallocarray(void *address, size_t count, size_t size)
 {
-    size_t bytes;
-    return realloc(address, product(count_of, size, &bytes) ? bytes : SIZE_MAX);
+    return realloc(address, product(count, size));
 }
 
 static bool is_power(size_t align)
@@ -334,17 +308,13 @@ EXPORT void *aligned_alloc(size_t align, size_t bytes)
 EXPORT int posix_memalign(void **out, size_t align, size_t bytes)
 {
     int error = errno;
-    void *address;
     if (!is_power(align) || align % sizeof(void *) != 0) {
         return EINVAL;
     }
-    address = allocate(align, bytes);
+    void *address = allocate(align, bytes);
     errno = error;
-    if (address == NULL) {
-        return ENOMEM;
-    }
-    *out = address;
-    return 0;
+    *out = address == NULL ? *out : address;
+    return address == NULL ? ENOMEM : 0;
 }
 
 EXPORT void *valloc(size_t bytes)
@@ -359,10 +329,9 @@ EXPORT void *pvalloc(size_t bytes)
 
 EXPORT size_t malloc_usable_size(void *address)
 {
-    size_t room;
     begin();
-    room = address != NULL && is_given(address) ? room_of(address) : 0;
-    give_lock();
+    size_t room = address != NULL && is_given(address) ? room_of(address) : 0;
+    finish();
     return room;
 }
 
@@ -376,7 +345,7 @@ __attribute__((destructor)) static void report(void)
                  "%llu blocks held, %llu bytes held, %llu bytes at most, %llu refused, table %s",
                  held_blocks, held_bytes, most_bytes, refused,
                  heap.at != NULL && tlsf_heap_check(&heap) ? "whole" : "broken");
-        give_lock();
+        finish();
         say(report_to, line);
     }
 }
