@@ -1,7 +1,8 @@
 /* Each call of malloc's family, for a program on libtlsf_malloc.so: what it answers, errno, threads,
  * and forks while threads ask. With the word `refused` pointers that are no live block's are freed,
  * which the C library's own malloc wouldn't bear. With the word `served` it tells how many times one
- * byte is served, with `alone` there are no threads and no forks. */
+ * byte is served, with `hold` it ends with blocks held, and with `alone` there are no threads and no
+ * forks. */
 #define _GNU_SOURCE
 #include <errno.h>
 #include <malloc.h>
@@ -61,6 +62,24 @@ static void plain(void)
     expect(calloc(half, 4) == NULL && errno == ENOMEM, "calloc of a product that is too much: ENOMEM");
     errno = 0;
     expect(calloc(huge, 1) == NULL && errno == ENOMEM, "calloc of too much: ENOMEM");
+}
+
+/* All of the room that malloc_usable_size tells is the block's own. */
+static void rooms(void)
+{
+    unsigned char *blocks[HELD];
+    bool own = true;
+    for (unsigned k = 0; k < HELD; k++) {
+        blocks[k] = k % 4 == 3 ? memalign(64, k) : malloc(3 * k);
+        memset(blocks[k], (int)k, malloc_usable_size(blocks[k]));
+    }
+    for (unsigned k = 0; k < HELD; k++) {
+        own = own && holds(blocks[k], malloc_usable_size(blocks[k]), (unsigned char)k);
+    }
+    for (unsigned k = 0; k < HELD; k++) {
+        free(blocks[k]);
+    }
+    expect(own, "malloc_usable_size: bytes of the block's own");
 }
 
 static void moves(void)
@@ -212,12 +231,26 @@ static void refused(void)
     free(inside);
     free(odd);
     free(foreign);
+    for (int far = 0; far < 2; far++) {
+        void *volatile unmapped = (void *)(far ? UINTPTR_MAX - 15 : 16);
+        free(unmapped);
+    }
     expect(realloc(foreign, 10) == NULL && malloc_usable_size(foreign) == 0, "realloc of another's address: a null pointer");
     unsigned char *third = malloc(100);
     expect(third != one && third != other && holds(one, 100, 1) && holds(other, 100, 2), "a second free, and one of an address that was never given, change nothing");
     free(one);
     free(other);
     free(third);
+}
+
+/* Two blocks of 75 bytes are left, and 150 were the most. */
+static void hold(void)
+{
+    void *volatile one = malloc(100), *volatile other = malloc(50), *volatile third;
+    free(one);
+    other = realloc(other, 70);
+    third = memalign(64, 5);
+    (void)third;
 }
 
 static unsigned served(void)
@@ -232,6 +265,10 @@ static unsigned served(void)
 int main(int count, char **words)
 {
     alarm(60);
+    if (count > 1 && strcmp(words[1], "hold") == 0) {
+        hold();
+        return 0;
+    }
     if (count > 1 && strcmp(words[1], "served") == 0) {
         printf("%u\n", served());
         return 0;
@@ -241,6 +278,7 @@ int main(int count, char **words)
         return cases_end();
     }
     plain();
+    rooms();
     moves();
     aligned();
     if (count == 1) {
