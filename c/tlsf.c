@@ -8,7 +8,7 @@
  *
  * - A pool's first place is its address and 16 modulo 2^21. A block begins 16 bytes in front of its
  *   pointer; so where a place is a multiple of an alignment up to 2^21, the pointer is one as well.
- * - These 16 bytes keep the control part, the place, the slot and a mark. A free wipes them.
+ * - These 16 bytes keep the control part, the place, the slot and a mark.
  * - A pointer is taken where it lies in a pool of the heap, the 16 bytes in front of it say so, and
  *   the heap has a live block at that place with that slot. So a null, stale or interior pointer,
  *   one of another heap, and one of no pool (which isn't read) is refused.
@@ -40,7 +40,7 @@
 
 enum { UNIT = 16, FRONT = 16, HANDED_IN = 8, POOLS = 8, MARK = 0x7c5f };
 enum { BYTES_A_RECORD = 256, LEAST_RECORDS = 64, MOST_RECORDS = 65535 };
-enum { LEAST_POOL = FRONT + UNIT, GREATEST_POOL = 1073741808, MOST_ALIGN = 1 << 21 };
+enum { LEAST_POOL = FRONT + UNIT, GREATEST = 1073741808, MOST_ALIGN = 1 << 21 };
 #define END_OF_PLACES ((uint64_t)1 << 32)
 #define MAGIC ((uintptr_t)0x544c53465f484541)
 
@@ -106,7 +106,7 @@ static bool find(const struct control *control, const void *ptr, tlsf_heap_block
     for (int k = 0; control != NULL && k < POOLS; k++) {
         const struct pool *pool = &control->pools[k];
         uintptr_t from = (uintptr_t)ptr - (uintptr_t)pool->memory;
-        if (from < pool->bytes && from >= FRONT && from % UNIT == 0) {
+        if (from < pool->bytes && from >= FRONT) {
             struct front front = front_of(ptr);
             block->place = pool->place + (uint32_t)from - FRONT;
             block->slot = front.slot;
@@ -166,7 +166,7 @@ pool_t tlsf_add_pool(tlsf_t tlsf, void *mem, size_t bytes)
     uintptr_t address = (uintptr_t)mem + skipped;
     int k = 0;
     if (control == NULL || mem == NULL || (uintptr_t)mem % HANDED_IN != 0 || usable < LEAST_POOL
-        || usable > GREATEST_POOL || address > UINTPTR_MAX - usable) {
+        || address > UINTPTR_MAX - usable) {
         return NULL;
     }
     while (k < POOLS && control->pools[k].bytes != 0) {
@@ -260,7 +260,7 @@ void *tlsf_memalign(tlsf_t tlsf, size_t align, size_t bytes)
 {
     struct control *control = control_of(tlsf);
     tlsf_heap_block block = {0, 0};
-    if (control == NULL || bytes == 0 || bytes > GREATEST_POOL - FRONT || align > MOST_ALIGN
+    if (control == NULL || bytes == 0 || bytes > GREATEST - FRONT || align > MOST_ALIGN
         || (align & (align - 1)) != 0) {
         return NULL;
     }
@@ -279,8 +279,8 @@ void tlsf_free(tlsf_t tlsf, void *ptr)
 {
     struct control *control = control_of(tlsf);
     tlsf_heap_block block = {0, 0};
-    if (find(control, ptr, &block) && tlsf_heap_free(&control->heap, block) == TLSF_OK) {
-        memset((unsigned char *)ptr - FRONT, 0, FRONT);
+    if (find(control, ptr, &block)) {
+        tlsf_heap_free(&control->heap, block);
     }
 }
 
@@ -298,14 +298,13 @@ void *tlsf_realloc(tlsf_t tlsf, void *ptr, size_t size)
         return NULL;
     }
     size_t had = size_of(control, ptr, &block);
-    if (had == 0 || size > GREATEST_POOL - FRONT
+    if (had == 0 || size > GREATEST - FRONT
         || tlsf_heap_realloc(&control->heap, block, size + FRONT, &given) != TLSF_OK) {
         return NULL;
     }
     void *other = hand_out(control, given);
     if (other != ptr) {
         memcpy(other, ptr, had < size ? had : size);
-        memset((unsigned char *)ptr - FRONT, 0, FRONT);
     }
     return other;
 }
@@ -326,7 +325,7 @@ size_t tlsf_size(void)
 
 size_t tlsf_align_size(void) { return UNIT; }
 size_t tlsf_block_size_min(void) { return UNIT; }
-size_t tlsf_block_size_max(void) { return GREATEST_POOL - FRONT; }
+size_t tlsf_block_size_max(void) { return GREATEST - FRONT; }
 size_t tlsf_pool_overhead(void) { return FRONT + HANDED_IN; }
 size_t tlsf_alloc_overhead(void) { return FRONT; }
 
@@ -334,7 +333,7 @@ size_t tlsf_alloc_overhead(void) { return FRONT; }
 
 static bool is_pool(const struct pool *pool)
 {
-    return pool != NULL && pool->bytes != 0 && control_of(pool->control) != NULL;
+    return pool != NULL && control_of(pool->control) != NULL;
 }
 
 static void print(void *ptr, size_t size, int used, void *user)
@@ -375,19 +374,24 @@ void tlsf_walk_pool(pool_t pool, tlsf_walker walker, void *user)
 }
 
 /* Where the table isn't whole nothing else of the heap is read. */
+static bool is_whole(struct control *control)
+{
+    return control != NULL && tlsf_heap_check(&control->heap);
+}
+
 int tlsf_check_pool(pool_t pool)
 {
     struct pool *own = (struct pool *)pool;
-    bool whole = is_pool(own) && tlsf_heap_check(&own->control->heap);
-    return whole ? -walk(*own, NULL, NULL) : -1;
+    return is_pool(own) && is_whole(own->control) ? -walk(*own, NULL, NULL) : -1;
 }
 
 int tlsf_check(tlsf_t tlsf)
 {
     struct control *control = control_of(tlsf);
-    int status = control != NULL && tlsf_heap_check(&control->heap) ? 0 : -1;
-    for (int k = 0; status == 0 && k < POOLS; k++) {
-        status = control->pools[k].bytes == 0 ? 0 : tlsf_check_pool(&control->pools[k]);
+    bool whole = is_whole(control);
+    int faults = whole ? 0 : 1;
+    for (int k = 0; whole && k < POOLS; k++) {
+        faults += control->pools[k].bytes == 0 ? 0 : walk(control->pools[k], NULL, NULL);
     }
-    return status;
+    return -faults;
 }

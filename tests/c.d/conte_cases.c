@@ -78,6 +78,14 @@ static void creates(void)
     expect(tlsf != NULL && tlsf_get_pool(tlsf) == NULL && tlsf_create_records(memory, control_bytes(1) - 1, 1) == NULL, "one record, and no byte for a pool");
     expect(tlsf_create_records(memory, control_bytes(1) + 31, 1) != NULL && tlsf_get_pool(memory) == NULL, "31 bytes are no pool");
     expect(tlsf_create_records(memory, control_bytes(1) + 32, 1) != NULL && tlsf_get_pool(memory) != NULL, "32 bytes are one");
+    expect(tlsf_malloc(memory + 4, 1) == NULL && tlsf_check(memory + 4) == -1, "no heap is at a multiple of 4");
+    bool refused = true;
+    for (size_t few = 1; few < control_bytes(64) + 32; few += 7) {
+        void *little = malloc(few);
+        refused = refused && little != NULL && tlsf_create_with_pool(little, few) == NULL && tlsf_create_records(little, few, 63 + (uint32_t)few) == NULL;
+        free(little);
+    }
+    expect(refused, "too few bytes are refused, and none behind them is written");
 }
 
 /* As many blocks as there are records. */
@@ -173,6 +181,23 @@ static void greatest(unsigned char *large)
     expect(tlsf_add_pool(tlsf, large + 3 * GIGABYTE + 4096, GIGABYTE - (16 << 20)) != NULL && tlsf_check(tlsf) == 0, "with one a little smaller they aren't");
     tlsf_remove_pool(tlsf, second);
     expect(tlsf_add_pool(tlsf, large + GIGABYTE + 64, GIGABYTE - (4 << 20)) != NULL && tlsf_check(tlsf) == 0, "one is gone, and another is added");
+    pool_t last[4] = {NULL};
+    tlsf = tlsf_create(memory);
+    for (int k = 0; k < 3; k++) {
+        last[k] = tlsf_add_pool(tlsf, large + k * GIGABYTE + 8, k == 0 ? 1000 : GREATEST_POOL + 8);
+    }
+    tlsf_remove_pool(tlsf, last[0]);
+    last[0] = tlsf_add_pool(tlsf, large + 3 * GIGABYTE + 8, GREATEST_POOL + 8);
+    tlsf_remove_pool(tlsf, last[2]);
+    last[3] = tlsf_add_pool(tlsf, large + 2 * GIGABYTE + 64, GIGABYTE - 64);
+    expect(last[0] != NULL && last[1] != NULL && last[3] != NULL, "a pool between the places of others");
+    tlsf = tlsf_create(memory);
+    for (int k = 0; k < 7; k++) {
+        last[k % 4] = tlsf_add_pool(tlsf, large + 1000 * k, 1000);
+    }
+    expect(tlsf_add_pool(tlsf, large + GIGABYTE, GREATEST_POOL) != NULL, "a great one behind seven little ones");
+    tlsf_remove_pool(tlsf, tlsf_get_pool(tlsf));
+    expect(tlsf_add_pool(tlsf, large + 2 * GIGABYTE, GREATEST_POOL) != NULL && tlsf_check(tlsf) == 0, "and one behind it");
     expect(tlsf_create_with_pool(large, 2 * GIGABYTE) == NULL, "a heap with a pool above the greatest");
 }
 
@@ -225,6 +250,11 @@ static void pointers(void)
     tlsf_free(tlsf, one);
     expect(refuses(tlsf, one) && tlsf_block_size(one) == 0, "a pointer that is free");
     expect(refuses(tlsf, far) && tlsf_block_size(far) == 112, "another heap's");
+    unsigned char *block = (unsigned char *)tlsf_malloc(other, 16384);
+    tlsf_t within = tlsf_create_with_pool(block, 16384);
+    void *inner = tlsf_malloc(within, 100);
+    expect(inner != NULL && refuses(other, inner) && refuses(within, far) && refuses(within, block) && tlsf_check(within) == 0, "that of a heap in a block of the heap");
+    expect(tlsf_block_size(two + 8) == 0 && tlsf_block_size(two + 1) == 0, "no size at no multiple of 16");
     expect(refuses(tlsf, two + 16) && refuses(tlsf, two + 8) && refuses(tlsf, two + 1) && refuses(tlsf, two - 16), "within a block");
     expect(refuses(tlsf, on_stack + 16) && refuses(tlsf, tlsf) && refuses(tlsf, tlsf_get_pool(tlsf)), "none of a pool's");
     expect(refuses(tlsf, (void *)16) && refuses(tlsf, (void *)(UINTPTR_MAX - 15)), "where no memory is");
@@ -256,10 +286,14 @@ static void overruns(void)
     expect(tlsf_check(tlsf) == -2 && tlsf_check_pool(tlsf_get_pool(tlsf)) == -2, "two overruns are counted");
     tlsf_free(tlsf, blocks[1]);
     expect(count(tlsf_get_pool(tlsf)).live == 3, "a block with a spoiled front stays live");
+    pool_t pool = tlsf_add_pool(tlsf, other_memory, 4096);
+    unsigned char *last = (unsigned char *)tlsf_malloc(tlsf, 3000);
+    last[-1] ^= 1;
+    expect(tlsf_check(tlsf) == -3 && tlsf_check_pool(pool) == -1, "each pool is looked at");
     memset(memory + 300, 0xff, 200);
-    expect(tlsf_check(tlsf) == -1, "a spoiled table is told");
+    expect(tlsf_check(tlsf) == -1 && tlsf_check_pool(tlsf_get_pool(tlsf)) == -1, "a spoiled table is told");
     memory[0] ^= 1;
-    expect(tlsf_check(tlsf) == -1 && tlsf_malloc(tlsf, 1) == NULL, "a spoiled heap is none");
+    expect(tlsf_check(tlsf) == -1 && tlsf_malloc(tlsf, 1) == NULL && tlsf_check_pool(pool) == -1 && has(pool, 0, 0), "a spoiled heap is none");
 }
 
 static void free_block(void *ptr, size_t size, int used, void *user)
