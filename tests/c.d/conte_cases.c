@@ -164,7 +164,7 @@ static void greatest(unsigned char *large)
 {
     tlsf_t tlsf = tlsf_create(memory);
     expect(tlsf_add_pool(tlsf, large, GREATEST_POOL + 16) == NULL, "a pool above the greatest");
-    expect(tlsf_add_pool(tlsf, large, SIZE_MAX) == NULL && tlsf_add_pool(tlsf, (unsigned char *)0 - 64, 128) == NULL, "a pool above the end of memory");
+    expect(tlsf_add_pool(tlsf, large, SIZE_MAX) == NULL && tlsf_add_pool(tlsf, (void *)(UINTPTR_MAX - 63), 128) == NULL, "a pool above the end of memory");
     pool_t pool = tlsf_add_pool(tlsf, large, GREATEST_POOL + 15);
     expect(pool != NULL && count(pool).bytes == GREATEST_POOL, "the greatest pool");
     void *one = tlsf_malloc(tlsf, GIGABYTE / 2), *whole = tlsf_realloc(tlsf, one, tlsf_block_size_max());
