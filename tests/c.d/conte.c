@@ -1,13 +1,22 @@
-/* The calls of tlsf.h over random runs beside a plain model: several heaps, each with an array of its blocks in order of
- * address, and with pools anywhere. The model doesn't say which free block of a class is taken: it takes what is given,
- * and says whether that was right. */
+/* The calls of tlsf.h over random runs beside a plain model: several heaps, each with an array of
+ * its blocks in order of address, and with pools anywhere. The model doesn't say which free block
+ * of a class is taken: it takes what is given, and says whether that was right. */
 #include <stdlib.h>
 #include <string.h>
 
 #include "cases.h"
 #include "tlsf.h"
 
-enum { HEAPS = 3, POOLS = 8, MOST_RECORDS = 60, AREAS = 24, AREA = 6144, STALE = 32, FRONT = 16, CLASSES = 704 };
+enum {
+    HEAPS = 3,
+    POOLS = 8,
+    MOST_RECORDS = 60,
+    AREAS = 24,
+    AREA = 6144,
+    STALE = 32,
+    FRONT = 16,
+    CLASSES = 704
+};
 #define GREATEST 1073741808u
 
 /* A block: its first byte is that in front of its pointer's sixteen. */
@@ -39,7 +48,8 @@ static _Alignas(16) unsigned char areas_of_program[AREAS / 2][AREA];
 static unsigned char *areas[AREAS];
 static bool area_taken[AREAS];
 static void *stale[STALE];
-static uint64_t calls, served, refused, table_full, no_fit, moved, grown, bad_pointers, pools_added, pools_gone, pools_kept, pools_refused;
+static uint64_t calls, served, refused, table_full, no_fit, moved, grown, bad_pointers, pools_added,
+    pools_gone, pools_kept, pools_refused;
 
 static uint64_t state;
 
@@ -63,7 +73,7 @@ static uint64_t class_of(uint64_t size)
 {
     uint64_t class = size < 512 ? size / 16 : 32;
     while (class + 1 < CLASSES && low(class + 1) <= size) {
-        class++;
+        class ++;
     }
     return class;
 }
@@ -153,7 +163,8 @@ static bool may_refuse(const struct heap *heap, size_t m, size_t align)
         return true;
     }
     for (size_t k = 0; k < heap->count; k++) {
-        if (is_of(&heap->blocks[k], class) && heap->count + rests(&heap->blocks[k], align, m) > heap->records) {
+        if (is_of(&heap->blocks[k], class)
+            && heap->count + rests(&heap->blocks[k], align, m) > heap->records) {
             table_full++;
             return true;
         }
@@ -193,7 +204,8 @@ static bool takes(struct heap *heap, unsigned char *given, size_t m, size_t alig
         struct block *block = &heap->blocks[k];
         if (given > block->start && given < block->start + block->size) {
             unsigned char *start = given - FRONT;
-            if (m == 0 || !is_of(block, class) || start != start_in(block, align) || heap->count + rests(block, align, m) > heap->records) {
+            if (m == 0 || !is_of(block, class) || start != start_in(block, align)
+                || heap->count + rests(block, align, m) > heap->records) {
                 return false;
             }
             size_t at = k + (start > block->start);
@@ -216,7 +228,8 @@ static size_t find(const struct heap *heap, const void *pointer)
 
 static bool is_free_beside(const struct heap *heap, size_t at, size_t other)
 {
-    return other < heap->count && !heap->blocks[other].live && heap->blocks[other].pool == heap->blocks[at].pool;
+    return other < heap->count && !heap->blocks[other].live
+           && heap->blocks[other].pool == heap->blocks[at].pool;
 }
 
 static void release(struct heap *heap, size_t at)
@@ -245,7 +258,8 @@ static void compare(void *ptr, size_t size, int used, void *user)
 {
     struct walk *walk = (struct walk *)user;
     const struct block *block = &walk->heap->blocks[walk->at++];
-    walk->good = walk->good && ptr == pointer_of(block) && size == block->size - FRONT && (used != 0) == block->live;
+    walk->good = walk->good && ptr == pointer_of(block) && size == block->size - FRONT
+                 && (used != 0) == block->live;
 }
 
 /* Each pool's blocks are the model's, and live ones have their size. */
@@ -260,7 +274,8 @@ static bool agrees(const struct heap *heap)
             }
             size_t first = walk.at;
             tlsf_walk_pool(heap->pools[k].handle, compare, &walk);
-            if (!walk.good || walk.at == first || (walk.at < heap->count && heap->blocks[walk.at].pool == k)) {
+            if (!walk.good || walk.at == first
+                || (walk.at < heap->count && heap->blocks[walk.at].pool == k)) {
                 return false;
             }
             seen += walk.at - first;
@@ -293,12 +308,15 @@ static size_t some_bytes(void)
 
 static bool ask_for_block(struct heap *heap)
 {
-    size_t bytes = some_bytes(), m = rounded(bytes), align = below(3) == 0 ? (size_t)1 << below(13) : 16;
+    size_t bytes = some_bytes(), m = rounded(bytes),
+           align = below(3) == 0 ? (size_t)1 << below(13) : 16;
     bool bad = below(40) == 0;
     if (bad) {
         align = below(2) == 0 ? 3 * ((size_t)1 << below(20)) : (size_t)1 << (22 + below(42));
     }
-    unsigned char *given = (unsigned char *)(align == 16 && below(2) == 0 ? tlsf_malloc(heap->tlsf, bytes) : tlsf_memalign(heap->tlsf, align, bytes));
+    unsigned char *given = (unsigned char *)(align == 16 && below(2) == 0
+                                                 ? tlsf_malloc(heap->tlsf, bytes)
+                                                 : tlsf_memalign(heap->tlsf, align, bytes));
     align = align < 16 ? 16 : align;
     if (given == NULL) {
         refused++;
@@ -352,7 +370,8 @@ static bool stays(struct heap *heap, size_t at, size_t m, bool has_next)
         erase(heap, at + 1);
     }
     carve(heap, at, block->start, m);
-    bool good = tlsf_block_size(given) == m - FRONT && is_filled(given, least(had, m) - FRONT, seed);
+    bool good = tlsf_block_size(given) == m - FRONT
+                && is_filled(given, least(had, m) - FRONT, seed);
     fill(&heap->blocks[at]);
     return good;
 }
@@ -393,7 +412,9 @@ static void *bad_pointer(struct heap *heap, unsigned char *on_stack)
     switch (below(6)) {
     case 0: return stale[below(STALE)];
     case 1: return far == MOST_RECORDS ? NULL : pointer_of(&other->blocks[far]);
-    case 2: return at == MOST_RECORDS ? on_stack : pointer_of(block) + 1 + below(block->size - FRONT - 1);
+    case 2:
+        return at == MOST_RECORDS ? on_stack
+                                  : pointer_of(block) + 1 + below(block->size - FRONT - 1);
     case 3: return heap->count == 0 ? NULL : pointer_of(&heap->blocks[below(heap->count)]) - FRONT;
     case 4: return heap->tlsf;
     default: return on_stack;
@@ -409,7 +430,8 @@ static bool ask_with_bad_pointer(struct heap *heap)
     }
     bad_pointers++;
     tlsf_free(heap->tlsf, pointer);
-    return tlsf_realloc(heap->tlsf, pointer, 1 + below(200)) == NULL && tlsf_realloc(heap->tlsf, pointer, 0) == NULL;
+    return tlsf_realloc(heap->tlsf, pointer, 1 + below(200)) == NULL
+           && tlsf_realloc(heap->tlsf, pointer, 0) == NULL;
 }
 
 /* The sixteen bytes in front of a pointer, copied to elsewhere in its block, make no pointer. */
@@ -422,7 +444,8 @@ static bool ask_with_copied_front(struct heap *heap)
     unsigned char *pointer = pointer_of(&heap->blocks[at]);
     memcpy(pointer, pointer - FRONT, FRONT);
     tlsf_free(heap->tlsf, pointer + FRONT);
-    bool good = tlsf_realloc(heap->tlsf, pointer + FRONT, 20) == NULL && tlsf_block_size(pointer + FRONT) == 0;
+    bool good = tlsf_realloc(heap->tlsf, pointer + FRONT, 20) == NULL
+                && tlsf_block_size(pointer + FRONT) == 0;
     fill(&heap->blocks[at]);
     bad_pointers++;
     return good;
@@ -432,7 +455,8 @@ static bool overlaps(const struct heap *heap, unsigned char *start, size_t bytes
 {
     for (int k = 0; k < POOLS; k++) {
         const struct pool *pool = &heap->pools[k];
-        if (pool->handle != NULL && start < pool->start + pool->bytes && pool->start < start + bytes) {
+        if (pool->handle != NULL && start < pool->start + pool->bytes
+            && pool->start < start + bytes) {
             return true;
         }
     }
@@ -448,14 +472,16 @@ static size_t place_of(const struct heap *heap, int pool)
     return at;
 }
 
-/* A pool at an odd address and of an odd size; now and then of an area that the heap has already. */
+/* A pool at an odd address and of an odd size; now and then of an area that the heap has already.
+ */
 static bool add_pool(struct heap *heap)
 {
     int area = (int)below(AREAS), k = 0;
     size_t skip = 8 * below(40), bytes = below(8) == 0 ? below(60) : below(AREA - skip);
     skip += below(30) == 0 ? 1 + below(7) : 0;
     unsigned char *memory = areas[area] + skip, *start = areas[area] + (skip + 15) / 16 * 16;
-    size_t usable = bytes < (size_t)(start - memory) ? 0 : (bytes - (size_t)(start - memory)) / 16 * 16;
+    size_t usable = bytes < (size_t)(start - memory) ? 0
+                                                     : (bytes - (size_t)(start - memory)) / 16 * 16;
     bool own = overlaps(heap, start, usable);
     if (area_taken[area] && !own) {
         return true;
@@ -475,7 +501,8 @@ static bool add_pool(struct heap *heap)
     insert(heap, place_of(heap, k), block);
     area_taken[area] = true;
     pools_added++;
-    return handle != NULL && tlsf_check_pool(handle) == 0 && (k != 0 || tlsf_get_pool(heap->tlsf) == handle);
+    return handle != NULL && tlsf_check_pool(handle) == 0
+           && (k != 0 || tlsf_get_pool(heap->tlsf) == handle);
 }
 
 static bool remove_pool(struct heap *heap)
@@ -566,10 +593,13 @@ int main(int argc, char **argv)
         free(areas[k]);
     }
     expect(good, "random runs answer as the plain model");
-    expect(served > calls / 10 && moved > calls / 1000 && grown > calls / 1000, "blocks that are given, that move and that grow");
-    expect(no_fit > calls / 1000 && table_full > calls / 1000 && refused > 0, "calls refused: no fit, table full");
+    expect(served > calls / 10 && moved > calls / 1000 && grown > calls / 1000,
+           "blocks that are given, that move and that grow");
+    expect(no_fit > calls / 1000 && table_full > calls / 1000 && refused > 0,
+           "calls refused: no fit, table full");
     expect(bad_pointers > calls / 100, "pointers refused");
-    expect(pools_added > calls / 1000 && pools_gone > calls / 1000 && pools_kept > calls / 1000 && pools_refused > calls / 1000,
+    expect(pools_added > calls / 1000 && pools_gone > calls / 1000 && pools_kept > calls / 1000
+               && pools_refused > calls / 1000,
            "pools added, gone, kept and refused");
     return cases_end();
 }

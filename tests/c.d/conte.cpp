@@ -1,4 +1,5 @@
-// The calls of tlsf.h as the allocator of C++ containers: a map, strings and vectors over one heap, beside the same over new.
+// The calls of tlsf.h as the allocator of C++ containers: a map, strings and vectors over one heap,
+// beside the same over new.
 #include <cstdint>
 #include <cstdio>
 #include <functional>
@@ -14,27 +15,43 @@ template <class T> struct Allocator {
     using value_type = T;
     tlsf_t heap;
 
-    explicit Allocator(tlsf_t heap) : heap(heap) {}
-    template <class U> Allocator(const Allocator<U> &other) : heap(other.heap) {}
+    explicit Allocator(tlsf_t heap) : heap(heap)
+    {
+    }
+    template <class U> Allocator(const Allocator<U> &other) : heap(other.heap)
+    {
+    }
 
     T *allocate(std::size_t count)
     {
-        void *block = count > SIZE_MAX / sizeof(T) ? nullptr : tlsf_memalign(heap, alignof(T), count * sizeof(T));
+        void *block = count > SIZE_MAX / sizeof(T)
+                          ? nullptr
+                          : tlsf_memalign(heap, alignof(T), count * sizeof(T));
         if (block == nullptr) {
             throw std::bad_alloc();
         }
         return static_cast<T *>(block);
     }
 
-    void deallocate(T *block, std::size_t) { tlsf_free(heap, block); }
+    void deallocate(T *block, std::size_t)
+    {
+        tlsf_free(heap, block);
+    }
 
-    template <class U> bool operator==(const Allocator<U> &other) const { return heap == other.heap; }
-    template <class U> bool operator!=(const Allocator<U> &other) const { return heap != other.heap; }
+    template <class U> bool operator==(const Allocator<U> &other) const
+    {
+        return heap == other.heap;
+    }
+    template <class U> bool operator!=(const Allocator<U> &other) const
+    {
+        return heap != other.heap;
+    }
 };
 
 using Text = std::basic_string<char, std::char_traits<char>, Allocator<char>>;
 using Entry = std::pair<const std::uint32_t, Text>;
-using Map = std::map<std::uint32_t, Text, std::less<std::uint32_t>, std::scoped_allocator_adaptor<Allocator<Entry>>>;
+using Map = std::map<std::uint32_t, Text, std::less<std::uint32_t>,
+                     std::scoped_allocator_adaptor<Allocator<Entry>>>;
 
 struct alignas(64) Line {
     unsigned char bytes[64];

@@ -1,5 +1,5 @@
-/* A program as one writes it for Conte's library: a heap in an array, a second pool, blocks of a list, a walk. It uses
- * nothing but his header's names, and is C and C++. */
+/* A program as one writes it for Conte's library: a heap in an array, a second pool, blocks of a
+ * list, a walk. It uses nothing but his header's names, and is C and C++. */
 #include <assert.h>
 #include <stdio.h>
 #include <string.h>
@@ -63,11 +63,13 @@ int main(void)
     tlsf_walk_pool(pool, add_block, &sums);
     printf("used: %d, free: %d\n", sums.used > 256, sums.unused > sizeof(more));
     tlsf_walk_pool(pool, NULL, NULL);
-    printf("check: %d, pools: %d %d\n", tlsf_check(tlsf), tlsf_check_pool(tlsf_get_pool(tlsf)), tlsf_check_pool(pool));
+    printf("check: %d, pools: %d %d\n", tlsf_check(tlsf), tlsf_check_pool(tlsf_get_pool(tlsf)),
+           tlsf_check_pool(pool));
     line = (char *)tlsf_realloc(tlsf, line, 0);
     tlsf_remove_pool(tlsf, pool);
     tlsf_destroy(tlsf);
-    printf("limits: %d\n", tlsf_block_size_min() <= 64 && tlsf_block_size_max() >= 1 << 20 && tlsf_size() < 64 * 1024
-                               && tlsf_pool_overhead() <= 64 && tlsf_alloc_overhead() <= 16);
+    printf("limits: %d\n", tlsf_block_size_min() <= 64 && tlsf_block_size_max() >= 1 << 20
+                               && tlsf_size() < 64 * 1024 && tlsf_pool_overhead() <= 64
+                               && tlsf_alloc_overhead() <= 16);
     return line != NULL;
 }
