@@ -39,8 +39,9 @@ tlsf_t tlsf_create_records(void *mem, size_t bytes, uint32_t records);
 /* The heap is gone: its pointers are refused from then on. The memory is the program's again. */
 void tlsf_destroy(tlsf_t tlsf);
 
-/* The first pool: the one that the heap was made with, or else the first that was added; a null
- * pointer where it is gone or there never was one. */
+/* The first pool: the one that the heap was made with, or else the first that was added. Where it
+ * is gone the next that is added takes its place; until then, as where there never was one, the
+ * answer is a null pointer. */
 pool_t tlsf_get_pool(tlsf_t tlsf);
 
 /* One more pool, or a null pointer: for fewer than 32 bytes, more than 1,073,741,808, a ninth pool,
@@ -50,7 +51,8 @@ pool_t tlsf_add_pool(tlsf_t tlsf, void *mem, size_t bytes);
 /* The pool is gone, unless a block of it is live: then it stays. */
 void tlsf_remove_pool(tlsf_t tlsf, pool_t pool);
 
-/* A block, or a null pointer; for no bytes a null pointer. */
+/* A block, or a null pointer; for no bytes a null pointer. At most 1,056,964,592 bytes are served:
+ * a block has more only by a realloc that grows it where it is. */
 void *tlsf_malloc(tlsf_t tlsf, size_t bytes);
 
 /* The same at a multiple of align: a power of two up to 2^21. */
@@ -61,9 +63,11 @@ void *tlsf_memalign(tlsf_t tlsf, size_t align, size_t bytes);
  * for no bytes it is a free, and the answer a null pointer. */
 void *tlsf_realloc(tlsf_t tlsf, void *ptr, size_t size);
 
+/* The block is free. Nothing is done where the pointer is null or no live block's. */
 void tlsf_free(tlsf_t tlsf, void *ptr);
 
-/* How many bytes a live block has; 0 for a null pointer. */
+/* How many bytes a live block has; 0 for a null pointer. The 16 bytes in front of any other are
+ * read. */
 size_t tlsf_block_size(void *ptr);
 
 /* The bytes that tlsf_create needs; what a block's address and size are multiples of; the least and
