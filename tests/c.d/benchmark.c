@@ -5,13 +5,13 @@
 #include <time.h>
 
 #include "plain_heap.h"
-#include "tlsf.h"
+#include "tlsf_heap.h"
 
 enum { MOST = 60000, PAIRS = 500000, TIMES = 3 };
 
 static tlsf_heap heap;
 static plain_heap plain;
-static tlsf_block blocks[MOST];
+static tlsf_heap_block blocks[MOST];
 static void *addresses[MOST];
 static uint64_t state;
 
@@ -32,20 +32,20 @@ static double of_heap(uint32_t live, uint32_t *refused, uint64_t *places)
 {
     state = 1;
     *places = 0;
-    tlsf_create(65535, &heap);
-    tlsf_add_pool(&heap, 0, 1u << 29);
+    tlsf_heap_create(65535, &heap);
+    tlsf_heap_add_pool(&heap, 0, 1u << 29);
     for (uint32_t k = 0; k < live; k++) {
-        *refused += tlsf_malloc(&heap, 1 + next() % 512, &blocks[k]) != TLSF_OK;
+        *refused += tlsf_heap_malloc(&heap, 1 + next() % 512, &blocks[k]) != TLSF_OK;
     }
     double start = seconds();
     for (uint32_t pair = 0; pair < PAIRS; pair++) {
         uint32_t k = next() % live;
-        *refused += tlsf_free(&heap, blocks[k]) != TLSF_OK;
-        *refused += tlsf_malloc(&heap, 1 + next() % 512, &blocks[k]) != TLSF_OK;
+        *refused += tlsf_heap_free(&heap, blocks[k]) != TLSF_OK;
+        *refused += tlsf_heap_malloc(&heap, 1 + next() % 512, &blocks[k]) != TLSF_OK;
         *places = *places * 31 + blocks[k].place;
     }
     double taken = seconds() - start;
-    tlsf_destroy(heap);
+    tlsf_heap_destroy(heap);
     return taken;
 }
 

@@ -1,10 +1,10 @@
-/* Images through tlsf.h: the bytes of one, byte by byte; rooms that are too small; bytes that are no image; and heaps that
+/* Images through tlsf_heap.h: the bytes of one, byte by byte; rooms that are too small; bytes that are no image; and heaps that
  * go on alike once one is saved and loaded. */
 #include <stdlib.h>
 #include <string.h>
 
 #include "cases.h"
-#include "tlsf.h"
+#include "tlsf_heap.h"
 
 enum { SMALL = 1536, LARGE = 1520 + 16 * 300, MOST_LIVE = 200, REQUESTS = 20000 };
 
@@ -38,17 +38,17 @@ static void the_bytes(void)
     tlsf_heap heap = {0};
     uint64_t count = 0;
     vector(wanted);
-    expect(TLSF_IMAGE_BYTES(1) == SMALL && TLSF_IMAGE_BYTES(65535) == 1050080, "how many bytes an image has");
-    expect(tlsf_create(1, &heap) == TLSF_OK && tlsf_add_pool(&heap, 0, 64) == TLSF_OK, "a heap of one record");
+    expect(TLSF_HEAP_IMAGE_BYTES(1) == SMALL && TLSF_HEAP_IMAGE_BYTES(65535) == 1050080, "how many bytes an image has");
+    expect(tlsf_heap_create(1, &heap) == TLSF_OK && tlsf_heap_add_pool(&heap, 0, 64) == TLSF_OK, "a heap of one record");
     memset(bytes, 0xa5, sizeof bytes);
-    expect(tlsf_save(&heap, bytes, sizeof bytes, &count) == TLSF_OK && count == SMALL, "its image is put");
+    expect(tlsf_heap_save(&heap, bytes, sizeof bytes, &count) == TLSF_OK && count == SMALL, "its image is put");
     expect(memcmp(bytes, wanted, SMALL) == 0, "the bytes of the image");
     expect(are_all(bytes + SMALL, 16, 0xa5), "the bytes behind it stay");
     bool told = true, put = true, stay = true;
     for (size_t room = 0; room < SMALL; room++) {
         memset(bytes, 0xa5, sizeof bytes);
         count = 4711;
-        told = told && tlsf_save(&heap, bytes, room, &count) == TLSF_NO_ROOM && count == room;
+        told = told && tlsf_heap_save(&heap, bytes, room, &count) == TLSF_NO_ROOM && count == room;
         put = put && memcmp(bytes, wanted, room) == 0;
         stay = stay && are_all(bytes + room, sizeof bytes - room, 0xa5);
     }
@@ -56,17 +56,17 @@ static void the_bytes(void)
     expect(put, "each smaller room: a beginning of the image");
     expect(stay, "each smaller room: no byte behind it");
     memset(bytes, 0xa5, sizeof bytes);
-    expect(tlsf_save(&heap, bytes, SMALL, &count) == TLSF_OK && count == SMALL && memcmp(bytes, wanted, SMALL) == 0, "a room of just its length");
-    tlsf_block block;
-    expect(tlsf_malloc(&heap, 64, &block) == TLSF_OK && block.place == 0, "the heap goes on");
-    tlsf_destroy(heap);
+    expect(tlsf_heap_save(&heap, bytes, SMALL, &count) == TLSF_OK && count == SMALL && memcmp(bytes, wanted, SMALL) == 0, "a room of just its length");
+    tlsf_heap_block block;
+    expect(tlsf_heap_malloc(&heap, 64, &block) == TLSF_OK && block.place == 0, "the heap goes on");
+    tlsf_heap_destroy(heap);
 }
 
 /* No heap comes of these bytes, and what out points to stays. */
 static bool refused(const unsigned char *bytes, size_t length, uint32_t status)
 {
     tlsf_heap none = {0};
-    return tlsf_load(bytes, length, &none) == status && none.at == NULL;
+    return tlsf_heap_load(bytes, length, &none) == status && none.at == NULL;
 }
 
 static void broken_bytes(void)
@@ -101,7 +101,7 @@ static void broken_bytes(void)
     for (size_t k = 0; k < sizeof changes / sizeof changes[0]; k++) {
         vector(bytes);
         bytes[changes[k].at] = changes[k].byte;
-        expect(refused(bytes, SMALL, changes[k].status), tlsf_status_name(changes[k].status));
+        expect(refused(bytes, SMALL, changes[k].status), tlsf_heap_status_name(changes[k].status));
     }
 }
 
@@ -109,16 +109,16 @@ static void loaded_vector(void)
 {
     unsigned char bytes[SMALL];
     tlsf_heap heap = {0};
-    tlsf_row row;
-    tlsf_block block;
+    tlsf_heap_row row;
+    tlsf_heap_block block;
     uint64_t count = 0;
     vector(bytes);
-    expect(tlsf_load(bytes, SMALL, &heap) == TLSF_OK, "the image is loaded");
+    expect(tlsf_heap_load(bytes, SMALL, &heap) == TLSF_OK, "the image is loaded");
     memset(bytes, 0, sizeof bytes);
-    expect(tlsf_check(&heap), "its table is whole");
-    expect(tlsf_walk(&heap, 0, &row, 1, &count) == TLSF_OK && count == 1 && row.place == 0 && row.size == 64 && !row.used, "it has the row of the image");
-    expect(tlsf_malloc(&heap, 60, &block) == TLSF_OK && block.place == 0 && tlsf_malloc(&heap, 1, &block) == TLSF_NO_FIT, "it serves and refuses");
-    tlsf_destroy(heap);
+    expect(tlsf_heap_check(&heap), "its table is whole");
+    expect(tlsf_heap_walk(&heap, 0, &row, 1, &count) == TLSF_OK && count == 1 && row.place == 0 && row.size == 64 && !row.used, "it has the row of the image");
+    expect(tlsf_heap_malloc(&heap, 60, &block) == TLSF_OK && block.place == 0 && tlsf_heap_malloc(&heap, 1, &block) == TLSF_NO_FIT, "it serves and refuses");
+    tlsf_heap_destroy(heap);
 }
 
 /* ---- a heap, and the one that its image is ---- */
@@ -135,7 +135,7 @@ static uint64_t below(uint64_t bound)
 
 /* The live blocks; new ones may have another slot in the second heap. */
 static tlsf_heap heaps[2];
-static tlsf_block live[2][MOST_LIVE];
+static tlsf_heap_block live[2][MOST_LIVE];
 static size_t lives;
 
 /* One random request of both heaps: the answers are the same but for slots. */
@@ -143,15 +143,15 @@ static bool both_answer(unsigned heap_count)
 {
     uint64_t kind = below(5), bytes = below(6) == 0 ? below(30000) : below(400), align = 1ull << below(10), at = lives ? below(lives) : 0;
     uint32_t status[2] = {0, 0};
-    tlsf_block given[2] = {{0, 0}, {0, 0}};
+    tlsf_heap_block given[2] = {{0, 0}, {0, 0}};
     if ((kind >= 3 && lives == 0) || (kind < 3 && lives == MOST_LIVE)) {
         return true;
     }
     for (unsigned h = 0; h < heap_count; h++) {
-        status[h] = kind < 2    ? tlsf_malloc(&heaps[h], bytes, &given[h])
-                    : kind == 2 ? tlsf_memalign(&heaps[h], align, bytes, &given[h])
-                    : kind == 3 ? tlsf_free(&heaps[h], live[h][at])
-                                : tlsf_realloc(&heaps[h], live[h][at], bytes, &given[h]);
+        status[h] = kind < 2    ? tlsf_heap_malloc(&heaps[h], bytes, &given[h])
+                    : kind == 2 ? tlsf_heap_memalign(&heaps[h], align, bytes, &given[h])
+                    : kind == 3 ? tlsf_heap_free(&heaps[h], live[h][at])
+                                : tlsf_heap_realloc(&heaps[h], live[h][at], bytes, &given[h]);
     }
     bool same = heap_count == 1 || (status[0] == status[1] && given[0].place == given[1].place);
     for (unsigned h = 0; h < heap_count && status[0] == TLSF_OK; h++) {
@@ -172,13 +172,13 @@ static bool both_answer(unsigned heap_count)
 
 static bool same_rows(void)
 {
-    static tlsf_row rows[2][300];
+    static tlsf_heap_row rows[2][300];
     bool same = true;
     for (uint64_t base = 0; base <= 65536; base += 32768) {
         uint64_t count[2] = {0, 1};
         memset(rows, 0, sizeof rows);
         for (unsigned h = 0; h < 2; h++) {
-            same = tlsf_walk(&heaps[h], base, rows[h], 300, &count[h]) == TLSF_OK && same;
+            same = tlsf_heap_walk(&heaps[h], base, rows[h], 300, &count[h]) == TLSF_OK && same;
         }
         same = same && count[0] == count[1] && memcmp(rows[0], rows[1], sizeof rows[0]) == 0;
     }
@@ -190,9 +190,9 @@ static void saved_and_loaded(void)
     static unsigned char image[LARGE], again[LARGE];
     tlsf_heap none = {0};
     uint64_t count = 0;
-    expect(tlsf_create(300, &heaps[0]) == TLSF_OK, "a heap of 300 records");
+    expect(tlsf_heap_create(300, &heaps[0]) == TLSF_OK, "a heap of 300 records");
     for (uint64_t base = 0; base <= 65536; base += 32768) {
-        tlsf_add_pool(&heaps[0], base, 16384);
+        tlsf_heap_add_pool(&heaps[0], base, 16384);
     }
     for (unsigned k = 0; k < REQUESTS; k++) {
         both_answer(1);
@@ -200,21 +200,21 @@ static void saved_and_loaded(void)
     expect(lives > 20, "blocks are live");
     for (unsigned round = 0; round < 10; round++) {
         heaps[1] = none;
-        expect(tlsf_save(&heaps[0], image, LARGE, &count) == TLSF_OK && count == LARGE, "it is saved");
-        expect(tlsf_load(image, LARGE, &heaps[1]) == TLSF_OK, "and loaded");
-        expect(tlsf_save(&heaps[1], again, LARGE, &count) == TLSF_OK && memcmp(image, again, LARGE) == 0, "the image of what is loaded is the same");
+        expect(tlsf_heap_save(&heaps[0], image, LARGE, &count) == TLSF_OK && count == LARGE, "it is saved");
+        expect(tlsf_heap_load(image, LARGE, &heaps[1]) == TLSF_OK, "and loaded");
+        expect(tlsf_heap_save(&heaps[1], again, LARGE, &count) == TLSF_OK && memcmp(image, again, LARGE) == 0, "the image of what is loaded is the same");
         memcpy(live[1], live[0], sizeof live[0]);
         bool same = same_rows();
         for (unsigned k = 0; k < REQUESTS; k++) {
             same = both_answer(2) && same;
         }
         expect(same && same_rows(), "both heaps answer alike");
-        expect(tlsf_check(&heaps[0]) && tlsf_check(&heaps[1]), "both tables are whole");
-        tlsf_destroy(heaps[0]);
+        expect(tlsf_heap_check(&heaps[0]) && tlsf_heap_check(&heaps[1]), "both tables are whole");
+        tlsf_heap_destroy(heaps[0]);
         heaps[0] = heaps[1];
         memcpy(live[0], live[1], sizeof live[0]);
     }
-    tlsf_destroy(heaps[0]);
+    tlsf_heap_destroy(heaps[0]);
 }
 
 int main(void)

@@ -14,8 +14,8 @@
 #define CALL(name) plain_##name
 static plain_heap heap;
 #else
-#include "tlsf.h"
-#define CALL(name) tlsf_##name
+#include "tlsf_heap.h"
+#define CALL(name) tlsf_heap_##name
 static tlsf_heap heap;
 #endif
 
@@ -25,7 +25,7 @@ static tlsf_heap heap;
 
 enum { MOST = 60000, PAIRS = 20000, MOST_OWN = 400, CALLS = 4000 };
 
-static tlsf_block blocks[MOST], given;
+static tlsf_heap_block blocks[MOST], given;
 static volatile uint32_t status;
 static uint64_t state = 1;
 
@@ -35,7 +35,7 @@ static uint32_t next(void)
     return (uint32_t)(state >> 33);
 }
 
-APART static void counted_nothing(tlsf_block block)
+APART static void counted_nothing(tlsf_heap_block block)
 {
     status = block.place;
 }
@@ -45,7 +45,7 @@ APART static void counted_malloc(uint64_t bytes)
     status = CALL(malloc)(&heap, bytes, &given);
 }
 
-APART static void counted_free(tlsf_block block)
+APART static void counted_free(tlsf_heap_block block)
 {
     status = CALL(free)(&heap, block);
 }
@@ -55,7 +55,7 @@ APART static void counted_memalign(uint64_t align, uint64_t bytes)
     status = CALL(memalign)(&heap, align, bytes, &given);
 }
 
-APART static void counted_realloc(tlsf_block block, uint64_t bytes)
+APART static void counted_realloc(tlsf_heap_block block, uint64_t bytes)
 {
     status = CALL(realloc)(&heap, block, bytes, &given);
 }
@@ -63,7 +63,7 @@ APART static void counted_realloc(tlsf_block block, uint64_t bytes)
 static void must(uint32_t answered)
 {
     if (answered != TLSF_OK) {
-        printf("a state can't be made: %s\n", tlsf_status_name(answered));
+        printf("a state can't be made: %s\n", tlsf_heap_status_name(answered));
         exit(1);
     }
 }
@@ -106,18 +106,18 @@ static void begin(uint32_t live)
     }
 }
 
-static tlsf_block live_block(uint64_t bytes)
+static tlsf_heap_block live_block(uint64_t bytes)
 {
-    tlsf_block block;
+    tlsf_heap_block block;
     must(CALL(malloc)(&heap, bytes, &block));
     return block;
 }
 
 /* What stands in front of a block and behind it, and whether there is a free block of what they are together. */
-static const char *sides(uint32_t live, int before, int behind, bool full, tlsf_block *middle)
+static const char *sides(uint32_t live, int before, int behind, bool full, tlsf_heap_block *middle)
 {
     static char told[128];
-    tlsf_block others[2][2], both, front, back;
+    tlsf_heap_block others[2][2], both, front, back;
     begin(live);
     must(CALL(add_pool)(&heap, WORK, 1u << 20));
     for (int side = 0; side < 2; side++) {
@@ -152,7 +152,7 @@ static const char *sides(uint32_t live, int before, int behind, bool full, tlsf_
 static void told(const char *call, const char *which)
 {
     CALLGRIND_DUMP_STATS;
-    printf("%s: %s: %s\n", call, which, tlsf_status_name(status));
+    printf("%s: %s: %s\n", call, which, tlsf_heap_status_name(status));
     CALL(destroy)(heap);
 }
 
@@ -161,7 +161,7 @@ static void frees(uint32_t live)
     for (int before = 0; before < PLACES; before++) {
         for (int behind = 0; behind < PLACES; behind++) {
             for (int full = 0; full < 2; full++) {
-                tlsf_block middle;
+                tlsf_heap_block middle;
                 const char *which = sides(live, before, behind, full, &middle);
                 counted_free(middle);
                 told("free", which);
@@ -177,7 +177,7 @@ static void moves(uint32_t live)
         for (int behind = 0; behind < PLACES; behind++) {
             for (int full = 0; full < 2; full++) {
                 for (int far = 0; far < 2; far++) {
-                    tlsf_block middle;
+                    tlsf_heap_block middle;
                     const char *which = sides(live, before, behind, full, &middle);
                     if (far) {
                         must(CALL(add_pool)(&heap, 2u * WORK, GREATEST));
@@ -197,7 +197,7 @@ static void moves(uint32_t live)
 static void grows(uint32_t live)
 {
     for (int behind = 0; behind < PLACES; behind++) {
-        tlsf_block middle;
+        tlsf_heap_block middle;
         const char *which = sides(live, ALONE, behind, true, &middle);
         counted_realloc(middle, 32);
         told("realloc", which);
@@ -209,7 +209,7 @@ static void grows(uint32_t live)
 static void splits(uint32_t live, int pools, uint32_t base, uint32_t bytes, uint64_t align, uint64_t wanted, bool full)
 {
     static const uint64_t others[] = {496, 512, (1u << 19) - 32, 1u << 19};
-    tlsf_block kept[4], large[2];
+    tlsf_heap_block kept[4], large[2];
     begin(live);
     if (full) {
         must(CALL(add_pool)(&heap, WORK, 1u << 22));
@@ -243,7 +243,7 @@ static void splits(uint32_t live, int pools, uint32_t base, uint32_t bytes, uint
 /* Any calls, one after the other in one heap. */
 static void anything(uint32_t live)
 {
-    static tlsf_block own[MOST_OWN];
+    static tlsf_heap_block own[MOST_OWN];
     uint32_t count = 0;
     state = 1;
     begin(live);
@@ -269,7 +269,7 @@ static void anything(uint32_t live)
             own[at] = given;
         }
         CALLGRIND_DUMP_STATS;
-        printf("%s: any: %s\n", kind == 0 ? "malloc" : kind == 1 ? "memalign" : kind == 2 ? "free" : "realloc", tlsf_status_name(status));
+        printf("%s: any: %s\n", kind == 0 ? "malloc" : kind == 1 ? "memalign" : kind == 2 ? "free" : "realloc", tlsf_heap_status_name(status));
     }
     CALL(destroy)(heap);
 }
@@ -278,7 +278,7 @@ static void worst(uint32_t live)
 {
     static const uint32_t sizes[] = {1056964608, 1u << 29, (1u << 29) + (1u << 24), 1u << 20};
     static const uint64_t wanted[] = {16, 512, 520, (1u << 29) - 512, (1u << 20) - 512, 1u << 19};
-    tlsf_block none = {0, 0};
+    tlsf_heap_block none = {0, 0};
     counted_nothing(none);
     CALLGRIND_DUMP_STATS;
     printf("nothing: no call: served\n");

@@ -1,9 +1,9 @@
-/* Memory: tlsf_create and tlsf_load take it twice, no other call takes any, tlsf_destroy gives both back, and where it is
+/* Memory: tlsf_heap_create and tlsf_heap_load take it twice, no other call takes any, tlsf_heap_destroy gives both back, and where it is
  * refused they say so. The library's two functions stand here over an array, as an embedded program would write them. */
 #include <string.h>
 
 #include "cases.h"
-#include "tlsf.h"
+#include "tlsf_heap.h"
 
 enum { RECORD = 16, HEAP = 1664, MOST_RECORDS = 65535 };
 
@@ -11,16 +11,10 @@ static _Alignas(16) unsigned char memory[4u << 20];
 static size_t taken, greatest, least;
 static unsigned takes, returns, live, refuse_at;
 
-/* What the library is told of a request: whether there is memory, and where. */
-struct tried {
-    bool ok;
-    unsigned char *p;
-};
-
 /* So many bytes at a multiple of align, which is at most 16. */
-struct tried rattle_alloc(size_t bytes, size_t align)
+struct rattle_tried rattle_alloc(size_t bytes, size_t align)
 {
-    struct tried none = {false, memory}, some = {true, memory + taken};
+    struct rattle_tried none = {false, memory}, some = {true, memory + taken};
     (void)align;
     takes++;
     if (takes == refuse_at || bytes > sizeof memory - taken) {
@@ -50,43 +44,43 @@ static void start(unsigned refused)
 
 static void calls(tlsf_heap *heap)
 {
-    tlsf_block one, other, third;
-    tlsf_row rows[4];
+    tlsf_heap_block one, other, third;
+    tlsf_heap_row rows[4];
     uint32_t bytes;
     uint64_t count;
-    static unsigned char image[TLSF_IMAGE_BYTES(1000)];
-    bool served = tlsf_add_pool(heap, 0, 4096) == TLSF_OK && tlsf_add_pool(heap, 8192, 64) == TLSF_OK;
-    served = tlsf_malloc(heap, 100, &one) == TLSF_OK && tlsf_memalign(heap, 256, 40, &other) == TLSF_OK && served;
-    served = tlsf_realloc(heap, one, 2000, &third) == TLSF_OK && tlsf_block_size(heap, third, &bytes) == TLSF_OK && served;
-    served = tlsf_walk(heap, 0, rows, 4, &count) == TLSF_OK && tlsf_check(heap) && served;
-    served = tlsf_save(heap, image, sizeof image, &count) == TLSF_OK && tlsf_save(heap, image, 100, &count) == TLSF_NO_ROOM && served;
-    served = tlsf_free(heap, third) == TLSF_OK && tlsf_free(heap, other) == TLSF_OK && served;
-    served = tlsf_remove_pool(heap, 8192) == TLSF_OK && served;
-    expect(served && tlsf_free(heap, other) == TLSF_BAD_POINTER, "each call is made");
+    static unsigned char image[TLSF_HEAP_IMAGE_BYTES(1000)];
+    bool served = tlsf_heap_add_pool(heap, 0, 4096) == TLSF_OK && tlsf_heap_add_pool(heap, 8192, 64) == TLSF_OK;
+    served = tlsf_heap_malloc(heap, 100, &one) == TLSF_OK && tlsf_heap_memalign(heap, 256, 40, &other) == TLSF_OK && served;
+    served = tlsf_heap_realloc(heap, one, 2000, &third) == TLSF_OK && tlsf_heap_block_size(heap, third, &bytes) == TLSF_OK && served;
+    served = tlsf_heap_walk(heap, 0, rows, 4, &count) == TLSF_OK && tlsf_heap_check(heap) && served;
+    served = tlsf_heap_save(heap, image, sizeof image, &count) == TLSF_OK && tlsf_heap_save(heap, image, 100, &count) == TLSF_NO_ROOM && served;
+    served = tlsf_heap_free(heap, third) == TLSF_OK && tlsf_heap_free(heap, other) == TLSF_OK && served;
+    served = tlsf_heap_remove_pool(heap, 8192) == TLSF_OK && served;
+    expect(served && tlsf_heap_free(heap, other) == TLSF_BAD_POINTER, "each call is made");
 }
 
 static void loads(void)
 {
-    static unsigned char image[TLSF_IMAGE_BYTES(1000)];
+    static unsigned char image[TLSF_HEAP_IMAGE_BYTES(1000)];
     tlsf_heap heap = {0};
     uint64_t count;
     start(0);
-    expect(tlsf_create(1000, &heap) == TLSF_OK && tlsf_save(&heap, image, sizeof image, &count) == TLSF_OK, "a heap is saved");
-    tlsf_destroy(heap);
+    expect(tlsf_heap_create(1000, &heap) == TLSF_OK && tlsf_heap_save(&heap, image, sizeof image, &count) == TLSF_OK, "a heap is saved");
+    tlsf_heap_destroy(heap);
     for (unsigned refused = 1; refused <= 2; refused++) {
         tlsf_heap none = {0};
         start(refused);
-        expect(tlsf_load(image, sizeof image, &none) == TLSF_OUT_OF_MEMORY, refused == 1 ? "load, where the first is refused" : "load, where the second is refused");
+        expect(tlsf_heap_load(image, sizeof image, &none) == TLSF_OUT_OF_MEMORY, refused == 1 ? "load, where the first is refused" : "load, where the second is refused");
         expect(none.at == NULL && live == 0, "what out points to stays, and what it took is given back");
     }
     start(3);
-    expect(tlsf_load(image, sizeof image, &heap) == TLSF_OK && takes == 2 && live == 2, "load takes memory twice");
+    expect(tlsf_heap_load(image, sizeof image, &heap) == TLSF_OK && takes == 2 && live == 2, "load takes memory twice");
     calls(&heap);
-    tlsf_destroy(heap);
+    tlsf_heap_destroy(heap);
     expect(takes == 2 && returns == 2 && live == 0, "no other call takes any, and destroy gives both back");
     start(0);
     image[0] = 0;
-    expect(tlsf_load(image, sizeof image, &heap) == TLSF_BROKEN_MAGIC && takes == 0, "bytes that are no image take no memory");
+    expect(tlsf_heap_load(image, sizeof image, &heap) == TLSF_BROKEN_MAGIC && takes == 0, "bytes that are no image take no memory");
 }
 
 /* The two that a heap takes: a table of so many records, and the heap itself. */
@@ -104,13 +98,13 @@ static void each_count(void)
     for (uint32_t records = 1; records <= MOST_RECORDS; records++) {
         tlsf_heap heap = {0};
         start(0);
-        made = made && tlsf_create(records, &heap) == TLSF_OK && has_taken(records);
+        made = made && tlsf_heap_create(records, &heap) == TLSF_OK && has_taken(records);
         if (!made) {
             printf("note: not with %u records\n", (unsigned)records);
             break;
         }
-        whole = whole && (records % 1000 != 0 || tlsf_check(&heap));
-        tlsf_destroy(heap);
+        whole = whole && (records % 1000 != 0 || tlsf_heap_check(&heap));
+        tlsf_heap_destroy(heap);
         returned = returned && live == 0 && returns == 2;
     }
     expect(made, "each count of records, 1 to 65,535: 16 bytes a record, and 1,664");
@@ -119,42 +113,42 @@ static void each_count(void)
 }
 
 /* A heap of so many records with a block, in a pool that it fills, and with other pools. */
-static bool make_saved(tlsf_heap *heap, uint32_t records, uint32_t pools, tlsf_block *block)
+static bool make_saved(tlsf_heap *heap, uint32_t records, uint32_t pools, tlsf_heap_block *block)
 {
-    bool served = tlsf_create(records, heap) == TLSF_OK;
+    bool served = tlsf_heap_create(records, heap) == TLSF_OK;
     for (uint32_t pool = 0; pool < pools; pool++) {
-        served = served && tlsf_add_pool(heap, 4096u * pool, 1024) == TLSF_OK;
+        served = served && tlsf_heap_add_pool(heap, 4096u * pool, 1024) == TLSF_OK;
     }
-    return served && tlsf_malloc(heap, 1024, block) == TLSF_OK;
+    return served && tlsf_heap_malloc(heap, 1024, block) == TLSF_OK;
 }
 
 /* Images of heaps of many counts of records, with up to eight pools: a heap comes of each, and has the
  * same image and the same block. */
 static bool loads_what_is_saved(uint32_t records, uint32_t pools)
 {
-    static unsigned char image[TLSF_IMAGE_BYTES(MOST_RECORDS)];
-    static unsigned char again[TLSF_IMAGE_BYTES(MOST_RECORDS)];
+    static unsigned char image[TLSF_HEAP_IMAGE_BYTES(MOST_RECORDS)];
+    static unsigned char again[TLSF_HEAP_IMAGE_BYTES(MOST_RECORDS)];
     tlsf_heap heap = {0}, other = {0};
-    tlsf_block block = {0, 0};
+    tlsf_heap_block block = {0, 0};
     uint64_t length = 0, other_length = 0;
     start(0);
     bool served = make_saved(&heap, records, pools, &block);
-    served = served && tlsf_save(&heap, image, sizeof image, &length) == TLSF_OK;
+    served = served && tlsf_heap_save(&heap, image, sizeof image, &length) == TLSF_OK;
     if (heap.at != NULL) {
-        tlsf_destroy(heap);
+        tlsf_heap_destroy(heap);
     }
     start(0);
-    if (!served || length != TLSF_IMAGE_BYTES(records) || tlsf_load(image, length, &other) != TLSF_OK) {
+    if (!served || length != TLSF_HEAP_IMAGE_BYTES(records) || tlsf_heap_load(image, length, &other) != TLSF_OK) {
         return false;
     }
-    served = has_taken(records) && tlsf_check(&other);
-    served = served && tlsf_save(&other, again, sizeof again, &other_length) == TLSF_OK;
+    served = has_taken(records) && tlsf_heap_check(&other);
+    served = served && tlsf_heap_save(&other, again, sizeof again, &other_length) == TLSF_OK;
     served = served && other_length == length && memcmp(image, again, length) == 0;
-    served = served && tlsf_free(&other, block) == TLSF_OK;
+    served = served && tlsf_heap_free(&other, block) == TLSF_OK;
     for (uint32_t pool = 0; pool < pools; pool++) {
-        served = served && tlsf_remove_pool(&other, 4096u * pool) == TLSF_OK;
+        served = served && tlsf_heap_remove_pool(&other, 4096u * pool) == TLSF_OK;
     }
-    tlsf_destroy(other);
+    tlsf_heap_destroy(other);
     return served;
 }
 
@@ -174,26 +168,26 @@ int main(void)
 {
     tlsf_heap heap = {0};
     start(0);
-    expect(tlsf_create(1000, &heap) == TLSF_OK, "create with memory");
+    expect(tlsf_heap_create(1000, &heap) == TLSF_OK, "create with memory");
     expect(takes == 2 && live == 2, "create takes memory twice");
     calls(&heap);
     expect(takes == 2 && returns == 0, "no other call takes any or gives any back");
-    tlsf_destroy(heap);
+    tlsf_heap_destroy(heap);
     expect(takes == 2 && returns == 2 && live == 0, "destroy gives both back");
     for (unsigned refused = 1; refused <= 2; refused++) {
         tlsf_heap none = {0};
         start(refused);
-        expect(tlsf_create(1000, &none) == TLSF_OUT_OF_MEMORY, refused == 1 ? "create, where the first is refused" : "create, where the second is refused");
+        expect(tlsf_heap_create(1000, &none) == TLSF_OUT_OF_MEMORY, refused == 1 ? "create, where the first is refused" : "create, where the second is refused");
         expect(none.at == NULL, "what out points to stays");
         expect(live == 0, "what it took is given back");
     }
     start(3);
-    expect(tlsf_create(65535, &heap) == TLSF_OK, "create, where a third would be refused");
+    expect(tlsf_heap_create(65535, &heap) == TLSF_OK, "create, where a third would be refused");
     expect(taken == 1050224, "a heap of 65,535 records takes 1,050,224 bytes");
-    tlsf_destroy(heap);
+    tlsf_heap_destroy(heap);
     expect(live == 0, "and its end");
     start(0);
-    expect(tlsf_create(0, &heap) == TLSF_BAD_COUNT && takes == 0, "a bad count takes no memory");
+    expect(tlsf_heap_create(0, &heap) == TLSF_BAD_COUNT && takes == 0, "a bad count takes no memory");
     loads();
     each_count();
     many_loads();

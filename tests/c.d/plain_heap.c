@@ -146,7 +146,7 @@ static bool is_free(const plain_heap *heap, uint16_t slot)
     return slot != NIL && state_of(&heap->records[slot]) == FREE;
 }
 
-static bool is_live(const plain_heap *heap, tlsf_block block)
+static bool is_live(const plain_heap *heap, tlsf_heap_block block)
 {
     return block.slot < heap->count && state_of(&heap->records[block.slot]) == LIVE && heap->records[block.slot].place == block.place;
 }
@@ -200,7 +200,7 @@ uint32_t plain_add_pool(plain_heap *heap, uint64_t base, uint64_t bytes)
     return TLSF_OK;
 }
 
-uint32_t plain_malloc(plain_heap *heap, uint64_t bytes, tlsf_block *out)
+uint32_t plain_malloc(plain_heap *heap, uint64_t bytes, tlsf_heap_block *out)
 {
     if (bytes == 0) {
         return TLSF_ZERO_SIZE;
@@ -229,7 +229,7 @@ uint32_t plain_malloc(plain_heap *heap, uint64_t bytes, tlsf_block *out)
     return TLSF_OK;
 }
 
-uint32_t plain_memalign(plain_heap *heap, uint64_t align, uint64_t bytes, tlsf_block *out)
+uint32_t plain_memalign(plain_heap *heap, uint64_t align, uint64_t bytes, tlsf_heap_block *out)
 {
     if (align == 0 || align > 1u << 29 || (align & (align - 1)) != 0) {
         return TLSF_BAD_ALIGN;
@@ -265,7 +265,7 @@ uint32_t plain_memalign(plain_heap *heap, uint64_t align, uint64_t bytes, tlsf_b
     return TLSF_OK;
 }
 
-uint32_t plain_free(plain_heap *heap, tlsf_block block)
+uint32_t plain_free(plain_heap *heap, tlsf_heap_block block)
 {
     if (!is_live(heap, block)) {
         return TLSF_BAD_POINTER;
@@ -287,7 +287,7 @@ uint32_t plain_free(plain_heap *heap, tlsf_block block)
     return TLSF_OK;
 }
 
-uint32_t plain_realloc(plain_heap *heap, tlsf_block block, uint64_t bytes, tlsf_block *out)
+uint32_t plain_realloc(plain_heap *heap, tlsf_heap_block block, uint64_t bytes, tlsf_heap_block *out)
 {
     if (!is_live(heap, block)) {
         return TLSF_BAD_POINTER;

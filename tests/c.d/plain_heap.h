@@ -2,7 +2,7 @@
 #ifndef PLAIN_HEAP_H
 #define PLAIN_HEAP_H
 
-#include "tlsf.h"
+#include "tlsf_heap.h"
 
 enum { PLAIN_LEVELS = 22, PLAIN_CLASSES = 32 * PLAIN_LEVELS, PLAIN_POOLS = 8 };
 
@@ -25,13 +25,13 @@ typedef struct plain_heap {
     struct plain_pool pools[PLAIN_POOLS];
 } plain_heap;
 
-/* The calls of tlsf.h, with its statuses. */
+/* The calls of tlsf_heap.h, with its statuses. */
 uint32_t plain_create(uint32_t records, plain_heap *heap);
 void plain_destroy(plain_heap heap);
 uint32_t plain_add_pool(plain_heap *heap, uint64_t base, uint64_t bytes);
-uint32_t plain_malloc(plain_heap *heap, uint64_t bytes, tlsf_block *out);
-uint32_t plain_memalign(plain_heap *heap, uint64_t align, uint64_t bytes, tlsf_block *out);
-uint32_t plain_free(plain_heap *heap, tlsf_block block);
-uint32_t plain_realloc(plain_heap *heap, tlsf_block block, uint64_t bytes, tlsf_block *out);
+uint32_t plain_malloc(plain_heap *heap, uint64_t bytes, tlsf_heap_block *out);
+uint32_t plain_memalign(plain_heap *heap, uint64_t align, uint64_t bytes, tlsf_heap_block *out);
+uint32_t plain_free(plain_heap *heap, tlsf_heap_block block);
+uint32_t plain_realloc(plain_heap *heap, tlsf_heap_block block, uint64_t bytes, tlsf_heap_block *out);
 
 #endif

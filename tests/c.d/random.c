@@ -1,9 +1,9 @@
-/* A long random run through tlsf.h beside a plain model: an array of blocks in order of place, searched from end to end. */
+/* A long random run through tlsf_heap.h beside a plain model: an array of blocks in order of place, searched from end to end. */
 #include <stdlib.h>
 #include <string.h>
 
 #include "cases.h"
-#include "tlsf.h"
+#include "tlsf_heap.h"
 
 enum { CLASSES = 704, MOST_POOLS = 8, MOST_RECORDS = 40, STATUSES = 12 };
 #define GREATEST_SIZE 1073741808u
@@ -139,7 +139,7 @@ static uint32_t model_memalign(uint64_t align, uint64_t bytes, uint64_t *place)
     return TLSF_OK;
 }
 
-static uint64_t find_live(tlsf_block block)
+static uint64_t find_live(tlsf_heap_block block)
 {
     for (uint64_t k = 0; k < count; k++) {
         if (blocks[k].live && blocks[k].place == block.place && blocks[k].slot == block.slot) {
@@ -170,7 +170,7 @@ static void model_release(uint64_t at)
 }
 
 /* Whether it moves goes to *moves, and where it is then to *place. */
-static uint32_t model_realloc(tlsf_block block, uint64_t bytes, uint64_t *place, bool *moves)
+static uint32_t model_realloc(tlsf_heap_block block, uint64_t bytes, uint64_t *place, bool *moves)
 {
     uint64_t at = find_live(block);
     *moves = false;
@@ -270,7 +270,7 @@ static bool slot_is_new(uint16_t slot, uint64_t except)
 }
 
 /* A block that was given is where the model has it, with a slot of its own, which the model takes. */
-static bool takes(tlsf_block given, uint64_t place)
+static bool takes(tlsf_heap_block given, uint64_t place)
 {
     for (uint64_t k = 0; k < count; k++) {
         if (blocks[k].live && blocks[k].place == place && given.place == place) {
@@ -292,9 +292,9 @@ static uint64_t some_bytes(void)
 }
 
 /* A block that is live, or was, or never was. */
-static tlsf_block some_block(void)
+static tlsf_heap_block some_block(void)
 {
-    tlsf_block block = {(uint32_t)(16 * below(300)), (uint16_t)below(MOST_RECORDS)};
+    tlsf_heap_block block = {(uint32_t)(16 * below(300)), (uint16_t)below(MOST_RECORDS)};
     uint64_t k = below(count + 2);
     if (k < count) {
         block.place = (uint32_t)blocks[k].place;
@@ -303,23 +303,23 @@ static tlsf_block some_block(void)
     return block;
 }
 
-static bool same(tlsf_block a, tlsf_block b)
+static bool same(tlsf_heap_block a, tlsf_heap_block b)
 {
     return a.place == b.place && a.slot == b.slot;
 }
 
 static bool ask_for_block(void)
 {
-    const tlsf_block nothing = {0xdeadbeef, 0xabcd};
-    tlsf_block given = nothing;
+    const tlsf_heap_block nothing = {0xdeadbeef, 0xabcd};
+    tlsf_heap_block given = nothing;
     uint64_t bytes = some_bytes(), place = 0, align = below(3) == 0 ? 1ull << below(32) : 16;
     align = below(20) == 0 ? align + 1 : align;
     uint32_t status, wanted;
     if (below(2) == 0) {
-        status = tlsf_malloc(&heap, bytes, &given);
+        status = tlsf_heap_malloc(&heap, bytes, &given);
         wanted = model_memalign(16, bytes, &place);
     } else {
-        status = tlsf_memalign(&heap, align, bytes, &given);
+        status = tlsf_heap_memalign(&heap, align, bytes, &given);
         wanted = model_memalign(align, bytes, &place);
     }
     met[status]++;
@@ -328,12 +328,12 @@ static bool ask_for_block(void)
 
 static bool ask_for_realloc(void)
 {
-    tlsf_block block = some_block();
-    const tlsf_block nothing = {0xdeadbeef, 0xabcd};
-    tlsf_block given = nothing;
+    tlsf_heap_block block = some_block();
+    const tlsf_heap_block nothing = {0xdeadbeef, 0xabcd};
+    tlsf_heap_block given = nothing;
     uint64_t bytes = some_bytes(), place = 0;
     bool moves = false;
-    uint32_t status = tlsf_realloc(&heap, block, bytes, &given);
+    uint32_t status = tlsf_heap_realloc(&heap, block, bytes, &given);
     uint32_t wanted = model_realloc(block, bytes, &place, &moves);
     met[status]++;
     if (status != wanted || status != TLSF_OK || bytes == 0) {
@@ -345,13 +345,13 @@ static bool ask_for_realloc(void)
 
 static bool ask_for_free(void)
 {
-    tlsf_block block = some_block();
-    uint32_t size = 0xdeadbeef, status = tlsf_block_size(&heap, block, &size);
+    tlsf_heap_block block = some_block();
+    uint32_t size = 0xdeadbeef, status = tlsf_heap_block_size(&heap, block, &size);
     uint64_t at = find_live(block);
     if (status != (at == count ? TLSF_BAD_POINTER : TLSF_OK) || size != (at == count ? 0xdeadbeef : blocks[at].size)) {
         return false;
     }
-    status = tlsf_free(&heap, block);
+    status = tlsf_heap_free(&heap, block);
     met[status]++;
     if (at == count) {
         return status == TLSF_BAD_POINTER;
@@ -365,12 +365,12 @@ static bool ask_for_pool(void)
     uint64_t base = 16 * below(300), bytes = 16 * below(below(2) == 0 ? 12 : 120), status;
     base = below(8) == 0 ? base + 8 : base;
     if (below(3) > 0) {
-        status = tlsf_add_pool(&heap, base, bytes);
+        status = tlsf_heap_add_pool(&heap, base, bytes);
         met[status]++;
         return status == model_add_pool(base, bytes);
     }
     base = pool_count > 0 && below(2) == 0 ? pools[below(pool_count)][0] : base;
-    status = tlsf_remove_pool(&heap, base);
+    status = tlsf_heap_remove_pool(&heap, base);
     met[status]++;
     return status == model_remove_pool(base);
 }
@@ -380,9 +380,9 @@ static bool agrees(void)
 {
     uint64_t seen = 0;
     for (uint64_t k = 0; k < pool_count; k++) {
-        tlsf_row rows[MOST_RECORDS];
+        tlsf_heap_row rows[MOST_RECORDS];
         uint64_t given = 0, at = 0;
-        if (tlsf_walk(&heap, pools[k][0], rows, MOST_RECORDS, &given) != TLSF_OK) {
+        if (tlsf_heap_walk(&heap, pools[k][0], rows, MOST_RECORDS, &given) != TLSF_OK) {
             return false;
         }
         while (at < count && blocks[at].place != pools[k][0]) {
@@ -396,7 +396,7 @@ static bool agrees(void)
         }
         seen += given;
     }
-    return seen == count && tlsf_check(&heap);
+    return seen == count && tlsf_heap_check(&heap);
 }
 
 static bool run(uint64_t seed, uint64_t how_many)
@@ -405,7 +405,7 @@ static bool run(uint64_t seed, uint64_t how_many)
     count = pool_count = 0;
     records = 1 + below(MOST_RECORDS);
     tlsf_heap made = {0};
-    if (tlsf_create((uint32_t)records, &made) != TLSF_OK) {
+    if (tlsf_heap_create((uint32_t)records, &made) != TLSF_OK) {
         return false;
     }
     heap = made;
@@ -416,7 +416,7 @@ static bool run(uint64_t seed, uint64_t how_many)
         good = kind < 18 ? ask_for_block() : kind < 30 ? ask_for_free() : kind < 37 ? ask_for_realloc() : ask_for_pool();
         good = good && agrees();
     }
-    tlsf_destroy(heap);
+    tlsf_heap_destroy(heap);
     return good;
 }
 
@@ -433,7 +433,7 @@ int main(int argc, char **argv)
     expect(good, "random runs answer as the plain model");
     for (uint32_t status = TLSF_OK; status <= TLSF_NO_POOL; status++) {
         if (status != TLSF_OUT_OF_MEMORY) {
-            expect(met[status] > 0, tlsf_status_name(status));
+            expect(met[status] > 0, tlsf_heap_status_name(status));
         }
     }
     expect(moved > 0, "blocks that move");

@@ -1,24 +1,19 @@
-/* Tables with one byte spoiled: tlsf_check is false exactly where that byte changed what a record means, and where it didn't
- * every later call answers as without it. The table is the first memory that tlsf_create takes; a record has sixteen bytes:
+/* Tables with one byte spoiled: tlsf_heap_check is false exactly where that byte changed what a record means, and where it didn't
+ * every later call answers as without it. The table is the first memory that tlsf_heap_create takes; a record has sixteen bytes:
  * place, size with the state in its low four bits, previous, next, previous free and next free. */
 #include <string.h>
 
 #include "cases.h"
-#include "tlsf.h"
+#include "tlsf_heap.h"
 
 enum { RECORDS = 80, RECORD = 16, CALLS = 200, MOST_HELD = 32 };
 
 static _Alignas(16) unsigned char memory[8192], kept[8192];
 static size_t taken;
 
-struct tried {
-    bool ok;
-    unsigned char *p;
-};
-
-struct tried rattle_alloc(size_t bytes, size_t align)
+struct rattle_tried rattle_alloc(size_t bytes, size_t align)
 {
-    struct tried some = {true, memory + taken};
+    struct rattle_tried some = {true, memory + taken};
     (void)align;
     taken += (bytes + 15) / 16 * 16;
     return some;
@@ -39,7 +34,7 @@ static uint32_t below(uint32_t most)
 
 /* What a program holds, and a number over all that its calls answered. */
 struct run {
-    tlsf_block held[MOST_HELD];
+    tlsf_heap_block held[MOST_HELD];
     uint32_t count;
     uint64_t answers;
 };
@@ -55,15 +50,15 @@ static void calls(tlsf_heap *heap, struct run *run, uint32_t from, unsigned many
     seed = from;
     for (unsigned k = 0; k < many; k++) {
         if (run->count < MOST_HELD && below(3) > 0) {
-            tlsf_block given = {0, 0};
-            uint32_t status = tlsf_malloc(heap, 1 + below(300), &given);
+            tlsf_heap_block given = {0, 0};
+            uint32_t status = tlsf_heap_malloc(heap, 1 + below(300), &given);
             tell(run, status, given.place);
             if (status == TLSF_OK) {
                 run->held[run->count++] = given;
             }
         } else if (run->count > 0) {
             uint32_t at = below(run->count);
-            tell(run, tlsf_free(heap, run->held[at]), run->held[at].place);
+            tell(run, tlsf_heap_free(heap, run->held[at]), run->held[at].place);
             run->held[at] = run->held[--run->count];
         }
     }
@@ -94,13 +89,13 @@ static bool byte_is_told(tlsf_heap *heap, const struct run *before, uint64_t wan
         memory[at] ^= way < 8 ? 1u << way : 255u;
         meaning(memory + at / RECORD * RECORD, is);
         bool same = memcmp(was, is, RECORD) == 0;
-        if (tlsf_check(heap) != same) {
+        if (tlsf_heap_check(heap) != same) {
             return false;
         }
         struct run after = *before;
         if (same) {
             calls(heap, &after, 4711, CALLS);
-            if (after.answers != wanted || !tlsf_check(heap)) {
+            if (after.answers != wanted || !tlsf_heap_check(heap)) {
                 return false;
             }
         }
@@ -114,9 +109,9 @@ int main(void)
         tlsf_heap heap = {0};
         struct run before = {0}, after;
         taken = 0;
-        bool made = tlsf_create(RECORDS, &heap) == TLSF_OK && tlsf_add_pool(&heap, 0, 4096) == TLSF_OK && tlsf_add_pool(&heap, 8192, 1024) == TLSF_OK;
+        bool made = tlsf_heap_create(RECORDS, &heap) == TLSF_OK && tlsf_heap_add_pool(&heap, 0, 4096) == TLSF_OK && tlsf_heap_add_pool(&heap, 8192, 1024) == TLSF_OK;
         calls(&heap, &before, round, CALLS);
-        expect(made && tlsf_check(&heap), "a heap that was in use is whole");
+        expect(made && tlsf_heap_check(&heap), "a heap that was in use is whole");
         memcpy(kept, memory, sizeof memory);
         after = before;
         calls(&heap, &after, 4711, CALLS);

@@ -21,7 +21,7 @@ use crate::status::{SERVED, number};
 ///
 /// The status is 0 or the number of `ZeroSize`, `NoFit` or `TableFull`.
 #[unsafe(no_mangle)]
-pub extern "C" fn tlsf_malloc(handle: &mut Handle, bytes: u64, out: &mut Block) -> u32
+pub extern "C" fn tlsf_heap_malloc(handle: &mut Handle, bytes: u64, out: &mut Block) -> u32
     ensures status { status_of (served out.new.slot bytes handle.old.value.content) ≡ result }
     ensures ok { result ≡ 0 → served out.new.slot bytes handle.old.value.content ≡ Ok (out.new.place, handle.new.value.content) }
     ensures slot_below { result ≡ 0 → out.new.slot < handle.old.value.content.records }
@@ -43,7 +43,12 @@ pub extern "C" fn tlsf_malloc(handle: &mut Handle, bytes: u64, out: &mut Block) 
 ///
 /// The status is 0 or the number of `BadAlign`, `ZeroSize`, `NoFit` or `TableFull`.
 #[unsafe(no_mangle)]
-pub extern "C" fn tlsf_memalign(handle: &mut Handle, align: u64, bytes: u64, out: &mut Block) -> u32
+pub extern "C" fn tlsf_heap_memalign(
+    handle: &mut Handle,
+    align: u64,
+    bytes: u64,
+    out: &mut Block,
+) -> u32
     ensures status { status_of (aligned out.new.slot align bytes handle.old.value.content) ≡ result }
     ensures ok { result ≡ 0 → aligned out.new.slot align bytes handle.old.value.content ≡ Ok (out.new.place, handle.new.value.content) }
     ensures multiple { result ≡ 0 → out.new.place % align ≡ 0 }
@@ -66,7 +71,7 @@ pub extern "C" fn tlsf_memalign(handle: &mut Handle, align: u64, bytes: u64, out
 ///
 /// The status is 0, or the number of `BadPointer` unless a live block has both the place and the slot.
 #[unsafe(no_mangle)]
-pub extern "C" fn tlsf_free(handle: &mut Handle, block: Block) -> u32
+pub extern "C" fn tlsf_heap_free(handle: &mut Handle, block: Block) -> u32
     ensures status { status_of (freed (λ slot. slot == block.slot) block.place handle.old.value.content) ≡ result }
     ensures ok { result ≡ 0 → freed (λ slot. slot == block.slot) block.place handle.old.value.content ≡ Ok handle.new.value.content }
     ensures unchanged { result ≢ 0 → IsUnchanged handle.old.value handle.new.value }
@@ -83,7 +88,7 @@ pub extern "C" fn tlsf_free(handle: &mut Handle, block: Block) -> u32
 ///
 /// The status is 0 or the number of `BadPointer`, `NoFit` or `TableFull`.
 #[unsafe(no_mangle)]
-pub extern "C" fn tlsf_realloc(
+pub extern "C" fn tlsf_heap_realloc(
     handle: &mut Handle,
     block: Block,
     bytes: u64,
@@ -110,7 +115,7 @@ pub extern "C" fn tlsf_realloc(
 ///
 /// The status is 0, or the number of `BadPointer` unless a live block has both the place and the slot.
 #[unsafe(no_mangle)]
-pub extern "C" fn tlsf_block_size(handle: &mut Handle, block: Block, out: &mut u32) -> u32
+pub extern "C" fn tlsf_heap_block_size(handle: &mut Handle, block: Block, out: &mut u32) -> u32
     ensures status { status_of (sized (λ slot. slot == block.slot) block.place handle.old.value.content) ≡ result }
     ensures ok { result ≡ 0 → sized (λ slot. slot == block.slot) block.place handle.old.value.content ≡ Ok out.new }
     ensures unchanged { IsUnchanged handle.old.value handle.new.value }

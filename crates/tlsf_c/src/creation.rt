@@ -18,7 +18,7 @@ use tlsf_heap::{Heap, StoreError};
 ///
 /// The status is 11 where the number isn't from 1 to 65,535, 9 where memory is refused, and else 0.
 #[unsafe(no_mangle)]
-pub extern "C" fn tlsf_create(alloc: Global, records: u32, out: &mut Made) -> u32
+pub extern "C" fn tlsf_heap_create(alloc: Global, records: u32, out: &mut Made) -> u32
     ensures made { result ≡ 0 → IsNew records out.new.value }
     ensures bad_count { (result ≡ bad_count) ↔ ((records ≡ 0) ⊎ (most_records < records)) }
     ensures known { (result ≡ 0) ⊎ ((result ≡ number OutOfMemory) ⊎ (result ≡ bad_count)) }
@@ -48,6 +48,6 @@ pub(crate) fn put(alloc: Global, heap: Heap, out: &mut Made) -> u32
 
 /// Ends the heap, and gives its memory back.
 #[unsafe(no_mangle)]
-pub extern "C" fn tlsf_destroy(alloc: Global, handle: Handle) {
+pub extern "C" fn tlsf_heap_destroy(alloc: Global, handle: Handle) {
     drop(handle.into_loose(alloc).into_box());
 }

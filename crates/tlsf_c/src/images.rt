@@ -21,7 +21,7 @@ use tlsf_heap::Heap;
 ///
 /// The status is 0 where the whole image is put, and else 14.
 #[unsafe(no_mangle)]
-pub extern "C" fn tlsf_save(handle: &mut Handle, bytes: &mut [u8], count: &mut u64) -> u32
+pub extern "C" fn tlsf_heap_save(handle: &mut Handle, bytes: &mut [u8], count: &mut u64) -> u32
     ensures saved { SavesInto handle.old.value.content result count.new bytes.old bytes.new }
     ensures unchanged { IsUnchanged handle.old.value handle.new.value }
 {
@@ -47,7 +47,7 @@ fn save_into(heap: &mut Heap, bytes: &mut [u8], count: &mut u64) -> u32
 /// The status is 0; or 101 to 112 where the bytes are no image, and the first rule broken is this less 100; or 9 where memory
 /// is refused.
 #[unsafe(no_mangle)]
-pub extern "C" fn tlsf_load(alloc: Global, bytes: &[u8], out: &mut Made) -> u32
+pub extern "C" fn tlsf_heap_load(alloc: Global, bytes: &[u8], out: &mut Made) -> u32
     ensures broken { (rule : BrokenRule) → first_broken bytes.now ≡ Some rule → result ≡ broken_number rule }
     ensures memory { first_broken bytes.now ≡ None → (result ≡ 0) ⊎ (result ≡ number OutOfMemory) }
     ensures loaded { result ≡ 0 → IsLoaded bytes.now out.new.value }

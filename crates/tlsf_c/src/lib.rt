@@ -1,4 +1,4 @@
-//! The heap for C programs: a static library over tlsf_heap, with the calls that tlsf.h declares.
+//! The heap for C programs: a static library over tlsf_heap, with the calls that c/tlsf_heap.h declares.
 #![tactic(auto)]
 
 mod block;

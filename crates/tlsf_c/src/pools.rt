@@ -13,7 +13,7 @@ use crate::status::{SERVED, number};
 ///
 /// The status is 0 or the number of `BadPool`, `PoolsFull` or `TableFull`.
 #[unsafe(no_mangle)]
-pub extern "C" fn tlsf_add_pool(handle: &mut Handle, base: u64, bytes: u64) -> u32
+pub extern "C" fn tlsf_heap_add_pool(handle: &mut Handle, base: u64, bytes: u64) -> u32
     ensures status { status_of (added base bytes handle.old.value.content) ≡ result }
     ensures ok { result ≡ 0 → added base bytes handle.old.value.content ≡ Ok handle.new.value.content }
     ensures unchanged { result ≢ 0 → IsUnchanged handle.old.value handle.new.value }
@@ -29,7 +29,7 @@ pub extern "C" fn tlsf_add_pool(handle: &mut Handle, base: u64, bytes: u64) -> u
 ///
 /// The status is 0 or the number of `NoPool` or `PoolInUse`.
 #[unsafe(no_mangle)]
-pub extern "C" fn tlsf_remove_pool(handle: &mut Handle, base: u64) -> u32
+pub extern "C" fn tlsf_heap_remove_pool(handle: &mut Handle, base: u64) -> u32
     ensures status { status_of (removed base handle.old.value.content) ≡ result }
     ensures ok { result ≡ 0 → removed base handle.old.value.content ≡ Ok handle.new.value.content }
     ensures unchanged { result ≢ 0 → IsUnchanged handle.old.value handle.new.value }

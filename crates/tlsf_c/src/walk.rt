@@ -19,7 +19,7 @@ use tlsf_heap::{Cursor, Heap};
 ///
 /// The status is 0, or the number of `NoPool` where no pool begins there.
 #[unsafe(no_mangle)]
-pub extern "C" fn tlsf_walk(
+pub extern "C" fn tlsf_heap_walk(
     handle: &mut Handle,
     base: u64,
     rows: &mut [Row],

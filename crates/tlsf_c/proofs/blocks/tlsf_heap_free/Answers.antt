@@ -2,7 +2,7 @@ use Rattle.std.proofs.Common.{◌≡◌, ◌==◌, Ok, subst}
 use Rattle.tlsf_heap.specs.Counted.{Counted}
 use Rattle.tlsf_heap.specs.Free.{free as freed}
 use Rattle.tlsf_heap.specs.Pointer.{Pointer}
-use Rattle.tlsf_c.proofs.blocks.tlsf_free.Goals as goal
+use Rattle.tlsf_c.proofs.blocks.tlsf_heap_free.Goals as goal
 
 -- the pointer freed is the block's, and the heap is the handle's
 pub returns-in-Ok-clause-ok : goal.returns-in-Ok-clause-ok

@@ -1,4 +1,4 @@
-use Rattle.tlsf_c.proofs.creation.tlsf_create.Goals as goal
+use Rattle.tlsf_c.proofs.creation.tlsf_heap_create.Goals as goal
 
 -- the heap that was put there is the one made
 pub returns-in-Ok-clause-made : goal.returns-in-Ok-clause-made

@@ -5,7 +5,7 @@ use Rattle.tlsf_heap.specs.Pointer.{Pointer, place_and_slot, slot_of}
 use Rattle.tlsf_heap.specs.Realloc.{realloc as reallocated}
 use Rattle.tlsf_c.specs.Status.{status_of}
 use Rattle.tlsf_c.proofs.ReallocGives.{gives_none}
-use Rattle.tlsf_c.proofs.blocks.tlsf_realloc.Goals as goal
+use Rattle.tlsf_c.proofs.blocks.tlsf_heap_realloc.Goals as goal
 
 pub returns-in-Ok-None-clause-status : goal.returns-in-Ok-None-clause-status
 returns-in-Ok-None-clause-status c =

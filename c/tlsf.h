@@ -1,0 +1,98 @@
+/* tlsf.h: the calls of Matthew Conte's tlsf 3.1, by their names and signatures, over a proved heap.
+ *
+ * A program written for his library compiles against this header as it is. docs/C.md has a table of
+ * what differs. The heap behind it is proved; these calls, in tlsf.c, aren't: its head says what
+ * they stand on. In short: a pointer is a multiple of 16; a block has at most 1,073,741,792 bytes;
+ * a heap has at most eight pools; a call that can't be served answers a null pointer; and a pointer
+ * that is no live block's is refused and changes nothing.
+ *
+ * All memory is what the program hands in. It begins at a multiple of 8, and isn't used by the
+ * program until the heap or the pool is gone. One call on a heap at a time.
+ */
+#ifndef TLSF_H
+#define TLSF_H
+
+#include <stddef.h>
+#include <stdint.h>
+
+#ifdef __cplusplus
+extern "C" {
+#endif
+
+/* A heap, and a pool of it. */
+typedef void *tlsf_t;
+typedef void *pool_t;
+
+/* A heap without a pool, in tlsf_size() bytes. */
+tlsf_t tlsf_create(void *mem);
+
+/* A heap and its first pool, in so many bytes, or a null pointer where tlsf_add_pool would refuse
+ * the pool. It has a record for each 256 of them, at least 64 and at most 65,535; each block takes
+ * one, live or free. */
+tlsf_t tlsf_create_with_pool(void *mem, size_t bytes);
+
+/* The same with so many records, from 1 to 65,535 (this call isn't Conte's). tlsf_size() counts
+ * 1,024 of them, or as many as the library was built with; each one takes 16 bytes. Where nothing
+ * is left for a pool there is none. */
+tlsf_t tlsf_create_records(void *mem, size_t bytes, uint32_t records);
+
+/* The heap is gone: its pointers are refused from then on. The memory is the program's again. */
+void tlsf_destroy(tlsf_t tlsf);
+
+/* The first pool: the one that the heap was made with, or else the first that was added. Where it
+ * is gone the next that is added takes its place; until then, as where there never was one, the
+ * answer is a null pointer. */
+pool_t tlsf_get_pool(tlsf_t tlsf);
+
+/* One more pool, or a null pointer: for fewer than 32 bytes, more than 1,073,741,808, a ninth pool,
+ * memory that the heap has already, no vacant record, or pools of some 4 GiB together. */
+pool_t tlsf_add_pool(tlsf_t tlsf, void *mem, size_t bytes);
+
+/* The pool is gone, unless a block of it is live: then it stays. */
+void tlsf_remove_pool(tlsf_t tlsf, pool_t pool);
+
+/* A block, or a null pointer; for no bytes a null pointer. At most 1,056,964,592 bytes are served:
+ * a block has more only by a realloc that grows it where it is. */
+void *tlsf_malloc(tlsf_t tlsf, size_t bytes);
+
+/* The same at a multiple of align: a power of two up to 2^21. */
+void *tlsf_memalign(tlsf_t tlsf, size_t align, size_t bytes);
+
+/* The block with room for so many bytes: where it is, or another with the same bytes in it, at a
+ * multiple of 16. Refused with a null pointer, it is as it was. Of a null pointer it is a malloc;
+ * for no bytes it is a free, and the answer a null pointer. */
+void *tlsf_realloc(tlsf_t tlsf, void *ptr, size_t size);
+
+/* The block is free. Nothing is done where the pointer is null or no live block's. */
+void tlsf_free(tlsf_t tlsf, void *ptr);
+
+/* How many bytes a live block has; 0 for a null pointer. The 16 bytes in front of any other are
+ * read. */
+size_t tlsf_block_size(void *ptr);
+
+/* The bytes that tlsf_create needs; what a block's address and size are multiples of; the least and
+ * the greatest block; what to add to a pool for one block (a multiple of 16); what each block takes
+ * beside its bytes. */
+size_t tlsf_size(void);
+size_t tlsf_align_size(void);
+size_t tlsf_block_size_min(void);
+size_t tlsf_block_size_max(void);
+size_t tlsf_pool_overhead(void);
+size_t tlsf_alloc_overhead(void);
+
+/* Calls the walker with each block of the pool, live or free, in order of address, as they were
+ * when the walk began; a null pointer stands for one that prints. It takes 12 bytes of stack for
+ * each block of the pool. */
+typedef void (*tlsf_walker)(void *ptr, size_t size, int used, void *user);
+void tlsf_walk_pool(pool_t pool, tlsf_walker walker, void *user);
+
+/* 0 where all is whole, else less than 0: the table, and the 16 bytes in front of each live block,
+ * of all pools or of one. Stack as for a walk. */
+int tlsf_check(tlsf_t tlsf);
+int tlsf_check_pool(pool_t pool);
+
+#ifdef __cplusplus
+}
+#endif
+
+#endif

@@ -1,0 +1,288 @@
+/* Each call of malloc's family, for a program on libtlsf_malloc.so: what it answers, errno, threads,
+ * and forks while threads ask. With the word `refused` pointers that are no live block's are freed,
+ * which the C library's own malloc wouldn't bear. With the word `served` it tells how many times one
+ * byte is served, with `hold` it ends with blocks held, and with `alone` there are no threads and no
+ * forks. */
+#define _GNU_SOURCE
+#include <errno.h>
+#include <malloc.h>
+#include <pthread.h>
+#include <stdint.h>
+#include <stdlib.h>
+#include <string.h>
+#include <sys/wait.h>
+#include <unistd.h>
+
+#include "cases.h"
+
+enum { THREADS = 4, FORKS = 100, STEPS = 2000, HELD = 64 };
+
+static bool holds(const unsigned char *bytes, size_t count, unsigned char value)
+{
+    for (size_t k = 0; k < count; k++) {
+        if (bytes[k] != value) {
+            return false;
+        }
+    }
+    return true;
+}
+
+static bool is_at(const void *address, size_t align)
+{
+    return address != NULL && (uintptr_t)address % align == 0;
+}
+
+/* More than any block has; the compiler isn't to know. */
+static volatile size_t huge = (size_t)1 << 40, half = (size_t)1 << 63, zero = 0;
+
+static void plain(void)
+{
+    unsigned char *none = malloc(zero), *other = malloc(zero);
+    expect(none != NULL && other != NULL && none != other, "malloc of no bytes: an address of its own");
+    free(none);
+    free(other);
+    free(NULL);
+    bool aligned = true;
+    for (size_t bytes = 1; bytes < 100; bytes++) {
+        unsigned char *block = malloc(bytes);
+        aligned = aligned && is_at(block, 16) && malloc_usable_size(block) >= bytes;
+        memset(block, 1, bytes);
+        free(block);
+    }
+    expect(aligned && malloc_usable_size(NULL) == 0, "malloc: a multiple of 16, with room");
+    errno = 0;
+    expect(malloc(huge) == NULL && errno == ENOMEM, "malloc of too much: ENOMEM");
+    unsigned char *dirty = malloc(3000);
+    memset(dirty, 0xff, 3000);
+    free(dirty);
+    unsigned char *zeros = calloc(30, 100);
+    expect(zeros != NULL && holds(zeros, 3000, 0), "calloc: zeros, where bytes were");
+    free(zeros);
+    errno = 0;
+    expect(calloc(half, 4) == NULL && errno == ENOMEM, "calloc of a product that is too much: ENOMEM");
+    errno = 0;
+    expect(calloc(huge, 1) == NULL && errno == ENOMEM, "calloc of too much: ENOMEM");
+}
+
+/* All of the room that malloc_usable_size tells is the block's own. */
+static void rooms(void)
+{
+    unsigned char *blocks[HELD];
+    bool own = true;
+    for (unsigned k = 0; k < HELD; k++) {
+        blocks[k] = k % 4 == 3 ? memalign(64, k) : malloc(3 * k);
+        memset(blocks[k], (int)k, malloc_usable_size(blocks[k]));
+    }
+    for (unsigned k = 0; k < HELD; k++) {
+        own = own && holds(blocks[k], malloc_usable_size(blocks[k]), (unsigned char)k);
+    }
+    for (unsigned k = 0; k < HELD; k++) {
+        free(blocks[k]);
+    }
+    expect(own, "malloc_usable_size: bytes of the block's own");
+}
+
+static void moves(void)
+{
+    unsigned char *block = realloc(NULL, 10);
+    size_t room = malloc_usable_size(block);
+    expect(room >= 10, "realloc of a null pointer: a malloc");
+    memset(block, 7, room);
+    unsigned char *behind = malloc(1);
+    unsigned char *volatile more = realloc(block, 5000);
+    expect(more != NULL && more != block && holds(more, room, 7), "realloc that moves: all bytes that there was room for");
+    errno = 0;
+    expect(realloc(more, huge) == NULL && errno == ENOMEM && holds(more, room, 7), "realloc of too much: ENOMEM, and the block stays");
+    errno = 0;
+    expect(reallocarray(more, half, 4) == NULL && errno == ENOMEM && holds(more, room, 7), "reallocarray of a product that is too much: ENOMEM, and the block stays");
+    unsigned char *array = reallocarray(more, 100, 100);
+    expect(array != NULL && malloc_usable_size(array) >= 10000 && holds(array, room, 7), "reallocarray");
+    unsigned char *less = realloc(array, 5);
+    expect(less != NULL && holds(less, 5, 7), "realloc to fewer bytes");
+    expect(realloc(less, zero) == NULL, "realloc to no bytes: a free");
+    free(behind);
+    unsigned char *at = memalign(4096, 100);
+    memset(at, 9, 100);
+    unsigned char *grown = realloc(at, 100000);
+    expect(grown != NULL && holds(grown, 100, 9), "realloc of an aligned block: its bytes");
+    free(grown);
+}
+
+static void aligned(void)
+{
+    bool memaligns = true, posix = true, allocs = true;
+    for (size_t align = 1; align <= (size_t)1 << 24; align *= 2) {
+        unsigned char *one = memalign(align, 100), *other = aligned_alloc(align, 2 * align);
+        void *third = NULL;
+        memaligns = memaligns && is_at(one, align) && is_at(one, 16);
+        allocs = allocs && is_at(other, align);
+        if (align >= sizeof(void *)) {
+            posix = posix && posix_memalign(&third, align, 50) == 0 && is_at(third, align);
+            memset(third, 3, 50);
+        }
+        memset(one, 1, 100);
+        memset(other, 2, 2 * align);
+        memaligns = memaligns && holds(one, 100, 1) && malloc_usable_size(one) >= 100;
+        free(one);
+        free(other);
+        free(third);
+    }
+    expect(memaligns, "memalign at each power of two up to 2^24");
+    expect(allocs, "aligned_alloc at each power of two up to 2^24");
+    expect(posix, "posix_memalign at each power of two up to 2^24");
+    void *out = &out;
+    expect(posix_memalign(&out, 24, 10) == EINVAL && posix_memalign(&out, 4, 10) == EINVAL && posix_memalign(&out, zero, 10) == EINVAL, "posix_memalign at no power of two, or a small one: EINVAL");
+    expect(posix_memalign(&out, 64, huge) == ENOMEM && out == &out, "posix_memalign of too much: ENOMEM, and out stays");
+    errno = 0;
+    expect(memalign(64, huge) == NULL && errno == ENOMEM, "memalign of too much: ENOMEM");
+    void *page = valloc(10), *pages = pvalloc(10);
+    expect(is_at(page, 4096) && is_at(pages, 4096) && malloc_usable_size(pages) >= 4096, "valloc and pvalloc");
+    free(page);
+    free(pages);
+}
+
+/* ---- threads, and forks ---- */
+
+static volatile bool stop;
+
+/* Holds blocks full of a byte of its own. Null where one was another's. */
+static void *ask(void *name)
+{
+    unsigned char *held[HELD] = {0}, byte = (unsigned char)(uintptr_t)name;
+    size_t sizes[HELD] = {0};
+    unsigned state = byte;
+    bool good = true;
+    for (unsigned step = 0; step < STEPS || (!stop && byte != 0); step++) {
+        state = state * 1664525u + 1013904223u;
+        unsigned k = (state >> 8) % HELD;
+        good = good && holds(held[k], sizes[k], byte);
+        sizes[k] = (state >> 16) % 500;
+        unsigned char *block = state % 3 ? realloc(held[k], sizes[k] + 1) : malloc(sizes[k] + 1);
+        if (state % 3 == 0) {
+            free(held[k]);
+        }
+        held[k] = block;
+        good = good && block != NULL;
+        memset(block, byte, sizes[k]);
+    }
+    for (unsigned k = 0; k < HELD; k++) {
+        free(held[k]);
+    }
+    return good ? name : NULL;
+}
+
+/* Handlers of a program that ask for memory themselves, registered before the first malloc. */
+static void *of_handlers;
+
+static void handler(void)
+{
+    free(of_handlers);
+    of_handlers = malloc(100);
+}
+
+__attribute__((constructor)) static void with_handlers(void)
+{
+    pthread_atfork(handler, handler, handler);
+}
+
+static void forks(void)
+{
+    pthread_t threads[THREADS];
+    bool good = true, served = true;
+    for (uintptr_t k = 0; k < THREADS; k++) {
+        pthread_create(&threads[k], NULL, ask, (void *)(k + 1));
+    }
+    for (unsigned k = 0; k < FORKS; k++) {
+        int status = 1;
+        pid_t child = fork();
+        if (child == 0) {
+            alarm(20);
+            char *text = malloc(1000);
+            strcpy(text, "a child's");
+            text = realloc(text, 100000);
+            bool right = strcmp(text, "a child's") == 0;
+            free(text);
+            _exit(right ? 0 : 1);
+        }
+        good = good && child > 0 && waitpid(child, &status, 0) == child && status == 0;
+    }
+    stop = true;
+    for (unsigned k = 0; k < THREADS; k++) {
+        void *answer = NULL;
+        pthread_join(threads[k], &answer);
+        served = served && answer != NULL;
+    }
+    expect(good, "a hundred children of a process whose threads ask are served");
+    expect(served, "each thread's bytes stay its own");
+}
+
+/* What is no live block's is refused, and changes nothing. */
+static void refused(void)
+{
+    unsigned char outside[64] = {0};
+    unsigned char *one = malloc(100), *other = malloc(100), *volatile stale = malloc(100);
+    memset(one, 1, 100);
+    memset(other, 2, 100);
+    free(stale);
+    free(stale);
+    unsigned char *volatile inside = one + 16;
+    unsigned char *volatile odd = one + 1;
+    unsigned char *volatile foreign = outside + 32;
+    free(inside);
+    free(odd);
+    free(foreign);
+    for (int far = 0; far < 2; far++) {
+        void *volatile unmapped = (void *)(far ? UINTPTR_MAX - 15 : 16);
+        free(unmapped);
+    }
+    expect(realloc(foreign, 10) == NULL && malloc_usable_size(foreign) == 0, "realloc of another's address: a null pointer");
+    unsigned char *third = malloc(100);
+    expect(third != one && third != other && holds(one, 100, 1) && holds(other, 100, 2), "a second free, and one of an address that was never given, change nothing");
+    free(one);
+    free(other);
+    free(third);
+}
+
+/* Two blocks of 75 bytes are left, and 150 were the most. */
+static void hold(void)
+{
+    void *volatile one = malloc(100), *volatile other = malloc(50), *volatile third;
+    free(one);
+    other = realloc(other, 70);
+    third = memalign(64, 5);
+    (void)third;
+}
+
+static unsigned served(void)
+{
+    unsigned times = 0;
+    for (void *volatile block = malloc(1); block != NULL; block = malloc(1)) {
+        times++;
+    }
+    return times;
+}
+
+int main(int count, char **words)
+{
+    alarm(60);
+    if (count > 1 && strcmp(words[1], "hold") == 0) {
+        hold();
+        return 0;
+    }
+    if (count > 1 && strcmp(words[1], "served") == 0) {
+        printf("%u\n", served());
+        return 0;
+    }
+    if (count > 1 && strcmp(words[1], "refused") == 0) {
+        refused();
+        return cases_end();
+    }
+    plain();
+    rooms();
+    moves();
+    aligned();
+    if (count == 1) {
+        forks();
+    }
+    return cases_end();
+}

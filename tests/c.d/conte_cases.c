@@ -1,0 +1,458 @@
+/* The calls of tlsf.h, case by case: what they take, what they refuse, and their limits. */
+#define _DEFAULT_SOURCE
+#include <stdlib.h>
+#include <string.h>
+#include <sys/mman.h>
+
+#include "cases.h"
+#include "tlsf.h"
+
+enum { RECORDS = 1024, RECORD = 16, GREATEST_POOL = 1073741808 };
+#define GIGABYTE ((size_t)1 << 30)
+
+static _Alignas(16) unsigned char memory[1 << 16], other_memory[1 << 16];
+
+/* The bytes of a heap of so many records, at a multiple of 16. */
+static size_t control_bytes(size_t records)
+{
+    return tlsf_size() - RECORD * RECORDS + RECORD * records;
+}
+
+struct counted {
+    size_t live, free, bytes;
+};
+
+static void count_block(void *ptr, size_t size, int used, void *user)
+{
+    struct counted *counted = (struct counted *)user;
+    (void)ptr;
+    counted->live += used != 0;
+    counted->free += used == 0;
+    counted->bytes += size + tlsf_alloc_overhead();
+}
+
+static struct counted count(pool_t pool)
+{
+    struct counted counted = {0, 0, 0};
+    tlsf_walk_pool(pool, count_block, &counted);
+    return counted;
+}
+
+static bool has(pool_t pool, size_t live, size_t free)
+{
+    struct counted counted = count(pool);
+    return counted.live == live && counted.free == free;
+}
+
+/* Each takes what it says and no byte more: the sanitizers look on. */
+static void exact_memory(void)
+{
+    for (size_t skip = 0; skip <= 8; skip += 8) {
+        unsigned char *control = (unsigned char *)malloc(tlsf_size() + skip);
+        unsigned char *pool_memory = (unsigned char *)malloc(4000 + skip);
+        tlsf_t tlsf = tlsf_create(control + skip);
+        pool_t pool = tlsf_add_pool(tlsf, pool_memory + skip, 4000);
+        void *one = tlsf_malloc(tlsf, 100);
+        expect(tlsf == control + skip && pool != NULL && one != NULL,
+               "a heap in tlsf_size() bytes, and a pool elsewhere");
+        expect(count(pool).bytes == 4000 - 2 * skip && tlsf_check(tlsf) == 0,
+               "the pool has its bytes, less those to a multiple of 16");
+        size_t blocks = 1;
+        while (tlsf_malloc(tlsf, 1) != NULL) {
+            blocks++;
+        }
+        expect(blocks == (count(pool).bytes - 128) / 32 + 1, "it is filled to its end");
+        free(control);
+        free(pool_memory);
+    }
+}
+
+static void creates(void)
+{
+    size_t least = control_bytes(64) + 32;
+    expect(tlsf_create(NULL) == NULL && tlsf_create_with_pool(NULL, 1 << 20) == NULL,
+           "no memory, no heap");
+    expect(tlsf_create(memory + 4) == NULL && tlsf_create_with_pool(memory + 1, 1 << 15) == NULL,
+           "memory at no multiple of 8, no heap");
+    expect(tlsf_create_with_pool(memory, least) != NULL
+               && tlsf_create_with_pool(memory, least - 1) == NULL,
+           "the least with a pool, at a multiple of 16");
+    expect(tlsf_create_with_pool(memory + 8, least - 8) != NULL
+               && tlsf_create_with_pool(memory + 8, least - 9) == NULL,
+           "the least with a pool, at another of 8");
+    expect(tlsf_create_with_pool(memory, 0) == NULL && tlsf_create_with_pool(memory, 100) == NULL,
+           "too few bytes, no heap");
+    expect(tlsf_create_records(memory, 1 << 16, 0) == NULL
+               && tlsf_create_records(memory, SIZE_MAX / 2, 65536) == NULL,
+           "records: none, or too many");
+    tlsf_t tlsf = tlsf_create_records(memory, control_bytes(1), 1);
+    expect(tlsf != NULL && tlsf_get_pool(tlsf) == NULL
+               && tlsf_create_records(memory, control_bytes(1) - 1, 1) == NULL,
+           "one record, and no byte for a pool");
+    expect(tlsf_create_records(memory, control_bytes(1) + 31, 1) != NULL
+               && tlsf_get_pool(memory) == NULL,
+           "31 bytes are no pool");
+    expect(tlsf_create_records(memory, control_bytes(1) + 32, 1) != NULL
+               && tlsf_get_pool(memory) != NULL,
+           "32 bytes are one");
+    expect(tlsf_malloc(memory + 4, 1) == NULL && tlsf_check(memory + 4) == -1,
+           "no heap is at a multiple of 4");
+    bool refused = true;
+    for (size_t few = 1; few < control_bytes(64) + 32; few += 7) {
+        void *little = malloc(few);
+        refused = refused && little != NULL && tlsf_create_with_pool(little, few) == NULL
+                  && tlsf_create_records(little, few, 63 + (uint32_t)few) == NULL;
+        free(little);
+    }
+    expect(refused, "too few bytes are refused, and none behind them is written");
+}
+
+/* As many blocks as there are records. */
+static bool has_records(void *mem, size_t bytes, size_t records)
+{
+    tlsf_t tlsf = tlsf_create_with_pool(mem, bytes);
+    while (tlsf_malloc(tlsf, 1) != NULL) {}
+    struct counted counted = count(tlsf_get_pool(tlsf));
+    bool good = counted.live + counted.free == records
+                && counted.bytes == bytes - control_bytes(records);
+    good = good && tlsf_check(tlsf) == 0 && tlsf_malloc(tlsf, 1) == NULL;
+    tlsf_destroy(tlsf);
+    return good;
+}
+
+static void records(void)
+{
+    size_t bytes = (size_t)17 << 20;
+    void *large = aligned_alloc(16, bytes);
+    expect(has_records(memory, 8192, 64), "8 KiB: 64 records");
+    expect(has_records(memory, 16384 + 256, 65), "one for each 256 bytes above 16 KiB");
+    expect(has_records(memory, 65536, 256), "64 KiB: 256 records");
+    expect(has_records(large, bytes, 65535), "17 MiB: 65,535 records");
+    free(large);
+}
+
+static void limits(void)
+{
+    bool fits = true, least = true;
+    for (size_t n = 16; n <= 480; n += 16) {
+        tlsf_t tlsf = tlsf_create(other_memory);
+        fits = fits && tlsf_add_pool(tlsf, memory + 8, n + tlsf_pool_overhead()) != NULL
+               && tlsf_malloc(tlsf, n) != NULL;
+        tlsf = tlsf_create(other_memory);
+        fits = fits && tlsf_add_pool(tlsf, memory, n + tlsf_pool_overhead()) != NULL
+               && tlsf_malloc(tlsf, n) != NULL;
+        tlsf = tlsf_create(other_memory);
+        tlsf_add_pool(tlsf, memory + 8, n + tlsf_pool_overhead() - 1);
+        least = least && tlsf_malloc(tlsf, n) == NULL;
+    }
+    expect(fits && least,
+           "tlsf_pool_overhead() more bytes are enough for a block, and one less isn't");
+    tlsf_t tlsf = tlsf_create_with_pool(memory, sizeof memory);
+    void *one = tlsf_malloc(tlsf, 1);
+    expect(tlsf_block_size(one) == tlsf_block_size_min() && tlsf_block_size_min() == 16,
+           "the least block");
+    expect((uintptr_t)one % tlsf_align_size() == 0 && tlsf_align_size() == 16,
+           "a pointer is a multiple of 16");
+    expect((unsigned char *)tlsf_malloc(tlsf, 16) - (unsigned char *)one
+               == (ptrdiff_t)(16 + tlsf_alloc_overhead()),
+           "what a block takes");
+    expect(tlsf_block_size(NULL) == 0 && tlsf_malloc(tlsf, 0) == NULL
+               && tlsf_memalign(tlsf, 64, 0) == NULL,
+           "no pointer, and no bytes");
+    expect(tlsf_malloc(tlsf, SIZE_MAX) == NULL && tlsf_memalign(tlsf, 64, SIZE_MAX) == NULL
+               && tlsf_realloc(tlsf, one, SIZE_MAX) == NULL,
+           "more bytes than there are");
+    expect(tlsf_block_size(one) == 16 && tlsf_check(tlsf) == 0,
+           "a refused realloc leaves its block");
+}
+
+static void alignments(unsigned char *large)
+{
+    bool aligned = true, refused = true, whole = true;
+    for (size_t skip = 0; skip < 4096; skip += 504) {
+        tlsf_t tlsf = tlsf_create(memory);
+        pool_t pool = tlsf_add_pool(tlsf, large + skip, 32 << 20);
+        void *blocks[22];
+        for (int k = 0; k <= 21; k++) {
+            size_t align = (size_t)1 << k;
+            blocks[k] = tlsf_memalign(tlsf, align, 100);
+            aligned = aligned && blocks[k] != NULL && (uintptr_t)blocks[k] % align == 0
+                      && tlsf_block_size(blocks[k]) == 112;
+        }
+        refused = refused && tlsf_memalign(tlsf, 1 << 22, 1) == NULL
+                  && tlsf_memalign(tlsf, 48, 1) == NULL && tlsf_memalign(tlsf, SIZE_MAX, 1) == NULL;
+        whole = whole && tlsf_check(tlsf) == 0;
+        for (int k = 0; k <= 21; k++) {
+            tlsf_free(tlsf, blocks[(k * 5) % 22]);
+        }
+        aligned = aligned && tlsf_memalign(tlsf, 0, 100) != NULL;
+        whole = whole && has(pool, 1, 1);
+    }
+    expect(aligned, "each alignment up to 2^21, in pools at any address");
+    expect(refused, "an alignment above it, or that is no power of two");
+    expect(whole, "what lies in front of an aligned block isn't lost");
+}
+
+static void greatest(unsigned char *large)
+{
+    tlsf_t tlsf = tlsf_create(memory);
+    expect(tlsf_add_pool(tlsf, large, GREATEST_POOL + 16) == NULL, "a pool above the greatest");
+    expect(tlsf_add_pool(tlsf, large, SIZE_MAX) == NULL
+               && tlsf_add_pool(tlsf, (void *)(UINTPTR_MAX - 63), 128) == NULL,
+           "a pool above the end of memory");
+    pool_t pool = tlsf_add_pool(tlsf, large, GREATEST_POOL + 15);
+    expect(pool != NULL && count(pool).bytes == GREATEST_POOL, "the greatest pool");
+    void *one = tlsf_malloc(tlsf, GIGABYTE / 2),
+         *whole = tlsf_realloc(tlsf, one, tlsf_block_size_max());
+    expect(whole == one && tlsf_block_size(whole) == tlsf_block_size_max() && has(pool, 1, 0),
+           "the greatest block");
+    expect(tlsf_realloc(tlsf, whole, tlsf_block_size_max() + 1) == NULL
+               && tlsf_malloc(tlsf, tlsf_block_size_max() + 1) == NULL,
+           "a greater one");
+    tlsf_free(tlsf, whole);
+    expect(tlsf_malloc(tlsf, 1056964593) == NULL, "a malloc above 1,056,964,592 bytes is refused");
+    one = tlsf_malloc(tlsf, 1056964592);
+    expect(one != NULL, "a malloc of so many is served");
+    tlsf_free(tlsf, one);
+    expect(tlsf_create_with_pool(large, 2 * GIGABYTE) == NULL,
+           "a heap with a pool above the greatest");
+}
+
+/* The pools of a heap have places below 4 GiB. */
+static void places(unsigned char *large)
+{
+    tlsf_t tlsf = tlsf_create(memory);
+    pool_t first = tlsf_add_pool(tlsf, large, GREATEST_POOL),
+           second = tlsf_add_pool(tlsf, large + GIGABYTE + 8, GREATEST_POOL),
+           third = tlsf_add_pool(tlsf, large + 2 * GIGABYTE + 40, GREATEST_POOL);
+    expect(first != NULL && second != NULL && third != NULL, "three of the greatest pools");
+    expect(tlsf_add_pool(tlsf, large + 3 * GIGABYTE + 4096, GREATEST_POOL) == NULL,
+           "four of them, at other addresses modulo 2^21, are too many");
+    expect(tlsf_add_pool(tlsf, large + 3 * GIGABYTE + 4096, GIGABYTE - (16 << 20)) != NULL
+               && tlsf_check(tlsf) == 0,
+           "with one a little smaller they aren't");
+    tlsf_remove_pool(tlsf, second);
+    expect(tlsf_add_pool(tlsf, large + GIGABYTE + 64, GIGABYTE - (4 << 20)) != NULL
+               && tlsf_check(tlsf) == 0,
+           "one is gone, and another is added");
+}
+
+/* A pool goes to the first range of places that has room for it, wherever its entry is. */
+static void places_between(unsigned char *large)
+{
+    pool_t last[4] = {NULL};
+    tlsf_t tlsf = tlsf_create(memory);
+    for (int k = 0; k < 3; k++) {
+        last[k] = tlsf_add_pool(tlsf, large + k * GIGABYTE + 8, k == 0 ? 1000 : GREATEST_POOL + 8);
+    }
+    tlsf_remove_pool(tlsf, last[0]);
+    last[0] = tlsf_add_pool(tlsf, large + 3 * GIGABYTE + 8, GREATEST_POOL + 8);
+    tlsf_remove_pool(tlsf, last[2]);
+    last[3] = tlsf_add_pool(tlsf, large + 2 * GIGABYTE + 64, GIGABYTE - 64);
+    expect(last[0] != NULL && last[1] != NULL && last[3] != NULL,
+           "a pool between the places of others");
+    tlsf = tlsf_create(memory);
+    for (int k = 0; k < 7; k++) {
+        last[k % 4] = tlsf_add_pool(tlsf, large + 1000 * k, 1000);
+    }
+    expect(tlsf_add_pool(tlsf, large + GIGABYTE, GREATEST_POOL) != NULL,
+           "a great one behind seven little ones");
+    tlsf_remove_pool(tlsf, tlsf_get_pool(tlsf));
+    expect(tlsf_add_pool(tlsf, large + 2 * GIGABYTE, GREATEST_POOL) != NULL
+               && tlsf_check(tlsf) == 0,
+           "and one behind it");
+}
+
+static void pools(void)
+{
+    unsigned char *area = other_memory;
+    tlsf_t tlsf = tlsf_create(memory);
+    pool_t made[8];
+    bool good = tlsf_get_pool(tlsf) == NULL && tlsf_malloc(tlsf, 1) == NULL;
+    for (int k = 0; k < 8; k++) {
+        made[k] = tlsf_add_pool(tlsf, area + 1000 * k, 1000);
+        good = good && made[k] != NULL;
+    }
+    expect(good && tlsf_get_pool(tlsf) == made[0] && tlsf_add_pool(tlsf, area + 9000, 1000) == NULL,
+           "eight pools, and no ninth");
+    tlsf_remove_pool(tlsf, made[3]);
+    expect(tlsf_check_pool(made[3]) == -1 && has(made[3], 0, 0) && tlsf_check(tlsf) == 0,
+           "a pool is gone");
+    expect(tlsf_add_pool(tlsf, area + 2976, 500) == NULL
+               && tlsf_add_pool(tlsf, area + 3504, 600) == NULL,
+           "memory of another pool is refused");
+    expect(tlsf_add_pool(tlsf, memory + 64, 1000) == NULL
+               && tlsf_add_pool(tlsf, memory + tlsf_size() - 32, 1000) == NULL,
+           "that of the heap itself is refused");
+    expect(tlsf_add_pool(tlsf, area + 3004, 500) == NULL && tlsf_add_pool(tlsf, NULL, 500) == NULL
+               && tlsf_add_pool(tlsf, area + 3008, 31) == NULL,
+           "at no multiple of 8, none, or too small");
+    expect(tlsf_add_pool(tlsf, area + 3008, 32) != NULL && tlsf_check(tlsf) == 0, "the least pool");
+    void *one = tlsf_malloc(tlsf, 500);
+    size_t kept = 0;
+    for (int k = 0; k < 8; k++) {
+        tlsf_remove_pool(tlsf, made[k]);
+        kept += tlsf_check_pool(made[k]) == 0;
+    }
+    expect(one != NULL && kept == 1 && tlsf_block_size(one) == 512,
+           "the pool of a live block stays");
+    tlsf_free(tlsf, one);
+    tlsf_t other = tlsf_create_with_pool(other_memory + 16384, 8192);
+    tlsf_remove_pool(tlsf, tlsf_get_pool(other));
+    expect(tlsf_get_pool(other) != NULL && tlsf_malloc(other, 100) != NULL,
+           "another heap's pool stays");
+    expect(tlsf_check_pool(NULL) == -1 && tlsf_check(NULL) == -1 && has(NULL, 0, 0),
+           "no pool and no heap");
+}
+
+static bool refuses(tlsf_t tlsf, void *pointer)
+{
+    struct counted before = count(tlsf_get_pool(tlsf));
+    tlsf_free(tlsf, pointer);
+    bool good = tlsf_realloc(tlsf, pointer, 40) == NULL && tlsf_realloc(tlsf, pointer, 0) == NULL;
+    struct counted after = count(tlsf_get_pool(tlsf));
+    return good && before.live == after.live && before.free == after.free && tlsf_check(tlsf) == 0;
+}
+
+static void pointers(void)
+{
+    tlsf_t tlsf = tlsf_create_with_pool(memory, sizeof memory),
+           other = tlsf_create_with_pool(other_memory, sizeof other_memory);
+    unsigned char *one = (unsigned char *)tlsf_malloc(tlsf, 100),
+                  *two = (unsigned char *)tlsf_malloc(tlsf, 100);
+    void *far = tlsf_malloc(other, 100);
+    _Alignas(16) unsigned char on_stack[64] = {0};
+    tlsf_free(tlsf, one);
+    expect(refuses(tlsf, one) && tlsf_block_size(one) == 0, "a pointer that is free");
+    expect(refuses(tlsf, far) && tlsf_block_size(far) == 112, "another heap's");
+    unsigned char *block = (unsigned char *)tlsf_malloc(other, 16384);
+    tlsf_t within = tlsf_create_with_pool(block, 16384);
+    void *inner = tlsf_malloc(within, 100);
+    expect(inner != NULL && refuses(other, inner) && refuses(within, far) && refuses(within, block)
+               && tlsf_check(within) == 0,
+           "that of a heap in a block of the heap");
+    expect(tlsf_block_size(two + 8) == 0 && tlsf_block_size(two + 1) == 0,
+           "no size at no multiple of 16");
+    expect(refuses(tlsf, two + 16) && refuses(tlsf, two + 8) && refuses(tlsf, two + 1)
+               && refuses(tlsf, two - 16),
+           "within a block");
+    expect(refuses(tlsf, on_stack + 16) && refuses(tlsf, tlsf)
+               && refuses(tlsf, tlsf_get_pool(tlsf)),
+           "none of a pool's");
+    expect(refuses(tlsf, (void *)16) && refuses(tlsf, (void *)(UINTPTR_MAX - 15)),
+           "where no memory is");
+}
+
+/* Pointers that were good, and one with a byte changed in front of it. */
+static void old_pointers(void)
+{
+    tlsf_t tlsf = tlsf_create_with_pool(memory, sizeof memory);
+    void *two = tlsf_malloc(tlsf, 100), *behind = tlsf_malloc(tlsf, 100);
+    unsigned char kept[16];
+    void *moved = tlsf_realloc(tlsf, two, 3000);
+    expect(behind != NULL && moved != NULL && moved != two && refuses(tlsf, two),
+           "one that a realloc moved");
+    void *aligned = tlsf_memalign(tlsf, 1024, 50);
+    tlsf_free(tlsf, aligned);
+    expect(refuses(tlsf, aligned), "an aligned one that is free");
+    memcpy(kept, (unsigned char *)moved - 16, 16);
+    memset((unsigned char *)moved - 1, 0, 1);
+    tlsf_free(tlsf, moved);
+    expect(tlsf_realloc(tlsf, moved, 10) == NULL && tlsf_check(tlsf) == -1
+               && tlsf_check_pool(tlsf_get_pool(tlsf)) == -1,
+           "one with a changed byte in front of it, and the check tells it");
+    memcpy((unsigned char *)moved - 16, kept, 16);
+    expect(tlsf_check(tlsf) == 0 && tlsf_block_size(moved) == 3008, "whole again");
+}
+
+/* A byte behind a block is the next one's front. */
+static void overruns(void)
+{
+    tlsf_t tlsf = tlsf_create_with_pool(memory, sizeof memory);
+    unsigned char *blocks[3];
+    for (int k = 0; k < 3; k++) {
+        blocks[k] = (unsigned char *)tlsf_malloc(tlsf, 24);
+        memset(blocks[k], 0xff, tlsf_block_size(blocks[k]));
+    }
+    expect(tlsf_check(tlsf) == 0 && tlsf_check_pool(tlsf_get_pool(tlsf)) == 0,
+           "bytes of blocks may be anything");
+    blocks[0][32] ^= 1;
+    blocks[1][40] ^= 1;
+    expect(tlsf_check(tlsf) == -2 && tlsf_check_pool(tlsf_get_pool(tlsf)) == -2,
+           "two overruns are counted");
+    tlsf_free(tlsf, blocks[1]);
+    expect(count(tlsf_get_pool(tlsf)).live == 3, "a block with a spoiled front stays live");
+    pool_t pool = tlsf_add_pool(tlsf, other_memory, 4096);
+    unsigned char *last = (unsigned char *)tlsf_malloc(tlsf, 3000);
+    last[-1] ^= 1;
+    expect(tlsf_check(tlsf) == -3 && tlsf_check_pool(pool) == -1, "each pool is looked at");
+    memset(memory + 300, 0xff, 200);
+    expect(tlsf_check(tlsf) == -1 && tlsf_check_pool(tlsf_get_pool(tlsf)) == -1,
+           "a spoiled table is told");
+    memory[0] ^= 1;
+    expect(tlsf_check(tlsf) == -1 && tlsf_malloc(tlsf, 1) == NULL && tlsf_check_pool(pool) == -1
+               && has(pool, 0, 0),
+           "a spoiled heap is none");
+}
+
+static void free_block(void *ptr, size_t size, int used, void *user)
+{
+    (void)size;
+    if (used) {
+        tlsf_free((tlsf_t)user, ptr);
+    }
+}
+
+static void ends(void)
+{
+    tlsf_t tlsf = tlsf_create_with_pool(memory, sizeof memory);
+    void *one = NULL;
+    for (int k = 0; k < 50; k++) {
+        one = tlsf_malloc(tlsf, 10 * (size_t)k + 1);
+    }
+    pool_t pool = tlsf_get_pool(tlsf);
+    memcpy(other_memory, memory, sizeof memory);
+    expect(tlsf_malloc(other_memory, 1) == NULL && tlsf_check(other_memory) == -1,
+           "a copy of a heap is none");
+    expect(has(pool, 50, 1), "fifty blocks");
+    tlsf_walk_pool(pool, free_block, tlsf);
+    expect(has(pool, 0, 1) && tlsf_check(tlsf) == 0, "a walker may free each block");
+    one = tlsf_malloc(tlsf, 10);
+    tlsf_destroy(tlsf);
+    tlsf_free(tlsf, one);
+    expect(tlsf_block_size(one) == 0 && tlsf_malloc(tlsf, 1) == NULL
+               && tlsf_realloc(tlsf, one, 20) == NULL && tlsf_get_pool(tlsf) == NULL,
+           "a heap that is gone has no block");
+    expect(tlsf_add_pool(tlsf, other_memory, 1000) == NULL && tlsf_check(tlsf) == -1
+               && tlsf_check_pool(pool) == -1 && has(pool, 0, 0),
+           "nor a pool");
+    tlsf_destroy(tlsf);
+    tlsf_destroy(NULL);
+    expect(tlsf_create_with_pool(memory, sizeof memory) == tlsf && tlsf_malloc(tlsf, 1000) != NULL,
+           "its memory is another heap's");
+}
+
+int main(void)
+{
+    size_t room = 4 * GIGABYTE + 8192;
+    exact_memory();
+    creates();
+    records();
+    limits();
+    unsigned char *large = (unsigned char *)mmap(
+        NULL, room, PROT_READ | PROT_WRITE, MAP_PRIVATE | MAP_ANONYMOUS | MAP_NORESERVE, -1, 0);
+    expect((void *)large != MAP_FAILED, "4 GiB of addresses");
+    if ((void *)large != MAP_FAILED) {
+        alignments(large);
+        greatest(large);
+        places(large);
+        places_between(large);
+        munmap(large, room);
+    }
+    pools();
+    pointers();
+    old_pointers();
+    overruns();
+    ends();
+    return cases_end();
+}
