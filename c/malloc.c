@@ -174,7 +174,7 @@ static void *refuse(void)
     return NULL;
 }
 
-/* Whether so many bytes can be asked for behind a front. */
+/* Whether `bytes` bytes can be asked for behind a front. */
 static bool fits(size_t behind, size_t bytes)
 {
     return behind <= TLSF_HEAP_GREATEST && bytes <= TLSF_HEAP_GREATEST - behind;
@@ -218,7 +218,7 @@ static void release(void *address)
     held_bytes -= front.bytes;
 }
 
-/* The block of an address gets room for so many bytes, and what it held moves along. */
+/* The block of an address gets room for `bytes` bytes, and what it held moves along. */
 static void *resize(void *address, size_t bytes)
 {
     tlsf_heap_block block = {0, 0};

@@ -26,12 +26,12 @@ typedef void *pool_t;
 /* A heap without a pool, in tlsf_size() bytes. */
 tlsf_t tlsf_create(void *mem);
 
-/* A heap and its first pool, in so many bytes, or a null pointer where tlsf_add_pool would refuse
+/* A heap and its first pool, in `bytes` bytes, or a null pointer where tlsf_add_pool would refuse
  * the pool. It has a record for each 256 of them, at least 64 and at most 65,535; each block takes
  * one, live or free. */
 tlsf_t tlsf_create_with_pool(void *mem, size_t bytes);
 
-/* The same with so many records, from 1 to 65,535 (this call isn't Conte's). tlsf_size() counts
+/* The same with `records` records, from 1 to 65,535 (this call isn't Conte's). tlsf_size() counts
  * 1,024 of them, or as many as the library was built with; each one takes 16 bytes. Where nothing
  * is left for a pool there is none. */
 tlsf_t tlsf_create_records(void *mem, size_t bytes, uint32_t records);
@@ -58,7 +58,7 @@ void *tlsf_malloc(tlsf_t tlsf, size_t bytes);
 /* The same at a multiple of align: a power of two up to 2^21. */
 void *tlsf_memalign(tlsf_t tlsf, size_t align, size_t bytes);
 
-/* The block with room for so many bytes: where it is, or another with the same bytes in it, at a
+/* The block with room for `size` bytes: where it is, or another with the same bytes in it, at a
  * multiple of 16. Refused with a null pointer, it is as it was. Of a null pointer it is a malloc;
  * for no bytes it is a free, and the answer a null pointer. */
 void *tlsf_realloc(tlsf_t tlsf, void *ptr, size_t size);

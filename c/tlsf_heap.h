@@ -48,17 +48,17 @@ extern "C" {
 #define TLSF_HEAP_POOLS 8u
 #define TLSF_HEAP_RECORDS_MOST 65535u
 
-/* With so many records no call is refused for want of one while at most `blocks` blocks are live in
- * `pools` pools, a new one counted. Each block takes one, live or free, and a pool has at most one
- * free block more than live ones; a realloc that moves holds one block more. Where `blocks` are
- * live and tlsf_heap_memalign is asked for another, it can take one record more. */
+/* With this many records no call is refused for want of one while at most `blocks` blocks are live
+ * in `pools` pools, a new one counted. Each block takes one, live or free, and a pool has at most
+ * one free block more than live ones; a realloc that moves holds one block more. Where `blocks`
+ * are live and tlsf_heap_memalign is asked for another, it can take one record more. */
 #define TLSF_HEAP_RECORDS(blocks, pools) (2u * (blocks) + (pools) + 1u)
 
-/* How many bytes tlsf_heap_create_in and tlsf_heap_load_in take for a heap of so many records: 16
- * for each, 1,664 for the heap itself, and 16 in front of each of these two. */
+/* How many bytes tlsf_heap_create_in and tlsf_heap_load_in take for a heap of `records` records:
+ * 16 for each, 1,664 for the heap itself, and 16 in front of each of these two. */
 #define TLSF_HEAP_TABLE_BYTES(records) (1696u + 16u * (size_t)(records))
 
-/* How many bytes the image of a heap of so many records has: at most 1,050,080. */
+/* How many bytes the image of a heap of `records` records has: at most 1,050,080. */
 #define TLSF_HEAP_IMAGE_BYTES(records) (1520u + 16u * (size_t)(records))
 
 /* A heap. Start it with zeros (tlsf_heap heap = {0};) and fill it with a call that makes one. */
@@ -86,7 +86,7 @@ typedef struct tlsf_heap_row {
 enum tlsf_status {
     TLSF_OK = 0,
     TLSF_ZERO_SIZE = 1,      /* no byte was asked for */
-    TLSF_NO_FIT = 2,         /* no block that fits is free, or a block can't have so many bytes */
+    TLSF_NO_FIT = 2,         /* no block that fits is free, or no block is that large */
     TLSF_TABLE_FULL = 3,     /* a rest would be left, and the table has no room for it */
     TLSF_BAD_POINTER = 4,    /* no live block has this place and this slot */
     TLSF_BAD_ALIGN = 5,      /* the alignment isn't a power of two from 1 to 2^29 */
@@ -116,7 +116,7 @@ enum tlsf_status {
     TLSF_BROKEN_ON_LISTS = 112      /* each free block is on the list of its class */
 };
 
-/* Fills *out with a heap of so many records, from 1 to 65,535, with no pool. TLSF_HEAP_RECORDS
+/* Fills *out with a heap of `records` records, from 1 to 65,535, with no pool. TLSF_HEAP_RECORDS
  * tells how many are enough.
  * 0, TLSF_BAD_COUNT exactly where the number isn't from 1 to 65,535, or TLSF_OUT_OF_MEMORY.
  * What *out held before is forgotten: a heap in use would be lost. */
@@ -132,7 +132,7 @@ enum tlsf_status tlsf_heap_create_in(void *memory, size_t bytes, uint32_t record
  * again. The heap isn't used after it. */
 void tlsf_heap_destroy(tlsf_heap heap);
 
-/* A pool of so many bytes from the place base on, as one free block. At most 28 touches.
+/* A pool of `bytes` bytes from the place base on, as one free block. At most 28 touches.
  * 0, TLSF_BAD_POOL where base or bytes isn't a multiple of 16, bytes isn't from 16 to
  * 1,073,741,808, the end is above 2^32, or the pool overlaps another; TLSF_POOLS_FULL or
  * TLSF_TABLE_FULL. Pools are never merged. */
@@ -142,7 +142,7 @@ enum tlsf_status tlsf_heap_add_pool(tlsf_heap *heap, uint64_t base, uint64_t byt
  * 0, TLSF_NO_POOL where none begins there, or TLSF_POOL_IN_USE unless it is one free block. */
 enum tlsf_status tlsf_heap_remove_pool(tlsf_heap *heap, uint64_t base);
 
-/* Gives *out a live block of at least so many bytes, rounded up to 16. At most 28 touches.
+/* Gives *out a live block of at least `bytes` bytes, rounded up to 16. At most 28 touches.
  * 0, TLSF_ZERO_SIZE, TLSF_NO_FIT or TLSF_TABLE_FULL.
  * It is the first block of the first list that isn't empty, at or above the class from which each
  * block holds the bytes: so TLSF_NO_FIT says that each free block is smaller than that class, not
@@ -159,7 +159,7 @@ enum tlsf_status tlsf_heap_memalign(tlsf_heap *heap, uint64_t align, uint64_t by
  * 0, or TLSF_BAD_POINTER unless a live block has both its place and its slot. */
 enum tlsf_status tlsf_heap_free(tlsf_heap *heap, tlsf_heap_block block);
 
-/* Gives *out the block with room for so many bytes: where it is, or another. A program that has
+/* Gives *out the block with room for `bytes` bytes: where it is, or another. A program that has
  * bytes in the block copies them where the place is another, before its next call: the new block
  * was given before the old one became free, so the two don't overlap, and no one has the old one's
  * bytes yet. At most 78 touches.
@@ -231,7 +231,7 @@ static inline void tlsf_heap_end(tlsf_heap *heap)
  * they are in libtlsf_heap.a. A program that has both itself gets its own; then it has no
  * tlsf_heap_create_in and no tlsf_heap_load_in, which stand beside them.
  *
- * rattle_alloc answers memory of so many bytes at a multiple of align, which is at most 16; where
+ * rattle_alloc answers memory of `bytes` bytes at a multiple of align, which is at most 16; where
  * there is none, ok is false and p points to some byte all the same. rattle_dealloc gets back what
  * rattle_alloc gave, once. */
 struct rattle_tried {
