@@ -1,71 +1,95 @@
 -- The bytes of a location: where they end, and how 16 at a time are counted.
-use Rattle.std.proofs.Common.{◌≡◌, ℕ, zero, suc, ◌+◌, ◌-◌, ◌^◌, ◌<◌, ◌≤◌, List, [], ◌∷◌, ◌++◌, length, map, get_or, take, drop, Bool, true, false, cond, min, bit_and, w64, refl, sym, ap, subst, ◌∙◌, zero-add, arith, inl, inr, length-append}
-use Rattle.std.specs.Int.{bit_at, trailing_ones}
-use Rattle.std.specs.List.{AllByRecursion}
-use Rattle.std.specs.Simd.Lanes.{mask_l, chunk}
-use Rattle.std.proofs.lemmas.Bool.{cases_lt, cases_order, false≢true}
-use Rattle.std.proofs.lemmas.List.{length-map, get_or-map, get_or-take, get_or-drop, get_or_past, get_or_append_left, take_rest}
-use Rattle.std.proofs.lemmas.Nat.Bits.{bit_at_and, bit_at-trailing_ones}
-use Rattle.std.proofs.lemmas.Nat.{and_le_l}
-use Rattle.std.proofs.lemmas.Simd.{bit_mask_l, mask_l-lt, get_or-chunk}
+use Rattle.std.proofs.Common.{◌≡◌, ◌≢◌, ℕ, zero, suc, ◌+◌, ◌-◌, ◌^◌, ◌%◌, ◌<◌, ◌≤◌, List, [], ◌∷◌, ◌++◌, length, map, get_or, take, drop, replicate, Bool, true, false, not, ◌||◌, cond, leb, eqb, bit_or, w64, refl, sym, ap, subst, ◌∙◌, arith, inl, inr, length-append}
+use Rattle.std.specs.Int.{bit_at, trailing_zeros}
+use Rattle.std.specs.List.{AllByRecursion, prefix_len}
+use Rattle.std.specs.Simd.Lanes.{mask_l, chunk, top, zip2}
+use Rattle.std.proofs.lemmas.Bool.{cases_lt, cases_order}
+use Rattle.std.proofs.lemmas.Bool.Decides.{nat_tests}
+use Rattle.std.proofs.lemmas.List.{length-map, length-take, get_or_past, get_or_append_left, take_rest, take_all}
+use Rattle.std.proofs.lemmas.Nat.Bits.{bit_at-trailing_zeros}
+use Rattle.std.proofs.lemmas.Simd.{bit_mask_l, mask_l-lt, mask_l-mod, leading_from_mask_l, trailing_mask_l, run_in_chunk_fails, run_in_chunk_stops}
 use Rattle.std.proofs.Math.Seq.{drop-append_seam, get_or-append_seam}
 use Rattle.mtrace_log.specs.Bytes.{space}
-use Rattle.mtrace_log.specs.Location.{IsLocationByte}
+use Rattle.mtrace_log.specs.Location.{IsLocationByte, is_blank}
 use Rattle.mtrace_log.proofs.HexLemmas.{AllByRecursion-at}
 
--- ---- bits that tell of lanes
+-- ---- sixteen lanes at a time
 
-cond-one : (b : Bool) → ◌≡◌ {A = ℕ} (cond b 1 0) 1 → b ≡ true
-cond-one true set = refl
-cond-one false set = absurd (omega arith)
+both-tops : (p q : Bool) → top 7 (bit_or (cond p 255 0) (cond q 255 0)) ≡ (p || q)
+both-tops true true = refl
+both-tops true false = refl
+both-tops false true = refl
+both-tops false false = refl
 
-cond-le : (b : Bool) → cond b 1 0 ≤ 1
-cond-le true = omega arith
-cond-le false = omega arith
+-- the mask of the lanes that are blank
+abbrev pub mask_of : List ℕ → ℕ → ℕ
+mask_of lanes n = mask_l (map (top 7) (zip2 bit_or (zip2 (λ a b. cond (leb a b) 255 0) lanes (replicate n 32)) (zip2 (λ a b. cond (eqb a b) 255 0) lanes (replicate n 127)))) % 2 ^ 64
 
--- where a bit of both masks is set, both tests hold
-both-set : (a b : List Bool) (i : ℕ) → bit_at (bit_and (mask_l a) (mask_l b)) i ≡ 1 → (get_or a i false ≡ true) × (get_or b i false ≡ true)
-both-set a b i set =
-    let first : bit_at (mask_l a) i ≡ cond (get_or a i false) 1 0 = bit_mask_l a i in
-    let second : bit_at (mask_l b) i ≡ cond (get_or b i false) 1 0 = bit_mask_l b i in
-    let both : min (bit_at (mask_l a) i) (bit_at (mask_l b) i) ≡ 1 = sym (bit_at_and (mask_l a) (mask_l b) i) ∙ set in
-    let first_le = cond-le (get_or a i false) in
-    let second_le = cond-le (get_or b i false) in
-    (cond-one (get_or a i false) (omega arith), cond-one (get_or b i false) (omega arith))
+blanks : (lanes : List ℕ) (n : ℕ) → length lanes ≡ n
+    → map (top 7) (zip2 bit_or (zip2 (λ a b. cond (leb a b) 255 0) lanes (replicate n 32)) (zip2 (λ a b. cond (eqb a b) 255 0) lanes (replicate n 127))) ≡ map is_blank lanes
+blanks [] zero long = refl
+blanks [] (suc n) long = absurd (omega (arith, long))
+blanks (x ∷ lanes) zero long = absurd (omega (arith, long))
+blanks (x ∷ lanes) (suc n) long =
+    ap (λ b. b ∷ map (top 7) (zip2 bit_or (zip2 (λ a b. cond (leb a b) 255 0) lanes (replicate n 32)) (zip2 (λ a b. cond (eqb a b) 255 0) lanes (replicate n 127)))) (both-tops (leb x 32) (eqb x 127))
+    ∙ ap (λ bs. is_blank x ∷ bs) (blanks lanes n (omega (arith, long)))
 
--- the lowest ones of two masks of 16 lanes count lanes of which both tests hold
-pub lanes-counted : (lanes : List ℕ) (t s : ℕ → Bool) (n : ℕ) → length lanes ≡ 16 → n ≡ trailing_ones w64 (bit_and (mask_l (map t lanes)) (mask_l (map s lanes)))
-    → (n ≤ 16) × ((k : ℕ) → k < n → (t (get_or lanes k 0) ≡ true) × (s (get_or lanes k 0) ≡ true))
-lanes-counted lanes t s n long counted =
-    let a : List Bool = map t lanes in
-    let b : List Bool = map s lanes in
-    let long_a : length a ≡ 16 = length-map lanes t ∙ long in
-    let below : mask_l a < 2 ^ 16 = subst (λ l. mask_l a < 2 ^ l) long_a (mask_l-lt a) in
-    let bits = bit_at-trailing_ones w64 (bit_and (mask_l a) (mask_l b)) (omega (arith, and_le_l (mask_l a) (mask_l b))) in
-    let both : (i : ℕ) → i < n → (get_or a i false ≡ true) × (get_or b i false ≡ true) = λ i within. both-set a b i (bits.2 i (subst (λ m. i < m) counted within)) in
-    let most : n ≤ 16 = elim (cases_lt 16 n) [
-      | inl more ↦ absurd (false≢true (sym (get_or_past a 16 false (omega (arith, long_a))) ∙ (both 16 more).0))
-      | inr short ↦ short
-    ] in (
-      most,
-      λ k within.
-          let inside : k < length lanes = omega arith in
-          (sym (get_or-map t lanes k 0 false inside) ∙ (both k within).0, sym (get_or-map s lanes k 0 false inside) ∙ (both k within).1),
-    )
+mask-is : (lanes : List ℕ) → length lanes ≡ 16 → mask_of lanes 16 ≡ mask_l (map is_blank lanes)
+mask-is lanes long = ap (λ bits. mask_l bits % 2 ^ 64) (blanks lanes 16 long) ∙ mask_l-mod (map is_blank lanes) 64 (omega (arith, length-map lanes is_blank, long))
 
--- bytes that all have a property, and some of the 16 behind them
-pub lanes-more : (P : ℕ → Type 0) (bytes : List ℕ) (at count : ℕ) → ((k : ℕ) → k < at → P (get_or bytes k 0)) → count ≤ 16
-    → ((k : ℕ) → k < count → P (get_or (chunk 0 16 (take (at + 16 - at) (drop at bytes))) k 0)) → (k : ℕ) → k < at + count → P (get_or bytes k 0)
-lanes-more P bytes at count before most each k within = elim (cases_lt k at) [
-  | inl below ↦ before k below
-  | inr behind ↦
-      let j = k - at in
-      let piece : List ℕ = take (at + 16 - at) (drop at bytes) in
-      let same : get_or (chunk 0 16 piece) j 0 ≡ get_or bytes k 0 =
-      get_or-chunk 0 16 piece j 0 (omega arith) ∙ ap (λ i. get_or piece i 0) (zero-add j) ∙ get_or-take (at + 16 - at) (drop at bytes) j 0 (omega arith) ∙ get_or-drop at bytes j 0
-      ∙ ap (λ i. get_or bytes i 0) (omega arith) in
-      subst P same (each j (omega arith))
+-- a bit that is set is that of a lane
+bit-within : (bits : List Bool) (lane n : ℕ) → length bits ≡ n → bit_at (mask_l bits) lane ≡ 1 → lane < n
+bit-within bits lane n many set = elim (cases_lt lane n) [
+  | inl fewer ↦ fewer
+  | inr more ↦
+      let past : get_or bits lane false ≡ false = get_or_past bits lane false (omega (arith, more, many)) in
+      let none : bit_at (mask_l bits) lane ≡ 0 = bit_mask_l bits lane ∙ ap (λ b. cond b 1 0) past in
+      absurd (omega (arith, none, set))
 ]
+
+-- no lane is blank
+pub lanes-none : (lanes : List ℕ) → length lanes ≡ 16 → mask_of lanes 16 ≡ 0 → 16 ≡ prefix_len (λ byte. not (is_blank byte)) lanes
+lanes-none lanes long none = sym (leading_from_mask_l is_blank lanes (sym (mask-is lanes long) ∙ none) ∙ long)
+
+-- some is, and this is the first
+pub lanes-some : (lanes : List ℕ) → length lanes ≡ 16 → mask_of lanes 16 ≢ 0
+    → let lane = trailing_zeros w64 (mask_of lanes 16) in (lane < 16) × (lane ≡ prefix_len (λ byte. not (is_blank byte)) lanes)
+lanes-some lanes long some =
+    let bits = map is_blank lanes in
+    let many : length bits ≡ 16 = length-map lanes is_blank ∙ long in
+    let mask = mask_of lanes 16 in
+    let same : mask ≡ mask_l bits = mask-is lanes long in
+    let below : mask_l bits < 2 ^ 16 = subst (λ l. mask_l bits < 2 ^ l) many (mask_l-lt bits) in
+    let positive : 0 < mask = omega (arith, some) in
+    let lowest = bit_at-trailing_zeros w64 mask positive (omega (arith, same, below)) in
+    let lane = trailing_zeros w64 mask in
+    let set : bit_at (mask_l bits) lane ≡ 1 = ap (λ m. bit_at m lane) (sym same) ∙ lowest.1 in
+    (bit-within bits lane 16 many set, ap (λ m. trailing_zeros w64 m) same ∙ trailing_mask_l is_blank 64 lanes (omega (arith, long)) (omega (arith, same, positive)))
+
+-- a byte is blank or can stand in a location
+pub allowed-from : (byte : ℕ) → is_blank byte ≡ false → IsLocationByte byte
+allowed-from byte other = (grind (arith, nat_tests), grind (arith, nat_tests))
+
+pub blank-from : (byte : ℕ) → is_blank byte ≡ true → ¬ IsLocationByte byte
+blank-from byte is allowed = grind (arith, nat_tests)
+
+-- the sixteen bytes that were loaded
+pub loaded : (bytes : List ℕ) (at : ℕ) → at + 16 ≤ length bytes → chunk 0 16 (take (at + 16 - at) (drop at bytes)) ≡ chunk at 16 bytes
+loaded bytes at within =
+    let sixteen : at + 16 - at ≡ 16 = omega arith in
+    ap (λ n. take 16 (take n (drop at bytes))) sixteen ∙ take_all 16 (take 16 (drop at bytes)) (omega (arith, length-take 16 (drop at bytes)))
+
+-- bytes that can stand in a location, and as many of the next sixteen as come before the first that can't
+pub allowed-more : (bytes : List ℕ) (at count : ℕ) → at + 16 ≤ length bytes → ((k : ℕ) → k < at → IsLocationByte (get_or bytes k 0)) → count ≡ prefix_len (λ byte. not (is_blank byte)) (chunk at 16 bytes)
+    → (k : ℕ) → k < at + count → IsLocationByte (get_or bytes k 0)
+allowed-more bytes at count room before counted k within = elim (cases_lt k at) [
+  | inl below ↦ before k below
+  | inr behind ↦ allowed-from (get_or bytes k 0) (run_in_chunk_fails is_blank bytes at 16 count 0 room counted k behind within)
+]
+
+-- that one can't
+pub ended-there : (bytes : List ℕ) (at count : ℕ) → at + 16 ≤ length bytes → count < 16 → count ≡ prefix_len (λ byte. not (is_blank byte)) (chunk at 16 bytes) → ¬ IsLocationByte (get_or bytes (at + count) 0)
+ended-there bytes at count room fewer counted = blank-from (get_or bytes (at + count) 0) (run_in_chunk_stops is_blank bytes at 16 count 0 room counted fewer)
 
 -- ---- where the bytes of a location end
 

@@ -1,7 +1,8 @@
 -- What the readers of the fields of a line answer.
-use Rattle.std.specs.Prelude.{◌≡◌, ◌≢◌, ℕ, ◌^◌, ◌<◌, List, [], ◌∷◌, ◌++◌, ⊤, Option, Some, None, IfSome, MatchOption, Result, Ok, Err}
+use Rattle.std.specs.Prelude.{◌≡◌, ◌≢◌, ℕ, ◌^◌, ◌<◌, ◌≤◌, List, [], ◌∷◌, ◌++◌, length, take, slice_index, ⊤, Option, Some, None, IfSome, MatchOption, Result, Ok, Err}
 use Rattle.mtrace_log.specs.Bytes.{space}
-use Rattle.mtrace_log.specs.Address.{IsAddress}
+use Rattle.std.specs.Char.{digit_char}
+use Rattle.mtrace_log.specs.Address.{IsAddress, hex_digits}
 use Rattle.mtrace_log.specs.Form.{Form, Numbers, form}
 use Rattle.mtrace_log.specs.Event.{Event}
 use Rattle.mtrace_log.specs.declared.event.LineFault.{LineFault}
@@ -15,6 +16,13 @@ Finds {X} IsValue text bytes found = MatchOption found ((x : X) → IsValue x �
 abbrev pub EndsField : List ℕ → Type 0
 EndsField [] = ⊤
 EndsField (b ∷ rest) = b ≡ space
+
+-- so many digits are read at the front, at most 16; behind fewer no digit stands
+pub record ReadsDigits (bytes : List ℕ) (number count : ℕ) : Type 0 where
+  pub within : count ≤ length bytes
+  pub most : count ≤ 16
+  pub digits : take count bytes ≡ hex_digits number
+  pub ended : count < 16 → (d : ℕ) → d < 16 → slice_index bytes count ≢ digit_char d
 
 -- the bytes spell the value, and then the rest follows, before which a field ends
 abbrev pub IsFront : {X : Type 0} → (X → Type 0) → (X → List ℕ) → List ℕ → X → List ℕ → Type 0

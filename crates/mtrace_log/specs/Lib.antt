@@ -7,6 +7,8 @@ pub mod Form
 pub mod Reading
 pub mod Event
 pub mod Fields
+pub mod Sixteen
+pub mod Frequent
 pub mod Lines
 pub mod Trace
 pub mod Output

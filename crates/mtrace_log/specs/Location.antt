@@ -1,10 +1,14 @@
 -- The bytes of a location.
-use Rattle.std.specs.Prelude.{◌≢◌, ℕ, ◌<◌, ◌≤◌, List, length}
+use Rattle.std.specs.Prelude.{◌≢◌, ℕ, ◌<◌, ◌≤◌, ◌==◌, ◌||◌, nat_le, Bool, List, length}
 use Rattle.std.specs.List.{AllByRecursion}
 
 -- a byte that can stand in a location: neither blank nor a control byte
 abbrev pub IsLocationByte : ℕ → Type 0
 IsLocationByte b = (0x20 < b) × (b ≢ 0x7F)
+
+-- any other byte
+abbrev pub is_blank : ℕ → Bool
+is_blank b = nat_le b 0x20 || (b == 0x7F)
 
 -- the greatest number of bytes in a location
 abbrev pub longest_location : ℕ

@@ -13,6 +13,14 @@ source_left source = source.rest.now
 abbrev pub known_left : MemorySource → Option (List ℕ)
 known_left source = Some (source_left source)
 
+-- the bytes from the first on
+abbrev pub source_whole : MemorySource → List ℕ
+source_whole source = source.whole.now
+
+-- those bytes, which are known
+abbrev pub known_whole : MemorySource → Option (List ℕ)
+known_whole source = Some (source_whole source)
+
 -- the greatest piece that a call gives
 abbrev pub source_piece : MemorySource → ℕ
 source_piece source = source.piece

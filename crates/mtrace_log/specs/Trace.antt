@@ -2,13 +2,18 @@
 use Rattle.std.specs.Prelude.{◌≡◌, ℕ, zero, suc, List, ◌∷◌, ◌++◌, map, Result, Ok, Err, ◌⊎◌}
 use Rattle.mtrace_log.specs.declared.failed.Failed.{Failed as Failure}
 use Rattle.mtrace_log.specs.declared.call.Call.{Call}
-use Rattle.mtrace_log.specs.declared.call.Call.TheVariants.{Gave, Ended, Took, Flushed, FlushFailed, Failed}
+use Rattle.mtrace_log.specs.declared.call.Call.TheVariants.{Gave, Ended, Began, Took, Flushed, FlushFailed, Failed}
 
 -- a reader's answer: 0 tells its end
 abbrev pub pulled : Result ℕ Failure → Call
 pulled (Ok zero) = Ended
 pulled (Ok (suc count)) = Gave (suc count)
 pulled (Err failure) = Failed
+
+-- a reader's answer where it is to begin again
+abbrev pub began : Result (Unit {0}) Failure → Call
+began (Ok done) = Began
+began (Err failure) = Failed
 
 -- a writer's answer to so many bytes: to take no byte of some is a failure
 abbrev pub offered : ℕ → Result ℕ Failure → Call
@@ -33,7 +38,7 @@ pub record MovedThen (by : ℕ → Call) (last : Call) (old new : List Call) : T
   pub moved : Moved by old middle
   pub then : new ≡ last ∷ middle
 
--- ---- a reader
+-- ---- a reader, in one reading: it doesn't begin again
 
 -- it gave pieces
 abbrev pub HasGiven : List Call → List Call → Type 0

@@ -1,10 +1,11 @@
 //! The bytes that were asked of a reader and aren't read yet.
 ghost use Rattle.std.specs.Prelude.{◌≡◌, ℕ, ◌<◌, ◌==◌, ◌∷◌, [], length, IfOk, OnErr};
 ghost use Rattle.std.specs.Io.KnownBytes.{prepend_known, IsAtEnd};
-ghost use Rattle.mtrace_log.specs.Buffer.{Buffered, TakesLine};
+ghost use Rattle.mtrace_log.specs.Buffer.{Buffered, TakesLine, TakesFrequent};
 ghost use Rattle.mtrace_log.specs.Trace.{pulled};
 
 use crate::failed::Failed;
+use crate::frequent::{Frequent, read_frequent};
 use crate::source::Source;
 use memchr::memchr;
 use std::marker::Model;
@@ -79,6 +80,20 @@ impl Buffer {
         true
     }
 
+    /// Takes the line at the front, where it is a whole one of the two frequent forms, and answers what it says.
+    #[inline(always)]
+    pub(crate) fn take_frequent(&mut self) -> Option<Frequent>
+        ensures { TakesFrequent result self.old self.new }
+    {
+        let Some((frequent, len)) = read_frequent(self.unread()) else {
+            return None;
+        };
+        self.line = self.start;
+        self.line_end = self.start + len;
+        self.start = self.line_end + 1;
+        Some(frequent)
+    }
+
     /// The line that was taken last, until the buffer is filled again.
     pub(crate) fn line(&self) -> &[u8]
         ensures { result.now ≡ self.now.line }
@@ -101,6 +116,7 @@ impl Buffer {
         ensures end { IfOk result (λ count. count ≡ 0 → IsAtEnd (R.left reader.new)) }
         ensures falls { IfOk result (λ count. 0 < count → R.budget reader.new < R.budget reader.old) }
         ensures failed { OnErr result ((self.new.unread ≡ []) × (R.left reader.new ≡ R.left reader.old)) }
+        ensures whole { R.whole reader.new ≡ R.whole reader.old }
         ensures told { R.trace reader.new ≡ pulled result ∷ R.trace reader.old }
     {
         let count = reader.pull(&mut self.bytes)?;

@@ -1,5 +1,5 @@
 ghost use Rattle.std.specs.Prelude.{◌≡◌, length};
-ghost use Rattle.mtrace_log.specs.Trace.{pulled as pull_came_to, offered as put_came_to, flushed as flush_came_to};
+ghost use Rattle.mtrace_log.specs.Trace.{pulled as pull_came_to, began as begin_came_to, offered as put_came_to, flushed as flush_came_to};
 
 use crate::failed::Failed;
 
@@ -10,13 +10,15 @@ pub enum Call {
     Gave(usize),
     /// The reader told its end.
     Ended,
+    /// The reader began again.
+    Began,
     /// The writer took so many bytes: none only where none was offered.
     Took(usize),
     /// The writer flushed.
     Flushed,
     /// The writer failed to flush.
     FlushFailed,
-    /// The reader failed to give bytes, or the writer to take any of some.
+    /// The reader failed to give bytes or to begin again, or the writer to take any of some.
     Failed,
 }
 
@@ -28,6 +30,16 @@ impl Call {
         match answer {
             Ok(0) => Call::Ended,
             Ok(count) => Call::Gave(*count),
+            Err(_) => Call::Failed,
+        }
+    }
+
+    /// What a `begin` with this answer came to.
+    pub(crate) fn began(answer: &Result<(), Failed>) -> Call
+        ensures { result ≡ begin_came_to answer.now }
+    {
+        match answer {
+            Ok(()) => Call::Began,
             Err(_) => Call::Failed,
         }
     }

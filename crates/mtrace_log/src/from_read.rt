@@ -1,16 +1,19 @@
 ghost use Rattle.std.specs.Prelude.{◌≡◌, ℕ, ◌-◌, ◌^◌, ◌<◌, ◌≤◌, List, [], ◌∷◌, length, take, Option, None, IfOk, OnErr, IsErr};
-ghost use Rattle.std.specs.Io.KnownBytes.{ReadConsumes};
+ghost use Rattle.std.specs.Io.KnownBytes.{ReadConsumes, Keeps};
+ghost use Rattle.std.specs.Io.Seek.{MovesTo};
 ghost use Rattle.mtrace_log.specs.declared.call.Call.{Call};
 ghost use Rattle.mtrace_log.specs.Adapters.{reader_of, calls_left, reader_trace};
-ghost use Rattle.mtrace_log.specs.Trace.{pulled};
+ghost use Rattle.mtrace_log.specs.Trace.{pulled, began};
 
+use crate::again::Again;
 use crate::call::Call;
 use crate::failed::Failed;
 use crate::source::Source;
 use crate::trace::Trace;
-use std::io::Read;
+use std::io::{Read, Seek};
 
-/// A reader of std's as a [`Source`]: one read a pull, and an error of any kind is a failure.
+/// A reader of std's as a [`Source`]: one read a pull, and an error of any kind is a failure. It begins again
+/// where the reader can seek.
 ///
 /// It tells no bytes. It counts its calls, and from the 2^64-th on it fails without a read.
 #[derive(Drop)]
@@ -76,6 +79,28 @@ impl<R: Read> Source for FromRead<R> {
     {
         let answer = self.read_once(buf);
         self.trace.add(Call::pulled(&answer));
+        answer
+    }
+}
+
+impl<R: Read + Seek> Again for FromRead<R> {
+    /// Seeks to the first byte.
+    ///
+    /// # Errors
+    ///
+    /// `Failed` where the seek answered an error, as a pipe's does.
+    fn begin(&mut self) -> Result<(), Failed>
+        // The position is 0, where the reader tells it, and its bytes stay.
+        ensures moves { MovesTo (R.stream_position (reader_of self.old)) (R.stream_position (reader_of self.new)) 0 result }
+        ensures bytes { Keeps (R.stream_bytes (reader_of self.old)) (R.stream_bytes (reader_of self.new)) }
+        ensures told { reader_trace self.new ≡ began result ∷ reader_trace self.old }
+        ensures counted { calls_left self.new ≡ calls_left self.old }
+    {
+        let answer = match self.reader.rewind() {
+            Ok(()) => Ok(()),
+            Err(_) => Err(Failed),
+        };
+        self.trace.add(Call::began(&answer));
         answer
     }
 }

@@ -4,8 +4,9 @@ ghost use Rattle.arrayvec.specs.ArrayVec.{array_vec_len};
 ghost use Rattle.std.specs.Int.Digits.{digits_of};
 ghost use Rattle.std.specs.Char.{digit_char};
 ghost use Rattle.mtrace_log.specs.Address.{hex_digits, address_text, IsAddress};
-ghost use Rattle.mtrace_log.specs.Fields.{EndsField};
+ghost use Rattle.mtrace_log.specs.Fields.{EndsField, ReadsDigits};
 
+use crate::sixteen::read_sixteen;
 use arrayvec::ArrayVec;
 
 /// The greatest number of bytes in the spelling of an address.
@@ -85,6 +86,35 @@ fn begins_with_zero(bytes: &[u8]) -> bool
     }
 }
 
+/// The number that the digits at the front write, at most 16 of them, where they don't begin with `0`, and how many these are.
+#[inline(never)]
+fn read_each(bytes: &[u8]) -> (u64, usize)
+    requires { slice_index bytes.now 0 ≢ 48 }
+    ensures { ReadsDigits bytes.now result.0 result.1 }
+{
+    let most = bytes.len().min(MOST_DIGITS);
+    let mut number: u64 = 0;
+    for i in 0..most {
+        let Some(digit) = digit_of(bytes[i]) else {
+            return (number, i);
+        };
+        number = number * 16 + u64::from(digit);
+    }
+    (number, most)
+}
+
+/// The number that the digits at the front write, at most 16 of them, where they don't begin with `0`, and how many these are.
+#[inline(always)]
+fn read_most(bytes: &[u8]) -> (u64, usize)
+    requires { slice_index bytes.now 0 ≢ 48 }
+    ensures { ReadsDigits bytes.now result.0 result.1 }
+{
+    if bytes.len() < 16 {
+        return read_each(bytes);
+    }
+    read_sixteen(bytes)
+}
+
 /// The number that the digits at the front write, at most 16 of them, and what follows these; 0 where they begin with `0`.
 #[inline(always)]
 pub(crate) fn read_digits(bytes: &[u8]) -> (u64, &[u8])
@@ -96,13 +126,6 @@ pub(crate) fn read_digits(bytes: &[u8]) -> (u64, &[u8])
     if begins_with_zero(bytes) {
         return (0, bytes);
     }
-    let most = bytes.len().min(MOST_DIGITS);
-    let mut number: u64 = 0;
-    for i in 0..most {
-        let Some(digit) = digit_of(bytes[i]) else {
-            return (number, &bytes[i..]);
-        };
-        number = number * 16 + u64::from(digit);
-    }
-    (number, &bytes[most..])
+    let (number, count) = read_most(bytes);
+    (number, &bytes[count..])
 }

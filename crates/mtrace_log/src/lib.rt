@@ -5,10 +5,12 @@
 #![tactic(auto)]
 
 mod addr;
+mod again;
 mod buffer;
 mod call;
 mod event;
 mod failed;
+mod frequent;
 mod from_read;
 mod hex;
 pub mod laws;
@@ -21,11 +23,13 @@ pub mod memory;
 mod output;
 mod pieces;
 mod sink;
+mod sixteen;
 mod source;
 mod to_write;
 mod trace;
 
 pub use crate::addr::Addr;
+pub use crate::again::Again;
 pub use crate::call::Call;
 pub use crate::event::{Event, LineFault};
 pub use crate::failed::Failed;

@@ -140,7 +140,7 @@ fn read_fields(bytes: &[u8]) -> Option<(Option<Addr>, Option<Numbers>)>
 }
 
 /// The first byte, where a space follows it, and what stands behind that space.
-fn split_mark(bytes: &[u8]) -> Option<(u8, &[u8])>
+pub(crate) fn split_mark(bytes: &[u8]) -> Option<(u8, &[u8])>
     ensures { MatchOption result ((mark : ℕ) (rest : List ℕ) → bytes.now ≢ mark ∷ space ∷ rest)
         (λ parts. bytes.now ≡ parts.0 ∷ space ∷ parts.1.now) }
 {
@@ -196,7 +196,7 @@ fn event_of<'a>(
 }
 
 /// What stands behind `@ `.
-fn behind_at(bytes: &[u8]) -> Option<&[u8]>
+pub(crate) fn behind_at(bytes: &[u8]) -> Option<&[u8]>
     ensures { MatchOption result ((rest : List ℕ) → bytes.now ≢ codes "@ " ++ rest)
         (λ rest. bytes.now ≡ codes "@ " ++ rest.now) }
 {

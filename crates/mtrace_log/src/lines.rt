@@ -5,6 +5,7 @@ ghost use Rattle.mtrace_log.specs.declared.line.ReadFault.TheVariants.{ReaderFai
 use crate::buffer::Buffer;
 use crate::event::{Event, LineFault};
 use crate::failed::Failed;
+use crate::frequent::Frequent;
 use crate::line::{Line, ReadFault};
 use crate::line_buffer::LineBuffer;
 use crate::line_reader::{kept, read_lent};
@@ -36,12 +37,15 @@ pub struct Lines {
     // The line that was passed last, where it wasn't whole in the buffer.
     across: LineBuffer,
     is_across: bool,
+    // What it says, where it was read as it was passed: then it lies in the buffer.
+    frequent: Option<Frequent>,
     count: u64,
     state: State,
 }
 
 impl Model for Lines {
-    ghost use Rattle.std.specs.Prelude.{◌≡◌, []};
+    ghost use Rattle.std.specs.Prelude.{◌≡◌, [], false, IfSome};
+    ghost use Rattle.mtrace_log.specs.Frequent.{IsFrequent};
     ghost use Rattle.mtrace_log.specs.Progress.{Progress, Faulted};
     ghost use Rattle.mtrace_log.specs.State.{status_of, last_of};
     ghost use Rattle.mtrace_log.specs.declared.line.ReadFault.TheVariants.{ReaderFailed};
@@ -56,7 +60,8 @@ impl Model for Lines {
     } };
 
     // The reader is asked only where no byte is unread, so nothing is held once it failed.
-    ghost invariant = { λ lines. status_of lines.state ≡ Faulted ReaderFailed → lines.buffer.unread ≡ [] };
+    ghost invariant = { λ lines. (status_of lines.state ≡ Faulted ReaderFailed → lines.buffer.unread ≡ [])
+        × IfSome lines.frequent (λ frequent. (lines.is_across ≡ false) × IsFrequent lines.buffer.line frequent) };
 }
 
 impl Lines {
@@ -68,6 +73,7 @@ impl Lines {
             buffer: Buffer::new(),
             across: LineBuffer::new(),
             is_across: false,
+            frequent: None,
             count: 0,
             state: State::Reading,
         }
@@ -94,6 +100,7 @@ impl Lines {
         ensures calls { self.old.status ≡ Reading → CallsFor self.new.status (R.trace reader.old) (R.trace reader.new) }
         // Where the reader failed, all that it gave is taken: the text to come is what it has left.
         ensures nothing_held { IfErr result (λ fault. fault ≡ ReaderFailed → self.new.held ≡ []) }
+        ensures whole { R.whole reader.new ≡ R.whole reader.old }
     {
         match self.advance(reader) {
             Ok(Some(number)) => {
@@ -122,6 +129,7 @@ impl Lines {
             (to_come self.old (R.left reader.old)) (to_come self.new (R.left reader.new))) }
         ensures calls { self.old.status ≡ Reading → CallsFor self.new.status (R.trace reader.old) (R.trace reader.new) }
         ensures nothing_held { IfErr result (λ fault. fault ≡ ReaderFailed → self.new.held ≡ []) }
+        ensures whole { R.whole reader.new ≡ R.whole reader.old }
     {
         match self.state {
             State::Reading => self.read_next(reader),
@@ -134,6 +142,17 @@ impl Lines {
     /// What the line says that was passed last, with its location where it lies; before the first, what an empty line says.
     #[inline(always)]
     pub fn event(&self) -> Result<Event<LentLocation<'_>>, LineFault>
+        ensures { Says self.now.last result }
+    {
+        match self.frequent {
+            Some(frequent) => Ok(frequent.event(self.buffer.line())),
+            None => self.read_last(),
+        }
+    }
+
+    /// What the line says that was passed last, where it wasn't read as it was passed.
+    #[inline(never)]
+    fn read_last(&self) -> Result<Event<LentLocation<'_>>, LineFault>
         ensures { Says self.now.last result }
     {
         if self.is_across {
@@ -149,10 +168,30 @@ impl Lines {
         requires { self.old.status ≡ Reading }
         ensures reads { ReadsOn R.left R.trace self.old self.new reader.old reader.new result }
         ensures nothing_held { IfErr result (λ fault. fault ≡ ReaderFailed → self.new.held ≡ []) }
+        ensures whole { R.whole reader.new ≡ R.whole reader.old }
     {
         if self.count == u64::MAX {
             return self.find_end(reader);
         }
+        self.frequent = self.buffer.take_frequent();
+        if self.frequent.is_none() {
+            return self.read_other(reader);
+        }
+        self.is_across = false;
+        self.count += 1;
+        Ok(Some(self.count))
+    }
+
+    /// Passes over the next line, which is none of the two frequent forms.
+    #[inline(never)]
+    fn read_other<R: Source>(&mut self, reader: &mut R) -> Result<Option<u64>, ReadFault>
+        requires reading { self.old.status ≡ Reading }
+        requires room { self.old.count < greatest_number }
+        ensures reads { ReadsOn R.left R.trace self.old self.new reader.old reader.new result }
+        ensures nothing_held { IfErr result (λ fault. fault ≡ ReaderFailed → self.new.held ≡ []) }
+        ensures whole { R.whole reader.new ≡ R.whole reader.old }
+    {
+        self.frequent = None;
         if !self.buffer.take_line() {
             return self.read_across(reader);
         }
@@ -168,7 +207,9 @@ impl Lines {
         requires room { self.old.count < greatest_number }
         ensures reads { ReadsOn R.left R.trace self.old self.new reader.old reader.new result }
         ensures nothing_held { IfErr result (λ fault. fault ≡ ReaderFailed → self.new.held ≡ []) }
+        ensures whole { R.whole reader.new ≡ R.whole reader.old }
     {
+        self.frequent = None;
         let (line, stop) = read_piece(&mut self.buffer, reader);
         match stop {
             Stop::Newline => {}
@@ -196,7 +237,9 @@ impl Lines {
         requires full { self.old.count ≡ greatest_number }
         ensures reads { ReadsOn R.left R.trace self.old self.new reader.old reader.new result }
         ensures nothing_held { IfErr result (λ fault. fault ≡ ReaderFailed → self.new.held ≡ []) }
+        ensures whole { R.whole reader.new ≡ R.whole reader.old }
     {
+        self.frequent = None;
         if !self.buffer.is_empty() {
             self.state = State::Full;
             return Err(ReadFault::TooManyLines);

@@ -1,6 +1,7 @@
-ghost use Rattle.std.specs.Prelude.{◌≡◌, ◌≢◌, ℕ, ◌<◌, ◌≤◌, ◌++◌, ◌∷◌, List, length, slice_index, MatchOption, SomeIff};
+ghost use Rattle.std.specs.Prelude.{◌≡◌, ◌≢◌, ℕ, ◌<◌, ◌≤◌, ◌++◌, ◌∷◌, List, length, not, slice_index, MatchOption, SomeIff};
+ghost use Rattle.std.specs.List.{prefix_len};
 ghost use Rattle.mtrace_log.specs.Bytes.{space};
-ghost use Rattle.mtrace_log.specs.Location.{IsLocation, IsLocationByte};
+ghost use Rattle.mtrace_log.specs.Location.{IsLocation, IsLocationByte, is_blank};
 
 use arrayvec::ArrayVec;
 use std::marker::Model;
@@ -28,44 +29,52 @@ impl Model for Location {
     ghost inverse = { λ bytes. record { text = record { items = bytes } } };
 }
 
-/// How many bytes of a vector, from the first on, can stand in a location.
-fn location_lanes(lanes: u8x16) -> usize
-    ensures most { result ≤ 16 }
-    ensures allowed { (k : ℕ) → k < result → IsLocationByte (slice_index lanes k) }
+/// The first lane that can't stand in a location.
+#[inline(always)]
+fn first_blank(lanes: u8x16) -> Option<usize>
+    ensures { MatchOption result (16 ≡ prefix_len (λ byte. not (is_blank byte)) lanes)
+        (λ lane. (lane < 16) × (lane ≡ prefix_len (λ byte. not (is_blank byte)) lanes)) }
 {
-    let above = lanes.simd_gt(u8x16::splat(b' ')).to_bitmask();
-    let other = lanes.simd_ne(u8x16::splat(0x7F)).to_bitmask();
-    (above & other).trailing_ones() as usize
-}
-
-/// So many bytes at the front can stand in a location, and perhaps more. They are looked at 16 at a time.
-fn location_vectors(bytes: &[u8]) -> usize
-    ensures within { result ≤ length bytes.now }
-    ensures allowed { (k : ℕ) → k < result → IsLocationByte (slice_index bytes.now k) }
-{
-    let mut at = 0;
-    while bytes.len() - at >= 16 {
-        let count = location_lanes(u8x16::from_slice(&bytes[at..at + 16]));
-        if count < 16 {
-            return at + count;
-        }
-        at += 16;
+    let blank = lanes.simd_le(u8x16::splat(b' ')) | lanes.simd_eq(u8x16::splat(0x7F));
+    let mask = blank.to_bitmask();
+    if mask == 0 {
+        return None;
     }
-    at
+    Some(mask.trailing_zeros() as usize)
 }
 
-/// How many bytes at the front can stand in a location.
-fn location_end(bytes: &[u8]) -> usize
+/// How many bytes at the front can stand in a location, of which so many are seen to.
+#[inline(never)]
+fn location_rest(bytes: &[u8], seen: usize) -> usize
+    requires within { seen ≤ length bytes.now }
+    requires allowed { (k : ℕ) → k < seen → IsLocationByte (slice_index bytes.now k) }
     ensures within { result ≤ length bytes.now }
     ensures allowed { (k : ℕ) → k < result → IsLocationByte (slice_index bytes.now k) }
     ensures ended { result < length bytes.now → ¬ IsLocationByte (slice_index bytes.now result) }
 {
-    for at in location_vectors(bytes)..bytes.len() {
+    for at in seen..bytes.len() {
         if bytes[at] <= b' ' || bytes[at] == 0x7F {
             return at;
         }
     }
     bytes.len()
+}
+
+/// How many bytes at the front can stand in a location. They are looked at 16 at a time.
+#[inline(always)]
+fn location_end(bytes: &[u8]) -> usize
+    ensures within { result ≤ length bytes.now }
+    ensures allowed { (k : ℕ) → k < result → IsLocationByte (slice_index bytes.now k) }
+    ensures ended { result < length bytes.now → ¬ IsLocationByte (slice_index bytes.now result) }
+{
+    let mut at = 0;
+    while bytes.len() - at >= 16 {
+        if let Some(lane) = first_blank(u8x16::from_slice(&bytes[at..at + 16])) {
+            return at + lane;
+        }
+        at += 16;
+    }
+    location_rest(bytes, at)
 }
 
 /// What stands behind a space, where one is first.
@@ -104,6 +113,21 @@ impl<'a> LentLocation<'a> {
             return None;
         }
         Some(LentLocation { text: bytes })
+    }
+
+    /// The location of these bytes, which are one.
+    pub(crate) fn of(bytes: &'a [u8]) -> LentLocation<'a>
+        requires { IsLocation bytes.now }
+        ensures { result ≡ bytes.now }
+    {
+        LentLocation { text: bytes }
+    }
+
+    /// How many bytes it has.
+    pub(crate) fn len(&self) -> usize
+        ensures { result ≡ length self.now }
+    {
+        self.text.len()
     }
 
     /// The location at the front, and what stands behind the space that ends it.

@@ -35,6 +35,7 @@ fn take_front(buffer: &mut Buffer, line: &mut LineBuffer) -> bool
 pub(crate) fn read_piece<R: Source>(buffer: &mut Buffer, reader: &mut R) -> (LineBuffer, Stop)
     ensures piece { TakesPiece result.0 result.1 (prepend_known buffer.old.unread (R.left reader.old)) (prepend_known buffer.new.unread (R.left reader.new)) }
     ensures calls { CallsUpTo result.1 (R.trace reader.old) (R.trace reader.new) }
+    ensures whole { R.whole reader.new ≡ R.whole reader.old }
     ensures nothing_held { result.1 ≡ PieceFailed → buffer.new.unread ≡ [] }
 {
     let mut line = LineBuffer::new();

@@ -1,27 +1,28 @@
--- What is held at the spots of an index, and how it changes where one spot does.
-use Rattle.std.proofs.Common.{◌≡◌, ℕ, Bool, cond, suc, ◌+◌, ◌<◌, ◌≤◌, List, [], ◌∷◌, ◌++◌, take, drop, length, slice_index_or, slice_set, Option, Some, None, true, false, Less, arith, refl, sym, ap, ◌∙◌, subst}
-use Rattle.std.specs.Prelude.{◌==◌, option_to_list, Result, Ok, Err, IfOk, IfErr}
-use Rattle.std.specs.List.{AllByRecursion}
+-- What is held, by an index, and how it changes where one key does.
+use Rattle.std.proofs.Common.{◌≡◌, ◌≢◌, ℕ, zero, Bool, cond, suc, ◌+◌, ◌<◌, ◌≤◌, List, [], ◌∷◌, ◌++◌, take, drop, length, slice_index_or, slice_set, is_some, Option, Some, None, true, false, Less, arith, refl, sym, ap, ap₂, ◌∙◌, subst, inl, inr}
+use Rattle.std.specs.Prelude.{◌==◌, option_map, option_to_list, Result, Ok, Err, IfOk, IfErr}
+use Rattle.std.specs.List.{AllByRecursion, insert, remove}
 use Rattle.std.specs.List.Sorted.{IsStrictlySortedBy}
 use Rattle.std.specs.Ordering.{nat_cmp}
+use Rattle.std.proofs.lemmas.Bool.{cases_Bool, eqb-true, eq-eqb}
 use Rattle.std.proofs.lemmas.Bool.Decides.{nat_tests}
-use Rattle.std.proofs.lemmas.List.{length-append, length-take-le, length-set, take-append-drop}
+use Rattle.std.proofs.lemmas.List.{length-append, append_assoc, get_or_default}
 use Rattle.std.proofs.lemmas.List.Sums.{sum_by-append}
 use Rattle.std.proofs.lemmas.Map.Keys.{IsStrictlyIncreasing-from_sorted}
+use Rattle.tlsf_heap.specs.Pointer.{Pointer}
 use Rattle.mtrace_replay.specs.Holding.{Holding}
-use Rattle.mtrace_replay.specs.Spot.{Spot}
-use Rattle.mtrace_replay.specs.Spot.Spot.{Held, Vacant}
-use Rattle.mtrace_replay.specs.Spot.{spot_address, least_behind, holding_of, all_held, RiseFrom, AreBelow, AreAbove}
-use Rattle.mtrace_replay.specs.Search.{StandsAt, FitsAt, Enters}
+use Rattle.mtrace_replay.specs.Entry.{Entry}
+use Rattle.mtrace_replay.specs.declared.key.Key.{Key}
+use Rattle.mtrace_replay.specs.Keys.{Rows, row_at, HasRow, Kept, KeepsRows, SetsRow}
+use Rattle.mtrace_replay.specs.Key.{no_row, held_under, holding_of, all_held, IsRow, HaveRows, least_behind, RiseFrom, AreAbove}
+use Rattle.mtrace_replay.specs.Search.{StandsAt, FitsAt, IsVacantAt, AreOthers}
 use Rattle.mtrace_replay.specs.declared.index.Found.{Found}
-use Rattle.mtrace_replay.specs.Index.{addresses, held_at, held_bytes, AreInOrder, IsIndex, Indexed, IsFound}
-use Rattle.mtrace_replay.specs.declared.index.Found.{Found}
-use Rattle.mtrace_replay.proofs.SpotLemmas.{not_higher, rise_lower, held_append, below_before, rise_take, rise_drop, rise_above, rise_join, kept_rise, kept_below, kept_held}
-use Rattle.mtrace_replay.proofs.EnterLemmas.{parted, seam_set}
-
--- the spot where an address stands has it
-pub stands_address : (spots : List Spot) (address at : ℕ) → StandsAt spots address at → (was : Spot) → was ≡ slice_index_or spots at was → spot_address was ≡ address
-stands_address spots address at stands was there = ap spot_address there ∙ stands.1 was
+use Rattle.mtrace_replay.specs.Index.{addresses, held_at, held_bytes, AreInOrder, IsNewSlot, Indexed, IsFound, IsIndex}
+use Rattle.mtrace_replay.proofs.KeyLemmas.{above_all, fits_there, rise_remove, rise_insert, all_remove, all_insert, all_there}
+use Rattle.mtrace_replay.specs.Arrange.{held_keys}
+use Rattle.mtrace_replay.proofs.ArrangeLemmas.{alone_held, alone_rows, rows_of_alone}
+use Rattle.mtrace_replay.proofs.GapLemmas.{set_is_put, put_back}
+use Rattle.mtrace_replay.proofs.HoldingLemmas.{held_split, held_remove, all_below, all_above, own_address}
 
 -- what is held changes at one address, from `was` to `now`; before it stand lower addresses, behind it higher ones
 pub record Changes (address : ℕ) (was now : Option Holding) (old new : List Holding) : Type 0 where
@@ -96,175 +97,308 @@ module _ (address : ℕ) (was now : Option Holding) (old new : List Holding) (ch
   pub changes_bytes : held_bytes new + held_bytes (option_to_list was) ≡ held_bytes old + held_bytes (option_to_list now)
   changes_bytes = omega (arith, ap held_bytes changes.old_is, ap held_bytes changes.new_is, sums was, sums now)
 
-all_below : (address : ℕ) (spots : List Spot) → AreBelow address spots → AllByRecursion (λ (held : Holding). held.entry.addr < address) (all_held spots)
-all_below address [] below = tt
-all_below address (Held holding ∷ spots) below = (omega (arith, below.0), all_below address spots below.1)
-all_below address (Vacant old ∷ spots) below = all_below address spots below.1
+above_from_bound : (address : ℕ) (keys : List Key) → RiseFrom (suc address) keys → AreAbove address keys
+above_from_bound address keys rise = above_all address (suc address) keys rise (omega arith)
 
-all_above : (address : ℕ) (spots : List Spot) → AreAbove address spots → AllByRecursion (λ (held : Holding). address < held.entry.addr) (all_held spots)
-all_above address [] above = tt
-all_above address (Held holding ∷ spots) above = (above.0, all_above address spots above.1)
-all_above address (Vacant old ∷ spots) above = all_above address spots above.1
+-- the keys' rows are there still, and say the same
+abbrev pub SameRows : (old new : Rows) → List Key → Type 0
+SameRows old new keys = AllByRecursion (λ (key : Key). (holding_of new key ≡ holding_of old key) × IsRow new key.address key.block) keys
 
-own_address : (spot : Spot) → AllByRecursion (λ (held : Holding). held.entry.addr ≡ spot_address spot) (option_to_list (holding_of spot))
-own_address (Held holding) = (refl, tt)
-own_address (Vacant address) = tt
+pub same_rows : (rows : Rows) (keys : List Key) → HaveRows rows keys → SameRows rows rows keys
+same_rows rows [] have = tt
+same_rows rows (key ∷ keys) have = ((refl, have.0), same_rows rows keys have.1)
 
-first_least : (address bound : ℕ) (spots : List Spot) → address < bound → RiseFrom bound spots → AllByRecursion (λ other. nat_cmp address other ≡ Less) (addresses (all_held spots))
-first_least address bound [] less rise = tt
-first_least address bound (Held holding ∷ spots) less rise =
-    let above : address < holding.entry.addr = omega (arith, less, rise.0) in
-    (grind (arith, nat_tests), first_least address (suc holding.entry.addr) spots (omega (arith, above)) rise.1)
-first_least address bound (Vacant old ∷ spots) less rise = first_least address old spots (omega (arith, less, rise.0)) rise.1
+module _ (old new : Rows) where
+  same_row : (address : ℕ) (block : Option Pointer) → IsRow old address block → new.room ≡ old.room → length old.entries ≤ length new.entries
+      → ((ptr : Pointer) → block ≡ Some ptr → HasRow old ptr.slot → row_at new ptr.slot no_row ≡ row_at old ptr.slot no_row)
+      → (option_map (held_under address new) block ≡ option_map (held_under address old) block) × IsRow new address block
+  same_row address None is room more same = (refl, tt)
+  same_row address (Some ptr) is room more same =
+      let row = same ptr refl is.0 in (
+        ap (λ (row : Entry). let held : Holding = record { entry = record { addr = address; size = row.size; line = row.line; at = row.at }; ptr = ptr } in Some held) row,
+        ((omega (arith, room, is.0.0), omega (arith, room, more, is.0.1)), ap (λ (row : Entry). row.addr) row ∙ is.1),
+      )
 
--- the addresses of what is held rise
-rise_sorted : (bound : ℕ) (spots : List Spot) → RiseFrom bound spots → IsStrictlySortedBy nat_cmp (addresses (all_held spots))
-unfolding IsStrictlySortedBy
-rise_sorted bound [] rise = tt
-rise_sorted bound (Held holding ∷ spots) rise = (first_least holding.entry.addr (suc holding.entry.addr) spots (omega arith) rise.1, rise_sorted (suc holding.entry.addr) spots rise.1)
-rise_sorted bound (Vacant address ∷ spots) rise = rise_sorted address spots rise.1
+  -- rows are added
+  pub rows_added : (keys : List Key) → KeepsRows old new → HaveRows old keys → SameRows old new keys
+  rows_added [] keeps have = tt
+  rows_added (key ∷ keys) keeps have =
+      (same_row key.address key.block have.0 keeps.room keeps.more (λ ptr is has. keeps.same ptr.slot no_row has), rows_added keys keeps have.1)
 
-pub index_in_order : (spots : List Spot) → RiseFrom 0 spots → AreInOrder (all_held spots)
-index_in_order spots rise = IsStrictlyIncreasing-from_sorted (addresses (all_held spots)) (rise_sorted 0 spots rise)
+  pub same_held : (keys : List Key) → SameRows old new keys → all_held new keys ≡ all_held old keys
+  same_held [] same = refl
+  same_held (key ∷ keys) same = ap₂ (λ first rest. option_to_list first ++ rest) same.0.0 (same_held keys same.1)
 
-module _ (spots : List Spot) (address at : ℕ) (rise : RiseFrom 0 spots) where
-  -- the spot of the address is replaced
-  module _ (stands : StandsAt spots address at) (was spot : Spot) (there : was ≡ slice_index_or spots at was) (its : spot_address spot ≡ address) where
-    was_its_address : spot_address was ≡ address
-    was_its_address = ap spot_address there ∙ stands.1 was
+  pub rows_there : (keys : List Key) → SameRows old new keys → HaveRows new keys
+  rows_there [] same = tt
+  rows_there (key ∷ keys) same = (same.0.1, rows_there keys same.1)
 
-    parts : spots ≡ take at spots ++ was ∷ drop (suc at) spots
-    parts = parted was spots at stands.0 ∙ ap (λ s. take at spots ++ s ∷ drop (suc at) spots) (sym there)
+  -- a row is written at a slot that no key has but those of one address, which isn't held
+  pub others_same : (slot address bound : ℕ) (entry : Entry) (keys : List Key) → SetsRow slot entry old new → RiseFrom bound keys → HaveRows old keys
+      → AllByRecursion (λ (key : Key). is_some key.block ≡ true → key.address ≢ address) keys → IsNewSlot slot address (all_held old keys) → SameRows old new keys
+  others_same slot address bound entry [] sets rise have apart is_new = tt
+  others_same slot address bound entry (key ∷ keys) sets rise have apart is_new = (
+    same_row key.address key.block have.0 sets.room sets.more (λ ptr is has. sets.same ptr.slot no_row has
+        (is_new key.address (held_under key.address old ptr) (first ptr is) (apart.0 (ap is_some is)))),
+    others_same slot address (least_behind key) entry keys sets rise.1 have.1 apart.1 (λ other held at. is_new other held (later other held at)),
+  )
+    where
+      first : (ptr : Pointer) → key.block ≡ Some ptr → held_at (all_held old (key ∷ keys)) key.address ≡ Some (held_under key.address old ptr)
+      first ptr is =
+          ap (λ block. held_at (option_to_list (option_map (held_under key.address old) block) ++ all_held old keys) key.address) is
+          ∙ ap (λ b. cond b (Some (held_under key.address old ptr)) (held_at (all_held old keys) key.address)) (eq-eqb key.address key.address refl)
 
-    new_parts : slice_set spots at spot ≡ take at spots ++ spot ∷ drop (suc at) spots
-    new_parts = ap (λ all. slice_set all at spot) parts ∙ seam_set (take at spots) (drop (suc at) spots) was spot at (length-take-le at spots (omega (arith, stands.0)))
+      later : (other : ℕ) (held : Holding) → held_at (all_held old keys) other ≡ Some held → held_at (all_held old (key ∷ keys)) other ≡ Some held
+      later other held at = one key.block rise.1
+        where
+          one : (block : Option Pointer) → RiseFrom (cond (is_some block) (suc key.address) key.address) keys → held_at (option_to_list (option_map (held_under key.address old) block) ++ all_held old keys) other ≡ Some held
+          one None rise_rest = at
+          one (Some ptr) rise_rest = elim (cases_Bool (key.address == other)) [
+            | inl same ↦ absurd (let e : None ≡ Some held = sym (none_above key.address (all_held old keys) (all_above old key.address keys (above_from_bound key.address keys rise_rest)))
+                ∙ ap (held_at (all_held old keys)) (eqb-true key.address other same) ∙ at in cc)
+            | inr differ ↦ ap (λ b. cond b (Some (held_under key.address old ptr)) (held_at (all_held old keys) other)) differ ∙ at
+          ]
 
-    before_below : AreBelow address (take at spots)
-    before_below = subst (λ a. AreBelow a (take at spots)) (stands.1 was) (below_before was 0 spots at rise stands.0)
-
-    behind_above : AreAbove address (drop (suc at) spots)
-    behind_above = (let next : at + 1 ≡ suc at = omega arith in subst (λ k. AreAbove address (drop k spots)) next stands.2)
-
-    pub set_changes : Changes address (holding_of was) (holding_of spot) (all_held spots) (all_held (slice_set spots at spot))
-    set_changes = record {
-      before = all_held (take at spots);
-      behind = all_held (drop (suc at) spots);
-      below = all_below address (take at spots) before_below;
-      above = all_above address (drop (suc at) spots) behind_above;
-      was_its = subst (λ a. AllByRecursion (λ (held : Holding). held.entry.addr ≡ a) (option_to_list (holding_of was))) was_its_address (own_address was);
-      now_its = subst (λ a. AllByRecursion (λ (held : Holding). held.entry.addr ≡ a) (option_to_list (holding_of spot))) its (own_address spot);
-      old_is = ap all_held parts ∙ held_append (take at spots) (was ∷ drop (suc at) spots);
-      new_is = ap all_held new_parts ∙ held_append (take at spots) (spot ∷ drop (suc at) spots);
-    }
-
-    pub set_rises : RiseFrom 0 (slice_set spots at spot)
-    set_rises = subst (RiseFrom 0) (sym new_parts) (rise_join 0 (take at spots) spot (drop (suc at) spots) (rise_take 0 spots at rise)
-        (subst (λ a. AreBelow a (take at spots)) (sym its) before_below) (omega arith)
-        (rise_lower (suc address) (least_behind spot) (drop (suc at) spots) (omega (arith, its, not_higher spot))
-        (rise_above address 0 (drop (suc at) spots) (rise_drop 0 spots (suc at) rise) behind_above)))
-
-    pub set_held : (q : ℕ) → held_at (all_held (slice_set spots at spot)) q ≡ cond (address == q) (holding_of spot) (held_at (all_held spots) q)
-    set_held = changes_held address (holding_of was) (holding_of spot) (all_held spots) (all_held (slice_set spots at spot)) set_changes
-
-    -- what was held under the address
-    pub held_there : held_at (all_held spots) address ≡ holding_of was
-    held_there = changes_was address (holding_of was) (holding_of spot) (all_held spots) (all_held (slice_set spots at spot)) set_changes
-
-    pub set_count : length (all_held (slice_set spots at spot)) + length (option_to_list (holding_of was)) ≡ length (all_held spots) + length (option_to_list (holding_of spot))
-    set_count = changes_count address (holding_of was) (holding_of spot) (all_held spots) (all_held (slice_set spots at spot)) set_changes
-
-    pub set_bytes : held_bytes (all_held (slice_set spots at spot)) + held_bytes (option_to_list (holding_of was)) ≡ held_bytes (all_held spots) + held_bytes (option_to_list (holding_of spot))
-    set_bytes = changes_bytes address (holding_of was) (holding_of spot) (all_held spots) (all_held (slice_set spots at spot)) set_changes
-
-    pub set_keeps : (memory room blocks bytes new_blocks new_bytes : ℕ) → IsIndex spots memory room blocks bytes
-        → new_blocks + length (option_to_list (holding_of was)) ≡ blocks + length (option_to_list (holding_of spot))
-        → new_bytes + held_bytes (option_to_list (holding_of was)) ≡ bytes + held_bytes (option_to_list (holding_of spot))
-        → IsIndex (slice_set spots at spot) memory room new_blocks new_bytes
-    set_keeps memory room blocks bytes new_blocks new_bytes kept blocks_are bytes_are = record {
-      rise = set_rises;
-      within = omega (arith, length-set spots at spot, kept.within);
-      reserved = kept.reserved;
-      few = kept.few;
-      blocks_are = omega (arith, blocks_are, kept.blocks_are, set_count);
-      bytes_are = omega (arith, bytes_are, kept.bytes_are, set_bytes);
-    }
-
-  -- no spot has the address
-  module _ (fits : FitsAt spots address at) where
-    old_parts : all_held spots ≡ all_held (take at spots) ++ all_held (drop at spots)
-    old_parts = ap all_held (sym (take-append-drop at spots)) ∙ held_append (take at spots) (drop at spots)
-
-    comes_between : (now : Option Holding) (new : List Holding) → AllByRecursion (λ (held : Holding). held.entry.addr ≡ address) (option_to_list now)
-        → new ≡ all_held (take at spots) ++ (option_to_list now ++ all_held (drop at spots)) → Changes address None now (all_held spots) new
-    comes_between now new its new_parts = record {
-      before = all_held (take at spots);
-      behind = all_held (drop at spots);
-      below = all_below address (take at spots) fits.1;
-      above = all_above address (drop at spots) fits.2;
-      was_its = tt;
-      now_its = its;
-      old_is = old_parts;
-      new_is = new_parts;
-    }
-
-    pub not_held : Changes address None None (all_held spots) (all_held spots)
-    not_held = comes_between None (all_held spots) tt old_parts
-
-    -- a spot of it enters
-    module _ (spot : Spot) (its : spot_address spot ≡ address) (new : List Spot) (enters : Enters spot at spots new) where
-      pub enters_changes : Changes address None (holding_of spot) (all_held spots) (all_held new)
-      enters_changes = comes_between (holding_of spot) (all_held new)
-          (subst (λ a. AllByRecursion (λ (held : Holding). held.entry.addr ≡ a) (option_to_list (holding_of spot))) its (own_address spot))
-          (ap all_held enters.whole ∙ held_append enters.before (spot ∷ enters.behind)
-          ∙ ap (λ all. all ++ (option_to_list (holding_of spot) ++ all_held enters.behind)) (kept_held (take at spots) enters.before enters.before_kept)
-          ∙ ap (λ all. all_held (take at spots) ++ (option_to_list (holding_of spot) ++ all)) (kept_held (drop at spots) enters.behind enters.behind_kept))
-
-      pub enters_rise : RiseFrom 0 new
-      enters_rise = subst (RiseFrom 0) (sym enters.whole) (rise_join 0 enters.before spot enters.behind
-          (kept_rise (take at spots) enters.before 0 enters.before_kept (rise_take 0 spots at rise))
-          (subst (λ a. AreBelow a enters.before) (sym its) (kept_below (take at spots) enters.before address enters.before_kept fits.1))
-          (omega arith)
-          (rise_lower (suc address) (least_behind spot) enters.behind (omega (arith, its, not_higher spot)) (kept_rise (drop at spots) enters.behind (suc address) enters.behind_kept
-          (rise_above address 0 (drop at spots) (rise_drop 0 spots at rise) fits.2))))
-
-      pub enters_held : (q : ℕ) → held_at (all_held new) q ≡ cond (address == q) (holding_of spot) (held_at (all_held spots) q)
-      enters_held = changes_held address None (holding_of spot) (all_held spots) (all_held new) enters_changes
-
-      pub enters_keeps : (memory room blocks bytes new_blocks new_bytes : ℕ) → IsIndex spots memory room blocks bytes → length new ≤ room
-          → new_blocks ≡ blocks + length (option_to_list (holding_of spot)) → new_bytes ≡ bytes + held_bytes (option_to_list (holding_of spot))
-          → IsIndex new memory room new_blocks new_bytes
-      enters_keeps memory room blocks bytes new_blocks new_bytes kept within blocks_are bytes_are = record {
-        rise = enters_rise;
-        within = within;
-        reserved = kept.reserved;
-        few = kept.few;
-        blocks_are = omega (arith, blocks_are, kept.blocks_are, changes_count address None (holding_of spot) (all_held spots) (all_held new) enters_changes);
-        bytes_are = omega (arith, bytes_are, kept.bytes_are, changes_bytes address None (holding_of spot) (all_held spots) (all_held new) enters_changes);
-      }
-
-module _ (spots : List Spot) (address at : ℕ) (rise : RiseFrom 0 spots) (fits : FitsAt spots address at) where
-  pub nothing_there : held_at (all_held spots) address ≡ None
-  nothing_there = changes_was address None None (all_held spots) (all_held spots) (not_held spots address at rise fits)
-
-  pub nothing_removed : (q : ℕ) → held_at (all_held spots) q ≡ cond (address == q) None (held_at (all_held spots) q)
-  nothing_removed = changes_held address None None (all_held spots) (all_held spots) (not_held spots address at rise fits)
-
--- the same is held at other spots
-pub arranged_keeps : (spots new : List Spot) (memory new_memory room blocks bytes : ℕ) → IsIndex spots memory room blocks bytes → all_held new ≡ all_held spots → RiseFrom 0 new → length new ≤ room → new_memory ≡ memory
-    → IsIndex new new_memory room blocks bytes
-arranged_keeps spots new memory new_memory room blocks bytes kept same rise within reserved = record {
-  rise = rise;
-  within = within;
-  reserved = reserved ∙ kept.reserved;
-  few = kept.few;
-  blocks_are = kept.blocks_are ∙ sym (ap (length {A = Holding}) same);
-  bytes_are = kept.bytes_are ∙ sym (ap held_bytes same);
+-- a row is written where others were added
+sets_on : (old mid now : Rows) (slot : ℕ) (entry : Entry) → KeepsRows old mid → SetsRow slot entry mid now → SetsRow slot entry old now
+sets_on old mid now slot entry keeps sets = record {
+  room = sets.room ∙ keeps.room;
+  more = omega (arith, keeps.more, sets.more);
+  there = sets.there;
+  is = sets.is;
+  same = λ other default has differ. sets.same other default (omega (arith, has.0, keeps.room), omega (arith, has.1, keeps.room, keeps.more)) differ ∙ keeps.same other default has;
 }
 
--- where an address was found in an index that has these spots
-module _ (spots : List Spot) (index : Indexed) (seen : spots ≡ index.spots) (found : Found) (is_found : IsFound index.spots found) (at : ℕ) where
-  pub found_stands : found.place ≡ Ok at → StandsAt spots found.address at
-  found_stands is = subst (λ all. StandsAt all found.address at) (sym seen) (subst (λ (place : Result ℕ ℕ). IfOk place (StandsAt index.spots found.address)) is is_found.held)
+-- no key among which an address fits is held under it
+pub fits_apart : (address : ℕ) (keys : List Key) (at : ℕ) → FitsAt keys address at → AllByRecursion (λ (key : Key). is_some key.block ≡ true → key.address ≢ address) keys
+fits_apart address [] at fits = tt
+fits_apart address (key ∷ keys) zero fits = ((λ held same. let above = fits.2.0 in omega (arith, above, same)), fits_apart address keys zero (omega arith, tt, fits.2.1))
+fits_apart address (key ∷ keys) (suc at) fits = (
+  (λ held same. let below = subst (λ b. cond b (suc key.address) key.address ≤ address) held fits.1.0 in omega (arith, below, same)),
+  fits_apart address keys at (omega (arith, fits.0), fits.1.1, fits.2),
+)
 
-  pub found_fits : found.place ≡ Err at → FitsAt spots found.address at
-  found_fits is = subst (λ all. FitsAt all found.address at) (sym seen) (subst (λ (place : Result ℕ ℕ). IfErr place (FitsAt index.spots found.address)) is is_found.absent)
+-- a key among others, by other rows that say the same of these
+held_put : (old new : Rows) (others : List Key) (at : ℕ) (key : Key) → at ≤ length others → SameRows old new others
+    → all_held new (insert others at key) ≡ all_held old (take at others) ++ (option_to_list (holding_of new key) ++ all_held old (drop at others))
+held_put old new others zero key within same = ap (λ all. option_to_list (holding_of new key) ++ all) (same_held old new others same)
+held_put old new [] (suc at) key within same = absurd (omega (arith, within))
+held_put old new (first ∷ others) (suc at) key within same =
+    ap₂ (λ held all. option_to_list held ++ all) same.0.0 (held_put old new others at key (omega (arith, within)) same.1)
+    ∙ sym (append_assoc (option_to_list (holding_of old first)) (all_held old (take at others)) (option_to_list (holding_of new key) ++ all_held old (drop at others)))
+
+-- what is held changes at one address, and the keys stay in order with their rows
+pub record Puts (kept now : Kept) (address : ℕ) (was is : Option Holding) : Type 0 where
+  pub changes : Changes address was is (all_held kept.rows kept.keys) (all_held now.rows now.keys)
+  pub rise : RiseFrom 0 now.keys
+  pub rows : HaveRows now.rows now.keys
+
+-- a key is put among others where its address fits, in place of what was held under that address
+puts : (kept now : Kept) (others : List Key) (address to : ℕ) (was : Option Holding) (key : Key) → FitsAt others address to → key.address ≡ address → RiseFrom 0 others → SameRows kept.rows now.rows others
+    → IsRow now.rows key.address key.block → now.keys ≡ insert others to key → AllByRecursion (λ (held : Holding). held.entry.addr ≡ address) (option_to_list was)
+    → all_held kept.rows kept.keys ≡ all_held kept.rows (take to others) ++ (option_to_list was ++ all_held kept.rows (drop to others)) → Puts kept now address was (holding_of now.rows key)
+puts kept now others address to was key fits its rise same row is was_its parts = record {
+  changes = record {
+    before = all_held kept.rows (take to others);
+    behind = all_held kept.rows (drop to others);
+    below = all_below kept.rows address (take to others) fits.1;
+    above = all_above kept.rows address (drop to others) fits.2;
+    was_its = was_its;
+    now_its = subst (λ a. AllByRecursion (λ (held : Holding). held.entry.addr ≡ a) (option_to_list (holding_of now.rows key))) its (own_address now.rows key);
+    old_is = parts;
+    new_is = ap (all_held now.rows) is ∙ held_put kept.rows now.rows others to key fits.0 same;
+  };
+  rise = subst (RiseFrom 0) (sym is) (rise_insert 0 others to key rise (subst (λ a. FitsAt others a to) (sym its) fits) (omega arith));
+  rows = subst (HaveRows now.rows) (sym is) (all_insert (λ (k : Key). IsRow now.rows k.address k.block) others to key fits.0 row (rows_there kept.rows now.rows others same));
+}
+
+-- what is held by the key that is put for an entry
+pub put_entry : (old now : Rows) (entry : Entry) (ptr : Pointer) → SetsRow ptr.slot entry old now → (key : Key) → key.address ≡ entry.addr → key.block ≡ Some ptr
+    → (holding_of now key ≡ Some (record { entry = entry; ptr = ptr })) × IsRow now key.address key.block
+put_entry old now entry ptr sets key its under = (
+  ap₂ (λ address block. option_map (held_under address now) block) its under
+      ∙ ap (λ (row : Entry). let held : Holding = record { entry = record { addr = entry.addr; size = row.size; line = row.line; at = row.at }; ptr = ptr } in Some held) (sets.is no_row),
+  subst (λ block. IsRow now key.address block) (sym under) (sets.there, ap (λ (row : Entry). row.addr) (sets.is no_row) ∙ sym its),
+)
+
+-- where a key of the address stands
+module _ (kept : Kept) (address at : ℕ) (rise : RiseFrom 0 kept.keys) (have : HaveRows kept.rows kept.keys) (stands : StandsAt kept.keys address at) (key : Key) (there : key ≡ slice_index_or kept.keys at key) where
+  others : List Key
+  others = remove kept.keys at
+
+  its : key.address ≡ address
+  its = ap (λ (k : Key). k.address) there ∙ stands.1 key
+
+  fits : FitsAt (remove kept.keys at) address at
+  fits = fits_there address kept.keys at key rise stands
+
+  pub row_there : IsRow kept.rows key.address key.block
+  row_there = subst (λ (k : Key). IsRow kept.rows k.address k.block) (sym there) (all_there (λ (k : Key). IsRow kept.rows k.address k.block) kept.keys at key stands.0 have)
+
+  kept_same : SameRows kept.rows kept.rows (remove kept.keys at)
+  kept_same = same_rows kept.rows (remove kept.keys at) (all_remove (λ (k : Key). IsRow kept.rows k.address k.block) kept.keys at have)
+
+  was_its : AllByRecursion (λ (held : Holding). held.entry.addr ≡ address) (option_to_list (holding_of kept.rows key))
+  was_its = subst (λ a. AllByRecursion (λ (held : Holding). held.entry.addr ≡ a) (option_to_list (holding_of kept.rows key))) its (own_address kept.rows key)
+
+  parts : all_held kept.rows kept.keys ≡ all_held kept.rows (take at (remove kept.keys at)) ++ (option_to_list (holding_of kept.rows key) ++ all_held kept.rows (drop at (remove kept.keys at)))
+  parts = ap (all_held kept.rows) (put_back kept.keys at key stands.0 there) ∙ held_put kept.rows kept.rows (remove kept.keys at) at key fits.0 kept_same
+
+  puts_there : (now : Kept) (new : Key) → new.address ≡ address → SameRows kept.rows now.rows (remove kept.keys at) → IsRow now.rows new.address new.block → now.keys ≡ insert (remove kept.keys at) at new
+      → Puts kept now address (holding_of kept.rows key) (holding_of now.rows new)
+  puts_there now new new_its same row is =
+      puts kept now (remove kept.keys at) address at (holding_of kept.rows key) new fits new_its (rise_remove 0 kept.keys at rise) same row is was_its parts
+
+  -- what is held under it
+  pub held_there : held_at (all_held kept.rows kept.keys) address ≡ holding_of kept.rows key
+  held_there =
+      let same = puts_there kept key its kept_same row_there (put_back kept.keys at key stands.0 there) in
+      changes_was address (holding_of kept.rows key) (holding_of kept.rows key) (all_held kept.rows kept.keys) (all_held kept.rows kept.keys) same.changes
+
+  -- it is part of all that is held
+  pub held_fewer : length (option_to_list (holding_of kept.rows key)) ≤ length (all_held kept.rows kept.keys)
+  held_fewer = omega (
+    arith,
+    ap (length {A = Holding}) parts,
+    length-append (all_held kept.rows (take at (remove kept.keys at))) (option_to_list (holding_of kept.rows key) ++ all_held kept.rows (drop at (remove kept.keys at))),
+    length-append (option_to_list (holding_of kept.rows key)) (all_held kept.rows (drop at (remove kept.keys at))),
+  )
+
+  pub held_less : held_bytes (option_to_list (holding_of kept.rows key)) ≤ held_bytes (all_held kept.rows kept.keys)
+  held_less = omega (
+    arith,
+    ap held_bytes parts,
+    sum_by-append (λ (held : Holding). held.entry.size) (all_held kept.rows (take at (remove kept.keys at))) (option_to_list (holding_of kept.rows key) ++ all_held kept.rows (drop at (remove kept.keys at))),
+    sum_by-append (λ (held : Holding). held.entry.size) (option_to_list (holding_of kept.rows key)) (all_held kept.rows (drop at (remove kept.keys at))),
+  )
+
+  -- it is vacated
+  pub vacates : (now : Kept) (new : Key) → new.address ≡ address → new.block ≡ None → now.keys ≡ slice_set kept.keys at new → now.rows ≡ kept.rows → Puts kept now address (holding_of kept.rows key) None
+  vacates now new new_its none is rows =
+      subst (λ held. Puts kept now address (holding_of kept.rows key) held) (ap (option_map (held_under new.address now.rows)) none)
+      (puts_there now new new_its (subst (λ (now_rows : Rows). SameRows kept.rows now_rows (remove kept.keys at)) (sym rows) kept_same)
+      (subst (λ block. IsRow now.rows new.address block) (sym none) tt) (is ∙ set_is_put kept.keys at new stands.0))
+
+  -- where it isn't held, the key is vacant
+  pub vacant_there : held_at (all_held kept.rows kept.keys) address ≡ None → IsVacantAt kept.keys at
+  vacant_there none = (stands.0, λ default. ap (λ (k : Key). k.block) (get_or_default kept.keys at default key stands.0 ∙ sym there) ∙ by_block key.block (sym held_there ∙ none))
+    where
+      by_block : (block : Option Pointer) → option_map (held_under key.address kept.rows) block ≡ None → block ≡ None
+      by_block None is = refl
+      by_block (Some ptr) is = absurd (cc)
+
+-- where no key of the address stands
+module _ (kept : Kept) (address at : ℕ) (fits : FitsAt kept.keys address at) where
+  pub none_there : held_at (all_held kept.rows kept.keys) address ≡ None
+  none_there =
+      ap (λ all. held_at all address) (held_split kept.rows kept.keys at)
+      ∙ found_between address (all_held kept.rows (take at kept.keys)) None (all_held kept.rows (drop at kept.keys)) (all_below kept.rows address (take at kept.keys) fits.1) (all_above kept.rows address (drop at kept.keys) fits.2) tt address
+      ∙ ap (λ b. cond b None (held_at (all_held kept.rows (take at kept.keys) ++ all_held kept.rows (drop at kept.keys)) address)) (eq-eqb address address refl)
+
+  pub none_removed : (other : ℕ) → held_at (all_held kept.rows kept.keys) other ≡ cond (address == other) None (held_at (all_held kept.rows kept.keys) other)
+  none_removed other = by_test (address == other) refl
+    where
+      by_test : (b : Bool) → (address == other) ≡ b → held_at (all_held kept.rows kept.keys) other ≡ cond b None (held_at (all_held kept.rows kept.keys) other)
+      by_test true is = subst (λ a. held_at (all_held kept.rows kept.keys) a ≡ None) (eqb-true address other is) none_there
+      by_test false is = refl
+
+-- an entry enters among others, in which all that was held still is
+pub enters : (kept now : Kept) (others : List Key) (mid : Rows) (address to : ℕ) (entry : Entry) (ptr : Pointer) (new : Key) → AreOthers kept.keys others → RiseFrom 0 kept.keys → HaveRows kept.rows kept.keys → FitsAt others address to
+    → KeepsRows kept.rows mid → entry.addr ≡ address → new.address ≡ entry.addr → new.block ≡ Some ptr → now.keys ≡ insert others to new → SetsRow ptr.slot entry mid now.rows
+    → IsNewSlot ptr.slot address (all_held kept.rows kept.keys) → Puts kept now address None (Some (record { entry = entry; ptr = ptr }))
+enters kept now others mid address to entry ptr new are rise have fits keeps entry_its new_its under is sets is_new =
+    let put = put_entry mid now.rows entry ptr sets new new_its under in
+    subst (λ held. Puts kept now address None held) put.0
+    (puts kept now others address to None new fits (new_its ∙ entry_its) rise_others
+    (others_same kept.rows now.rows ptr.slot address 0 entry others (sets_on kept.rows mid now.rows ptr.slot entry keeps sets) rise_others have_others (fits_apart address others to fits)
+    (subst (IsNewSlot ptr.slot address) (sym held_others) is_new))
+    put.1 is tt (sym held_others ∙ held_split kept.rows others to))
+  where
+    rise_others : RiseFrom 0 others
+    rise_others = elim are [
+      | inl same ↦ subst (RiseFrom 0) (sym same) rise
+      | inr less ↦ subst (RiseFrom 0) (sym less.2) (rise_remove 0 kept.keys less.0 rise)
+    ]
+
+    have_others : HaveRows kept.rows others
+    have_others = elim are [
+      | inl same ↦ subst (HaveRows kept.rows) (sym same) have
+      | inr less ↦ subst (HaveRows kept.rows) (sym less.2) (all_remove (λ (k : Key). IsRow kept.rows k.address k.block) kept.keys less.0 have)
+    ]
+
+    held_others : all_held kept.rows others ≡ all_held kept.rows kept.keys
+    held_others = elim are [
+      | inl same ↦ ap (all_held kept.rows) same
+      | inr less ↦ ap (all_held kept.rows) less.2 ∙ held_remove kept.rows kept.keys less.0 less.1
+    ]
+
+-- an index that changed so is one
+module _ (kept now : Kept) (address : ℕ) (was is : Option Holding) (puts : Puts kept now address was is) where
+  pub puts_held : (q : ℕ) → held_at (all_held now.rows now.keys) q ≡ cond (address == q) is (held_at (all_held kept.rows kept.keys) q)
+  puts_held = changes_held address was is (all_held kept.rows kept.keys) (all_held now.rows now.keys) puts.changes
+
+  pub puts_count : length (all_held now.rows now.keys) + length (option_to_list was) ≡ length (all_held kept.rows kept.keys) + length (option_to_list is)
+  puts_count = changes_count address was is (all_held kept.rows kept.keys) (all_held now.rows now.keys) puts.changes
+
+  pub puts_bytes : held_bytes (all_held now.rows now.keys) + held_bytes (option_to_list was) ≡ held_bytes (all_held kept.rows kept.keys) + held_bytes (option_to_list is)
+  puts_bytes = changes_bytes address was is (all_held kept.rows kept.keys) (all_held now.rows now.keys) puts.changes
+
+  pub puts_keeps : (blocks bytes new_blocks new_bytes : ℕ) → IsIndex kept blocks bytes → length now.keys ≤ now.rows.room → now.rows.room ≡ kept.rows.room
+      → new_blocks + length (option_to_list was) ≡ blocks + length (option_to_list is) → new_bytes + held_bytes (option_to_list was) ≡ bytes + held_bytes (option_to_list is) → IsIndex now new_blocks new_bytes
+  puts_keeps blocks bytes new_blocks new_bytes index within room blocks_are bytes_are = record {
+    rise = puts.rise;
+    rows = puts.rows;
+    within = within;
+    few = omega (arith, room, index.few);
+    blocks_are = omega (arith, blocks_are, index.blocks_are, puts_count);
+    bytes_are = omega (arith, bytes_are, index.bytes_are, puts_bytes);
+  }
+
+-- the same keys are held, among other vacant ones
+module _ (kept now : Kept) (have : HaveRows kept.rows kept.keys) (alone : held_keys now.keys ≡ held_keys kept.keys) (keeps : KeepsRows kept.rows now.rows) where
+  same : SameRows kept.rows now.rows now.keys
+  same = rows_added kept.rows now.rows now.keys keeps (rows_of_alone kept.rows now.keys (subst (HaveRows kept.rows) (sym alone) (alone_rows kept.rows kept.keys have)))
+
+  pub arranged_held : all_held now.rows now.keys ≡ all_held kept.rows kept.keys
+  arranged_held = same_held kept.rows now.rows now.keys same ∙ sym (alone_held kept.rows now.keys) ∙ ap (all_held kept.rows) alone ∙ alone_held kept.rows kept.keys
+
+  pub arranged_keeps : (blocks bytes : ℕ) → IsIndex kept blocks bytes → RiseFrom 0 now.keys → length now.keys ≤ now.rows.room → now.rows.room ≡ kept.rows.room → IsIndex now blocks bytes
+  arranged_keeps blocks bytes index rise within room = record {
+    rise = rise;
+    rows = rows_there kept.rows now.rows now.keys same;
+    within = within;
+    few = omega (arith, room, index.few);
+    blocks_are = index.blocks_are ∙ sym (ap (length {A = Holding}) arranged_held);
+    bytes_are = index.bytes_are ∙ sym (ap held_bytes arranged_held);
+  }
+
+first_least : (rows : Rows) (address : ℕ) (keys : List Key) → AreAbove address keys → AllByRecursion (λ other. nat_cmp address other ≡ Less) (addresses (all_held rows keys))
+first_least rows address [] above = tt
+first_least rows address (key ∷ keys) above = one key.block (first_least rows address keys above.1)
+  where
+    one : (block : Option Pointer) → AllByRecursion (λ other. nat_cmp address other ≡ Less) (addresses (all_held rows keys))
+        → AllByRecursion (λ other. nat_cmp address other ≡ Less) (addresses (option_to_list (option_map (held_under key.address rows) block) ++ all_held rows keys))
+    one None rest = rest
+    one (Some ptr) rest = (let higher = above.0 in grind (arith, nat_tests, higher), rest)
+
+-- the addresses of what is held rise
+rise_sorted : (rows : Rows) (bound : ℕ) (keys : List Key) → RiseFrom bound keys → IsStrictlySortedBy nat_cmp (addresses (all_held rows keys))
+unfolding IsStrictlySortedBy
+rise_sorted rows bound [] rise = tt
+rise_sorted rows bound (key ∷ keys) rise = one key.block rise.1 (rise_sorted rows (least_behind key) keys rise.1)
+  where
+    one : (block : Option Pointer) → RiseFrom (cond (is_some block) (suc key.address) key.address) keys → IsStrictlySortedBy nat_cmp (addresses (all_held rows keys))
+        → IsStrictlySortedBy nat_cmp (addresses (option_to_list (option_map (held_under key.address rows) block) ++ all_held rows keys))
+    one None rise_rest rest = rest
+    one (Some ptr) rise_rest rest = (first_least rows key.address keys (above_from_bound key.address keys rise_rest), rest)
+
+pub index_in_order : (rows : Rows) (keys : List Key) → RiseFrom 0 keys → AreInOrder (all_held rows keys)
+index_in_order rows keys rise = IsStrictlyIncreasing-from_sorted (addresses (all_held rows keys)) (rise_sorted rows 0 keys rise)
+
+-- where an address was found in an index that has these keys
+module _ (keys : List Key) (index : Indexed) (seen : keys ≡ index.keys) (found : Found) (is_found : IsFound index.keys found) (at : ℕ) where
+  pub found_stands : found.place ≡ Ok at → StandsAt keys found.address at
+  found_stands is = subst (λ all. StandsAt all found.address at) (sym seen) (subst (λ (place : Result ℕ ℕ). IfOk place (StandsAt index.keys found.address)) is is_found.held)
+
+  pub found_fits : found.place ≡ Err at → FitsAt keys found.address at
+  found_fits is = subst (λ all. FitsAt all found.address at) (sym seen) (subst (λ (place : Result ℕ ℕ). IfErr place (FitsAt index.keys found.address)) is is_found.absent)

@@ -1,21 +1,17 @@
 -- A run under way, and how it goes on and ends.
-use Rattle.std.proofs.Common.{true, ◌≡◌, ◌≢◌, ℕ, suc, ◌+◌, Bool, false, ◌||◌, List, [], ◌∷◌, ◌++◌, length, refl, sym, ap, ◌∙◌, subst, arith, Some, None, reverse, ◌⊎◌, inl, inr, length-append, append_assoc, if◌then◌else◌, not, ◌==◌, ◌<◌, drop}
+use Rattle.std.proofs.Common.{true, ◌≡◌, ℕ, Bool, false, ◌||◌, List, [], ◌∷◌, ◌++◌, length, refl, sym, ap, ◌∙◌, subst, arith, Some, reverse, inl, inr, append_assoc, if◌then◌else◌, not, ◌==◌}
 use Rattle.std.specs.Prelude.{Result, Err, IsErrOf}
-use Rattle.std.proofs.Math.ListN.{get_or}
-use Rattle.std.proofs.Math.Seq.{drop-cons}
-use Rattle.std.specs.Io.KnownBytes.{prepend_known, IsAtEnd}
 use Rattle.std.proofs.lemmas.Grind.{flat_map-append}
 use Rattle.std.proofs.lemmas.Bool.Decides.{nat_tests}
-use Rattle.std.proofs.lemmas.List.{reverse-append, length-reverse}
-use Rattle.mtrace_log.specs.Progress.{Progress, Status, Reading, Ended, Faulted, to_come, TakesLine, GivesLine, FindsEnd, StopsReading, GivesFault, CallsFor}
+use Rattle.std.proofs.lemmas.List.{length-reverse}
+use Rattle.mtrace_log.specs.Progress.{Progress, Reading, Faulted, to_come, GivesLine, FindsEnd, GivesFault, CallsFor}
 use Rattle.mtrace_log.specs.declared.call.Call.{Call}
-use Rattle.mtrace_log.specs.HasRead.{HasRead, HasReadAll, HasReadBefore, HasReadSo}
+use Rattle.mtrace_log.specs.HasRead.{HasReadAll}
 use Rattle.mtrace_log.specs.Event.{Event}
 use Rattle.mtrace_log.specs.declared.event.LineFault.{LineFault}
 use Rattle.mtrace_log.specs.declared.line.Line.{Line}
 use Rattle.mtrace_log.specs.declared.line.ReadFault.{ReadFault}
-use Rattle.mtrace_log.specs.declared.line.ReadFault.TheVariants.{ReaderFailed, TooManyLines}
-use Rattle.mtrace_log.proofs.ReadLemmas.{HasRead-none, HasReadSo-line, HasReadSo-end, HasReadSo-fault}
+use Rattle.mtrace_log.specs.declared.line.ReadFault.TheVariants.{ReaderFailed}
 use Rattle.mtrace_replay.specs.declared.settings.Settings.{Settings}
 use Rattle.mtrace_replay.specs.declared.diagnostic.Diagnostic.{Diagnostic}
 use Rattle.mtrace_replay.specs.Entry.{Entry}
@@ -30,23 +26,16 @@ use Rattle.mtrace_replay.specs.Replay.{Replayed, StandsFor, entries, added_notes
 use Rattle.mtrace_replay.specs.declared.report.Report.{Report}
 use Rattle.mtrace_replay.specs.declared.report.Report.TheVariants.{Notes}
 use Rattle.mtrace_replay.specs.declared.totals.Totals.{Totals}
-use Rattle.mtrace_replay.specs.Run.{Bytes, text_of_notes, whole_text, end_text, StopsAtRead, FailedInPiece, IsPastLastNumber, StopsAtWrite, Reports, Replays, is_some_note, is_some_entry, LineGives, LineBegins, HasReplayed}
+use Rattle.mtrace_replay.specs.Run.{Bytes, text_of_notes, whole_text, end_text, StopsAtRead, StopsAtWrite, Reports, Replays, EndsAt, is_some_note, is_some_entry, LineGives, LineBegins, HasReplayed}
 use Rattle.mtrace_replay.proofs.Moments.{moments-none, moments-line}
+use Rattle.mtrace_replay.proofs.ReplayingLemmas.{IsReplaying, prepend_nothing, replaying_start, replaying_line, replaying_end, replaying_fault, line_read, reverse-more}
 use Rattle.mtrace_log.proofs.Writing.{Wrote-nothing, Wrote-append, Begins-after, Begins-longer}
 
 -- the lines so far were read and replayed, and their diagnostics written
 pub record IsUnderWay (settings : Settings) (progress : Progress) (replay : Replayed) (noted : Bool) (left_start left_now taken_start taken_now : Bytes) : Type 0 where
-  pub lines : List (Result Event LineFault)
-  pub count : progress.count ≡ length lines
-  pub no_fault : (fault : ReadFault) → progress.status ≢ Faulted fault
-  pub read : HasReadSo progress.status left_start (to_come progress left_now) lines
-  pub stands : StandsFor replay settings (reverse lines)
-  pub wrote : Wrote taken_start taken_now (text_of_notes settings lines)
-  pub noted_is : noted ≡ is_some_note (notes (history settings lines))
-
-prepend_nothing : (known : Bytes) → prepend_known [] known ≡ known
-prepend_nothing None = refl
-prepend_nothing (Some bytes) = refl
+  pub so_far : IsReplaying settings progress replay left_start left_now
+  pub wrote : Wrote taken_start taken_now (text_of_notes settings so_far.lines)
+  pub noted_is : noted ≡ is_some_note (notes (history settings so_far.lines))
 
 -- before the first line
 pub underway_start : (settings : Settings) (replay : Replayed) (left taken : Bytes) → StandsFor replay settings []
@@ -54,17 +43,10 @@ pub underway_start : (settings : Settings) (replay : Replayed) (left taken : Byt
 underway_start settings replay left taken stands =
     let none : history settings [] ≡ [] = moments-none (started settings) in
     record {
-      lines = [];
-      count = refl;
-      no_fault = (λ fault is. cc);
-      read = (let P : Bytes → Type 0 = λ text. HasRead left text [] in subst P (sym (prepend_nothing left)) (HasRead-none left));
-      stands = stands;
+      so_far = replaying_start settings replay left stands;
       wrote = (let P : List Moment → Type 0 = λ past. Wrote taken taken (notes_text (notes past)) in subst P (sym none) (Wrote-nothing taken));
       noted_is = ap (λ past. is_some_note (notes past)) (sym none);
     }
-
-reverse-more : (lines : List (Result Event LineFault)) (line : Result Event LineFault) → reverse (lines ++ line ∷ []) ≡ line ∷ reverse lines
-reverse-more lines line = reverse-append lines (line ∷ [])
 
 -- the moment of one line more
 abbrev pub next_moment : Settings → List (Result Event LineFault) → Result Event LineFault → Moment
@@ -86,15 +68,6 @@ some_note-append : (first second : List Diagnostic) → is_some_note (first ++ s
 some_note-append [] second = refl
 some_note-append (note ∷ first) second = refl
 
--- the next line of a note, before those of the rest
-pub notes_text-next : (items all : List Diagnostic) (index : ℕ) (item : Diagnostic) → items ≡ all → index < length items → item ≡ get_or items index item
-    → notes_text (drop index all) ≡ note_text item ++ notes_text (drop (index + 1) all)
-notes_text-next items all index item same below is =
-    let next : index + 1 ≡ suc index = omega arith in
-    let first : item ≡ get_or all index item = is ∙ ap (λ ones. get_or ones index item) same in
-    let inside : index < length all = omega (arith, below, ap (λ (ones : List Diagnostic). length ones) same) in
-    ap notes_text (drop-cons all index item inside ∙ ap (λ one. one ∷ drop (suc index) all) (sym first) ∙ ap (λ n. item ∷ drop n all) (sym next))
-
 pub some_note-is : (all : List Diagnostic) → not (length all == 0) ≡ is_some_note all
 some_note-is [] = refl
 some_note-is (note ∷ all) = grind (arith, nat_tests)
@@ -107,22 +80,18 @@ no_note-is (note ∷ all) is = absurd (grind (arith, nat_tests))
 pub underway_line : (settings : Settings) (old new : Progress) (replay_old replay_new : Replayed) (noted_old more : Bool) (start before after taken_start taken_old taken_new : Bytes) (line : Line)
     → (under : IsUnderWay settings old replay_old noted_old start before taken_start taken_old)
     → GivesLine old new (to_come old before) (to_come new after) line
-    → LineGives replay_new settings line.event (reverse under.lines) taken_old taken_new more
+    → LineGives replay_new settings line.event (reverse under.so_far.lines) taken_old taken_new more
     → IsUnderWay settings new replay_new (noted_old || more) start after taken_start taken_new
 underway_line settings old new replay_old replay_new noted_old more start before after taken_start taken_old taken_new line under given gives =
-    let lines = under.lines ++ line.event ∷ [] in
-    let added = added_notes settings line.event (reverse under.lines) in
-    let whole = history-more settings under.lines line.event in
+    let lines = under.so_far.lines in
+    let added = added_notes settings line.event (reverse lines) in
+    let whole = history-more settings lines line.event in
     record {
-      lines = lines;
-      count = given.count ∙ given.number ∙ omega (arith, under.count, length-append {A = Result Event LineFault});
-      no_fault = (λ fault is. (let T : Status → Type 0 = λ status. TakesLine status (to_come old before) (to_come new after) line.event in subst T is given.taken));
-      read = HasReadSo-line start (to_come old before) (to_come new after) old new line under.lines under.read given;
-      stands = (let Q : List (Result Event LineFault) → Type 0 = λ past. StandsFor replay_new settings past in subst Q (sym (reverse-more under.lines line.event)) gives.stands);
+      so_far = replaying_line settings old new replay_old replay_new start before after line under.so_far given gives.stands;
       wrote = (let Q : List ℕ → Type 0 = λ text. Wrote taken_start taken_new text in
-          subst Q (sym (notes_text-more settings under.lines line.event)) (Wrote-append taken_start taken_old taken_new (text_of_notes settings under.lines) (notes_text added) under.wrote gives.wrote));
-      noted_is = ap (λ b. b || more) under.noted_is ∙ ap (λ b. is_some_note (notes (history settings under.lines)) || b) gives.noted_is
-          ∙ sym (ap (λ past. is_some_note (notes past)) whole ∙ some_note-append (notes (history settings under.lines)) added);
+          subst Q (sym (notes_text-more settings lines line.event)) (Wrote-append taken_start taken_old taken_new (text_of_notes settings lines) (notes_text added) under.wrote gives.wrote));
+      noted_is = ap (λ b. b || more) under.noted_is ∙ ap (λ b. is_some_note (notes (history settings lines)) || b) gives.noted_is
+          ∙ sym (ap (λ past. is_some_note (notes past)) whole ∙ some_note-append (notes (history settings lines)) added);
     }
 
 -- what comes behind the diagnostics of the lines, of what the lines come to
@@ -153,78 +122,49 @@ end_is report settings replay lines stands =
     ap (λ last. notes_text last ++ report_text report (entries replay) replay.totals replay.content) (half-is settings replay lines stands)
     ∙ ap (λ content. notes_text (half (length lines) (pending (reverse lines))) ++ report_text report (entries replay) replay.totals content) stands.content_is
 
--- a line that was taken leaves the status reading or ended
-line_read : (status : Status) (start before after : Bytes) (lines : List (Result Event LineFault)) (answer : Result Event LineFault) → TakesLine status before after answer → HasReadSo status start after lines
-    → HasRead start after lines ⊎ HasReadAll start after lines
-line_read Reading start before after lines answer taken read = inl read
-line_read Ended start before after lines answer taken read = inr read
-line_read (Faulted fault) start before after lines answer taken read = absurd taken
-
 -- the writer failed at a line's diagnostics
 pub underway_write : (report : Report) (settings : Settings) (old new : Progress) (replay_old replay_new : Replayed) (noted_old : Bool) (start before after taken_start taken_old taken_new : Bytes) (line : Line)
     → (under : IsUnderWay settings old replay_old noted_old start before taken_start taken_old)
     → GivesLine old new (to_come old before) (to_come new after) line
-    → LineBegins replay_new settings line.event (reverse under.lines) taken_old taken_new
+    → LineBegins replay_new settings line.event (reverse under.so_far.lines) taken_old taken_new
     → StopsAtWrite report settings start after taken_start taken_new
 underway_write report settings old new replay_old replay_new noted_old start before after taken_start taken_old taken_new line under given begins =
-    let lines = under.lines ++ line.event ∷ [] in
-    let read = HasReadSo-line start (to_come old before) (to_come new after) old new line under.lines under.read given in
+    let was = under.so_far.lines in
+    let now = replaying_line settings old new replay_old replay_new start before after line under.so_far given begins.stands in
+    let lines = now.lines in
     let Q : List ℕ → Type 0 = λ text. Begins taken_start taken_new text in
     let begun : Begins taken_start taken_new (text_of_notes settings lines) =
-    subst Q (sym (notes_text-more settings under.lines line.event))
-    (Begins-after taken_start taken_old taken_new (text_of_notes settings under.lines) (notes_text (added_notes settings line.event (reverse under.lines))) under.wrote begins.begun) in
-    let R : List (Result Event LineFault) → Type 0 = λ past. StandsFor replay_new settings past in
-    let stands : StandsFor replay_new settings (reverse lines) = subst R (sym (reverse-more under.lines line.event)) begins.stands in
+    subst Q (sym (notes_text-more settings was line.event))
+    (Begins-after taken_start taken_old taken_new (text_of_notes settings was) (notes_text (added_notes settings line.event (reverse was))) under.wrote begins.begun) in
     let last = last_text report settings lines replay_new.given replay_new.totals in
     record {
       lines = lines;
       unused = new.held;
-      begun = elim (line_read new.status start (to_come old before) (to_come new after) lines line.event given.taken read) [
+      begun = elim (line_read new.status start (to_come old before) (to_come new after) lines line.event given.taken now.read) [
         | inl reading ↦ inl (reading, begun)
         | inr all ↦ inr (record {
           read = all;
           all = replay_new.given;
-          held = stands.held;
+          held = now.stands.held;
           totals = replay_new.totals;
-          summed = stands.totals;
+          summed = now.stands.totals;
           begun = subst Q (sym (whole_is report settings lines replay_new.given replay_new.totals)) (Begins-longer taken_start taken_new (text_of_notes settings lines) last begun);
         })
       ];
     }
-
--- at the end nothing that was asked of the reader is unused
-all_used : (held : List ℕ) (left : Bytes) → IsAtEnd (prepend_known held left) → prepend_known held left ≡ left
-all_used held None end = refl
-all_used [] (Some bytes) end = refl
-all_used (b ∷ held) (Some bytes) end = absurd (cc)
 
 -- the end of the log
 pub underway_end : {R : Type 0} (left : R → Bytes) (settings : Settings) (old new : Progress) (replay : Replayed) (noted : Bool) (start : Bytes) (reader_old reader_new : R) (taken_start taken : Bytes)
     → IsUnderWay settings old replay noted start (left reader_old) taken_start taken
     → FindsEnd old.status old new reader_old reader_new (to_come old (left reader_old)) (to_come new (left reader_new))
     → HasReplayed settings replay noted start (left reader_new) taken_start taken
-underway_end left settings old new replay noted start reader_old reader_new taken_start taken under found =
-    let all = HasReadSo-end left start old new reader_old reader_new under.lines under.read found in
-    let P : Bytes → Type 0 = λ after. HasReadAll start after under.lines in
-    record {
-      lines = under.lines;
-      read = subst P (all_used new.held (left reader_new) all.at_end) all;
-      stands = under.stands;
-      wrote = under.wrote;
-      noted_is = under.noted_is;
-    }
-
--- why the reading stopped
-stop_reason : (fault : ReadFault) (count : ℕ) (start before : Bytes) (held : List ℕ) (left : Bytes) (calls_start calls : List Call) (lines : List (Result Event LineFault)) → count ≡ length lines
-    → HasRead start before lines → HasReadBefore start (prepend_known held left) lines → (fault ≡ ReaderFailed → held ≡ [])
-    → StopsReading fault count before (prepend_known held left) → CallsFor (Faulted fault) calls_start calls
-    → FailedInPiece start left calls_start calls lines ⊎ ((unused : List ℕ) × IsPastLastNumber start (prepend_known unused left) calls_start calls lines)
-stop_reason ReaderFailed count start before held left calls_start calls lines same read lost nothing stop came =
-    let P : Bytes → Type 0 = λ text. HasReadBefore start text lines in
-    inl (subst P (ap (λ bytes. prepend_known bytes left) (nothing refl) ∙ prepend_nothing left) lost, came)
-stop_reason TooManyLines count start before held left calls_start calls lines same read lost nothing stop came =
-    let P : Bytes → Type 0 = λ text. HasRead start text lines in
-    inr (held, record { count = sym same ∙ stop.0; read = subst P stop.1 read; more = stop.2; given = came })
+underway_end left settings old new replay noted start reader_old reader_new taken_start taken under found = record {
+  lines = under.so_far.lines;
+  read = replaying_end left settings old new replay start reader_old reader_new under.so_far found;
+  stands = under.so_far.stands;
+  wrote = under.wrote;
+  noted_is = under.noted_is;
+}
 
 -- the reader failed, or there are no numbers left
 pub underway_fault : {R : Type 0} (left : R → Bytes) (settings : Settings) (old new : Progress) (replay : Replayed) (noted : Bool) (start : Bytes) (reader_old reader_new : R) (taken_start taken : Bytes) (calls_start calls : List Call) (fault : ReadFault)
@@ -232,23 +172,11 @@ pub underway_fault : {R : Type 0} (left : R → Bytes) (settings : Settings) (ol
     → GivesFault old.status fault old new reader_old reader_new (to_come old (left reader_old)) (to_come new (left reader_new))
     → (fault ≡ ReaderFailed → new.held ≡ []) → CallsFor (Faulted fault) calls_start calls
     → StopsAtRead settings start (left reader_new) calls_start calls taken_start taken
-underway_fault {R} left settings old new replay noted start reader_old reader_new taken_start taken calls_start calls fault under given nothing came =
-    record {
-      lines = under.lines;
-      reason = reason_by old.status refl under.read given;
-      wrote = under.wrote;
-    }
-  where
-    lost : HasReadBefore start (to_come new (left reader_new)) under.lines
-    lost = HasReadSo-fault left start old new reader_old reader_new fault under.lines under.read given
-
-    reason_by : (status : Status) → old.status ≡ status → HasReadSo status start (to_come old (left reader_old)) under.lines
-        → GivesFault status fault old new reader_old reader_new (to_come old (left reader_old)) (to_come new (left reader_new))
-        → FailedInPiece start (left reader_new) calls_start calls under.lines ⊎ ((unused : List ℕ) × IsPastLastNumber start (prepend_known unused (left reader_new)) calls_start calls under.lines)
-    reason_by Reading is read stop =
-        stop_reason fault old.count start (to_come old (left reader_old)) new.held (left reader_new) calls_start calls under.lines under.count read lost nothing stop.2 came
-    reason_by Ended is read stop = absurd stop
-    reason_by (Faulted first) is read stop = absurd (under.no_fault first is)
+underway_fault left settings old new replay noted start reader_old reader_new taken_start taken calls_start calls fault under given nothing came = record {
+  lines = under.so_far.lines;
+  reason = replaying_fault left settings old new replay start reader_old reader_new calls_start calls fault under.so_far given nothing came;
+  wrote = under.wrote;
+}
 
 -- an error is the same, whatever else could have been answered
 pub same_error : {E : Type 0} (T U : Type 0) (first second : E) → IsErrOf {T = T} (Err first) second → IsErrOf {T = U} (Err first) second
@@ -312,14 +240,20 @@ report_all report settings replay noted status left_old left_new taken_old taken
           ∙ status-is (notes (history settings done.lines)) last (entries replay);
     }
 
--- the same of a run that makes no report, and of the replay in the end
-pub replays_by : (settings : Settings) (replay end : Replayed) (noted : Bool) (status : RunStatus) (left_old left_new taken_old taken_middle taken_new : Bytes)
+-- all was written of a run that makes no report, and the replay in the end
+pub ends_at : (settings : Settings) (replay end : Replayed) (noted : Bool) (status : RunStatus) (left_old left_new taken_old taken_middle taken_new : Bytes)
     → HasReplayed settings replay noted left_old left_new taken_old taken_middle
     → Wrote taken_middle taken_new (end_text Notes replay)
     → status ≡ (if noted || (is_some_note (half replay.totals.lines replay.pending) || is_some_entry (entries replay)) then Found else Clean)
-    → end ≡ replay
-    → Replays settings status end.content left_old left_new taken_old taken_new
-replays_by settings replay end noted status left_old left_new taken_old taken_middle taken_new done wrote is kept = record {
+    → end ≡ replay → replay.content.records ≡ settings.records
+    → EndsAt settings status end left_old left_new taken_old taken_new
+ends_at settings replay end noted status left_old left_new taken_old taken_middle taken_new done wrote is kept records = record {
   reports = report_all Notes settings replay noted status left_old left_new taken_old taken_middle taken_new done wrote is;
-  content_is = ap (λ (r : Replayed). r.content) kept ∙ done.stands.content_is;
+  stands = subst (λ (r : Replayed). StandsFor r settings (reverse done.lines)) (sym kept) done.stands;
+  records = ap (λ (r : Replayed). r.content.records) kept ∙ records;
 }
+
+-- and what its heap holds
+pub replays_by : (settings : Settings) (status : RunStatus) (replay : Replayed) (left_old left_new taken_old taken_new : Bytes)
+    → EndsAt settings status replay left_old left_new taken_old taken_new → Replays settings status replay.content left_old left_new taken_old taken_new
+replays_by settings status replay left_old left_new taken_old taken_new ends = record { reports = ends.reports; content_is = ends.stands.content_is }

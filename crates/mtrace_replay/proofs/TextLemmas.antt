@@ -1,8 +1,10 @@
 -- The report, and the text of one line more.
-use Rattle.std.proofs.Common.{◌≡◌, ◌≢◌, ℕ, List, [], ◌∷◌, ◌++◌, length, refl, ap, ◌∙◌, flat_map, codes, decimal}
+use Rattle.std.proofs.Common.{◌≡◌, ◌≢◌, ℕ, suc, ◌+◌, ◌<◌, List, [], ◌∷◌, ◌++◌, length, drop, refl, sym, ap, ◌∙◌, flat_map, codes, arith}
+use Rattle.std.proofs.Math.ListN.{get_or}
+use Rattle.std.proofs.Math.Seq.{drop-cons}
 use Rattle.mtrace_log.specs.Bytes.{newline}
 use Rattle.mtrace_replay.specs.Entry.{Entry}
-use Rattle.mtrace_replay.specs.Texts.{entry_text, total_text, total_size, leaks_report}
+use Rattle.mtrace_replay.specs.Texts.{entry_text, total_text, total_size, leaks_report, pair_line}
 
 -- the line above the entries
 abbrev pub heading : List ℕ
@@ -14,7 +16,16 @@ leaks_report-some (first ∷ entries) some = refl
 
 -- the line of the totals, where both numbers are known
 pub total_text-is : (entries : List Entry) (blocks bytes : ℕ) → blocks ≡ length entries → bytes ≡ total_size entries
-    → codes "Total: " ++ decimal blocks ++ codes " blocks, " ++ decimal bytes ++ codes " bytes." ++ newline ∷ [] ≡ total_text entries
+    → pair_line (codes "Total: ") blocks (codes " blocks, ") bytes (codes " bytes.") ≡ total_text entries
 total_text-is entries blocks bytes count size =
-    ap (λ n. codes "Total: " ++ decimal n ++ codes " blocks, " ++ decimal bytes ++ codes " bytes." ++ newline ∷ []) count
-    ∙ ap (λ n. codes "Total: " ++ decimal (length entries) ++ codes " blocks, " ++ decimal n ++ codes " bytes." ++ newline ∷ []) size
+    ap (λ n. pair_line (codes "Total: ") n (codes " blocks, ") bytes (codes " bytes.")) count
+    ∙ ap (λ n. pair_line (codes "Total: ") (length entries) (codes " blocks, ") n (codes " bytes.")) size
+
+-- the text of the next one, before those of the rest
+pub texts-next : {X : Type 0} (text : X → List ℕ) (items all : List X) (index : ℕ) (item : X) → items ≡ all → index < length items → item ≡ get_or items index item
+    → flat_map text (drop index all) ≡ text item ++ flat_map text (drop (index + 1) all)
+texts-next text items all index item same below is =
+    let next : index + 1 ≡ suc index = omega arith in
+    let first : item ≡ get_or all index item = is ∙ ap (λ ones. get_or ones index item) same in
+    let inside : index < length all = omega (arith, below, ap (λ (ones : List _). length ones) same) in
+    ap (flat_map text) (drop-cons all index item inside ∙ ap (λ one. one ∷ drop (suc index) all) (sym first) ∙ ap (λ n. item ∷ drop n all) (sym next))

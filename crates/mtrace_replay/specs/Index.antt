@@ -1,16 +1,17 @@
 -- What is held, by address, as a list in order of address.
-use Rattle.std.specs.Prelude.{◌≡◌, ℕ, ◌+◌, ◌*◌, ◌<◌, ◌≤◌, ◌^◌, List, length, map, find, sum_by, Option, ◌==◌, IfOk, IfErr}
+use Rattle.std.specs.Prelude.{◌≡◌, ◌≢◌, ℕ, ◌+◌, ◌*◌, ◌<◌, ◌≤◌, ◌^◌, List, length, map, find, sum_by, Option, Some, ◌==◌, IfOk, IfErr}
 use Rattle.std.specs.List.Sorted.{IsStrictlyIncreasing}
 use Rattle.mtrace_replay.specs.Holding.{Holding}
-use Rattle.mtrace_replay.specs.Spot.{Spot}
+use Rattle.mtrace_replay.specs.declared.key.Key.{Key}
 use Rattle.mtrace_replay.specs.declared.index.Found.{Found}
-use Rattle.mtrace_replay.specs.Spot.{all_held, RiseFrom}
+use Rattle.mtrace_replay.specs.Keys.{Kept}
+use Rattle.mtrace_replay.specs.Key.{all_held, HaveRows, RiseFrom}
 use Rattle.mtrace_replay.specs.Search.{StandsAt, FitsAt}
 
--- what is held in order of address, the spots, how much can be held, and how many addresses were compared
+-- what is held in order of address, the keys, how much can be held, and how many addresses were compared
 pub record Indexed : Type 0 where
   pub all : List Holding
-  pub spots : List Spot
+  pub keys : List Key
   pub room : ℕ
   pub comparisons : ℕ
 
@@ -35,18 +36,21 @@ pub record LooksUp (times : ℕ) (old new : Indexed) : Type 0 where
   pub room : new.room ≡ old.room
   pub compared : (digits : ℕ) → old.room < 2 ^ digits → new.comparisons ≤ old.comparisons + times * digits
 
--- the address stands at the spot there, held or not, or else it would stand there
-pub record IsFound (spots : List Spot) (found : Found) : Type 0 where
-  pub held : IfOk found.place (StandsAt spots found.address)
-  pub absent : IfErr found.place (FitsAt spots found.address)
+-- the address stands at the key there, held or not, or else it would stand there
+pub record IsFound (keys : List Key) (found : Found) : Type 0 where
+  pub held : IfOk found.place (StandsAt keys found.address)
+  pub absent : IfErr found.place (FitsAt keys found.address)
 
--- what an index keeps: the addresses of its spots rise; there are no more spots than room, and memory for
--- exactly that many;
--- how much is held, and of how many bytes
-pub record IsIndex (spots : List Spot) (memory room blocks bytes : ℕ) : Type 0 where
-  pub rise : RiseFrom 0 spots
-  pub within : length spots ≤ room
-  pub reserved : memory ≡ room
-  pub few : room < 2 ^ 32
-  pub blocks_are : blocks ≡ length (all_held spots)
-  pub bytes_are : bytes ≡ held_bytes (all_held spots)
+-- no block that another address is held under has that slot
+abbrev pub IsNewSlot : ℕ → ℕ → List Holding → Type 0
+IsNewSlot slot address all = (other : ℕ) (holding : Holding) → held_at all other ≡ Some holding → other ≢ address → holding.ptr.slot ≢ slot
+
+-- what an index keeps: the addresses of its keys rise; what is held has its rows; there are no more keys than room; how
+-- much is held, and of how many bytes
+pub record IsIndex (kept : Kept) (blocks bytes : ℕ) : Type 0 where
+  pub rise : RiseFrom 0 kept.keys
+  pub rows : HaveRows kept.rows kept.keys
+  pub within : length kept.keys ≤ kept.rows.room
+  pub few : kept.rows.room < 2 ^ 32
+  pub blocks_are : blocks ≡ length (all_held kept.rows kept.keys)
+  pub bytes_are : bytes ≡ held_bytes (all_held kept.rows kept.keys)

@@ -45,7 +45,7 @@ added_notes settings line past =
 
 -- The line of this number was fed. Where that is served, the replay stands for it too, and the answer is what it adds to the
 -- diagnostics. Else memory was refused, by a heap that may lack it: what is held and the totals stay, for good. There are at most
--- three look-ups and 384 touches, and no touch where the line asks nothing of the heap.
+-- three look-ups and 384 touches, and no touch where the line asks nothing of the heap, which has as many records as before.
 pub record Feeds {H N : Type 0} (lacks : H → Type 0) (items : N → List Diagnostic) (number : ℕ) (line : Reading) (result : Result N ReplayFault) (old new : Replayed) : Type 0 where
   pub stands : OnOk result ((settings : Settings) (past : List Reading) → StandsFor old settings past → StandsFor new settings (line ∷ past))
   pub note : IfOk result (λ note. (settings : Settings) (past : List Reading) → StandsFor old settings past → items note ≡ added_notes settings line past)
@@ -56,6 +56,7 @@ pub record Feeds {H N : Type 0} (lacks : H → Type 0) (items : N → List Diagn
   pub memory : OnErr result (MayLack lacks)
   pub unchanged : OnErr result (entries new ≡ entries old)
   pub totals_unchanged : OnErr result (new.totals ≡ old.totals)
+  pub records : new.content.records ≡ old.content.records
   pub compared : (digits : ℕ) → old.content.records < 2 ^ digits → new.comparisons ≤ old.comparisons + 3 * digits
   pub bound : new.touches ≤ old.touches + 384
   pub idle : asks line old.pending (found old.given) ≡ false → new.touches ≡ old.touches

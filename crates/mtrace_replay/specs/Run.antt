@@ -48,10 +48,16 @@ pub record Reports (report : Report) (settings : Settings) (status : Status) (le
   pub wrote : Wrote taken_old taken_new (whole_text report settings lines all totals)
   pub status_is : status ≡ status_of (diagnostics settings lines) (entries_of all)
 
--- the same of a run that makes no report, and what its heap holds in the end
+-- a run without a report, and what its heap holds in the end
 pub record Replays (settings : Settings) (status : Status) (content : Bare) (left_old left_new taken_old taken_new : Bytes) : Type 0 where
   pub reports : Reports Notes settings status left_old left_new taken_old taken_new
   pub content_is : content ≡ content_after (started settings) (history settings reports.lines)
+
+-- a run without a report, and the replay in the end
+pub record EndsAt (settings : Settings) (status : Status) (replay : Replayed) (left_old left_new taken_old taken_new : Bytes) : Type 0 where
+  pub reports : Reports Notes settings status left_old left_new taken_old taken_new
+  pub stands : StandsFor replay settings (reverse reports.lines)
+  pub records : replay.content.records ≡ settings.records
 
 -- as many lines were read as there are numbers, more is to come, and the reader has not failed
 pub record IsPastLastNumber (left_old left_new : Bytes) (calls_old calls_new : List Call) (lines : List Reading) : Type 0 where

@@ -11,6 +11,7 @@ use Rattle.mtrace_replay.specs.declared.report.Report.{Report}
 use Rattle.mtrace_replay.specs.declared.report.Report.TheVariants.{Leaks, Peak, Walk, Notes}
 use Rattle.mtrace_replay.specs.declared.totals.Totals.{Totals}
 use Rattle.mtrace_replay.specs.Started.{Bare}
+use Rattle.mtrace_replay.specs.Sites.{Site}
 use Rattle.mtrace_replay.specs.declared.diagnostic.Diagnostic.{Diagnostic}
 use Rattle.mtrace_replay.specs.declared.diagnostic.Kind.{Kind}
 use Rattle.mtrace_replay.specs.declared.diagnostic.Kind.TheVariants.{TooLong, NotALine, NotHeld, AlreadyHeld, Refused, Half, Stray}
@@ -61,9 +62,17 @@ entry_text entry = address_text entry.addr ++ codes " " ++ decimal entry.size ++
 abbrev pub total_size : List Entry → ℕ
 total_size entries = sum_by (λ entry. entry.size) entries
 
+-- `word` and a number, one line
+abbrev pub number_line : List ℕ → ℕ → List ℕ
+number_line word number = word ++ decimal number ++ newline ∷ []
+
+-- two numbers, each behind its words, and the last words, one line
+abbrev pub pair_line : (word : List ℕ) (first : ℕ) (middle : List ℕ) (second : ℕ) (last : List ℕ) → List ℕ
+pair_line word first middle second last = word ++ decimal first ++ middle ++ decimal second ++ last ++ newline ∷ []
+
 -- `Total: E blocks, B bytes.`, one line
 abbrev pub total_text : List Entry → List ℕ
-total_text entries = codes "Total: " ++ decimal (length entries) ++ codes " blocks, " ++ decimal (total_size entries) ++ codes " bytes." ++ newline ∷ []
+total_text entries = pair_line (codes "Total: ") (length entries) (codes " blocks, ") (total_size entries) (codes " bytes.")
 
 -- the report of leaks, of the entries in order of address
 abbrev pub leaks_report : List Entry → List ℕ
@@ -73,14 +82,6 @@ leaks_report (first ∷ entries) = (codes "Memory not freed:" ++ newline ∷ [])
 -- all diagnostics, and then the report
 abbrev pub leaks_text : List Diagnostic → List Entry → List ℕ
 leaks_text diagnostics entries = notes_text diagnostics ++ leaks_report entries
-
--- `word` and a number, one line
-abbrev pub number_line : List ℕ → ℕ → List ℕ
-number_line word number = word ++ decimal number ++ newline ∷ []
-
--- two numbers, each behind its words, and the last words, one line
-abbrev pub pair_line : (word : List ℕ) (first : ℕ) (middle : List ℕ) (second : ℕ) (last : List ℕ) → List ℕ
-pair_line word first middle second last = word ++ decimal first ++ middle ++ decimal second ++ last ++ newline ∷ []
 
 -- the sizes of the free blocks
 abbrev pub free_sizes : Bare → List ℕ
@@ -147,6 +148,22 @@ pool_text pool = rows_text (pool.base, pool.bytes) (map row_of pool.blocks)
 -- the report of the walk: the pools in order of base, each with its blocks in order of place
 abbrev pub walk_report : Bare → List ℕ
 walk_report content = flat_map pool_text content.pools
+
+-- `B bytes in E blocks at LOCATION`, one line
+abbrev pub site_text : Site → List ℕ
+site_text site = pair_line [] site.bytes (codes " bytes in ") site.blocks (codes " blocks" ++ at_text site.at)
+
+-- words, how many blocks are held and their bytes, one line, and then a line for each site
+abbrev pub section : List ℕ → (blocks bytes : ℕ) → List Site → List ℕ
+section words blocks bytes sites = words ++ pair_line (codes ": ") blocks (codes " blocks, ") bytes (codes " bytes.") ++ flat_map site_text sites
+
+-- the words above the sites at the peak
+abbrev pub peak_words : ℕ → List ℕ
+peak_words line = codes "Held at the peak, line " ++ decimal line
+
+-- the words above the sites at the end
+abbrev pub end_words : List ℕ
+end_words = codes "Held at the end"
 
 -- the text of a report
 abbrev pub report_text : Report → List Entry → Totals → Bare → List ℕ

@@ -1,114 +1,130 @@
-//! How the vacant spots of an index come to stand where new addresses are.
+//! How the vacant keys of an index come to stand evenly among the held ones.
 
-ghost use Rattle.std.specs.Prelude.{◌≡◌, ◌+◌, ◌-◌, ◌<◌, ◌≤◌, length, take, drop, slice_index_or, slice_set};
-ghost use Rattle.std.specs.Vec.{vec_capacity};
-ghost use Rattle.mtrace_replay.specs.Spot.{Spot, all_held, RiseFrom};
-ghost use Rattle.mtrace_replay.specs.Arrange.{behind_vacant, held_spots};
+ghost use Rattle.std.specs.Prelude.{◌≡◌, ◌≢◌, ◌<◌, ◌≤◌, true, false, length, take};
+ghost use Rattle.mtrace_replay.specs.Key.{RiseFrom};
+ghost use Rattle.mtrace_replay.specs.Keys.{KeepsRows};
+ghost use Rattle.mtrace_replay.specs.Arrange.{held_keys};
 
-use crate::entered::{Entered, Gaps};
-use crate::spot::Spot;
+use crate::keys::Keys;
 
-/// The spot at one place comes to stand at another, too.
-fn copy_spot(spots: &mut [Spot], from: usize, to: usize)
-    requires from { from < length spots.old }
-    requires to { to < length spots.old }
-    ensures { (default : Spot) → spots.new ≡ slice_set spots.old to (slice_index_or spots.old from default) }
-{
-    if from < to {
-        let (front, back) = spots.split_at_mut(to);
-        back[0].copy(&front[from]);
-    } else if to < from {
-        let (front, back) = spots.split_at_mut(from);
-        front[to].copy(&back[0]);
+/// What has come since the keys were arranged: how many new addresses between them, and how many at the end, and how many
+/// keys have moved for these.
+#[derive(Clone, Copy)]
+pub(crate) struct Came {
+    between: usize,
+    at_end: usize,
+    moved: usize,
+}
+
+impl Came {
+    /// Nothing has come.
+    pub(crate) fn nothing() -> Came {
+        Came {
+            between: 0,
+            at_end: 0,
+            moved: 0,
+        }
+    }
+
+    /// One more came, at the end or between, and so many moved for it.
+    pub(crate) fn add(&mut self, is_end: bool, moved: usize) {
+        self.moved = self.moved.saturating_add(moved);
+        if is_end {
+            self.at_end = self.at_end.saturating_add(1);
+        } else {
+            self.between = self.between.saturating_add(1);
+        }
+    }
+
+    /// How many keys have moved.
+    pub(crate) fn moved(&self) -> usize {
+        self.moved
+    }
+
+    /// How much of the room that is left is for addresses between the keys: as great a part as came there.
+    fn share(&self, left: usize) -> usize
+        ensures { result ≤ left }
+    {
+        let all = self.between.saturating_add(self.at_end).max(1);
+        (left.saturating_mul(self.between) / all).min(left)
     }
 }
 
-/// Moves the first spot to the end, with vacant ones before it from there on.
-fn move_up(spots: &mut [Spot], from: usize)
-    requires { from < length spots.old }
-    ensures moved { (default : Spot) → drop from spots.new
-        ≡ behind_vacant (length spots.old - 1 - from) (slice_index_or spots.old 0 default) }
-    ensures len { length spots.new ≡ length spots.old }
-{
-    let last = spots.len() - 1;
-    copy_spot(spots, 0, last);
-    let sign = spots[last].sign();
-    for at in from..last {
-        spots[at].stand_before(&sign);
-    }
-}
-
-/// Spreads the first so many spots over all places, with vacant ones before each, as many as the gaps say.
-fn spread(spots: &mut [Spot], held: usize, gaps: &Gaps)
-    requires some { 0 < held }
-    requires within { held ≤ length spots.old }
-    requires rise { RiseFrom 0 (take held spots.old) }
-    ensures same { all_held spots.new ≡ all_held (take held spots.old) }
-    ensures rise { RiseFrom 0 spots.new }
-    ensures len { length spots.new ≡ length spots.old }
-{
-    let mut end = spots.len();
-    let mut at = held;
-    while at > 0 {
-        at -= 1;
-        let start = at.saturating_add(gaps.count_before(at)).min(end - 1);
-        move_up(&mut spots[at..end], start - at);
-        end = start;
-    }
-}
-
-/// Appends so many vacant spots, which are in no order.
-fn grow(spots: &mut Vec<Spot>, vacant: usize)
-    requires { length spots.old.items + vacant ≤ vec_capacity spots.old }
-    ensures first { take (length spots.old.items) spots.new.items ≡ spots.old.items }
-    ensures more { length spots.old.items ≤ length spots.new.items }
-    ensures len { length spots.new.items ≤ length spots.old.items + vacant }
-    ensures reserved { vec_capacity spots.new ≡ vec_capacity spots.old }
-{
-    for _ in 0..vacant {
-        let Some(last) = spots.last() else {
-            return;
-        };
-        let spot = last.vacant_before();
-        spots.push_reserved(spot);
-    }
-}
-
-/// Leaves the held spots alone, in their order.
-fn leave_held(spots: &mut Vec<Spot>)
-    ensures left { spots.new.items ≡ held_spots spots.old.items }
-    ensures fewer { length spots.new.items ≤ length spots.old.items }
-    ensures reserved { vec_capacity spots.new ≡ vec_capacity spots.old }
+/// Leaves the held keys alone, in their order.
+fn leave_held(keys: &mut Keys)
+    ensures keys { keys.new.keys ≡ held_keys keys.old.keys }
+    ensures rows { KeepsRows keys.old.rows keys.new.rows }
 {
     let mut held = 0;
-    for at in 0..spots.len() {
-        if spots[at].is_vacant() {
+    for at in 0..keys.len() {
+        let key = keys.key(at);
+        if key.is_vacant() {
             continue;
         }
-        copy_spot(spots, at, held);
+        keys.set_key(held, &key);
         held += 1;
     }
-    spots.truncate(held);
+    keys.resize(held);
 }
 
-/// Leaves the held spots, and shares the room by where new addresses came: vacant spots among the held ones, at most as many as
-/// these, and the rest at the end.
-#[inline(never)]
-pub(crate) fn arrange(spots: &mut Vec<Spot>, room: usize, entered: &Entered)
-    requires within { length spots.old.items ≤ room }
-    requires reserved { room ≤ vec_capacity spots.old }
-    requires rise { RiseFrom 0 spots.old.items }
-    ensures same { all_held spots.new.items ≡ all_held spots.old.items }
-    ensures rise { RiseFrom 0 spots.new.items }
-    ensures within { length spots.new.items ≤ room }
-    ensures reserved { vec_capacity spots.new ≡ vec_capacity spots.old }
+/// Whether the last of the held keys that are left is to stand last of the places that are left: where it has its share of these
+/// before it, or there are no more than keys; and where all are left.
+fn is_its_place(left: usize, held: usize, end: usize, all: usize) -> bool
+    requires some { 0 < end }
+    requires all { end ≡ all → 0 < left }
+    ensures place { result ≡ true → 0 < left }
+    ensures vacant { result ≡ false → left ≢ end }
+    ensures before { result ≡ false → end ≢ all }
 {
-    leave_held(spots);
-    let held = spots.len();
-    let vacant = entered.share(room - held).min(held);
-    if vacant == 0 {
+    if left == end || end == all {
+        return true;
+    }
+    left > 0 && left.saturating_mul(all) > (end - 1).saturating_mul(held)
+}
+
+/// Spreads the first so many keys over all places, with vacant ones before each.
+fn spread(keys: &mut Keys, held: usize)
+    requires some { 0 < held }
+    requires within { held ≤ length keys.old.keys }
+    requires rise { RiseFrom 0 (take held keys.old.keys) }
+    ensures held { held_keys keys.new.keys ≡ held_keys (take held keys.old.keys) }
+    ensures rise { RiseFrom 0 keys.new.keys }
+    ensures len { length keys.new.keys ≡ length keys.old.keys }
+    ensures rows { keys.new.rows ≡ keys.old.rows }
+{
+    let all = keys.len();
+    let mut end = all;
+    let mut left = held;
+    while end > 0 {
+        if is_its_place(left, held, end, all) {
+            let key = keys.key(left - 1);
+            keys.set_key(end - 1, &key);
+            left -= 1;
+            end -= 1;
+            continue;
+        }
+        let key = keys.key(end).vacated();
+        keys.set_key(end - 1, &key);
+        end -= 1;
+    }
+}
+
+/// Leaves the held keys, and shares the room that is left by where new addresses came: vacant keys evenly among the held ones,
+/// at most as many as these, and the rest at the end.
+#[inline(never)]
+pub(crate) fn arrange(keys: &mut Keys, came: &Came)
+    requires rise { RiseFrom 0 keys.old.keys }
+    ensures held { held_keys keys.new.keys ≡ held_keys keys.old.keys }
+    ensures rise { RiseFrom 0 keys.new.keys }
+    ensures within { length keys.new.keys ≤ keys.new.rows.room }
+    ensures rows { KeepsRows keys.old.rows keys.new.rows }
+{
+    leave_held(keys);
+    let held = keys.len();
+    if held == 0 {
         return;
     }
-    grow(spots, vacant);
-    spread(spots, held, &entered.gaps(held, vacant));
+    let vacant = came.share(keys.room() - held).min(held);
+    keys.resize(held + vacant);
+    spread(keys, held);
 }

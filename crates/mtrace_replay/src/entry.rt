@@ -1,6 +1,6 @@
 ghost use Rattle.std.specs.Prelude.{◌≡◌};
 
-use mtrace_log::{Addr, LentLocation, Location, kept_location, set_location};
+use mtrace_log::{Addr, LentLocation, Location, set_location};
 
 /// What is kept of an address that is held. `At` is what its location is, as in `mtrace_log::Event`.
 #[derive(Debug, Drop, PartialEq, Eq)]
@@ -15,33 +15,17 @@ pub struct Entry<At = Location> {
     pub at: Option<At>,
 }
 
-impl Entry<LentLocation<'_>> {
-    /// The entry with its location kept.
-    pub(crate) fn keep(&self) -> Entry
-        ensures { result ≡ self.now }
-    {
-        Entry {
-            addr: self.addr,
-            size: self.size,
-            line: self.line,
-            at: kept_location(&self.at),
-        }
-    }
-}
-
 impl Entry {
-    /// The entry with its location lent.
-    pub(crate) fn lend(&self) -> Entry<LentLocation<'_>>
-        ensures { result ≡ self.now }
-    {
+    /// An entry that means nothing: a row before it is first written.
+    pub(crate) fn blank() -> Entry {
+        let Some(addr) = Addr::new(1) else {
+            unreachable!()
+        };
         Entry {
-            addr: self.addr,
-            size: self.size,
-            line: self.line,
-            at: match &self.at {
-                Some(location) => Some(location.lend()),
-                None => None,
-            },
+            addr,
+            size: 0,
+            line: 0,
+            at: None,
         }
     }
 

@@ -1,20 +1,22 @@
 //! What is held, by address.
 
-ghost use Rattle.std.specs.Prelude.{◌≡◌, ℕ, ◌+◌, ◌<◌, ◌≤◌, ◌^◌, option_map, [], length, map, None, Some, IfOk, if◌then◌else◌, ◌==◌, is_some, true};
-ghost use Rattle.mtrace_replay.specs.Index.{held_at, held_bytes, AreInOrder, LooksUp, IsFound};
+ghost use Rattle.std.specs.Prelude.{◌≡◌, ◌≢◌, ℕ, ◌+◌, ◌<◌, ◌≤◌, ◌^◌, option_map, option_to_list, [], length, map, None, Some, IfOk, if◌then◌else◌, ◌==◌, is_some, true};
+ghost use Rattle.mtrace_replay.specs.Keys.{Rows};
+ghost use Rattle.mtrace_replay.specs.Key.{holding_of, IsRow};
+ghost use Rattle.mtrace_replay.specs.Index.{held_at, held_bytes, AreInOrder, LooksUp, IsFound, IsNewSlot};
 
-use crate::arrange::arrange;
-use crate::entered::Entered;
+use crate::arrange::{Came, arrange};
 use crate::entry::Entry;
-use crate::search::{enter, is_last_of, search};
-use crate::spot::Spot;
+use crate::key::Key;
+use crate::keys::Keys;
+use crate::search::{Gap, is_last_of, make_gap, search};
 use mtrace_log::{Addr, LentLocation};
 use std::alloc::{AllocError, Global};
 use std::marker::Model;
 use tlsf_heap::Ptr;
 use tlsf_store::GhostCount;
 
-/// Where an address stands among the spots of an index: at its own, held or vacant, or where that would enter. It tells so
+/// Where an address stands among the keys of an index: at its own, held or vacant, or where that would enter. It tells so
 /// until the index is changed.
 #[derive(Clone, Copy)]
 pub(crate) struct Found {
@@ -22,37 +24,53 @@ pub(crate) struct Found {
     place: Result<usize, usize>,
 }
 
-/// What is held, in order of address. The spot of an address that is held no more stays vacant, for the same address or
+/// What is held, in order of address. The key of an address that is held no more stays vacant, for the same address or
 /// for one near it, so that an address which comes again moves nothing. Where much has moved for new addresses, or a new one
-/// above all others finds most spots vacant, the spots are arranged anew.
+/// above all others finds most keys vacant, the keys are arranged anew.
 #[derive(Drop)]
 pub(crate) struct Index {
-    spots: Vec<Spot>,
-    room: usize,
+    keys: Keys,
     blocks: u64,
     bytes: u64,
-    entered: Entered,
-    // Where the spot is that was vacated last, unless spots have moved since: a hint.
-    vacated: u32,
+    came: Came,
     comparisons: GhostCount,
 }
 
 impl Model for Index {
-    ghost use Rattle.std.specs.Vec.{vec_capacity};
-    ghost use Rattle.mtrace_replay.specs.Spot.{all_held};
+    ghost use Rattle.mtrace_replay.specs.Key.{all_held};
     ghost use Rattle.mtrace_replay.specs.Index.{Indexed, IsIndex};
 
     ghost Value = { Indexed };
 
-    ghost view = { λ index. record { all = all_held index.spots.items; spots = index.spots.items; room = index.room; comparisons = index.comparisons.count } };
+    ghost view = { λ index. record { all = all_held index.keys.rows index.keys.keys; keys = index.keys.keys; room = index.keys.rows.room; comparisons = index.comparisons.count } };
 
-    ghost invariant = { λ index. IsIndex index.spots.items (vec_capacity index.spots) index.room index.blocks index.bytes };
+    ghost invariant = { λ index. IsIndex index.keys index.blocks index.bytes };
 }
 
-/// Whether room at the end is to be made anew: a new address there moved many of so many spots, or three quarters of them are
-/// vacant. So where addresses rise, the spots stay few, and a search stays among those that it looked at before.
-fn is_end_spent(spots: usize, blocks: u64, moved: usize) -> bool {
-    moved > spots / 64 || spots as u64 / 4 > blocks.saturating_add(64)
+/// Whether room at the end is to be made anew: a new address there moved many of so many keys, or three quarters of them are
+/// vacant. So where addresses rise, the keys stay few, and a search stays among those that it looked at before.
+fn is_end_spent(keys: usize, blocks: u64, moved: usize) -> bool {
+    moved > keys / 64 || keys as u64 / 4 > blocks.saturating_add(64)
+}
+
+/// How many blocks are held under the key: one or none.
+#[inline(always)]
+fn blocks_of(key: &Key) -> u64
+    ensures { (rows : Rows) → result ≡ length (option_to_list (holding_of rows key.now)) }
+{
+    u64::from(!key.is_vacant())
+}
+
+/// How many bytes were asked for what is held under the key.
+#[inline(always)]
+fn size_of(keys: &Keys, key: &Key) -> u64
+    requires { IsRow keys.now.rows key.now.address key.now.block }
+    ensures { result ≡ held_bytes (option_to_list (holding_of keys.now.rows key.now)) }
+{
+    match key.block() {
+        Some(ptr) => keys.row(ptr.slot()).size,
+        None => 0,
+    }
 }
 
 impl Index {
@@ -62,32 +80,28 @@ impl Index {
     ///
     /// `AllocError` where memory is refused.
     pub fn new(alloc: Global, room: u32) -> Result<Index, AllocError>
-        ensures { IfOk result (λ index. index ≡ record { all = []; spots = []; room = room; comparisons = 0 }) }
+        ensures { IfOk result (λ index. index ≡ record { all = []; keys = []; room = room; comparisons = 0 }) }
     {
-        let room = room as usize;
         Ok(Index {
-            spots: Vec::with_capacity(alloc, room)?,
-            room,
+            keys: Keys::new(alloc, room)?,
             blocks: 0,
             bytes: 0,
-            entered: Entered::new(),
-            vacated: 0,
+            came: Came::nothing(),
             comparisons: GhostCount::new(),
         })
     }
 
-    /// Where the address stands. That is where the spot was vacated last, if the address is its own, or else as `find`
-    /// says: an allocator gives the address that was freed last again.
+    /// Where the address stands. That is where a key of it stood last, if it still does, or else as `find` says.
     #[inline(always)]
     pub fn find_again(&mut self, address: Addr) -> Found
-        ensures found { IsFound self.old.spots result }
+        ensures found { IsFound self.old.keys result }
         ensures address { result.address ≡ address }
         ensures unchanged { self.new.all ≡ self.old.all }
-        ensures spots { self.new.spots ≡ self.old.spots }
+        ensures keys { self.new.keys ≡ self.old.keys }
         ensures looked { LooksUp 2 self.old self.new }
     {
-        let at = self.vacated as usize;
-        if is_last_of(&self.spots, &mut self.comparisons, at, address) {
+        let at = self.keys.hint(address);
+        if is_last_of(&self.keys, &mut self.comparisons, at, address) {
             return Found {
                 address,
                 place: Ok(at),
@@ -98,30 +112,33 @@ impl Index {
 
     /// Where the address stands: the one look-up, for what is read and changed there.
     pub fn find(&mut self, address: Addr) -> Found
-        ensures found { IsFound self.old.spots result }
+        ensures found { IsFound self.old.keys result }
         ensures address { result.address ≡ address }
         ensures unchanged { self.new.all ≡ self.old.all }
-        ensures spots { self.new.spots ≡ self.old.spots }
+        ensures keys { self.new.keys ≡ self.old.keys }
         ensures looked { LooksUp 1 self.old self.new }
     {
-        let place = search(&self.spots, &mut self.comparisons, address);
+        let place = search(&self.keys, &mut self.comparisons, address);
+        if let Ok(at) = place {
+            self.keys.set_hint(address, at);
+        }
         Found { address, place }
     }
 
     /// The block that the address which was found is held under.
     pub fn block(&self, found: &Found) -> Option<Ptr>
-        requires found { IsFound self.now.spots found.now }
+        requires found { IsFound self.now.keys found.now }
         ensures value { result ≡ option_map (λ holding. holding.ptr) (held_at self.now.all found.now.address) }
     {
         match found.place {
-            Ok(at) => self.spots[at].block(),
+            Ok(at) => self.keys.key(at).block(),
             Err(_) => None,
         }
     }
 
     /// Whether the address that was found is held.
     pub fn is_held(&self, found: &Found) -> bool
-        requires found { IsFound self.now.spots found.now }
+        requires found { IsFound self.now.keys found.now }
         ensures value { result ≡ is_some (held_at self.now.all found.now.address) }
     {
         self.block(found).is_some()
@@ -131,58 +148,65 @@ impl Index {
     pub fn contains(&mut self, address: Addr) -> bool
         ensures value { result ≡ is_some (held_at self.old.all address) }
         ensures unchanged { self.new.all ≡ self.old.all }
-        ensures spots { self.new.spots ≡ self.old.spots }
+        ensures keys { self.new.keys ≡ self.old.keys }
         ensures looked { LooksUp 1 self.old self.new }
     {
         let found = self.find(address);
         self.is_held(&found)
     }
 
-    /// Holds the address that was found for an entry, under this block, in place of what it was held under.
+    /// Where a new key entered between the others: it has a hint, and they are arranged anew where much has moved, or where room
+    /// at the end is to be made anew.
+    fn settle(&mut self, found: &Found, end: usize, gap: &Gap)
+        ensures unchanged { self.new.all ≡ self.old.all }
+        ensures looked { LooksUp 0 self.old self.new }
+    {
+        let Err(at) = found.place else {
+            return;
+        };
+        self.keys.set_hint(found.address, gap.to);
+        let moved = gap.from.abs_diff(gap.to);
+        self.came.add(at == end, moved);
+        let keys = self.keys.len();
+        if self.came.moved() > keys || at == end && is_end_spent(keys, self.blocks, moved) {
+            arrange(&mut self.keys, &self.came);
+            self.came = Came::nothing();
+        }
+    }
+
+    /// Holds the address that was found, which isn't held, for an entry, under this block. No other address is held under a
+    /// block of this slot.
     #[inline(always)]
     pub fn insert(&mut self, found: &Found, entry: &Entry<LentLocation<'_>>, ptr: Ptr)
-        requires found { IsFound self.old.spots found.now }
+        requires found { IsFound self.old.keys found.now }
         requires address { found.now.address ≡ entry.now.addr }
+        requires free { held_at self.old.all entry.now.addr ≡ None }
         requires bytes { held_bytes self.old.all + entry.now.size < 2 ^ 64 }
         requires room { length self.old.all < self.old.room }
+        requires slot { ptr.slot < self.old.room }
+        requires new { IsNewSlot ptr.slot entry.now.addr self.old.all }
         ensures held { (address : ℕ) → held_at self.new.all address
             ≡ (if entry.now.addr == address then Some (record { entry = entry.now; ptr = ptr }) else held_at self.old.all address) }
         ensures looked { LooksUp 0 self.old self.new }
     {
-        let size = entry.size;
-        match found.place {
-            Ok(at) => {
-                let spot = &self.spots[at];
-                if at as u32 == self.vacated {
-                    self.vacated = spot.vacated_before();
-                }
-                self.blocks = self.blocks + 1 - spot.blocks();
-                self.bytes = self.bytes + size - spot.size();
-                self.spots[at].hold(entry, ptr);
-            }
-            Err(at) => {
-                let before = self.spots.len();
-                self.blocks += 1;
-                self.bytes += size;
-                let moved = enter(&mut self.spots, self.room, at, entry, ptr);
-                self.entered.add(at, before, moved);
-                let now = self.spots.len();
-                if self.entered.moved() > now
-                    || at == before && is_end_spent(now, self.blocks, moved)
-                {
-                    arrange(&mut self.spots, self.room, &self.entered);
-                    self.entered = Entered::new();
-                }
-            }
-        }
+        let end = self.keys.len();
+        let gap = make_gap(&mut self.keys, found.place);
+        self.blocks += 1;
+        self.bytes += entry.size;
+        self.keys.put(gap.from, gap.to, entry, ptr);
+        self.settle(found, end, &gap);
     }
 
-    /// Holds an address in place of the old one that was found, which may be the same.
+    /// Holds an address in place of the old one that was found, which may be the same. No other address is held under a
+    /// block of this slot.
     pub fn replace(&mut self, old: &Found, entry: &Entry<LentLocation<'_>>, ptr: Ptr)
-        requires found { IsFound self.old.spots old.now }
+        requires found { IsFound self.old.keys old.now }
         requires bytes { held_bytes self.old.all + entry.now.size < 2 ^ 64 }
         requires held { is_some (held_at self.old.all old.now.address) ≡ true }
+        requires free { old.now.address ≢ entry.now.addr → held_at self.old.all entry.now.addr ≡ None }
         requires room { length self.old.all ≤ self.old.room }
+        requires slot { ptr.slot < self.old.room }
+        requires new { IsNewSlot ptr.slot old.now.address self.old.all }
         ensures held { (address : ℕ) → held_at self.new.all address
             ≡ (if entry.now.addr == address then Some (record { entry = entry.now; ptr = ptr }) else (if old.now.address == address then None else held_at self.old.all address)) }
         ensures looked { LooksUp 1 self.old self.new }
@@ -192,21 +216,20 @@ impl Index {
         self.insert(&found, entry, ptr);
     }
 
-    /// Holds the address that was found no more: its spot stays, vacant.
+    /// Holds the address that was found no more: its key stays, vacant.
     #[inline(always)]
     pub fn remove(&mut self, found: &Found)
-        requires found { IsFound self.old.spots found.now }
+        requires found { IsFound self.old.keys found.now }
         ensures held { (other : ℕ) → held_at self.new.all other ≡ (if found.now.address == other then None else held_at self.old.all other) }
         ensures fewer { is_some (held_at self.old.all found.now.address) ≡ true → length self.new.all < length self.old.all }
         ensures bytes { held_bytes self.new.all ≤ held_bytes self.old.all }
         ensures looked { LooksUp 0 self.old self.new }
     {
         if let Ok(at) = found.place {
-            let spot = &self.spots[at];
-            self.blocks -= spot.blocks();
-            self.bytes -= spot.size();
-            self.spots[at].vacate(self.vacated);
-            self.vacated = at as u32;
+            let key = self.keys.key(at);
+            self.blocks -= blocks_of(&key);
+            self.bytes -= size_of(&self.keys, &key);
+            self.keys.set_key(at, &key.vacated());
         }
     }
 
@@ -230,7 +253,8 @@ impl Index {
         ensures entries { result ≡ map (λ holding. holding.entry) self.now.all }
     {
         Entries {
-            spots: self.spots.as_slice(),
+            keys: &self.keys,
+            at: 0,
         }
     }
 
@@ -238,24 +262,27 @@ impl Index {
     pub fn keeps_order(&self)
         ensures { AreInOrder self.now.all }
     {
-        let _ = &self.spots;
+        let _ = &self.keys;
     }
 }
 
 /// Entries in order of address, as an iterator.
 #[derive(Drop)]
 pub struct Entries<'a> {
-    spots: &'a [Spot],
+    keys: &'a Keys,
+    at: usize,
 }
 
 impl<'a> Model for Entries<'a> {
-    ghost use Rattle.std.specs.Prelude.{List, map};
+    ghost use Rattle.std.specs.Prelude.{List, drop, map};
     ghost use Rattle.mtrace_replay.specs.Entry.{Entry};
-    ghost use Rattle.mtrace_replay.specs.Spot.{all_held};
+    ghost use Rattle.mtrace_replay.specs.Key.{all_held, HaveRows};
 
     ghost Value = { List Entry };
 
-    ghost view = { λ entries. map (λ holding. holding.entry) (all_held entries.spots.now) };
+    ghost view = { λ entries. map (λ holding. holding.entry) (all_held entries.keys.now.rows (drop entries.at entries.keys.now.keys)) };
+
+    ghost invariant = { λ entries. HaveRows entries.keys.now.rows entries.keys.now.keys };
 }
 
 impl<'a> Iterator for Entries<'a> {
@@ -268,10 +295,12 @@ impl<'a> Iterator for Entries<'a> {
     ghost remaining = { item_count (λ entries. entries) };
 
     fn next(&mut self) -> Option<&'a Entry> {
-        while let Some((spot, rest)) = self.spots.split_first() {
-            self.spots = rest;
-            if let Some(entry) = spot.entry() {
-                return Some(entry);
+        let keys = self.keys;
+        while self.at < keys.len() {
+            let key = keys.key(self.at);
+            self.at += 1;
+            if let Some(ptr) = key.block() {
+                return Some(keys.row(ptr.slot()));
             }
         }
         None

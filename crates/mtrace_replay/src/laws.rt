@@ -1,13 +1,18 @@
 //! Laws of the definitions, each the contract of a function that does nothing.
 
-ghost use Rattle.std.specs.Prelude.{◌≡◌, ◌↔◌, ℕ, false, List, length, Some};
+ghost use Rattle.std.specs.Prelude.{◌≡◌, ◌↔◌, ◌≤◌, ℕ, false, List, length, take, Some};
 ghost use Rattle.tlsf_heap.specs.Run.{MayLack};
 ghost use Rattle.mtrace_replay.specs.declared.settings.Settings.{Settings};
 ghost use Rattle.mtrace_replay.specs.Started.{Bare, started};
 ghost use Rattle.mtrace_replay.specs.Moment.{Reading, Given, Moment};
 ghost use Rattle.mtrace_replay.specs.History.{AreHeld, held, moments};
+ghost use Rattle.mtrace_log.specs.HasRead.{HasReadAll};
+ghost use Rattle.mtrace_replay.specs.Run.{Bytes};
+ghost use Rattle.mtrace_replay.specs.Again.{HasReadFirst};
 ghost use Rattle.mtrace_replay.specs.Settings.{are_bad};
 ghost use Rattle.mtrace_replay.specs.Held.{IsHeldUnder};
+ghost use Rattle.mtrace_replay.specs.Entry.{Entry};
+ghost use Rattle.mtrace_replay.specs.Sites.{Site, AreSites};
 
 use tlsf_heap::{Heap, Heaped};
 
@@ -22,6 +27,17 @@ pub fn held_until_taken()
 /// a log has one report.
 pub fn one_list_is_held()
     ensures { (past : List Moment) (one other : List Given) → AreHeld one past → AreHeld other past → one ≡ other }
+{}
+
+/// The sites of entries are one list.
+pub fn one_list_of_sites()
+    ensures { (entries : List Entry) (one other : List Site) → AreSites entries one → AreSites entries other → one ≡ other }
+{}
+
+/// The first lines of a text that is told, read again from the first byte on, are the first of all its lines.
+pub fn first_lines_again()
+    ensures { (text : List ℕ) (middle after : Bytes) (most : ℕ) (lines first : List Reading)
+        → HasReadAll (Some text) middle lines → HasReadFirst most (Some text) after first → most ≤ length lines → first ≡ take most lines }
 {}
 
 /// Where settings are not bad, no pool of theirs is refused: the heap starts with all of them.

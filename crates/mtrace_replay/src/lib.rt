@@ -2,13 +2,16 @@
 //! reports of what was not freed, of the peak, and of the heap's blocks.
 #![tactic(auto)]
 
+mod again;
 mod arrange;
 mod diagnostic;
-mod entered;
 mod entry;
 mod findings;
 mod free_blocks;
+mod grouping;
 mod index;
+mod key;
+mod keys;
 pub mod laws;
 mod line_text;
 mod replay;
@@ -17,7 +20,8 @@ mod run;
 mod save;
 mod search;
 mod settings;
-mod spot;
+mod site;
+mod sites;
 mod start;
 mod status;
 mod step;
@@ -32,5 +36,6 @@ pub use crate::report::Report;
 pub use crate::run::{run_leaks, run_peak, run_walk};
 pub use crate::save::run_save;
 pub use crate::settings::Settings;
+pub use crate::sites::run_sites;
 pub use crate::status::{RunFault, Status};
 pub use crate::totals::Totals;

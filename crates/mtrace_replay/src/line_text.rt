@@ -1,14 +1,15 @@
 //! The text of one line of the output, or of a few.
 
-ghost use Rattle.std.specs.Prelude.{◌≡◌, ◌+◌, ◌≤◌, ◌^◌, ◌<◌, ◌++◌, ◌∷◌, [], length, decimal, codes};
+ghost use Rattle.std.specs.Prelude.{◌≡◌, ◌+◌, ◌≤◌, ◌^◌, ◌<◌, ◌++◌, [], length, decimal, codes};
+ghost use Rattle.std.specs.Option.{option_copied};
 ghost use Rattle.arrayvec.specs.ArrayVec.{array_vec_len};
 ghost use Rattle.mtrace_log.specs.Address.{address_text};
-ghost use Rattle.mtrace_log.specs.Bytes.{newline};
-ghost use Rattle.mtrace_replay.specs.Texts.{refusal_text as text_of_refusal, kind_text as text_of_kind, note_text as text_of_note, at_text as text_of_location, entry_text as text_of_entry, number_line, pair_line, spread_text as text_of_spread, count_lines, held_lines, free_lines, spread_line, peak_lines, use_text as text_of_use, row_text as text_of_row};
+ghost use Rattle.mtrace_replay.specs.Texts.{refusal_text as text_of_refusal, kind_text as text_of_kind, note_text as text_of_note, at_text as text_of_location, entry_text as text_of_entry, number_line, pair_line, spread_text as text_of_spread, count_lines, held_lines, free_lines, spread_line, peak_lines, peak_words as words_of_peak, site_text as text_of_site, use_text as text_of_use, row_text as text_of_row};
 
 use crate::diagnostic::{Diagnostic, Kind};
 use crate::entry::Entry;
 use crate::free_blocks::Free;
+use crate::site::Site;
 use crate::totals::Totals;
 use arrayvec::ArrayVec;
 use itoa::Buffer;
@@ -108,9 +109,9 @@ pub(crate) fn note_text(note: &Diagnostic) -> LineText
 }
 
 /// Appends ` at ` and the location, where there is one.
-fn push_location(text: &mut LineText, at: &Option<Location>)
+fn push_location(text: &mut LineText, at: Option<&Location>)
     requires { array_vec_len text.old ≤ 130 }
-    ensures bytes { text.new.items ≡ text.old.items ++ text_of_location at.now }
+    ensures bytes { text.new.items ≡ text.old.items ++ text_of_location (option_copied at.entry) }
     ensures len { array_vec_len text.new ≤ array_vec_len text.old + 4 + LONGEST_LOCATION }
 {
     if let Some(location) = at {
@@ -129,21 +130,8 @@ pub(crate) fn entry_text(entry: &Entry) -> LineText
     push_number(&mut text, u128::from(entry.size));
     push_bytes(&mut text, b" line ");
     push_number(&mut text, u128::from(entry.line));
-    push_location(&mut text, &entry.at);
+    push_location(&mut text, entry.at.as_ref());
     push_bytes(&mut text, b"\n");
-    text
-}
-
-/// The line of the totals: how many blocks are held, and how many bytes they have together.
-pub(crate) fn total_text(blocks: u64, bytes: u128) -> LineText
-    ensures { result.items ≡ codes "Total: " ++ decimal blocks ++ codes " blocks, " ++ decimal bytes ++ codes " bytes." ++ newline ∷ [] }
-{
-    let mut text = ArrayVec::new();
-    push_bytes(&mut text, b"Total: ");
-    push_number(&mut text, u128::from(blocks));
-    push_bytes(&mut text, b" blocks, ");
-    push_number(&mut text, bytes);
-    push_bytes(&mut text, b" bytes.\n");
     text
 }
 
@@ -177,6 +165,55 @@ fn push_pair_line(
     push_number(text, u128::from(second));
     push_bytes(text, last);
     push_bytes(text, b"\n");
+}
+
+/// The line of the totals: how many blocks are held, and how many bytes they have together.
+pub(crate) fn total_text(blocks: u64, bytes: u64) -> LineText
+    ensures { result.items ≡ pair_line (codes "Total: ") blocks (codes " blocks, ") bytes (codes " bytes.") }
+{
+    let mut text = ArrayVec::new();
+    push_pair_line(
+        &mut text,
+        b"Total: ",
+        blocks,
+        b" blocks, ",
+        bytes,
+        b" bytes.",
+    );
+    text
+}
+
+/// The words above the sites of what was held after a line, that of the peak.
+pub(crate) fn peak_words(line: u64) -> LineText
+    ensures { result.items ≡ words_of_peak line }
+{
+    let mut text = ArrayVec::new();
+    push_bytes(&mut text, b"Held at the peak, line ");
+    push_number(&mut text, u128::from(line));
+    text
+}
+
+/// The end of a line behind such words: how many blocks were held, and how many bytes they have together.
+pub(crate) fn section_text(blocks: u64, bytes: u64) -> LineText
+    ensures { result.items ≡ pair_line (codes ": ") blocks (codes " blocks, ") bytes (codes " bytes.") }
+{
+    let mut text = ArrayVec::new();
+    push_pair_line(&mut text, b": ", blocks, b" blocks, ", bytes, b" bytes.");
+    text
+}
+
+/// The line of what one location holds.
+pub(crate) fn site_text(site: &Site<'_>) -> LineText
+    ensures { result.items ≡ text_of_site site.now }
+{
+    let mut text = ArrayVec::new();
+    push_number(&mut text, u128::from(site.bytes));
+    push_bytes(&mut text, b" bytes in ");
+    push_number(&mut text, u128::from(site.blocks));
+    push_bytes(&mut text, b" blocks");
+    push_location(&mut text, site.at);
+    push_bytes(&mut text, b"\n");
+    text
 }
 
 /// Appends how the lines went.

@@ -114,7 +114,7 @@ impl<H: Heaped> Replay<H> {
     ghost use Rattle.mtrace_replay.specs.Step.{found};
     ghost use Rattle.mtrace_replay.specs.Replay.{StandsFor, entries, Feeds};
     ghost use Rattle.mtrace_log.specs.Output.{Puts};
-    ghost use Rattle.mtrace_replay.specs.Texts.{free_sizes, walk_report};
+    ghost use Rattle.mtrace_replay.specs.Texts.{free_sizes, walk_report, total_size};
     ghost use Rattle.mtrace_replay.specs.Rows.{IsFree};
 
     /// A replay of no line yet, on a heap by the settings.
@@ -124,6 +124,7 @@ impl<H: Heaped> Replay<H> {
     /// `BadSettings` exactly where they are bad; `OutOfMemory` where memory is refused.
     pub fn create(alloc: Global, settings: Settings) -> Result<Self, ReplayFault>
         ensures made { IfOk result (λ replay. StandsFor replay settings []) }
+        ensures records { IfOk result (λ replay. replay.content.records ≡ settings.records) }
         ensures bad_settings { IsErrOf result ReplayFault.BadSettings ↔ IsTrue (are_bad settings) }
     {
         if settings.are_bad() {
@@ -231,6 +232,13 @@ impl<H: Heaped> Replay<H> {
         ensures small { result < 2 ^ 63 }
     {
         self.held.len()
+    }
+
+    /// How many bytes were asked for what is held, in sum.
+    pub(crate) fn bytes(&self) -> u64
+        ensures { result ≡ total_size (entries self.now) }
+    {
+        self.held.bytes()
     }
 
     /// What is held, in order of address: at most as many entries as the heap has records.

@@ -1,12 +1,11 @@
 //! The reports.
 
-ghost use Rattle.std.specs.Prelude.{◌≡◌, ◌≢◌, false, ◌<◌, ◌^◌, [], length, flat_map, OnOk, OnErr};
+ghost use Rattle.std.specs.Prelude.{◌≡◌, ◌≢◌, false, [], flat_map};
 ghost use Rattle.mtrace_log.specs.Output.{Puts};
 ghost use Rattle.mtrace_replay.specs.declared.report.Report.TheVariants.{Notes};
 ghost use Rattle.mtrace_replay.specs.Replay.{entries};
-ghost use Rattle.mtrace_replay.specs.Texts.{entry_text as text_of_entry, total_size as size_of_all, leaks_report, peak_report, report_text};
+ghost use Rattle.mtrace_replay.specs.Texts.{entry_text as text_of_entry, leaks_report, peak_report, report_text};
 
-use crate::entry::Entry;
 use crate::index::Entries;
 use crate::line_text::{entry_text, peak_text, total_text};
 use crate::replay::Replay;
@@ -24,25 +23,6 @@ pub enum Report {
     Walk,
     /// Nothing more.
     Notes,
-}
-
-/// How many bytes an entry asked for.
-fn entry_size(entry: &Entry) -> u64
-    ensures { result ≡ entry.now.size }
-{
-    entry.size
-}
-
-/// How many bytes were asked for by all of the entries.
-fn total_size(held: Entries<'_>) -> u128
-    requires { length held < 2 ^ 63 }
-    ensures { result ≡ size_of_all held.entry }
-{
-    let mut total: u128 = 0;
-    for entry in held {
-        total += u128::from(entry_size(entry));
-    }
-    total
 }
 
 /// Puts a line for each entry, in their order.
@@ -63,7 +43,7 @@ fn put_held<W: Sink, H: Heaped>(writer: &mut W, replay: &Replay<H>) -> Result<()
     put_all(writer, b"Memory not freed:\n")?;
     put_entries(writer, replay.held())?;
     let blocks = replay.blocks();
-    let total = total_text(blocks, total_size(replay.held()));
+    let total = total_text(blocks, replay.bytes());
     put_all(writer, total.as_slice())
 }
 

@@ -8,7 +8,7 @@ ghost use Rattle.mtrace_log.specs.Output.{Wrote, Begins, Puts};
 ghost use Rattle.mtrace_replay.specs.Texts.{notes_text, report_text};
 ghost use Rattle.mtrace_replay.specs.Moment.{Reading, half};
 ghost use Rattle.mtrace_replay.specs.Replay.{StandsFor, entries};
-ghost use Rattle.mtrace_replay.specs.Run.{end_text, Runs, Replays, status_in, StopsAtRead, StopsAtWrite, HasReplayed, LineGives, LineBegins, is_some_note, is_some_entry};
+ghost use Rattle.mtrace_replay.specs.Run.{end_text, Runs, EndsAt, status_in, StopsAtRead, StopsAtWrite, HasReplayed, LineGives, LineBegins, is_some_note, is_some_entry};
 
 use crate::diagnostic::Note;
 use crate::findings::Findings;
@@ -59,6 +59,7 @@ fn replay_line<H: Heaped, W: Sink>(
         → LineGives replay.new settings event.entry past (W.taken writer.old) (W.taken writer.new) noted) }
     ensures counted { OnOk result (replay.new.totals.lines ≡ number) }
     ensures cleared { OnOk result (findings.new ≡ []) }
+    ensures records { replay.new.content.records ≡ replay.old.content.records }
     ensures took { result ≢ Err RunFault.Write → HasTaken (W.trace writer.old) (W.trace writer.new) }
     ensures write { IsErrOf result RunFault.Write → (settings : Settings) (past : List Reading) → StandsFor replay.old settings past
         → LineBegins replay.new settings event.entry past (W.taken writer.old) (W.taken writer.new) }
@@ -90,6 +91,8 @@ fn replay_lines<H: Heaped, R: Source, W: Sink>(
     requires start { replay.old.totals.lines ≡ 0 }
     ensures done { IfOk result (λ noted. (settings : Settings) → StandsFor replay.old settings []
         → HasReplayed settings replay.new noted (R.left reader.old) (R.left reader.new) (W.taken writer.old) (W.taken writer.new)) }
+    ensures records { replay.new.content.records ≡ replay.old.content.records }
+    ensures whole { R.whole reader.new ≡ R.whole reader.old }
     ensures reader_ended { OnOk result (HasGivenAll (R.trace reader.old) (R.trace reader.new)) }
     ensures reader_not_failed { result ≢ Err RunFault.Read → HasNotFailed (R.trace reader.old) (R.trace reader.new) }
     ensures writer_took { result ≢ Err RunFault.Write → HasTaken (W.trace writer.old) (W.trace writer.new) }
@@ -198,8 +201,9 @@ pub(crate) fn replay_log<R: Source, W: Sink>(
     report: Report,
 ) -> Result<Ended, RunFault>
     ensures ran { Runs report settings R.left R.trace W.taken W.trace (status_in result) reader.old reader.new writer.old writer.new }
-    ensures last { report ≡ Report.Notes → IfOk result (λ ended. Replays settings ended.status ended.replay.content
+    ensures last { report ≡ Report.Notes → IfOk result (λ ended. EndsAt settings ended.status ended.replay
         (R.left reader.old) (R.left reader.new) (W.taken writer.old) (W.taken writer.new)) }
+    ensures whole { R.whole reader.new ≡ R.whole reader.old }
 {
     let mut replay = match Replay::<Heap>::create(alloc, settings) {
         Ok(replay) => replay,
@@ -228,7 +232,8 @@ fn run_report<R: Source, W: Sink>(
     settings: Settings,
     report: Report,
 ) -> Result<Status, RunFault>
-    ensures { Runs report settings R.left R.trace W.taken W.trace result reader.old reader.new writer.old writer.new }
+    ensures runs { Runs report settings R.left R.trace W.taken W.trace result reader.old reader.new writer.old writer.new }
+    ensures whole { R.whole reader.new ≡ R.whole reader.old }
 {
     match replay_log(alloc, reader, writer, settings, report) {
         Ok(ended) => Ok(ended.status),
@@ -254,7 +259,8 @@ pub fn run_leaks<R: Source, W: Sink>(
     writer: &mut W,
     settings: Settings,
 ) -> Result<Status, RunFault>
-    ensures { Runs Report.Leaks settings R.left R.trace W.taken W.trace result reader.old reader.new writer.old writer.new }
+    ensures runs { Runs Report.Leaks settings R.left R.trace W.taken W.trace result reader.old reader.new writer.old writer.new }
+    ensures whole { R.whole reader.new ≡ R.whole reader.old }
 {
     run_report(alloc, reader, writer, settings, Report::Leaks)
 }
@@ -278,7 +284,8 @@ pub fn run_peak<R: Source, W: Sink>(
     writer: &mut W,
     settings: Settings,
 ) -> Result<Status, RunFault>
-    ensures { Runs Report.Peak settings R.left R.trace W.taken W.trace result reader.old reader.new writer.old writer.new }
+    ensures runs { Runs Report.Peak settings R.left R.trace W.taken W.trace result reader.old reader.new writer.old writer.new }
+    ensures whole { R.whole reader.new ≡ R.whole reader.old }
 {
     run_report(alloc, reader, writer, settings, Report::Peak)
 }
@@ -302,7 +309,8 @@ pub fn run_walk<R: Source, W: Sink>(
     writer: &mut W,
     settings: Settings,
 ) -> Result<Status, RunFault>
-    ensures { Runs Report.Walk settings R.left R.trace W.taken W.trace result reader.old reader.new writer.old writer.new }
+    ensures runs { Runs Report.Walk settings R.left R.trace W.taken W.trace result reader.old reader.new writer.old writer.new }
+    ensures whole { R.whole reader.new ≡ R.whole reader.old }
 {
     run_report(alloc, reader, writer, settings, Report::Walk)
 }

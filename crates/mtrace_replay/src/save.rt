@@ -39,7 +39,8 @@ pub fn run_save<R: Source, W: Sink, I: Sink>(
     image: &mut I,
     settings: Settings,
 ) -> Result<Status, RunFault>
-    ensures { RunsAndSaves settings R.left R.trace W.taken W.trace I.taken I.trace result reader.old reader.new writer.old writer.new image.old image.new }
+    ensures saves { RunsAndSaves settings R.left R.trace W.taken W.trace I.taken I.trace result reader.old reader.new writer.old writer.new image.old image.new }
+    ensures whole { R.whole reader.new ≡ R.whole reader.old }
 {
     let Ended { status, mut replay } = match replay_log(
         alloc,

@@ -4,6 +4,7 @@ ghost use Rattle.std.specs.Prelude.{◌≡◌, ◌≢◌, ℕ, ◌+◌, ◌<◌,
 ghost use Rattle.tlsf_heap.specs.Bare.{bare};
 ghost use Rattle.tlsf_heap.specs.Content.{blocks_of, size_at};
 ghost use Rattle.tlsf_heap.specs.Free.{is_live};
+ghost use Rattle.tlsf_heap.specs.GoodSlots.{slot_times};
 ghost use Rattle.tlsf_heap.specs.Realloc.{realloc as reallocated};
 ghost use Rattle.tlsf_heap.specs.Run.{MayLack};
 ghost use Rattle.mtrace_replay.specs.Index.{held_at, LooksUp, IsFound};
@@ -50,6 +51,8 @@ struct Block {
 #[inline(always)]
 fn ask_block<H: Heaped>(heap: &mut H, align: Option<Addr>, n: u64) -> Result<Ptr, Refusal>
     ensures ok { IfOk result (λ ptr. asked_block ptr.slot align n (H.content heap.old) ≡ Ok (ptr.place, H.content heap.new)) }
+    ensures slot_below { IfOk result (λ ptr. ptr.slot < (H.content heap.old).records) }
+    ensures slot_new { IfOk result (λ ptr. slot_times ptr.slot (blocks_of (H.content heap.old).pools) ≡ 0) }
     ensures refused { IfErr result (λ refusal. refusal ≢ Refusal.OutOfMemory → (slot : ℕ) → asked_block slot align n (H.content heap.old) ≡ Err refusal) }
     ensures memory { IfErr result (λ refusal. refusal ≡ Refusal.OutOfMemory → MayLack H.lacks) }
     ensures unchanged { OnErr result (H.content heap.new ≡ H.content heap.old) }
@@ -65,6 +68,8 @@ fn ask_block<H: Heaped>(heap: &mut H, align: Option<Addr>, n: u64) -> Result<Ptr
 #[inline(always)]
 fn new_block<H: Heaped>(heap: &mut H, align: Option<Addr>, n: u64) -> Result<Block, Refusal>
     ensures ok { IfOk result (λ given. asked_block given.ptr.slot align n (H.content heap.old) ≡ Ok (given.ptr.place, H.content heap.new)) }
+    ensures slot_below { IfOk result (λ given. given.ptr.slot < (H.content heap.old).records) }
+    ensures slot_new { IfOk result (λ given. slot_times given.ptr.slot (blocks_of (H.content heap.old).pools) ≡ 0) }
     ensures end { IfOk result (λ given. given.end ≡ given.ptr.place + size_at given.ptr.place (blocks_of (H.content heap.new).pools)) }
     ensures refused { IfErr result (λ refusal. refusal ≢ Refusal.OutOfMemory → (slot : ℕ) → asked_block slot align n (H.content heap.old) ≡ Err refusal) }
     ensures memory { IfErr result (λ refusal. refusal ≡ Refusal.OutOfMemory → MayLack H.lacks) }
@@ -86,6 +91,8 @@ fn realloc_block<H: Heaped>(heap: &mut H, ptr: Ptr, n: u64) -> Result<Block, Ref
     requires some { 0 < n }
     ensures ok { IfOk result (λ given. reallocated (λ a b. a == b) given.ptr.slot (Some (ptr.place, ptr.slot)) n (H.content heap.old)
         ≡ Ok (Some (given.ptr.place, given.ptr.slot), H.content heap.new)) }
+    ensures slot_below { IfOk result (λ given. given.ptr.slot < (H.content heap.old).records) }
+    ensures slot_new { IfOk result (λ given. given.ptr.slot ≢ ptr.slot → slot_times given.ptr.slot (blocks_of (H.content heap.old).pools) ≡ 0) }
     ensures end { IfOk result (λ given. given.end ≡ given.ptr.place + size_at given.ptr.place (blocks_of (H.content heap.new).pools)) }
     ensures refused { IfErr result (λ refusal. refusal ≢ Refusal.OutOfMemory → (slot : ℕ)
         → reallocated (λ a b. a == b) slot (Some (ptr.place, ptr.slot)) n (H.content heap.old) ≡ Err refusal) }
@@ -151,7 +158,7 @@ fn take<H: Heaped>(
     ptr: Ptr,
 ) -> Result<(), AllocError>
     requires live { AreLive held.old.all (H.content heap.old) }
-    requires found { IsFound held.old.spots found.now }
+    requires found { IsFound held.old.keys found.now }
     requires held { IsUnder ptr (held_at held.old.all found.now.address) }
     ensures content { OnOk result (bare (H.content heap.new) ≡ without ptr.place (bare (H.content heap.old))) }
     ensures held { OnOk result ((other : ℕ) → held_at held.new.all other ≡ (if found.now.address == other then None else held_at held.old.all other)) }
@@ -184,11 +191,11 @@ fn release<H: Heaped>(
 ) -> Result<Option<u64>, AllocError>
     requires live { AreLive held.old.all (H.content heap.old) }
     requires none { findings.old ≡ [] }
-    ensures { Replays H.content H.touches H.lacks 1 96 (is_some (found (all_given held.old.all) address))
+    ensures { Replays H.content H.touches H.lacks 2 96 (is_some (found (all_given held.old.all) address))
         (released number address (found (all_given held.old.all) address) (bare (H.content heap.old)))
         findings.new result heap.old heap.new held.old held.new }
 {
-    let found = held.find(address);
+    let found = held.find_again(address);
     let Some(ptr) = held.block(&found) else {
         findings.set_one(number, Kind::NotHeld(address));
         return Ok(None);
@@ -208,8 +215,9 @@ fn reallocate<H: Heaped>(
 ) -> Result<Option<u64>, AllocError>
     requires live { AreLive held.old.all (H.content heap.old) }
     requires room { held.old.room ≡ (H.content heap.old).records }
-    requires found { IsFound held.old.spots old.now }
+    requires found { IsFound held.old.keys old.now }
     requires held { IsUnder ptr (held_at held.old.all old.now.address) }
+    requires free { old.now.address ≢ entry.now.addr → held_at held.old.all entry.now.addr ≡ None }
     requires none { findings.old ≡ [] }
     ensures { Replays H.content H.touches H.lacks 1 356 true
         (moved entry.now.line entry.now.at old.now.address ptr.place entry.now.addr entry.now.size (bare (H.content heap.old))
@@ -237,7 +245,7 @@ fn reallocate<H: Heaped>(
 fn is_held_too(held: &mut Index, address: Addr, old: Addr) -> bool
     ensures value { result ≡ (not (address == old) && is_some (held_at held.old.all address)) }
     ensures unchanged { held.new.all ≡ held.old.all }
-    ensures spots { held.new.spots ≡ held.old.spots }
+    ensures keys { held.new.keys ≡ held.old.keys }
     ensures looked { LooksUp 1 held.old held.new }
 {
     address != old && held.contains(address)

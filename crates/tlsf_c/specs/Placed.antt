@@ -1,7 +1,7 @@
 -- Bytes that are put into a room.
 use Rattle.std.specs.Prelude.{◌≡◌, ℕ, min, Bool, true, false, List, [], ◌∷◌, length}
 use Rattle.mtrace_log.specs.declared.call.Call.{Call}
-use Rattle.mtrace_log.specs.declared.call.Call.TheVariants.{Gave, Ended, Took, Flushed, FlushFailed, Failed}
+use Rattle.mtrace_log.specs.declared.call.Call.TheVariants.{Gave, Ended, Began, Took, Flushed, FlushFailed, Failed}
 
 -- the bytes, as many as there is room for, and behind them what stood there
 unfoldable pub placed : List ℕ → List ℕ → List ℕ
@@ -19,6 +19,7 @@ abbrev pub has_failed : List Call → Bool
 has_failed [] = false
 has_failed (Gave count ∷ calls) = false
 has_failed (Ended ∷ calls) = false
+has_failed (Began ∷ calls) = false
 has_failed (Took count ∷ calls) = false
 has_failed (Flushed ∷ calls) = false
 has_failed (FlushFailed ∷ calls) = false

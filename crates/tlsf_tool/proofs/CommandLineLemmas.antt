@@ -1,6 +1,6 @@
 -- The command line's description, and what a parse by it gives.
-use Rattle.std.proofs.Common.{arith, ◌≡◌, ◌∙◌, ◌⊎◌, ◌<◌, ◌^◌, ℕ, List, [], Option, Some, None, Result, Ok, Err, inl, inr, refl, sym, ap, ap₂, subst, true, codes, unwrap_or, option_map}
-use Rattle.std.specs.Prelude.{Box, IfSome, IfNone, String, string_bytes, slice_index}
+use Rattle.std.proofs.Common.{arith, ◌≡◌, ◌∙◌, ◌⊎◌, ◌<◌, ◌^◌, ◌+◌, ◌*◌, ℕ, List, [], ◌∷◌, Option, Some, None, Result, Ok, Err, inl, inr, refl, sym, ap, ap₂, subst, true, codes, unwrap_or, option_map}
+use Rattle.std.specs.Prelude.{Box, IfSome, IfNone, String, string_bytes}
 use Rattle.std.specs.declared.alloc.Global.{Global}
 use Rattle.std.specs.Str.Parse.{ParsesUnsigned, digits_value, without_leading_plus}
 use Rattle.clap.specs.Words.{App, HasMatchesOf, HasKind, IsAmong, Kinds, ReadsOne, Row, Text, fault_of, first_of, is_simple, is_simple_and_free, kind_of, one_text, rows_of, with_subcommand, subcommand_name_of, subcommand_of, subcommand_rows, subcommand_rows_of}
@@ -17,11 +17,11 @@ use Rattle.clap.proofs.WalkLemmas.{one_text-rows}
 use Rattle.mtrace_replay.specs.declared.settings.Settings.{Settings}
 use Rattle.mtrace_replay.specs.declared.status.RunFault.TheVariants.{OutOfMemory}
 use Rattle.tlsf_tool.specs.declared.asked.Command.{Command}
-use Rattle.tlsf_tool.specs.declared.asked.Command.TheVariants.{Report, Save, Check}
+use Rattle.tlsf_tool.specs.declared.asked.Command.TheVariants.{Report, Sites, Save, Check}
 use Rattle.tlsf_tool.specs.declared.asked.Name.{Name}
 use Rattle.tlsf_tool.specs.declared.asked.Name.TheVariants.{Leaks, Peak, Walk}
 use Rattle.tlsf_tool.specs.declared.asked.ToolFault.{ToolFault}
-use Rattle.tlsf_tool.specs.declared.asked.ToolFault.TheVariants.{Help, Usage, CannotOpen, Run}
+use Rattle.tlsf_tool.specs.declared.asked.ToolFault.TheVariants.{Help, Usage, CannotOpen, ReadsOnce, Run}
 use Rattle.tlsf_tool.specs.CommandLine.{AskFor, HasNumber, HasSettings, HasNoLog, MatchesAskFor, bare_line, report_line, save_line, check_line, name_text, texts_of, tlsf_line, wrong_with}
 use Rattle.tlsf_tool.specs.Faults.{ExplainsKind, ExplainsWords, IsUsage}
 
@@ -34,16 +34,18 @@ unfolding clap_on_literals
 line_is_free = refl
 
 -- the lines of the subcommands, put to the bare one one after the other
-pub line_of : (bare leaks peak walk save saving check last : App) → bare ≡ bare_line → leaks ≡ with_subcommand bare (report_line (codes "leaks")).top
+pub line_of : (bare leaks peak walk sites save saving check last : App) → bare ≡ bare_line → leaks ≡ with_subcommand bare (report_line (codes "leaks")).top
     → peak ≡ with_subcommand leaks (report_line (codes "peak")).top → walk ≡ with_subcommand peak (report_line (codes "walk")).top
-    → save ≡ save_line → saving ≡ with_subcommand walk save.top → check ≡ check_line → last ≡ with_subcommand saving check.top → last ≡ tlsf_line
-line_of bare leaks peak walk save saving check last bare_is leaks_is peak_is walk_is save_is saving_is check_is last_is =
+    → sites ≡ with_subcommand walk (report_line (codes "sites")).top → save ≡ save_line → saving ≡ with_subcommand sites save.top → check ≡ check_line → last ≡ with_subcommand saving check.top → last ≡ tlsf_line
+line_of bare leaks peak walk sites save saving check last bare_is leaks_is peak_is walk_is sites_is save_is saving_is check_is last_is =
     let one : leaks ≡ with_subcommand bare_line (report_line (codes "leaks")).top = leaks_is ∙ ap (λ (a : App). with_subcommand a (report_line (codes "leaks")).top) bare_is in
     let two : peak ≡ with_subcommand (with_subcommand bare_line (report_line (codes "leaks")).top) (report_line (codes "peak")).top =
     peak_is ∙ ap (λ (a : App). with_subcommand a (report_line (codes "peak")).top) one in
     let three : walk ≡ with_subcommand (with_subcommand (with_subcommand bare_line (report_line (codes "leaks")).top) (report_line (codes "peak")).top) (report_line (codes "walk")).top =
     walk_is ∙ ap (λ (a : App). with_subcommand a (report_line (codes "walk")).top) two in
-    last_is ∙ ap₂ (λ (a b : App). with_subcommand a b.top) (saving_is ∙ ap₂ (λ (a b : App). with_subcommand a b.top) three save_is) check_is
+    let four : sites ≡ with_subcommand (with_subcommand (with_subcommand (with_subcommand bare_line (report_line (codes "leaks")).top) (report_line (codes "peak")).top) (report_line (codes "walk")).top) (report_line (codes "sites")).top =
+    sites_is ∙ ap (λ (a : App). with_subcommand a (report_line (codes "sites")).top) three in
+    last_is ∙ ap₂ (λ (a b : App). with_subcommand a b.top) (saving_is ∙ ap₂ (λ (a b : App). with_subcommand a b.top) four save_is) check_is
 
 -- ---- numbers
 
@@ -106,45 +108,61 @@ none_asks_nothing (Some p) is command asks = absurd (let e : Some p.1 ≡ None =
 
 -- no command has another name
 pub unnamed_asks_nothing : (found : Option (Text × List Row)) (name : Text) (rows : List Row) → found ≡ Some (name, rows) → ((n : Name) → name ≡ name_text n → ⊥)
-    → (name ≡ codes "save" → ⊥) → (name ≡ codes "check" → ⊥) → AsksNothing found
-unnamed_asks_nothing found name rows is never no_save no_check (Report n settings log) asks = never n (subst (λ f. MatchesAskFor f (Report n settings log)) is asks).0
-unnamed_asks_nothing found name rows is never no_save no_check (Save settings log image) asks = no_save (subst (λ f. MatchesAskFor f (Save settings log image)) is asks).0
-unnamed_asks_nothing found name rows is never no_save no_check (Check image) asks = no_check (subst (λ f. MatchesAskFor f (Check image)) is asks).0
+    → (name ≡ codes "sites" → ⊥) → (name ≡ codes "save" → ⊥) → (name ≡ codes "check" → ⊥) → AsksNothing found
+unnamed_asks_nothing found name rows is never no_sites no_save no_check (Report n settings log) asks = never n (subst (λ f. MatchesAskFor f (Report n settings log)) is asks).0
+unnamed_asks_nothing found name rows is never no_sites no_save no_check (Sites settings log) asks = no_sites (subst (λ f. MatchesAskFor f (Sites settings log)) is asks).0
+unnamed_asks_nothing found name rows is never no_sites no_save no_check (Save settings log image) asks = no_save (subst (λ f. MatchesAskFor f (Save settings log image)) is asks).0
+unnamed_asks_nothing found name rows is never no_sites no_save no_check (Check image) asks = no_check (subst (λ f. MatchesAskFor f (Check image)) is asks).0
 
 no_such : (one : Option Text) (text : Text) → one ≡ None → one ≡ Some text → ⊥
 no_such one text none some = let e : None ≡ Some text = sym none ∙ some in cc
 
--- the first byte of a text
-abbrev pub first_byte : Text → ℕ
-first_byte text = slice_index text 0
+-- the bytes of a text as the digits of a number, the first one last: the names of two commands have two
+abbrev pub number_of : Text → ℕ
+number_of [] = 0
+number_of (b ∷ text) = b + 256 * number_of text
 
 -- what a name asks for where the log or the settings are missing, and where the image is
 module _ (rows : List Row) where
   pub report_asks_nothing : (name : Name) → HasNoLog rows → AsksNothing (Some (name_text name, rows))
   report_asks_nothing name (inl never) (Report n settings log) asks = never settings asks.1
   report_asks_nothing name (inr none) (Report n settings log) asks = no_such (first_of (codes "LOG") rows) (string_bytes log) none asks.2
-  report_asks_nothing Leaks missing (Save settings log image) asks = let e : 108 ≡ 115 = ap first_byte asks.0 in omega (arith, e)
-  report_asks_nothing Peak missing (Save settings log image) asks = let e : 112 ≡ 115 = ap first_byte asks.0 in omega (arith, e)
-  report_asks_nothing Walk missing (Save settings log image) asks = let e : 119 ≡ 115 = ap first_byte asks.0 in omega (arith, e)
-  report_asks_nothing Leaks missing (Check image) asks = let e : 108 ≡ 99 = ap first_byte asks.0 in omega (arith, e)
-  report_asks_nothing Peak missing (Check image) asks = let e : 112 ≡ 99 = ap first_byte asks.0 in omega (arith, e)
-  report_asks_nothing Walk missing (Check image) asks = let e : 119 ≡ 99 = ap first_byte asks.0 in omega (arith, e)
+  report_asks_nothing Leaks missing (Sites settings log) asks = let e : 495722784108 ≡ 495623367027 = ap number_of asks.0 in omega (arith, e)
+  report_asks_nothing Peak missing (Sites settings log) asks = let e : 1801545072 ≡ 495623367027 = ap number_of asks.0 in omega (arith, e)
+  report_asks_nothing Walk missing (Sites settings log) asks = let e : 1802264951 ≡ 495623367027 = ap number_of asks.0 in omega (arith, e)
+  report_asks_nothing Leaks missing (Save settings log image) asks = let e : 495722784108 ≡ 1702257011 = ap number_of asks.0 in omega (arith, e)
+  report_asks_nothing Peak missing (Save settings log image) asks = let e : 1801545072 ≡ 1702257011 = ap number_of asks.0 in omega (arith, e)
+  report_asks_nothing Walk missing (Save settings log image) asks = let e : 1802264951 ≡ 1702257011 = ap number_of asks.0 in omega (arith, e)
+  report_asks_nothing Leaks missing (Check image) asks = let e : 495722784108 ≡ 461229090915 = ap number_of asks.0 in omega (arith, e)
+  report_asks_nothing Peak missing (Check image) asks = let e : 1801545072 ≡ 461229090915 = ap number_of asks.0 in omega (arith, e)
+  report_asks_nothing Walk missing (Check image) asks = let e : 1802264951 ≡ 461229090915 = ap number_of asks.0 in omega (arith, e)
+
+  pub sites_asks_nothing : HasNoLog rows → AsksNothing (Some (codes "sites", rows))
+  sites_asks_nothing (inl never) (Sites settings log) asks = never settings asks.1
+  sites_asks_nothing (inr none) (Sites settings log) asks = no_such (first_of (codes "LOG") rows) (string_bytes log) none asks.2
+  sites_asks_nothing missing (Report Leaks settings log) asks = let e : 495623367027 ≡ 495722784108 = ap number_of asks.0 in omega (arith, e)
+  sites_asks_nothing missing (Report Peak settings log) asks = let e : 495623367027 ≡ 1801545072 = ap number_of asks.0 in omega (arith, e)
+  sites_asks_nothing missing (Report Walk settings log) asks = let e : 495623367027 ≡ 1802264951 = ap number_of asks.0 in omega (arith, e)
+  sites_asks_nothing missing (Save settings log image) asks = let e : 495623367027 ≡ 1702257011 = ap number_of asks.0 in omega (arith, e)
+  sites_asks_nothing missing (Check image) asks = let e : 495623367027 ≡ 461229090915 = ap number_of asks.0 in omega (arith, e)
 
   pub save_asks_nothing : HasNoLog rows ⊎ (first_of (codes "IMAGE") rows ≡ None) → AsksNothing (Some (codes "save", rows))
   save_asks_nothing (inl (inl never)) (Save settings log image) asks = never settings asks.1
   save_asks_nothing (inl (inr none)) (Save settings log image) asks = no_such (first_of (codes "LOG") rows) (string_bytes log) none asks.2
   save_asks_nothing (inr none) (Save settings log image) asks = no_such (first_of (codes "IMAGE") rows) (string_bytes image) none asks.3
-  save_asks_nothing missing (Report Leaks settings log) asks = let e : 115 ≡ 108 = ap first_byte asks.0 in omega (arith, e)
-  save_asks_nothing missing (Report Peak settings log) asks = let e : 115 ≡ 112 = ap first_byte asks.0 in omega (arith, e)
-  save_asks_nothing missing (Report Walk settings log) asks = let e : 115 ≡ 119 = ap first_byte asks.0 in omega (arith, e)
-  save_asks_nothing missing (Check image) asks = let e : 115 ≡ 99 = ap first_byte asks.0 in omega (arith, e)
+  save_asks_nothing missing (Report Leaks settings log) asks = let e : 1702257011 ≡ 495722784108 = ap number_of asks.0 in omega (arith, e)
+  save_asks_nothing missing (Report Peak settings log) asks = let e : 1702257011 ≡ 1801545072 = ap number_of asks.0 in omega (arith, e)
+  save_asks_nothing missing (Report Walk settings log) asks = let e : 1702257011 ≡ 1802264951 = ap number_of asks.0 in omega (arith, e)
+  save_asks_nothing missing (Sites settings log) asks = let e : 1702257011 ≡ 495623367027 = ap number_of asks.0 in omega (arith, e)
+  save_asks_nothing missing (Check image) asks = let e : 1702257011 ≡ 461229090915 = ap number_of asks.0 in omega (arith, e)
 
   pub check_asks_nothing : first_of (codes "IMAGE") rows ≡ None → AsksNothing (Some (codes "check", rows))
-  check_asks_nothing none (Check image) asks = no_such (first_of (codes "IMAGE") rows) (string_bytes image) none asks.1
-  check_asks_nothing none (Save settings log image) asks = let e : 99 ≡ 115 = ap first_byte asks.0 in omega (arith, e)
-  check_asks_nothing none (Report Leaks settings log) asks = let e : 99 ≡ 108 = ap first_byte asks.0 in omega (arith, e)
-  check_asks_nothing none (Report Peak settings log) asks = let e : 99 ≡ 112 = ap first_byte asks.0 in omega (arith, e)
-  check_asks_nothing none (Report Walk settings log) asks = let e : 99 ≡ 119 = ap first_byte asks.0 in omega (arith, e)
+  check_asks_nothing missing (Check image) asks = no_such (first_of (codes "IMAGE") rows) (string_bytes image) missing asks.1
+  check_asks_nothing missing (Report Leaks settings log) asks = let e : 461229090915 ≡ 495722784108 = ap number_of asks.0 in omega (arith, e)
+  check_asks_nothing missing (Report Peak settings log) asks = let e : 461229090915 ≡ 1801545072 = ap number_of asks.0 in omega (arith, e)
+  check_asks_nothing missing (Report Walk settings log) asks = let e : 461229090915 ≡ 1802264951 = ap number_of asks.0 in omega (arith, e)
+  check_asks_nothing missing (Sites settings log) asks = let e : 461229090915 ≡ 495623367027 = ap number_of asks.0 in omega (arith, e)
+  check_asks_nothing missing (Save settings log image) asks = let e : 461229090915 ≡ 1702257011 = ap number_of asks.0 in omega (arith, e)
 
 pub refuses : {P : Type 0} (fault : ToolFault) → IsUsage fault ⊎ (fault ≡ Run OutOfMemory) → P
     → (fault ≡ Run OutOfMemory) ⊎ (IsUsage fault × P)
@@ -173,6 +191,7 @@ no_memory_explained k (Help text) is (inl help) = absurd (let e : kind.OutOfMemo
 no_memory_explained k (Help text) is (inr version) = absurd (let e : kind.OutOfMemory ≡ kind.DisplayVersion = sym is ∙ version in cc)
 no_memory_explained k (Usage text) is explains = explains.2 is
 no_memory_explained k (CannotOpen log) is explains = explains
+no_memory_explained k ReadsOnce is explains = explains
 no_memory_explained k (Run fault) is explains = explains
 
 pub explained : (kinds : Kinds) (e : Error) (fault : ToolFault) → HasKind kinds e

@@ -10,7 +10,7 @@ use Rattle.std.specs.Prelude.{pos}
 use Rattle.tlsf_class.specs.Classes.{unit, greatest_size}
 use Rattle.mtrace_replay.specs.declared.settings.Settings.{Settings}
 use Rattle.tlsf_tool.specs.declared.asked.Command.{Command}
-use Rattle.tlsf_tool.specs.declared.asked.Command.TheVariants.{Report, Save, Check}
+use Rattle.tlsf_tool.specs.declared.asked.Command.TheVariants.{Report, Sites, Save, Check}
 use Rattle.tlsf_tool.specs.declared.asked.Name.{Name}
 use Rattle.tlsf_tool.specs.declared.asked.Name.TheVariants.{Leaks, Peak, Walk}
 
@@ -41,7 +41,7 @@ log_rule = record (new_rule (codes "LOG")) { required = true }
 abbrev pub image_rule : Rule
 image_rule = record (new_rule (codes "IMAGE")) { required = true }
 
--- a report's subcommand
+-- a report's subcommand, or one that takes the same words
 abbrev pub report_line : Text → App
 report_line name = with_rule (with_rule (with_rule (with_rule (new_app name) pool_rule) pools_rule) records_rule) log_rule
 
@@ -56,8 +56,8 @@ abbrev pub bare_line : App
 bare_line = on_top (λ s. record s { has_version = true; subcommand_required = true }) (new_app (codes "tlsf"))
 
 abbrev pub tlsf_line : App
-tlsf_line = with_subcommand (with_subcommand (with_subcommand (with_subcommand (with_subcommand bare_line (report_line (codes "leaks")).top)
-    (report_line (codes "peak")).top) (report_line (codes "walk")).top) save_line.top) check_line.top
+tlsf_line = with_subcommand (with_subcommand (with_subcommand (with_subcommand (with_subcommand (with_subcommand bare_line (report_line (codes "leaks")).top)
+    (report_line (codes "peak")).top) (report_line (codes "walk")).top) (report_line (codes "sites")).top) save_line.top) check_line.top
 
 -- ---- what matches ask for
 
@@ -83,6 +83,8 @@ HasNoLog rows = ((settings : Settings) → HasSettings rows settings → ⊥) �
 abbrev pub MatchesAskFor : Option (Text × List Row) → Command → Type 0
 MatchesAskFor None command = ⊥
 MatchesAskFor (Some found) (Report name settings log) = (found.0 ≡ name_text name)
+    × HasSettings found.1 settings × (first_of (codes "LOG") found.1 ≡ Some (string_bytes log))
+MatchesAskFor (Some found) (Sites settings log) = (found.0 ≡ codes "sites")
     × HasSettings found.1 settings × (first_of (codes "LOG") found.1 ≡ Some (string_bytes log))
 MatchesAskFor (Some found) (Save settings log image) = (found.0 ≡ codes "save")
     × HasSettings found.1 settings × (first_of (codes "LOG") found.1 ≡ Some (string_bytes log)) × (first_of (codes "IMAGE") found.1 ≡ Some (string_bytes image))

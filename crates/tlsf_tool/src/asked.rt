@@ -30,6 +30,13 @@ pub enum Command {
         /// The log's name, `-` for standard input.
         log: String,
     },
+    /// Who holds the memory of a log.
+    Sites {
+        /// The heap that the log is replayed on.
+        settings: Settings,
+        /// The log's name. It is read twice.
+        log: String,
+    },
     /// An image of the heap at the end of a log.
     Save {
         /// The heap that the log is replayed on.
@@ -58,6 +65,9 @@ pub enum ToolFault {
     /// The file of this name can't be opened or made.
     #[error("tlsf: cannot open {0}")]
     CannotOpen(String),
+    /// A log that has to be read twice is to come from standard input.
+    #[error("tlsf: standard input can't be read twice")]
+    ReadsOnce,
     /// The run ended early.
     #[error("tlsf: {0}")]
     Run(RunFault),
@@ -76,13 +86,13 @@ impl ToolFault {
     }
 
     /// The status that the program ends with: 0 for help and the version, 2 for words or settings, 3 for
-    /// files, 4 for memory.
+    /// files, 4 for memory. A log that can be read once alone is a wrong word.
     pub fn status(&self) -> u8
         ensures { result ≡ status_of_fault self.now }
     {
         match self {
             ToolFault::Help(_) => 0,
-            ToolFault::Usage(_) => 2,
+            ToolFault::Usage(_) | ToolFault::ReadsOnce => 2,
             ToolFault::CannotOpen(_) => 3,
             ToolFault::Run(fault) => fault_status(*fault),
         }

@@ -24,6 +24,7 @@ const EXAMPLES: &str = "Examples:
   tlsf leaks a.log                          what is not freed at the end of a.log
   tlsf peak --pool 1048576 --pools 2 a.log  the peak of a.log on two pools of 1 MiB
   tlsf walk --records 65535 -               the heap at the end of the log on standard input
+  tlsf sites a.log                          who holds the memory of a.log, at its peak and at its end
   tlsf save a.log a.image                   that heap at the end of a.log, in a file
   tlsf check a.image                        whether that file can be loaded
 
@@ -41,6 +42,10 @@ const PEAK: &str =
 /// What the report of the walk means.
 const WALK: &str =
     "Reports the heap's pools at the end of the log, row by row: each used and each free block.";
+
+/// What the report of sites means.
+const SITES: &str =
+    "Reports who holds the memory, at the peak and at the end of the log: blocks and bytes by the location that asked for them. LOG is read twice.";
 
 /// What saving means.
 const SAVE: &str =
@@ -183,8 +188,9 @@ pub fn tlsf_command<'a>(alloc: Global) -> Result<Command<'a>, AllocError>
     let leaks = with_report(bare, alloc, "leaks", LEAKS)?;
     let peak = with_report(leaks, alloc, "peak", PEAK)?;
     let walk = with_report(peak, alloc, "walk", WALK)?;
+    let sites = with_report(walk, alloc, "sites", SITES)?;
     let save = save_command(alloc)?;
-    let saving = walk.subcommand(save)?;
+    let saving = sites.subcommand(save)?;
     let check = check_command(alloc)?;
     saving.subcommand(check)
 }

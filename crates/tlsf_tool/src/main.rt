@@ -14,7 +14,7 @@ mod words;
 use crate::asked::{Command, Name, ToolFault};
 use crate::check::check_image;
 use crate::progress::{Cleared, Counted, Notice};
-use crate::service::{serve, serve_save};
+use crate::service::{serve, serve_save, serve_sites};
 use crate::words::command;
 use mtrace_log::{FromRead, ToWrite};
 use mtrace_replay::{RunFault, Settings};
@@ -111,6 +111,27 @@ fn report_log(
     }
 }
 
+/// Opens the log, which is read twice, and tells who holds its memory.
+fn tell_sites(rt: &HostRuntime, settings: Settings, log: String) -> Result<u8, ToolFault> {
+    if log.as_str() == "-" {
+        return Err(ToolFault::ReadsOnce);
+    }
+    let Ok(file) = open_file(rt, log.as_str()) else {
+        return Err(ToolFault::CannotOpen(log));
+    };
+    let notice = Notice::new(rt, false);
+    let Ok(writer) = BufWriter::new(rt.alloc(), Cleared::new(&notice, rt.stdout())) else {
+        return Err(ToolFault::Run(RunFault::OutOfMemory));
+    };
+    Ok(serve_sites(
+        rt.alloc(),
+        settings,
+        &mut FromRead::new(Counted::new(&notice, file)),
+        &mut ToWrite::new(writer),
+        &mut ToWrite::new(Cleared::new(&notice, rt.stderr())),
+    ))
+}
+
 /// Makes the image and saves to it the heap at the end of a log that is open.
 fn save_open<R: Read + Drop>(
     rt: &HostRuntime,
@@ -174,6 +195,7 @@ fn serve_words(rt: &HostRuntime) -> Result<u8, ToolFault> {
             settings,
             log,
         } => report_log(rt, name, settings, log),
+        Command::Sites { settings, log } => tell_sites(rt, settings, log),
         Command::Save {
             settings,
             log,

@@ -4,7 +4,7 @@
 use memchr::memchr_iter;
 use std::cell::Cell;
 use std::io;
-use std::io::{IsTerminal, Read, Write};
+use std::io::{IsTerminal, Read, Seek, SeekFrom, Write};
 use std::time::Instant;
 
 /// A line on the terminal that says how many lines of the log are read. It is rewritten once a second, from the second
@@ -58,7 +58,7 @@ impl<'a> Notice<'a> {
     }
 }
 
-/// A reader whose lines are counted for a notice.
+/// A reader whose lines are counted for a notice. It seeks as the reader does; what is read again is counted again.
 #[derive(Drop)]
 pub(crate) struct Counted<'a, R> {
     notice: &'a Notice<'a>,
@@ -100,6 +100,16 @@ impl<R: Read> Read for Counted<'_, R> {
             _ => self.notice.clear(),
         }
         answer
+    }
+}
+
+impl<R: Seek> Seek for Counted<'_, R> {
+    ghost stream_position = { λ counted. R.stream_position counted.reader };
+
+    ghost stream_bytes = { λ counted. R.stream_bytes counted.reader };
+
+    fn seek(&mut self, to: SeekFrom) -> io::Result<u64> {
+        self.reader.seek(to)
     }
 }
 

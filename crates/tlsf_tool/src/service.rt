@@ -5,14 +5,17 @@ ghost use Rattle.mtrace_replay.specs.Settings.{are_bad};
 ghost use Rattle.mtrace_log.specs.Trace.{HasGivenAll, HasNotFailed, HasTakenAndFlushed, HasFailedToWrite, FlushWasAsked};
 ghost use Rattle.mtrace_replay.specs.Run.{Reports, Runs, FailsToRead, FailsToWrite};
 ghost use Rattle.mtrace_replay.specs.declared.status.Status.TheVariants.{Clean, Found};
+ghost use Rattle.mtrace_replay.specs.RunSites.{RunsSites};
 ghost use Rattle.mtrace_replay.specs.Saving.{RunsAndSaves};
 ghost use Rattle.tlsf_tool.specs.Statuses.{report_of, EndsAs};
 
 use crate::asked::{Name, ToolFault};
 use crate::statuses::{end_status, fault_status};
 use arrayvec::ArrayString;
-use mtrace_log::{Sink, Source, put_all};
-use mtrace_replay::{RunFault, Settings, Status, run_leaks, run_peak, run_save, run_walk};
+use mtrace_log::{Again, Sink, Source, put_all};
+use mtrace_replay::{
+    RunFault, Settings, Status, run_leaks, run_peak, run_save, run_sites, run_walk,
+};
 use std::alloc::Global;
 use std::fmt::Write;
 
@@ -71,6 +74,29 @@ pub fn serve<R: Source, W: Sink, E: Sink>(
     ensures known { result ≤ 4 }
 {
     match run_named(alloc, name, settings, reader, writer) {
+        Ok(status) => end_status(status),
+        Err(fault) => {
+            put_fault(errors, &ToolFault::Run(fault));
+            fault_status(fault)
+        }
+    }
+}
+
+/// Tells who holds the memory of the log that the reader has left, by `run_sites`, and puts the line of a fault to `errors`,
+/// whose own fault doesn't matter. Answers the status that the program ends with: 0 where nothing was found, 1 where
+/// something was, 2 for bad settings, 3 where the reader or the writer failed, or the reader didn't begin again, 4 where
+/// memory was refused.
+pub fn serve_sites<R: Again, W: Sink, E: Sink>(
+    alloc: Global,
+    settings: Settings,
+    reader: &mut R,
+    writer: &mut W,
+    errors: &mut E,
+) -> u8
+    ensures told { EndsAs (λ outcome. RunsSites settings R.left R.whole R.trace W.taken W.trace outcome reader.old reader.new writer.old writer.new) result }
+    ensures no_errors { result ≤ 1 → errors.new ≡ errors.old }
+{
+    match run_sites(alloc, reader, writer, settings) {
         Ok(status) => end_status(status),
         Err(fault) => {
             put_fault(errors, &ToolFault::Run(fault));

@@ -12,6 +12,7 @@ mod reading_images;
 mod replay;
 mod reports;
 mod rows;
+mod sites;
 mod store;
 mod tables;
 mod words;

@@ -99,6 +99,18 @@ fn log_of(alloc: Global, found: &ArgMatches<'_>) -> Result<(Settings, String), T
     }
 }
 
+/// What the matches of the subcommand that tells who holds the memory ask for.
+fn asked_sites(alloc: Global, found: &ArgMatches<'_>) -> Result<Command, ToolFault>
+    ensures asked { IfOk result (MatchesAskFor (Some (codes "sites", rows_of (found_of found.now)))) }
+    ensures faults { IfErr result (λ fault. (fault ≡ ToolFault.Run RunFault.OutOfMemory)
+        ⊎ (IsUsage fault × ((command : _) → MatchesAskFor (Some (codes "sites", rows_of (found_of found.now))) command → ⊥))) }
+{
+    match log_of(alloc, found) {
+        Ok((settings, log)) => Ok(Command::Sites { settings, log }),
+        Err(fault) => Err(fault),
+    }
+}
+
 /// What the matches of the subcommand that saves ask for.
 fn asked_save(alloc: Global, found: &ArgMatches<'_>) -> Result<Command, ToolFault>
     ensures asked { IfOk result (MatchesAskFor (Some (codes "save", rows_of (found_of found.now)))) }
@@ -157,6 +169,7 @@ fn asked(alloc: Global, matches: &ArgMatches<'_>) -> Result<Command, ToolFault>
         return Err(ToolFault::usage(alloc, NO_COMMAND));
     };
     match text {
+        "sites" => asked_sites(alloc, found),
         "save" => asked_save(alloc, found),
         "check" => asked_check(alloc, found),
         _ => match named(text) {

@@ -1,7 +1,8 @@
-ghost use Rattle.std.specs.Prelude.{◌≡◌, ℕ, ◌<◌, ◌≤◌, ◌↔◌, List, [], ◌∷◌, length, take, Some, None, IfOk, OnErr, IsErr};
+ghost use Rattle.std.specs.Prelude.{◌≡◌, ℕ, ◌<◌, ◌≤◌, ◌↔◌, List, [], ◌∷◌, length, take, Some, None, IfOk, OnOk, OnErr, IsErr, IsTrue};
 ghost use Rattle.std.specs.Io.KnownBytes.{prepend_known, IsAtEnd};
-ghost use Rattle.mtrace_log.specs.Trace.{pulled};
+ghost use Rattle.mtrace_log.specs.Trace.{pulled, began};
 
+use crate::again::Again;
 use crate::call::Call;
 use crate::failed::Failed;
 use crate::source::Source;
@@ -10,6 +11,7 @@ use crate::trace::Trace;
 /// A reader over bytes in memory.
 #[derive(Drop)]
 pub struct MemorySource<'a> {
+    whole: &'a [u8],
     rest: &'a [u8],
     piece: usize,
     calls_before_failure: Option<u64>,
@@ -18,17 +20,19 @@ pub struct MemorySource<'a> {
 }
 
 impl<'a> MemorySource<'a> {
-    ghost use Rattle.mtrace_log.specs.Memory.{source_left, source_piece, calls_before_failure, source_trace};
+    ghost use Rattle.mtrace_log.specs.Memory.{source_left, source_whole, source_piece, calls_before_failure, one_call_less, source_trace};
 
     /// A reader that gives these bytes in pieces of at most `piece` bytes, and doesn't fail.
     pub fn in_pieces(bytes: &'a [u8], piece: usize) -> Self
         requires { 0 < piece }
         ensures left { source_left result ≡ bytes.now }
+        ensures whole { source_whole result ≡ bytes.now }
         ensures piece { source_piece result ≡ piece }
         ensures calls { calls_before_failure result ≡ None }
         ensures trace { source_trace result ≡ [] }
     {
         MemorySource {
+            whole: bytes,
             rest: bytes,
             piece,
             calls_before_failure: None,
@@ -41,6 +45,7 @@ impl<'a> MemorySource<'a> {
     pub fn failing_after(bytes: &'a [u8], piece: usize, calls: u64) -> Self
         requires { 0 < piece }
         ensures left { source_left result ≡ bytes.now }
+        ensures whole { source_whole result ≡ bytes.now }
         ensures piece { source_piece result ≡ piece }
         ensures calls { calls_before_failure result ≡ Some calls }
         ensures trace { source_trace result ≡ [] }
@@ -49,12 +54,36 @@ impl<'a> MemorySource<'a> {
         source.calls_before_failure = Some(calls);
         source
     }
+
+    /// Whether this call is the one that fails. It is counted, and not told yet.
+    fn fails(&mut self) -> bool
+        ensures fails { IsTrue result ↔ (calls_before_failure self.old ≡ Some 0) }
+        ensures calls { calls_before_failure self.new ≡ one_call_less (calls_before_failure self.old) }
+        ensures left { source_left self.new ≡ source_left self.old }
+        ensures whole { source_whole self.new ≡ source_whole self.old }
+        ensures piece { source_piece self.new ≡ source_piece self.old }
+        ensures trace { source_trace self.new ≡ source_trace self.old }
+    {
+        match self.calls_before_failure {
+            Some(0) => {
+                self.calls_before_failure = None;
+                true
+            }
+            Some(calls) => {
+                self.calls_before_failure = Some(calls - 1);
+                false
+            }
+            None => false,
+        }
+    }
 }
 
 impl Source for MemorySource<'_> {
-    ghost use Rattle.mtrace_log.specs.Memory.{source_left, known_left, source_piece, source_count, calls_before_failure, one_call_less, source_trace};
+    ghost use Rattle.mtrace_log.specs.Memory.{source_left, known_left, known_whole, source_piece, source_count, calls_before_failure, one_call_less, source_trace};
 
     ghost left = { known_left };
+
+    ghost whole = { known_whole };
 
     ghost trace = { source_trace };
 
@@ -74,18 +103,15 @@ impl Source for MemorySource<'_> {
         ensures never_rises { length (source_left self.new) ≤ length (source_left self.old) }
         ensures count { IfOk result (λ n. n ≡ source_count self.old (length buf.old)) }
         ensures kept { OnErr result (known_left self.new ≡ known_left self.old) }
+        ensures whole { known_whole self.new ≡ known_whole self.old }
         ensures fails { IsErr result ↔ (calls_before_failure self.old ≡ Some 0) }
         ensures calls { calls_before_failure self.new ≡ one_call_less (calls_before_failure self.old) }
         ensures piece { source_piece self.new ≡ source_piece self.old }
         ensures told { source_trace self.new ≡ pulled result ∷ source_trace self.old }
     {
-        if let Some(calls) = self.calls_before_failure {
-            if calls == 0 {
-                self.calls_before_failure = None;
-                self.trace.add(Call::Failed);
-                return Err(Failed);
-            }
-            self.calls_before_failure = Some(calls - 1);
+        if self.fails() {
+            self.trace.add(Call::Failed);
+            return Err(Failed);
         }
         let count = self.rest.len().min(self.piece).min(buf.len());
         let (front, back) = self.rest.split_at(count);
@@ -94,5 +120,33 @@ impl Source for MemorySource<'_> {
         let answer = Ok(count);
         self.trace.add(Call::pulled(&answer));
         answer
+    }
+}
+
+impl Again for MemorySource<'_> {
+    ghost use Rattle.mtrace_log.specs.Memory.{source_left, known_left, known_whole, source_piece, calls_before_failure, one_call_less, source_trace};
+
+    /// Begins again. This counts as a call.
+    ///
+    /// # Errors
+    ///
+    /// `Failed` at the call that is to fail.
+    fn begin(&mut self) -> Result<(), Failed>
+        ensures left { OnOk result (known_left self.new ≡ known_whole self.old) }
+        ensures kept { OnErr result (known_left self.new ≡ known_left self.old) }
+        ensures kept_budget { OnErr result (length (source_left self.new) ≡ length (source_left self.old)) }
+        ensures whole { known_whole self.new ≡ known_whole self.old }
+        ensures fails { IsErr result ↔ (calls_before_failure self.old ≡ Some 0) }
+        ensures calls { calls_before_failure self.new ≡ one_call_less (calls_before_failure self.old) }
+        ensures piece { source_piece self.new ≡ source_piece self.old }
+        ensures told { source_trace self.new ≡ began result ∷ source_trace self.old }
+    {
+        if self.fails() {
+            self.trace.add(Call::Failed);
+            return Err(Failed);
+        }
+        self.rest = self.whole;
+        self.trace.add(Call::Began);
+        Ok(())
     }
 }

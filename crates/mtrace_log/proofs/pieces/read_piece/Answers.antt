@@ -18,6 +18,7 @@ loop-line-preserved g c =
     record {
       piece = piece_filled c.loop-line.line c.take_front.new.line c.loop-line.buffer.unread c.take_front.new.buffer.unread c.refill.new.self.unread _ _ _ c.loop-line.invariant.piece c.if-take_front.ensures c.in-Ok.ensures.bytes;
       calls = gave_more c.in-Ok.field-0 _ _ _ (omega (arith, c.in-Ok.field-0-test)) c.loop-line.invariant.calls c.in-Ok.ensures.told;
+      whole = c.in-Ok.ensures.whole ∙ c.loop-line.invariant.whole;
     }
 
 pub returns-in-Err-clause-piece : goal.returns-in-Err-clause-piece

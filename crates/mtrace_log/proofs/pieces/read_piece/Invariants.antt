@@ -1,3 +1,4 @@
+use Rattle.std.proofs.Common.{◌≡◌}
 use Rattle.std.specs.Io.KnownBytes.{prepend_known}
 use Rattle.mtrace_log.specs.LineBuffer.{TakesPiece}
 use Rattle.mtrace_log.specs.Trace.{HasGiven}
@@ -9,6 +10,7 @@ abbrev pub invariant-loop-line : goal.invariant-loop-line
 invariant-loop-line g l = record {
   piece : TakesPiece l.line Failed (prepend_known l.fn.buffer.unread (g.R.Source.left l.fn.reader)) (prepend_known l.buffer.unread (g.R.Source.left l.reader));
   calls : HasGiven (g.R.Source.trace l.fn.reader) (g.R.Source.trace l.reader);
+  whole : g.R.Source.whole l.reader ≡ g.R.Source.whole l.fn.reader;
 }
 
 -- how many more pieces the reader gives

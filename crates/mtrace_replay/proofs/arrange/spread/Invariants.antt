@@ -1,10 +1,12 @@
-use Rattle.std.proofs.Common.{◌≡◌, length, take}
-use Rattle.mtrace_replay.specs.Spot.{all_held}
+use Rattle.std.proofs.Common.{◌≡◌}
 use Rattle.mtrace_replay.proofs.ArrangeLemmas.{Spreads}
 use Rattle.mtrace_replay.proofs.arrange.spread.Given as goal
 
-abbrev pub invariant-loop-at : goal.invariant-loop-at
-invariant-loop-at l = Spreads l.spots l.at l.end (all_held (take l.held l.fn.spots)) × (length l.spots ≡ length l.fn.spots) × (l.at ≡ 0 → l.end ≡ 0)
+abbrev pub invariant-loop-end : goal.invariant-loop-end
+invariant-loop-end l = record {
+  spreads : Spreads l.initial.keys.keys l.keys.keys l.held l.left l.end;
+  rows : l.keys.rows ≡ l.initial.keys.rows;
+}
 
-abbrev pub decreases-loop-at : goal.decreases-loop-at
-decreases-loop-at l = l.at
+abbrev pub decreases-loop-end : goal.decreases-loop-end
+decreases-loop-end l = l.end

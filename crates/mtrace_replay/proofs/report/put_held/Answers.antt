@@ -1,7 +1,7 @@
-use Rattle.std.proofs.Common.{ℕ, List, ◌++◌, sym, subst, ap, ◌∙◌, flat_map}
+use Rattle.std.proofs.Common.{ℕ, List, ◌++◌, sym, subst, ◌∙◌, flat_map}
 use Rattle.mtrace_log.specs.Output.{PutsAll, PutsPart, Puts}
 use Rattle.mtrace_log.proofs.Writing.{puts_on, puts_then, fails_on, fails_early, puts_exit}
-use Rattle.mtrace_replay.specs.Texts.{entry_text, total_text, total_size, leaks_report}
+use Rattle.mtrace_replay.specs.Texts.{entry_text, total_text, leaks_report}
 use Rattle.mtrace_replay.specs.Entry.{Entry}
 use Rattle.mtrace_replay.specs.Replay.{entries}
 use Rattle.mtrace_replay.proofs.TextLemmas.{heading, leaks_report-some, total_text-is}
@@ -33,7 +33,7 @@ returns g c =
     let taken = g.W.Sink.taken in
     let trace = g.W.Sink.trace in
     let all = entries c.args.replay.now in
-    let last = c.as_slice.ensures.value ∙ c.total_text-total.ensures ∙ total_text-is all _ _ c.blocks-blocks.ensures.len (c.total_size.ensures ∙ ap total_size c.held-2.ensures.entries) in
+    let last = c.as_slice.ensures.value ∙ c.total_text-total.ensures ∙ total_text-is all _ _ c.blocks-blocks.ensures.len c.bytes.ensures in
     let P : List ℕ → Type 0 = λ text. Puts taken trace c.put_all-2.result text c.args.writer.now c.put_all-2.new.writer in
     let R : List Entry → Type 0 = λ es. PutsAll taken trace (flat_map entry_text es) c.put_all.new.writer c.put_entries.new.writer in
     let Q : List ℕ → Type 0 = λ text. Puts taken trace c.put_all-2.result text c.put_entries.new.writer c.put_all-2.new.writer in

@@ -2,7 +2,7 @@ use Rattle.std.proofs.Common.{ℕ, List, subst, ◌∙◌, drop, ◌+◌}
 use Rattle.mtrace_log.specs.Output.{PutsAll, PutsPart}
 use Rattle.mtrace_log.proofs.Writing.{putting_more, putting_fails, puts_exit}
 use Rattle.mtrace_replay.specs.Texts.{note_text, notes_text}
-use Rattle.mtrace_replay.proofs.RunLemmas.{notes_text-next}
+use Rattle.mtrace_replay.proofs.TextLemmas.{texts-next}
 use Rattle.mtrace_replay.proofs.run.put_note.Goals as goal
 
 pub loop-diagnostic-preserved : goal.loop-diagnostic-preserved
@@ -11,7 +11,7 @@ loop-diagnostic-preserved g c =
     let trace = g.W.Sink.trace in
     let all = c.args.note.now.items in
     let index = c.loop-diagnostic.diagnostic-index in
-    let next = notes_text-next c.as_slice-diagnostic-items.result.now all index c.diagnostic-item.result c.as_slice-diagnostic-items.ensures.value c.loop-diagnostic-test.true c.diagnostic-item.is in
+    let next = texts-next note_text c.as_slice-diagnostic-items.result.now all index c.diagnostic-item.result c.as_slice-diagnostic-items.ensures.value c.loop-diagnostic-test.true c.diagnostic-item.is in
     let P : List ℕ → Type 0 = λ text. PutsAll taken trace text c.loop-diagnostic.writer c.put_all.new.writer in
     putting_more taken trace c.args.writer.now c.loop-diagnostic.writer c.put_all.new.writer (notes_text all) (notes_text (drop index all)) (note_text c.diagnostic-item.result) (notes_text (drop (index + 1) all))
     c.loop-diagnostic.invariant next (subst P (c.as_slice.ensures.value ∙ c.note_text.ensures) c.in_ok-put_all.ensures)
@@ -22,7 +22,7 @@ returns-in_err-put_all g c =
     let trace = g.W.Sink.trace in
     let all = c.args.note.now.items in
     let index = c.loop-diagnostic.diagnostic-index in
-    let next = notes_text-next c.as_slice-diagnostic-items.result.now all index c.diagnostic-item.result c.as_slice-diagnostic-items.ensures.value c.loop-diagnostic-test.true c.diagnostic-item.is in
+    let next = texts-next note_text c.as_slice-diagnostic-items.result.now all index c.diagnostic-item.result c.as_slice-diagnostic-items.ensures.value c.loop-diagnostic-test.true c.diagnostic-item.is in
     let P : List ℕ → Type 0 = λ text. PutsPart taken trace text c.loop-diagnostic.writer c.put_all.new.writer in
     puts_exit taken trace c.from_residual.result _ c.from_residual.ensures.1 (notes_text all) c.args.writer.now c.put_all.new.writer
     (putting_fails taken trace c.args.writer.now c.loop-diagnostic.writer c.put_all.new.writer (notes_text all) (notes_text (drop index all)) (note_text c.diagnostic-item.result) (notes_text (drop (index + 1) all))

@@ -1,4 +1,4 @@
-use Rattle.std.proofs.Common.{◌+◌, Bool, false, sym, subst, ap, ◌∙◌, reverse, inr}
+use Rattle.std.proofs.Common.{◌+◌, Bool, false, refl, sym, subst, ap, ◌∙◌, reverse, inr}
 use Rattle.mtrace_log.specs.Progress.{Progress, CallsFor}
 use Rattle.mtrace_log.specs.declared.call.Call.TheVariants.{Gave, Took, Failed}
 use Rattle.mtrace_log.proofs.TraceLemmas.{moved_none, moved_append, moved_then_append}
@@ -17,6 +17,8 @@ loop-number-init g c =
           subst P (sym c.new-lines.ensures) (underway_start settings c.args.replay.now left taken stands));
       counted = c.requires.start ∙ sym (ap (λ (lines : Progress). lines.count) c.new-lines.ensures);
       none = c.none-findings.ensures;
+      records = refl;
+      whole = refl;
       gave = (let P : Progress → Type 0 = λ lines. CallsFor lines.status gave gave in subst P (sym c.new-lines.ensures) (moved_none Gave gave));
       took = moved_none Took (g.W.Sink.trace c.args.writer.now);
     }
@@ -57,9 +59,11 @@ loop-number-preserved g c =
       under_way = (λ settings stands. let under = c.loop-number.invariant.under_way settings stands in underway_line settings c.loop-number.lines c.advance.new.self c.loop-number.replay c.replay_line.new.replay c.loop-number.noted c.in-Ok.more
           (g.R.Source.left c.args.reader.now) (g.R.Source.left c.loop-number.reader) (g.R.Source.left c.advance.new.reader)
           (g.W.Sink.taken c.args.writer.now) (g.W.Sink.taken c.loop-number.writer) (g.W.Sink.taken c.replay_line.new.writer) (record { number = c.in-Ok-Some.number; event = c.event.result })
-          under given (c.in-Ok.ensures.done settings (reverse under.lines) under.stands));
+          under given (c.in-Ok.ensures.done settings (reverse under.so_far.lines) under.so_far.stands));
       counted = c.in-Ok.ensures.counted ∙ sym given.count;
       none = c.in-Ok.ensures.cleared;
+      records = c.in-Ok.ensures.records ∙ c.loop-number.invariant.records;
+      whole = c.in-Ok-Some.ensures.whole ∙ c.loop-number.invariant.whole;
       gave = calls_more c.loop-number.lines.status c.advance.new.self.status _ _ _ given.was_reading c.loop-number.invariant.gave c.in-Ok-Some.ensures.calls;
       took = moved_append Took _ _ _ c.loop-number.invariant.took (c.in-Ok.ensures.took (λ e. cc));
     }
@@ -88,4 +92,4 @@ returns-in-Err-replay_line-clause-write g c = λ e settings stands report.
     underway_write report settings c.loop-number.lines c.advance.new.self c.loop-number.replay c.replay_line.new.replay c.loop-number.noted
     (g.R.Source.left c.args.reader.now) (g.R.Source.left c.loop-number.reader) (g.R.Source.left c.advance.new.reader)
     (g.W.Sink.taken c.args.writer.now) (g.W.Sink.taken c.loop-number.writer) (g.W.Sink.taken c.replay_line.new.writer) (record { number = c.in-Ok-Some.number; event = c.event.result })
-    under given (wrote settings (reverse under.lines) under.stands)
+    under given (wrote settings (reverse under.so_far.lines) under.so_far.stands)

@@ -1,10 +1,10 @@
-use Rattle.std.proofs.Common.{rules, subst}
+use Rattle.std.proofs.Common.{rules, subst, ◌∙◌}
 use Rattle.mtrace_log.specs.Output.{Wrote}
 use Rattle.mtrace_replay.specs.declared.report.Report.{Report}
 use Rattle.mtrace_replay.specs.Run.{end_text}
 use Rattle.mtrace_log.specs.declared.call.Call.TheVariants.{Took, Flushed}
 use Rattle.mtrace_log.proofs.TraceLemmas.{moved_then_append, flush_after, failed_after}
-use Rattle.mtrace_replay.proofs.RunLemmas.{report_all, replays_by, report_write}
+use Rattle.mtrace_replay.proofs.RunLemmas.{report_all, ends_at, report_write}
 use Rattle.mtrace_replay.proofs.run.replay_log.Goals as goal
 
 -- the log has ended, and all was written
@@ -36,8 +36,8 @@ returns-in-Ok-finish-clause-last g c =
     let taken = g.W.Sink.taken in
     let done = c.in-Ok-replay_lines.ensures.done c.args.settings c.in-Ok.ensures.made in
     λ only. let P : Report → Type 0 = λ report. Wrote (taken c.replay_lines.new.writer) (taken c.finish.new.writer) (end_text report c.replay_lines.new.replay) in
-    replays_by c.args.settings c.replay_lines.new.replay c.finish.new.replay c.in-Ok-replay_lines.noted c.in-Ok-finish.status (left c.args.reader.now) (left c.replay_lines.new.reader)
-    (taken c.args.writer.now) (taken c.replay_lines.new.writer) (taken c.finish.new.writer) done (subst P only c.in-Ok-finish.ensures.all) c.in-Ok-finish.ensures.status (c.in-Ok-finish.ensures.kept only)
+    ends_at c.args.settings c.replay_lines.new.replay c.finish.new.replay c.in-Ok-replay_lines.noted c.in-Ok-finish.status (left c.args.reader.now) (left c.replay_lines.new.reader)
+    (taken c.args.writer.now) (taken c.replay_lines.new.writer) (taken c.finish.new.writer) done (subst P only c.in-Ok-finish.ensures.all) c.in-Ok-finish.ensures.status (c.in-Ok-finish.ensures.kept only) (c.in-Ok-replay_lines.ensures.records ∙ c.in-Ok.ensures.records)
 
 -- the writer failed at the end
 pub returns-in-Ok-replay_lines-clause-ran : goal.returns-in-Ok-replay_lines-clause-ran
@@ -69,6 +69,22 @@ returns-in-Err-Read-clause-ran g c = record {
   writer_flushed = search rules;
   read_fault = search rules;
   flush_asked = λ e. flush_after _ _ _ (c.in-Err-Read.ensures.writer_took (λ is. cc)) c.ask_flush.ensures.asked;
+  write_fault = search rules;
+  writer_failed = search rules;
+  no_memory = search rules;
+  reader_not_failed = search rules;
+  bad_settings = search rules;
+  nothing_done = search rules;
+  no_image_fault = search rules;
+}
+
+pub returns-in-Err-Write-clause-ran : goal.returns-in-Err-Write-clause-ran
+returns-in-Err-Write-clause-ran g c = record {
+  finished = search rules;
+  reader_ended = search rules;
+  writer_flushed = search rules;
+  read_fault = search rules;
+  flush_asked = search rules;
   write_fault = search rules;
   writer_failed = search rules;
   no_memory = search rules;

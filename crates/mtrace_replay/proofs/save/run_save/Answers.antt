@@ -5,13 +5,14 @@ use Rattle.mtrace_replay.specs.declared.status.Status.{Status}
 use Rattle.mtrace_replay.specs.declared.status.RunFault.{RunFault}
 use Rattle.mtrace_replay.specs.declared.status.RunFault.TheVariants.{Image}
 use Rattle.mtrace_replay.specs.Saving.{PutsAndFlushes, EndsWithImage}
+use Rattle.mtrace_replay.proofs.RunLemmas.{replays_by}
 use Rattle.mtrace_replay.proofs.save.run_save.Goals as goal
 
 same_status : (one other : Status) → (let first : Result Status RunFault = Ok one in first ≡ Ok other) → one ≡ other
 same_status one other same = cc
 
-pub returns-in-Ok-save : goal.returns-in-Ok-save
-returns-in-Ok-save g c =
+pub returns-in-Ok-save-clause-saves : goal.returns-in-Ok-save-clause-saves
+returns-in-Ok-save-clause-saves g c =
     let taken = g.I.Sink.taken in
     let trace = g.I.Sink.trace in
     let ended = c.in-Ok.ended in
@@ -21,14 +22,14 @@ returns-in-Ok-save g c =
     (g.W.Sink.taken c.replay_log.new.writer) taken trace answer c.args.image.now c.save.new.image in
     let ends : E ended.status = record {
       content = ended.replay.content;
-      replays = c.in-Ok.ensures.last refl;
+      replays = replays_by c.args.settings ended.status ended.replay _ _ _ _ (c.in-Ok.ensures.last refl);
       saves = record { whole = c.save.ensures.whole; content_is = c.save.ensures.content_is; image = c.save.ensures.image; is_image = c.save.ensures.is_image; put = subst P c.in-Ok-save.is c.save.ensures.put };
       answer = inl refl;
     } in
     record { run = answer; runs = c.in-Ok.ensures.ran; run_fault = λ fault is. absurd (cc); finished = λ status is. subst E (same_status ended.status status is) ends }
 
-pub returns : goal.returns
-returns g c =
+pub returns-clause-saves : goal.returns-clause-saves
+returns-clause-saves g c =
     let taken = g.I.Sink.taken in
     let trace = g.I.Sink.trace in
     let ended = c.in-Ok.ended in
@@ -39,7 +40,7 @@ returns g c =
     (g.W.Sink.taken c.replay_log.new.writer) taken trace answer c.args.image.now c.save.new.image in
     let ends : E ended.status = record {
       content = ended.replay.content;
-      replays = c.in-Ok.ensures.last refl;
+      replays = replays_by c.args.settings ended.status ended.replay _ _ _ _ (c.in-Ok.ensures.last refl);
       saves = record { whole = c.save.ensures.whole; content_is = c.save.ensures.content_is; image = c.save.ensures.image; is_image = c.save.ensures.is_image; put = subst P c.in-Err-save.is c.save.ensures.put };
       answer = inr refl;
     } in

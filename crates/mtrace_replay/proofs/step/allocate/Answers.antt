@@ -7,11 +7,12 @@ use Rattle.mtrace_replay.specs.declared.diagnostic.Diagnostic.{Diagnostic}
 use Rattle.mtrace_replay.specs.declared.diagnostic.Kind.TheVariants.{Refused}
 use Rattle.mtrace_replay.specs.Holding.{Holding}
 use Rattle.mtrace_replay.specs.Moment.{note, allocation, asked_block}
-use Rattle.mtrace_replay.specs.Index.{AreInOrder, held_at, held_bytes}
+use Rattle.mtrace_replay.specs.Index.{AreInOrder, IsNewSlot, held_at, held_bytes}
 use Rattle.mtrace_replay.specs.Step.{all_given, found, Comes, AreLive}
 use Rattle.mtrace_replay.proofs.HeapSteps.{bare_served, bare_refused}
 use Rattle.mtrace_replay.proofs.AskedBlock.{asked_small, asked_records}
 use Rattle.mtrace_replay.proofs.Living.{live_after_asked}
+use Rattle.mtrace_replay.proofs.SlotLemmas.{new_slot}
 use Rattle.mtrace_replay.proofs.HeldFew.{held_fits, held_room}
 use Rattle.mtrace_replay.proofs.LookLemmas.{look_on}
 use Rattle.mtrace_replay.proofs.StepLemmas.{asked_least, found_some, none_is, seen_held, comes_held, comes_served, comes_refused}
@@ -30,13 +31,17 @@ insert-requires g c =
     let is = c.asked_size.ensures in
     let more : Holding = record { entry = c.args.entry.now; ptr = c.in-Ok.block.ptr } in
     let live = live_after_asked held (more ∷ held) old new c.keeps_good.ensures.good c.requires.live more c.args.align c.asked_size.result c.in-Ok.ensures.ok (omega (arith, asked, is)) (λ other. refl) in
-    let room = held_room held new ordered c.keeps_good-in-Ok.ensures.good more (none_is (held_at held c.args.entry.now.addr) (sym (seen_held c.find_again-found.new.self.all c.args.held.now.all c.find_again-found.result.address c.args.entry.now.addr c.is_held.result c.is_held.ensures.value c.find_again-found.ensures.unchanged c.find_again-found.ensures.address) ∙ c.if-is_held.false)) live in
     let records = asked_records c.in-Ok.block.ptr.slot c.args.align c.asked_size.result old (c.in-Ok.block.ptr.place, new) c.in-Ok.ensures.ok in
+    let absent = none_is (held_at held c.args.entry.now.addr) (sym (seen_held c.find_again-found.new.self.all c.args.held.now.all c.find_again-found.result.address c.args.entry.now.addr c.is_held.result c.is_held.ensures.value c.find_again-found.ensures.unchanged c.find_again-found.ensures.address) ∙ c.if-is_held.false) in
+    let room = held_room held new ordered c.keeps_good-in-Ok.ensures.good more absent live in
     record {
       found = search rules;
       address = c.find_again-found.ensures.address;
+      free = ap (λ all. held_at all c.args.entry.now.addr) same ∙ absent;
       bytes = omega (arith, most, fits, asked, is, ap held_bytes same);
       room = omega (arith, room, records, c.requires.room, c.find_again-found.ensures.looked.room, ap (length {A = Holding}) same);
+      slot = omega (arith, c.in-Ok.ensures.slot_below, c.requires.room, c.find_again-found.ensures.looked.room);
+      new = subst (IsNewSlot c.in-Ok.block.ptr.slot c.args.entry.now.addr) (sym same) (new_slot held old c.requires.live c.in-Ok.block.ptr.slot c.args.entry.now.addr c.in-Ok.ensures.slot_new);
     }
 
 -- the heap is asked, where the address isn't held

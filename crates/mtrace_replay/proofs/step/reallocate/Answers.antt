@@ -11,6 +11,7 @@ use Rattle.mtrace_replay.specs.Moment.{moved, without, asked_size}
 use Rattle.mtrace_replay.specs.Step.{all_given, Comes}
 use Rattle.mtrace_replay.proofs.HeapSteps.{bare_moved, bare_not_moved}
 use Rattle.mtrace_replay.proofs.Living.{live_after_realloc}
+use Rattle.mtrace_replay.proofs.SlotLemmas.{moved_slot}
 use Rattle.mtrace_replay.proofs.Served.{moved_small, moved_records}
 use Rattle.mtrace_replay.proofs.LookLemmas.{looks_up_fewer}
 use Rattle.mtrace_replay.proofs.HeldFew.{held_few, held_fits}
@@ -29,7 +30,10 @@ replace-requires g c =
       found = search rules;
       bytes = omega (arith, most, fits, asked, c.asked_size.ensures);
       held = ap is_some under.1;
+      free = c.requires.free;
       room = omega (arith, few, c.requires.room);
+      slot = omega (arith, c.in-Ok.ensures.slot_below, c.requires.room);
+      new = moved_slot c.args.held.now.all old c.requires.live c.args.ptr c.in-Ok.block.ptr.slot c.args.old.now.address c.keeps_good.ensures.slots under c.in-Ok.ensures.slot_new;
     }
 
 pub returns-in-Ok : goal.returns-in-Ok

@@ -19,13 +19,13 @@ returns-in_default g c =
     let P : List Diagnostic → Type 0 = λ notes. Comes content content (all_given held) (all_given held) notes None (release c.args.number c.args.address (found (all_given held) c.args.address) content) in
     let Q : List Diagnostic → List Holding → Type 0 = λ notes all. Comes content content (all_given held) (all_given all) notes None (release c.args.number c.args.address (found (all_given held) c.args.address) content) in
     record {
-      comes = subst (Q c.set_one.new.self) (sym c.find-found.ensures.unchanged)
-          (subst P (sym c.set_one.ensures) (comes_not_held held held content content c.args.number c.args.address (under_none (held_at held c.args.address) (sym (seen_block c.find-found.new.self.all c.args.held.now.all c.find-found.result.address c.args.address c.block.result c.block.ensures.value c.find-found.ensures.unchanged c.find-found.ensures.address) ∙ c.in_default.is))));
-      live = subst (λ all. AreLive all heap) (sym c.find-found.ensures.unchanged) c.requires.live;
+      comes = subst (Q c.set_one.new.self) (sym c.find_again-found.ensures.unchanged)
+          (subst P (sym c.set_one.ensures) (comes_not_held held held content content c.args.number c.args.address (under_none (held_at held c.args.address) (sym (seen_block c.find_again-found.new.self.all c.args.held.now.all c.find_again-found.result.address c.args.address c.block.result c.block.ensures.value c.find_again-found.ensures.unchanged c.find_again-found.ensures.address) ∙ c.in_default.is))));
+      live = subst (λ all. AreLive all heap) (sym c.find_again-found.ensures.unchanged) c.requires.live;
       memory = tt;
       unchanged = tt;
       records = refl;
-      looked = c.find-found.ensures.looked;
+      looked = c.find_again-found.ensures.looked;
       bound = omega arith;
       idle = λ idle. refl;
     }
@@ -37,14 +37,14 @@ is_asked held address holding is = found_some held address ∙ ap is_some is
 pub returns-in_err-take : goal.returns-in_err-take
 returns-in_err-take g c =
     let held = c.args.held.now.all in
-    let under = under_some (held_at held c.args.address) c.in-Some.ptr (sym (seen_block c.find-found.new.self.all c.args.held.now.all c.find-found.result.address c.args.address c.block.result c.block.ensures.value c.find-found.ensures.unchanged c.find-found.ensures.address) ∙ c.in-Some.is) in
+    let under = under_some (held_at held c.args.address) c.in-Some.ptr (sym (seen_block c.find_again-found.new.self.all c.args.held.now.all c.find_again-found.result.address c.args.address c.block.result c.block.ensures.value c.find_again-found.ensures.unchanged c.find_again-found.ensures.address) ∙ c.in-Some.is) in
     record {
       comes = search rules;
       live = search rules;
       memory = search rules;
       unchanged = search rules;
       records = c.take.ensures.records;
-      looked = look_on 1 0 c.args.held.now c.find-found.new.self c.take.new.held c.find-found.ensures.looked c.take.ensures.looked;
+      looked = look_on 2 0 c.args.held.now c.find_again-found.new.self c.take.new.held c.find_again-found.ensures.looked c.take.ensures.looked;
       bound = c.take.ensures.bound;
       idle = λ idle. absurd (let is = is_asked held c.args.address under.0 under.1 in cc);
     }
@@ -55,17 +55,17 @@ returns g c =
     let after = bare (g.H.Heaped.content c.take.new.heap) in
     let held = c.args.held.now.all in
     let new = c.take.new.held.all in
-    let under = under_some (held_at held c.args.address) c.in-Some.ptr (sym (seen_block c.find-found.new.self.all c.args.held.now.all c.find-found.result.address c.args.address c.block.result c.block.ensures.value c.find-found.ensures.unchanged c.find-found.ensures.address) ∙ c.in-Some.is) in
+    let under = under_some (held_at held c.args.address) c.in-Some.ptr (sym (seen_block c.find_again-found.new.self.all c.args.held.now.all c.find_again-found.result.address c.args.address c.block.result c.block.ensures.value c.find_again-found.ensures.unchanged c.find_again-found.ensures.address) ∙ c.in-Some.is) in
     let P : List Diagnostic → Type 0 = λ notes. Comes content after (all_given held) (all_given new) notes None (release c.args.number c.args.address (found (all_given held) c.args.address) content) in
     record {
       comes = subst P (sym c.requires.none) (comes_released held new content after c.args.number c.args.address under.0 under.1
-          (c.in_ok-take.ensures.content ∙ ap (λ (ptr : Pointer). without ptr.place content) (sym under.2)) (λ other. c.in_ok-take.ensures.held other ∙ ap (λ all. cond (c.find-found.result.address == other) None (held_at all other)) c.find-found.ensures.unchanged
-          ∙ ap (λ (a : ℕ). cond (a == other) None (held_at held other)) c.find-found.ensures.address));
+          (c.in_ok-take.ensures.content ∙ ap (λ (ptr : Pointer). without ptr.place content) (sym under.2)) (λ other. c.in_ok-take.ensures.held other ∙ ap (λ all. cond (c.find_again-found.result.address == other) None (held_at all other)) c.find_again-found.ensures.unchanged
+          ∙ ap (λ (a : ℕ). cond (a == other) None (held_at held other)) c.find_again-found.ensures.address));
       live = c.in_ok-take.ensures.live;
       memory = tt;
       unchanged = tt;
       records = c.take.ensures.records;
-      looked = look_on 1 0 c.args.held.now c.find-found.new.self c.take.new.held c.find-found.ensures.looked c.take.ensures.looked;
+      looked = look_on 2 0 c.args.held.now c.find_again-found.new.self c.take.new.held c.find_again-found.ensures.looked c.take.ensures.looked;
       bound = c.take.ensures.bound;
       idle = λ idle. absurd (let is = is_asked held c.args.address under.0 under.1 in cc);
     }

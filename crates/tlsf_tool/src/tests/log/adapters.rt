@@ -1,8 +1,9 @@
+use crate::progress::{Counted, Notice};
 use crate::tests::expect_eq_at;
-use mtrace_log::{Event, Failed, FromRead, Lines, Sink, Source, ToWrite};
+use mtrace_log::{Again, Event, Failed, FromRead, Lines, Sink, Source, ToWrite};
 use std::alloc::Global;
 use std::io;
-use std::io::{ErrorKind, Read, Write};
+use std::io::{BufReader, Cursor, ErrorKind, Read, Seek, SeekFrom, Write};
 use std::process::Abort;
 use std::test::Fail;
 
@@ -115,6 +116,53 @@ impl Write for FailsOnce {
 
     fn flush(&mut self) -> io::Result<()> {
         self.call()
+    }
+}
+
+impl Seek for FailsOnce {
+    fn seek(&mut self, _to: SeekFrom) -> io::Result<u64> {
+        self.call()?;
+        Ok(0)
+    }
+}
+
+/// Reads five bytes, then from the first on all ten.
+fn expect_all_again<R: Again>(rt: &impl Abort, reader: &mut R) {
+    let mut bytes = [0u8; 5];
+    assert!(rt; reader.pull(&mut bytes) == Ok(5));
+    assert!(rt; &bytes == b"01234");
+    assert!(rt; reader.begin() == Ok(()));
+    assert!(rt; reader.pull(&mut bytes) == Ok(5));
+    assert!(rt; &bytes == b"01234");
+    assert!(rt; reader.pull(&mut bytes) == Ok(5));
+    assert!(rt; &bytes == b"56789");
+    assert!(rt; reader.pull(&mut bytes) == Ok(0));
+    assert!(rt; reader.begin() == Ok(()));
+    assert!(rt; reader.pull(&mut bytes) == Ok(5));
+    assert!(rt; &bytes == b"01234");
+}
+
+#[test]
+fn begins_again_where_std_seeks(rt: HostRuntime) -> Result<(), Fail> {
+    let digits = b"0123456789".as_slice();
+    expect_all_again(&rt, &mut FromRead::new(Cursor::new(digits)));
+    let notice = Notice::new(&rt, true);
+    let buffered = BufReader::with_capacity(rt.alloc(), 5, Cursor::new(digits))?;
+    expect_all_again(&rt, &mut FromRead::new(Counted::new(&notice, buffered)));
+    Ok(())
+}
+
+#[test]
+fn fails_to_begin_where_std_fails_to_seek(rt: HostRuntime) {
+    for kind in KINDS {
+        let mut source = FromRead::new(FailsOnce {
+            kind,
+            failing: 1,
+            calls: 0,
+        });
+        assert!(rt; source.begin() == Ok(()), "{kind:?}");
+        assert!(rt; source.begin() == Err(Failed), "{kind:?}");
+        assert!(rt; source.begin() == Ok(()), "{kind:?}");
     }
 }
 

@@ -1,5 +1,5 @@
 use mtrace_log::memory::{Full, MemorySink, MemorySource};
-use mtrace_log::{Failed, Sink, Source};
+use mtrace_log::{Again, Failed, Sink, Source};
 
 #[test]
 fn gives_pieces(rt: HostRuntime) {
@@ -14,6 +14,33 @@ fn gives_pieces(rt: HostRuntime) {
     let mut whole = MemorySource::in_pieces(b"ab", 3);
     assert!(rt; whole.pull(&mut one) == Ok(1));
     assert!(rt; one == *b"a");
+}
+
+#[test]
+fn begins_again(rt: HostRuntime) {
+    let mut reader = MemorySource::failing_after(b"abcd", 3, 2);
+    let mut bytes = [0u8; 8];
+    assert!(rt; reader.pull(&mut bytes) == Ok(3));
+    assert!(rt; reader.begin() == Ok(()));
+    assert!(rt; reader.begin() == Err(Failed));
+    assert!(rt; reader.pull(&mut bytes) == Ok(3));
+    assert!(rt; &bytes[..3] == b"abc".as_slice());
+    assert!(rt; reader.pull(&mut bytes) == Ok(1));
+    assert!(rt; bytes[0] == b'd');
+    assert!(rt; reader.pull(&mut bytes) == Ok(0));
+    assert!(rt; reader.begin() == Ok(()));
+    assert!(rt; reader.pull(&mut bytes) == Ok(3));
+    assert!(rt; &bytes[..3] == b"abc".as_slice());
+}
+
+#[test]
+fn goes_on_where_it_cannot_begin_again(rt: HostRuntime) {
+    let mut reader = MemorySource::failing_after(b"abcd", 3, 1);
+    let mut bytes = [0u8; 8];
+    assert!(rt; reader.pull(&mut bytes) == Ok(3));
+    assert!(rt; reader.begin() == Err(Failed));
+    assert!(rt; reader.pull(&mut bytes) == Ok(1));
+    assert!(rt; bytes[0] == b'd');
 }
 
 #[test]

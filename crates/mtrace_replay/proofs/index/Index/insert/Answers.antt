@@ -1,78 +1,53 @@
-use Rattle.std.proofs.Common.{◌+◌, ◌-◌, Some, refl, sym, ap, ◌∙◌, subst, cond, arith}
-use Rattle.std.specs.Prelude.{◌==◌}
-use Rattle.std.specs.Vec.{vec_capacity}
-use Rattle.mtrace_replay.specs.Spot.Spot.{Held}
-use Rattle.mtrace_replay.specs.Search.{StandsAt, FitsAt}
-use Rattle.mtrace_replay.specs.Index.{Indexed, IsIndex, held_at}
-use Rattle.mtrace_replay.proofs.IndexLemmas.{set_keeps, set_held, set_bytes, set_count, enters_rise, enters_held, enters_keeps, arranged_keeps, found_stands, found_fits}
+use Rattle.std.proofs.Common.{ℕ, List, slice_index_or, Option, Some, None, refl, sym, ap, ◌∙◌, subst, cond, arith}
+use Rattle.std.specs.Prelude.{◌==◌, Result, Ok, Err, IfOk}
+use Rattle.std.proofs.lemmas.List.{get_or_default}
+use Rattle.std.specs.List.{remove}
+use Rattle.mtrace_replay.specs.declared.key.Key.{Key}
+use Rattle.mtrace_replay.specs.Holding.{Holding}
+use Rattle.mtrace_replay.specs.Search.{StandsAt, FitsAt, IsVacantAt}
+use Rattle.mtrace_replay.specs.Index.{Indexed, IsFound, IsNewSlot, held_at}
+use Rattle.mtrace_replay.proofs.IndexLemmas.{vacant_there, enters, puts_keeps, puts_held}
 use Rattle.mtrace_replay.proofs.index.Index.insert.Goals as goal
 
-pub overflow_sub-self : goal.overflow_sub-self
-overflow_sub-self c =
+pub make_gap-gap-requires-clause-vacant : goal.make_gap-gap-requires-clause-vacant
+make_gap-gap-requires-clause-vacant c =
+    let kept = c.self.inside.keys in
     let address = c.args.entry.now.addr in
-    let stands = subst (λ a. StandsAt c.self.inside.spots.items a c.in-Ok.at) c.requires.address (found_stands c.self.inside.spots.items c.args.self.now (ap (λ (index : Indexed). index.spots) c.self.view_is) c.args.found.now c.requires.found c.in-Ok.at c.in-Ok.is) in
-    let count = set_count c.self.inside.spots.items address c.in-Ok.at c.self.invariant.rise stands c.index-spot.result.now (Held (record { entry = c.args.entry.now; ptr = c.args.ptr })) c.index-spot.ensures refl in
-    omega (arith, count, c.blocks-in-Ok.ensures, c.self.invariant.blocks_are)
-
-pub overflow_sub-self-in-Ok : goal.overflow_sub-self-in-Ok
-overflow_sub-self-in-Ok c =
-    let address = c.args.entry.now.addr in
-    let stands = subst (λ a. StandsAt c.self.inside.spots.items a c.in-Ok.at) c.requires.address (found_stands c.self.inside.spots.items c.args.self.now (ap (λ (index : Indexed). index.spots) c.self.view_is) c.args.found.now c.requires.found c.in-Ok.at c.in-Ok.is) in
-    let bytes = set_bytes c.self.inside.spots.items address c.in-Ok.at c.self.invariant.rise stands c.index-spot.result.now (Held (record { entry = c.args.entry.now; ptr = c.args.ptr })) c.index-spot.ensures refl in
-    omega (arith, bytes, c.size.ensures, c.self.invariant.bytes_are)
+    let found = subst (λ keys. IsFound keys c.args.found.now) (sym (ap (λ (index : Indexed). index.keys) c.self.view_is)) c.requires.found in
+    by_place kept.keys (λ at stands. vacant_there kept address at c.self.invariant.rise c.self.invariant.rows stands (slice_index_or kept.keys at (record { address = 0; block = None })) (get_or_default kept.keys at _ _ stands.0)
+    (ap (λ (index : Indexed). held_at index.all address) c.self.view_is ∙ c.requires.free)) c.args.found.now.place
+    (subst (λ a. IfOk c.args.found.now.place (StandsAt kept.keys a)) c.requires.address found.held)
+  where
+    by_place : {address : ℕ} → (keys : List Key) → ((at : ℕ) → StandsAt keys address at → IsVacantAt keys at) → (place : Result ℕ ℕ) → IfOk place (StandsAt keys address) → IfOk place (IsVacantAt keys)
+    by_place keys vacant (Ok at) stands = vacant at stands
+    by_place keys vacant (Err at) stands = tt
 
 pub invariant_of-self : goal.invariant_of-self
 invariant_of-self c =
+    let kept = c.self.inside.keys in
     let address = c.args.entry.now.addr in
-    let stands = subst (λ a. StandsAt c.self.inside.spots.items a c.in-Ok.at) c.requires.address (found_stands c.self.inside.spots.items c.args.self.now (ap (λ (index : Indexed). index.spots) c.self.view_is) c.args.found.now c.requires.found c.in-Ok.at c.in-Ok.is) in
-    let count = set_count c.self.inside.spots.items address c.in-Ok.at c.self.invariant.rise stands c.index-spot.result.now (Held (record { entry = c.args.entry.now; ptr = c.args.ptr })) c.index-spot.ensures refl in
-    let bytes = set_bytes c.self.inside.spots.items address c.in-Ok.at c.self.invariant.rise stands c.index-spot.result.now (Held (record { entry = c.args.entry.now; ptr = c.args.ptr })) c.index-spot.ensures refl in
-    rw (c.hold.ensures) (set_keeps c.self.inside.spots.items address c.in-Ok.at c.self.invariant.rise stands c.index-spot.result.now (Held (record { entry = c.args.entry.now; ptr = c.args.ptr })) c.index-spot.ensures refl
-    c.self.inside.spots.cap c.self.inside.room c.self.inside.blocks c.self.inside.bytes (c.self.inside.blocks + 1 - c.blocks-in-Ok.result) (c.self.inside.bytes + c.args.entry.now.size - c.size.result) c.self.invariant
-    (omega (arith, count, c.blocks-in-Ok.ensures, c.self.invariant.blocks_are)) (omega (arith, bytes, c.size.ensures, c.self.invariant.bytes_are)))
+    let found = subst (λ keys. IsFound keys c.args.found.now) (sym (ap (λ (index : Indexed). index.keys) c.self.view_is)) c.requires.found in
+    let fits = subst (λ a. FitsAt (remove c.make_gap-gap.new.keys.keys c.make_gap-gap.result.from) a c.make_gap-gap.result.to) c.requires.address (c.make_gap-gap.ensures.fits c.args.found.now.address c.self.invariant.rise found.held found.absent) in
+    let is_new = subst (IsNewSlot c.args.ptr.slot address) (sym (ap (λ (index : Indexed). index.all) c.self.view_is)) c.requires.new in
+    let new : Key = record { address = address; block = Some c.args.ptr } in
+    let held : Option Holding = Some (record { entry = c.args.entry.now; ptr = c.args.ptr }) in
+    let put = enters kept c.put.new.self (remove c.make_gap-gap.new.keys.keys c.make_gap-gap.result.from) c.make_gap-gap.new.keys.rows address c.make_gap-gap.result.to c.args.entry.now c.args.ptr new c.make_gap-gap.ensures.others
+    c.self.invariant.rise c.self.invariant.rows fits c.make_gap-gap.ensures.rows refl refl refl c.put.ensures.keys c.put.ensures.rows is_new in
+    let room = c.put.ensures.rows.room ∙ c.make_gap-gap.ensures.rows.room in
+    puts_keeps kept c.put.new.self address None held put c.self.inside.blocks c.self.inside.bytes _ _ c.self.invariant
+    (omega (arith, c.put.ensures.len, c.put.ensures.rows.room, c.make_gap-gap.ensures.within, c.make_gap-gap.ensures.rows.room)) room (omega arith) (omega arith)
 
-pub returns-after-at-self-clause-held : goal.returns-after-at-self-clause-held
-returns-after-at-self-clause-held c other =
+pub returns-clause-held : goal.returns-clause-held
+returns-clause-held c other =
+    let kept = c.self.inside.keys in
     let address = c.args.entry.now.addr in
-    let stands = subst (λ a. StandsAt c.self.inside.spots.items a c.in-Ok.at) c.requires.address (found_stands c.self.inside.spots.items c.args.self.now (ap (λ (index : Indexed). index.spots) c.self.view_is) c.args.found.now c.requires.found c.in-Ok.at c.in-Ok.is) in
-    rw (c.hold.ensures) (set_held c.self.inside.spots.items address c.in-Ok.at c.self.invariant.rise stands c.index-spot.result.now (Held (record { entry = c.args.entry.now; ptr = c.args.ptr })) c.index-spot.ensures refl other
-    ∙ ap (λ (index : Indexed). cond (address == other) (Some (record { entry = c.args.entry.now; ptr = c.args.ptr })) (held_at index.all other)) c.self.view_is)
-
-pub arrange-requires-clause-rise : goal.arrange-requires-clause-rise
-arrange-requires-clause-rise c =
-    let fits = subst (λ a. FitsAt c.self.inside.spots.items a c.in-Err.at) c.requires.address (found_fits c.self.inside.spots.items c.args.self.now (ap (λ (index : Indexed). index.spots) c.self.view_is) c.args.found.now c.requires.found c.in-Err.at c.in-Err.is) in
-    enters_rise c.self.inside.spots.items c.args.entry.now.addr c.in-Err.at c.self.invariant.rise fits (Held (record { entry = c.args.entry.now; ptr = c.args.ptr })) refl c.enter-moved.new.spots.items c.enter-moved.ensures.enters
-
-pub invariant_of-self-then-moved-now : goal.invariant_of-self-then-moved-now
-invariant_of-self-then-moved-now c =
-    let address = c.args.entry.now.addr in
-    let fits = subst (λ a. FitsAt c.self.inside.spots.items a c.in-Err.at) c.requires.address (found_fits c.self.inside.spots.items c.args.self.now (ap (λ (index : Indexed). index.spots) c.self.view_is) c.args.found.now c.requires.found c.in-Err.at c.in-Err.is) in
-    arranged_keeps c.enter-moved.new.spots.items c.arrange.new.spots.items (vec_capacity c.self.inside.spots) (vec_capacity c.arrange.new.spots) c.self.inside.room (c.self.inside.blocks + 1) (c.self.inside.bytes + c.args.entry.now.size)
-    (enters_keeps c.self.inside.spots.items address c.in-Err.at c.self.invariant.rise fits (Held (record { entry = c.args.entry.now; ptr = c.args.ptr })) refl c.enter-moved.new.spots.items c.enter-moved.ensures.enters
-    (vec_capacity c.self.inside.spots) c.self.inside.room c.self.inside.blocks c.self.inside.bytes (c.self.inside.blocks + 1) (c.self.inside.bytes + c.args.entry.now.size) c.self.invariant c.enter-moved.ensures.within
-    (omega arith) (omega (arith)))
-    c.arrange.ensures.same c.arrange.ensures.rise c.arrange.ensures.within (c.arrange.ensures.reserved ∙ c.enter-moved.ensures.reserved)
-
-pub invariant_of-self-else-is_end_spent : goal.invariant_of-self-else-is_end_spent
-invariant_of-self-else-is_end_spent c =
-    let address = c.args.entry.now.addr in
-    let fits = subst (λ a. FitsAt c.self.inside.spots.items a c.in-Err.at) c.requires.address (found_fits c.self.inside.spots.items c.args.self.now (ap (λ (index : Indexed). index.spots) c.self.view_is) c.args.found.now c.requires.found c.in-Err.at c.in-Err.is) in
-    subst (λ memory. IsIndex c.enter-moved.new.spots.items memory c.self.inside.room (c.self.inside.blocks + 1) (c.self.inside.bytes + c.args.entry.now.size)) (sym c.enter-moved.ensures.reserved)
-    (enters_keeps c.self.inside.spots.items address c.in-Err.at c.self.invariant.rise fits (Held (record { entry = c.args.entry.now; ptr = c.args.ptr })) refl c.enter-moved.new.spots.items c.enter-moved.ensures.enters
-    (vec_capacity c.self.inside.spots) c.self.inside.room c.self.inside.blocks c.self.inside.bytes (c.self.inside.blocks + 1) (c.self.inside.bytes + c.args.entry.now.size) c.self.invariant c.enter-moved.ensures.within
-    (omega arith) (omega (arith)))
-
-pub returns-then-moved-now-clause-held : goal.returns-then-moved-now-clause-held
-returns-then-moved-now-clause-held c other =
-    let address = c.args.entry.now.addr in
-    let fits = subst (λ a. FitsAt c.self.inside.spots.items a c.in-Err.at) c.requires.address (found_fits c.self.inside.spots.items c.args.self.now (ap (λ (index : Indexed). index.spots) c.self.view_is) c.args.found.now c.requires.found c.in-Err.at c.in-Err.is) in
-    ap (λ all. held_at all other) c.arrange.ensures.same
-    ∙ enters_held c.self.inside.spots.items address c.in-Err.at c.self.invariant.rise fits (Held (record { entry = c.args.entry.now; ptr = c.args.ptr })) refl c.enter-moved.new.spots.items c.enter-moved.ensures.enters other
-    ∙ ap (λ (index : Indexed). cond (address == other) (Some (record { entry = c.args.entry.now; ptr = c.args.ptr })) (held_at index.all other)) c.self.view_is
-
-pub returns-else-is_end_spent-clause-held : goal.returns-else-is_end_spent-clause-held
-returns-else-is_end_spent-clause-held c other =
-    let address = c.args.entry.now.addr in
-    let fits = subst (λ a. FitsAt c.self.inside.spots.items a c.in-Err.at) c.requires.address (found_fits c.self.inside.spots.items c.args.self.now (ap (λ (index : Indexed). index.spots) c.self.view_is) c.args.found.now c.requires.found c.in-Err.at c.in-Err.is) in
-    enters_held c.self.inside.spots.items address c.in-Err.at c.self.invariant.rise fits (Held (record { entry = c.args.entry.now; ptr = c.args.ptr })) refl c.enter-moved.new.spots.items c.enter-moved.ensures.enters other
-    ∙ ap (λ (index : Indexed). cond (address == other) (Some (record { entry = c.args.entry.now; ptr = c.args.ptr })) (held_at index.all other)) c.self.view_is
+    let found = subst (λ keys. IsFound keys c.args.found.now) (sym (ap (λ (index : Indexed). index.keys) c.self.view_is)) c.requires.found in
+    let fits = subst (λ a. FitsAt (remove c.make_gap-gap.new.keys.keys c.make_gap-gap.result.from) a c.make_gap-gap.result.to) c.requires.address (c.make_gap-gap.ensures.fits c.args.found.now.address c.self.invariant.rise found.held found.absent) in
+    let is_new = subst (IsNewSlot c.args.ptr.slot address) (sym (ap (λ (index : Indexed). index.all) c.self.view_is)) c.requires.new in
+    let new : Key = record { address = address; block = Some c.args.ptr } in
+    let held : Option Holding = Some (record { entry = c.args.entry.now; ptr = c.args.ptr }) in
+    let put = enters kept c.put.new.self (remove c.make_gap-gap.new.keys.keys c.make_gap-gap.result.from) c.make_gap-gap.new.keys.rows address c.make_gap-gap.result.to c.args.entry.now c.args.ptr new c.make_gap-gap.ensures.others
+    c.self.invariant.rise c.self.invariant.rows fits c.make_gap-gap.ensures.rows refl refl refl c.put.ensures.keys c.put.ensures.rows is_new in
+    ap (λ all. held_at all other) c.settle.ensures.unchanged
+    ∙ puts_held kept c.put.new.self address None held put other
+    ∙ ap (λ (index : Indexed). cond (address == other) held (held_at index.all other)) c.self.view_is

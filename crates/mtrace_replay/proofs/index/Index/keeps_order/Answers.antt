@@ -4,4 +4,4 @@ use Rattle.mtrace_replay.proofs.IndexLemmas.{index_in_order}
 use Rattle.mtrace_replay.proofs.index.Index.keeps_order.Goals as goal
 
 pub returns : goal.returns
-returns c = subst (λ index. AreInOrder index.all) c.self.view_is (index_in_order c.self.inside.spots.items c.self.invariant.rise)
+returns c = subst (λ index. AreInOrder index.all) c.self.view_is (index_in_order c.self.inside.keys.rows c.self.inside.keys.keys c.self.invariant.rise)

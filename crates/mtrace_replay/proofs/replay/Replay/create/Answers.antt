@@ -43,3 +43,7 @@ returns-clause-made g c =
       held = subst (P (all_given c.in-Ok-new.held.all)) (sym none) (subst (λ (index : Indexed). P (all_given index.all) []) (sym c.in-Ok-new.ensures) none_held);
       totals = subst (λ past. T past c.new-2.result) (sym none) (subst (T []) (sym c.new-2.ensures) (totals_none c.args.settings));
     }
+
+pub returns-clause-records : goal.returns-clause-records
+returns-clause-records g c =
+    ap (λ (content : Bare). content.records) c.in-Ok.ensures ∙ started_room c.args.settings (sym c.are_bad.ensures ∙ c.if-are_bad.false)

@@ -80,6 +80,7 @@ returns-in-Ok g c =
       memory = search rules;
       unchanged = search rules;
       totals_unchanged = search rules;
+      records = search rules;
       compared = search rules;
       bound = search rules;
       idle = search rules;

@@ -1,0 +1,8 @@
+use Rattle.std.proofs.Common.{refl, ◌∙◌}
+use Rattle.mtrace_log.proofs.FrequentLemmas.{line-read}
+use Rattle.mtrace_log.proofs.frequent.read_frequent.Goals as goal
+
+pub returns : goal.returns
+returns c =
+    line-read c.args.bytes.now c.in-Some.located.now c.in-Some-front.marked.now c.in-Some-front_fields.rest.now c.in-Some-front.at c.in-Some-front_fields.frequent _ c.in-Some.ensures
+    c.in-Some-front.ensures.0 c.in-Some-front.ensures.1 c.in-Some-front_fields.ensures.1 (c.in-Some-front_fields.ensures.0 ∙ c.len.ensures) refl

@@ -1,0 +1,23 @@
+use Rattle.std.proofs.Common.{ℕ, ◌+◌, ◌≤◌, List, length, not, ap, ◌∙◌, arith}
+use Rattle.std.specs.List.{prefix_len}
+use Rattle.mtrace_log.specs.Location.{is_blank}
+use Rattle.mtrace_log.proofs.LocationLemmas.{loaded, allowed-more, ended-there}
+use Rattle.mtrace_log.proofs.location.location_end.Goals as goal
+
+abbrev blank_behind : List ℕ → ℕ
+blank_behind bytes = prefix_len (λ byte. not (is_blank byte)) bytes
+
+pub returns-in-Some-clause-allowed : goal.returns-in-Some-clause-allowed
+returns-in-Some-clause-allowed c =
+    let room : c.loop-at.at + 16 ≤ length c.args.bytes.now = omega arith in
+    allowed-more c.args.bytes.now c.loop-at.at c.in-Some.lane room c.loop-at.invariant.1 (c.in-Some.ensures.1 ∙ ap blank_behind (loaded c.args.bytes.now c.loop-at.at room))
+
+pub returns-in-Some-clause-ended : goal.returns-in-Some-clause-ended
+returns-in-Some-clause-ended c = λ _.
+    let room : c.loop-at.at + 16 ≤ length c.args.bytes.now = omega arith in
+    ended-there c.args.bytes.now c.loop-at.at c.in-Some.lane room c.in-Some.ensures.0 (c.in-Some.ensures.1 ∙ ap blank_behind (loaded c.args.bytes.now c.loop-at.at room))
+
+pub loop-at-preserved : goal.loop-at-preserved
+loop-at-preserved c =
+    let room : c.loop-at.at + 16 ≤ length c.args.bytes.now = omega arith in
+    (room, allowed-more c.args.bytes.now c.loop-at.at 16 room c.loop-at.invariant.1 (c.in_default.ensures ∙ ap blank_behind (loaded c.args.bytes.now c.loop-at.at room)))

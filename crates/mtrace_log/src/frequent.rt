@@ -1,0 +1,128 @@
+//! The lines that make up a log, `@ LOCATION - ADDR` and `@ LOCATION + ADDR SIZE`, read up to their newline with no search
+//! for it first.
+
+ghost use Rattle.std.specs.Prelude.{◌≡◌, ◌++◌, ◌∷◌, IfSome, Ok};
+ghost use Rattle.mtrace_log.specs.Bytes.{newline};
+ghost use Rattle.mtrace_log.specs.Address.{IsAddress, address_text};
+ghost use Rattle.mtrace_log.specs.Frequent.{IsFrequent, BeginsFrequent, BeginsFields};
+ghost use Rattle.mtrace_log.specs.Reading.{Reads};
+
+use crate::addr::Addr;
+use crate::event::Event;
+use crate::hex;
+use crate::line_reader::{behind_at, split_mark};
+use crate::location::{LentLocation, behind_space};
+
+/// What a line says that names its place, and frees a block or asks for one and is given it.
+#[derive(Clone, Copy)]
+pub(crate) struct Frequent {
+    // How many bytes the place has.
+    place: usize,
+    addr: Addr,
+    // How many bytes were asked for, if any were.
+    size: Option<u64>,
+}
+
+/// ADDR at the front, and what follows it.
+#[inline(always)]
+fn front_addr(bytes: &[u8]) -> Option<(Addr, &[u8])>
+    ensures { IfSome result (λ front. IsAddress front.0 × (bytes.now ≡ address_text front.0 ++ front.1.now)) }
+{
+    let [b'0', b'x', digits @ ..] = bytes else {
+        return None;
+    };
+    let (number, rest) = hex::read_digits(digits);
+    let Some(addr) = Addr::new(number) else {
+        return None;
+    };
+    Some((addr, rest))
+}
+
+/// What stands behind a newline, where one is first.
+fn behind_newline(bytes: &[u8]) -> Option<&[u8]>
+    ensures { IfSome result (λ rest. bytes.now ≡ newline ∷ rest.now) }
+{
+    let [b'\n', rest @ ..] = bytes else {
+        return None;
+    };
+    Some(rest)
+}
+
+/// What `- ADDR` or `+ ADDR SIZE` with its newline at the front says behind a place of so many bytes, and what stands behind it.
+#[inline(always)]
+fn front_fields(place: usize, bytes: &[u8]) -> Option<(Frequent, &[u8])>
+    ensures { IfSome result (λ front. (front.0.place ≡ place) × BeginsFields bytes.now front.0.addr front.0.size front.1.now) }
+{
+    let Some((mark, fields)) = split_mark(bytes) else {
+        return None;
+    };
+    let Some((addr, behind)) = front_addr(fields) else {
+        return None;
+    };
+    if mark == b'-' {
+        let Some(rest) = behind_newline(behind) else {
+            return None;
+        };
+        return Some((
+            Frequent {
+                place,
+                addr,
+                size: None,
+            },
+            rest,
+        ));
+    }
+    if mark != b'+' {
+        return None;
+    }
+    let Some(sized) = behind_space(behind) else {
+        return None;
+    };
+    let Some((size, end)) = front_addr(sized) else {
+        return None;
+    };
+    let Some(rest) = behind_newline(end) else {
+        return None;
+    };
+    let size = Some(size.value());
+    Some((Frequent { place, addr, size }, rest))
+}
+
+/// What the line at the front says, where it is one of these with its newline, and how many bytes it has.
+#[inline(always)]
+pub(crate) fn read_frequent(bytes: &[u8]) -> Option<(Frequent, usize)>
+    ensures { IfSome result (λ found. BeginsFrequent bytes.now found.0 found.1) }
+{
+    let Some(located) = behind_at(bytes) else {
+        return None;
+    };
+    let Some((at, marked)) = LentLocation::front(located) else {
+        return None;
+    };
+    let Some((frequent, rest)) = front_fields(at.len(), marked) else {
+        return None;
+    };
+    Some((frequent, bytes.len() - rest.len() - 1))
+}
+
+impl Frequent {
+    /// The event of its line, with its location where it lies there.
+    #[inline(always)]
+    pub(crate) fn event(self, line: &[u8]) -> Event<LentLocation<'_>>
+        requires { IsFrequent line.now self }
+        ensures { Reads line.now (Ok result) }
+    {
+        let at = Some(LentLocation::of(&line[2..2 + self.place]));
+        match self.size {
+            Some(size) => Event::Alloc {
+                at,
+                addr: Some(self.addr),
+                size,
+            },
+            None => Event::Free {
+                at,
+                addr: self.addr,
+            },
+        }
+    }
+}

@@ -1,0 +1,118 @@
+-- Lines read and replayed, one after the other, and how the reading goes on and ends.
+use Rattle.std.proofs.Common.{◌≡◌, ◌≢◌, ℕ, List, [], ◌∷◌, ◌++◌, length, refl, sym, ap, ◌∙◌, subst, arith, Some, None, reverse, ◌⊎◌, inl, inr, length-append}
+use Rattle.std.specs.Prelude.{Result}
+use Rattle.std.specs.Io.KnownBytes.{prepend_known, IsAtEnd}
+use Rattle.std.proofs.lemmas.List.{reverse-append}
+use Rattle.mtrace_log.specs.Progress.{Progress, Status, Reading, Ended, Faulted, to_come, TakesLine, GivesLine, FindsEnd, StopsReading, GivesFault, CallsFor}
+use Rattle.mtrace_log.specs.declared.call.Call.{Call}
+use Rattle.mtrace_log.specs.HasRead.{HasRead, HasReadAll, HasReadBefore, HasReadSo}
+use Rattle.mtrace_log.specs.Event.{Event}
+use Rattle.mtrace_log.specs.declared.event.LineFault.{LineFault}
+use Rattle.mtrace_log.specs.declared.line.Line.{Line}
+use Rattle.mtrace_log.specs.declared.line.ReadFault.{ReadFault}
+use Rattle.mtrace_log.specs.declared.line.ReadFault.TheVariants.{ReaderFailed, TooManyLines}
+use Rattle.mtrace_log.proofs.ReadLemmas.{HasRead-none, HasReadSo-line, HasReadSo-end, HasReadSo-fault}
+use Rattle.mtrace_replay.specs.declared.settings.Settings.{Settings}
+use Rattle.mtrace_replay.specs.Replay.{Replayed, StandsFor}
+use Rattle.mtrace_replay.specs.Run.{Bytes, FailedInPiece, IsPastLastNumber}
+
+-- the lines so far were read and replayed
+pub record IsReplaying (settings : Settings) (progress : Progress) (replay : Replayed) (left_start left_now : Bytes) : Type 0 where
+  pub lines : List (Result Event LineFault)
+  pub count : progress.count ≡ length lines
+  pub no_fault : (fault : ReadFault) → progress.status ≢ Faulted fault
+  pub read : HasReadSo progress.status left_start (to_come progress left_now) lines
+  pub stands : StandsFor replay settings (reverse lines)
+
+pub prepend_nothing : (known : Bytes) → prepend_known [] known ≡ known
+prepend_nothing None = refl
+prepend_nothing (Some bytes) = refl
+
+pub no_fault_yet : (fault : ReadFault) → Reading ≢ Faulted fault
+no_fault_yet fault is = cc
+
+-- before the first line
+abbrev pub replaying_start : (settings : Settings) (replay : Replayed) (left : Bytes) → StandsFor replay settings []
+    → IsReplaying settings (record { held = []; count = 0; status = Reading; last = Some [] }) replay left left
+replaying_start settings replay left stands = record {
+  lines = [];
+  count = refl;
+  no_fault = no_fault_yet;
+  read = (let P : Bytes → Type 0 = λ text. HasRead left text [] in subst P (sym (prepend_nothing left)) (HasRead-none left));
+  stands = stands;
+}
+
+pub reverse-more : (lines : List (Result Event LineFault)) (line : Result Event LineFault) → reverse (lines ++ line ∷ []) ≡ line ∷ reverse lines
+reverse-more lines line = reverse-append lines (line ∷ [])
+
+-- one line more
+abbrev pub replaying_line : (settings : Settings) (old new : Progress) (replay_old replay_new : Replayed) (start before after : Bytes) (line : Line)
+    → (so_far : IsReplaying settings old replay_old start before)
+    → GivesLine old new (to_come old before) (to_come new after) line
+    → StandsFor replay_new settings (line.event ∷ reverse so_far.lines)
+    → IsReplaying settings new replay_new start after
+replaying_line settings old new replay_old replay_new start before after line so_far given stands = record {
+  lines = so_far.lines ++ line.event ∷ [];
+  count = given.count ∙ given.number ∙ omega (arith, so_far.count, length-append {A = Result Event LineFault});
+  no_fault = (λ fault is. (let T : Status → Type 0 = λ status. TakesLine status (to_come old before) (to_come new after) line.event in subst T is given.taken));
+  read = HasReadSo-line start (to_come old before) (to_come new after) old new line so_far.lines so_far.read given;
+  stands = (let Q : List (Result Event LineFault) → Type 0 = λ past. StandsFor replay_new settings past in subst Q (sym (reverse-more so_far.lines line.event)) stands);
+}
+
+-- a line that was taken leaves the status reading or ended
+pub line_read : (status : Status) (start before after : Bytes) (lines : List (Result Event LineFault)) (answer : Result Event LineFault) → TakesLine status before after answer → HasReadSo status start after lines
+    → HasRead start after lines ⊎ HasReadAll start after lines
+line_read Reading start before after lines answer taken read = inl read
+line_read Ended start before after lines answer taken read = inr read
+line_read (Faulted fault) start before after lines answer taken read = absurd taken
+
+-- at the end nothing that was asked of the reader is unused
+all_used : (held : List ℕ) (left : Bytes) → IsAtEnd (prepend_known held left) → prepend_known held left ≡ left
+all_used held None end = refl
+all_used [] (Some bytes) end = refl
+all_used (b ∷ held) (Some bytes) end = absurd (cc)
+
+pub used_to_end : (held : List ℕ) (start left : Bytes) (lines : List (Result Event LineFault)) → HasReadAll start (prepend_known held left) lines → HasReadAll start left lines
+used_to_end held start left lines all =
+    let P : Bytes → Type 0 = λ after. HasReadAll start after lines in
+    subst P (all_used held left all.at_end) all
+
+-- the end of the log
+pub replaying_end : {R : Type 0} (left : R → Bytes) (settings : Settings) (old new : Progress) (replay : Replayed) (start : Bytes) (reader_old reader_new : R)
+    → (so_far : IsReplaying settings old replay start (left reader_old))
+    → FindsEnd old.status old new reader_old reader_new (to_come old (left reader_old)) (to_come new (left reader_new))
+    → HasReadAll start (left reader_new) so_far.lines
+replaying_end left settings old new replay start reader_old reader_new so_far found =
+    used_to_end new.held start (left reader_new) so_far.lines (HasReadSo-end left start old new reader_old reader_new so_far.lines so_far.read found)
+
+-- why the reading stopped
+stop_reason : (fault : ReadFault) (count : ℕ) (start before : Bytes) (held : List ℕ) (left : Bytes) (calls_start calls : List Call) (lines : List (Result Event LineFault)) → count ≡ length lines
+    → HasRead start before lines → HasReadBefore start (prepend_known held left) lines → (fault ≡ ReaderFailed → held ≡ [])
+    → StopsReading fault count before (prepend_known held left) → CallsFor (Faulted fault) calls_start calls
+    → FailedInPiece start left calls_start calls lines ⊎ ((unused : List ℕ) × IsPastLastNumber start (prepend_known unused left) calls_start calls lines)
+stop_reason ReaderFailed count start before held left calls_start calls lines same read lost nothing stop came =
+    let P : Bytes → Type 0 = λ text. HasReadBefore start text lines in
+    inl (subst P (ap (λ bytes. prepend_known bytes left) (nothing refl) ∙ prepend_nothing left) lost, came)
+stop_reason TooManyLines count start before held left calls_start calls lines same read lost nothing stop came =
+    let P : Bytes → Type 0 = λ text. HasRead start text lines in
+    inr (held, record { count = sym same ∙ stop.0; read = subst P stop.1 read; more = stop.2; given = came })
+
+-- the reader failed, or there are no numbers left
+pub replaying_fault : {R : Type 0} (left : R → Bytes) (settings : Settings) (old new : Progress) (replay : Replayed) (start : Bytes) (reader_old reader_new : R) (calls_start calls : List Call) (fault : ReadFault)
+    → (so_far : IsReplaying settings old replay start (left reader_old))
+    → GivesFault old.status fault old new reader_old reader_new (to_come old (left reader_old)) (to_come new (left reader_new))
+    → (fault ≡ ReaderFailed → new.held ≡ []) → CallsFor (Faulted fault) calls_start calls
+    → FailedInPiece start (left reader_new) calls_start calls so_far.lines
+    ⊎ ((unused : List ℕ) × IsPastLastNumber start (prepend_known unused (left reader_new)) calls_start calls so_far.lines)
+replaying_fault {R} left settings old new replay start reader_old reader_new calls_start calls fault so_far given nothing came = reason_by old.status refl so_far.read given
+  where
+    lost : HasReadBefore start (to_come new (left reader_new)) so_far.lines
+    lost = HasReadSo-fault left start old new reader_old reader_new fault so_far.lines so_far.read given
+
+    reason_by : (status : Status) → old.status ≡ status → HasReadSo status start (to_come old (left reader_old)) so_far.lines
+        → GivesFault status fault old new reader_old reader_new (to_come old (left reader_old)) (to_come new (left reader_new))
+        → FailedInPiece start (left reader_new) calls_start calls so_far.lines ⊎ ((unused : List ℕ) × IsPastLastNumber start (prepend_known unused (left reader_new)) calls_start calls so_far.lines)
+    reason_by Reading is read stop =
+        stop_reason fault old.count start (to_come old (left reader_old)) new.held (left reader_new) calls_start calls so_far.lines so_far.count read lost nothing stop.2 came
+    reason_by Ended is read stop = absurd stop
+    reason_by (Faulted first) is read stop = absurd (so_far.no_fault first is)

@@ -1,0 +1,60 @@
+use Rattle.std.proofs.Common.{arith, sym, ◌∙◌, reverse, inr}
+use Rattle.mtrace_log.proofs.CallLemmas.{calls_more, calls_of_line, calls_to_end, calls_to_fault}
+use Rattle.mtrace_replay.proofs.ReplayingLemmas.{replaying_line, replaying_end, replaying_fault}
+use Rattle.mtrace_replay.proofs.AgainLemmas.{first_at_end, first_at_most, failed_in_piece}
+use Rattle.mtrace_replay.proofs.again.replay_first.Goals as goal
+
+pub returns-in-Ok-None-clause-done : goal.returns-in-Ok-None-clause-done
+returns-in-Ok-None-clause-done g c = λ settings stands.
+    let left = g.R.Source.left in
+    let so_far = c.loop.invariant.so_far settings stands in
+    let found = rw c.in-Ok-None.field-0-is at c.in-Ok-None.ensures.end in
+    first_at_end c.args.most settings c.loop.lines c.loop.replay (left c.args.reader.now) (left c.loop.reader) (left c.advance.new.reader) so_far (omega (arith, c.loop.invariant.many, c.loop-test.true))
+    (replaying_end left settings c.loop.lines c.advance.new.self c.loop.replay (left c.args.reader.now) c.loop.reader c.advance.new.reader so_far found.1)
+
+pub returns-in-Ok-None-clause-not_failed : goal.returns-in-Ok-None-clause-not_failed
+returns-in-Ok-None-clause-not_failed g c =
+    let found = rw c.in-Ok-None.field-0-is at c.in-Ok-None.ensures.end in
+    inr (calls_to_end g.R.Source.trace (g.R.Source.trace c.args.reader.now) c.loop.lines c.advance.new.self c.loop.reader c.advance.new.reader _ _
+    c.loop.invariant.gave c.in-Ok-None.ensures.calls found.0 found.1)
+
+pub returns-in-Err-clause-read : goal.returns-in-Err-clause-read
+returns-in-Err-clause-read g c = λ _ settings stands.
+    let left = g.R.Source.left in
+    let so_far = c.loop.invariant.so_far settings stands in
+    let came = calls_to_fault g.R.Source.trace (g.R.Source.trace c.args.reader.now) c.loop.lines c.advance.new.self c.loop.reader c.advance.new.reader _ _ c.in-Err.field-0
+    c.loop.invariant.gave c.in-Err.ensures.calls c.in-Err.ensures.fault in
+    let why = replaying_fault left settings c.loop.lines c.advance.new.self c.loop.replay (left c.args.reader.now) c.loop.reader c.advance.new.reader _ _ c.in-Err.field-0
+    so_far c.in-Err.ensures.fault c.in-Err.ensures.nothing_held came in (
+      so_far.lines,
+      failed_in_piece (left c.args.reader.now) (left c.advance.new.reader) _ _ so_far.lines
+          (omega (arith, so_far.count, c.loop.invariant.many, c.loop-test.true, c.ranges.most.fits)) why,
+    )
+
+pub loop-preserved : goal.loop-preserved
+loop-preserved g c =
+    let passed = rw c.in-Ok-Some.field-0-is at c.in-Ok-Some.ensures.line in
+    let given = passed c.event.result c.event.ensures in
+    let gave = calls_more c.loop.lines.status c.advance.new.self.status _ _ _ given.was_reading c.loop.invariant.gave c.in-Ok-Some.ensures.calls in
+    let fed = c.in-Ok.ensures in
+    record {
+      so_far = (λ settings stands. let so_far = c.loop.invariant.so_far settings stands in
+          replaying_line settings c.loop.lines c.advance.new.self c.loop.replay c.feed_lent.new.self
+          (g.R.Source.left c.args.reader.now) (g.R.Source.left c.loop.reader) (g.R.Source.left c.advance.new.reader) (record { number = c.in-Ok-Some.number; event = c.event.result })
+          so_far given (fed.stands settings (reverse so_far.lines) so_far.stands));
+      counted = fed.counted ∙ sym given.count;
+      many = omega (arith, given.count, given.number, c.loop.invariant.many);
+      none = c.clear.ensures;
+      whole = c.in-Ok-Some.ensures.whole ∙ c.loop.invariant.whole;
+      gave = gave;
+      not_failed = calls_of_line c.advance.new.self.status _ _ _ _ _ given.taken gave;
+      records = c.feed_lent.ensures.records ∙ c.loop.invariant.records;
+    }
+
+pub returns-clause-done : goal.returns-clause-done
+returns-clause-done g c = λ settings stands.
+    first_at_most c.args.most settings c.loop.lines c.loop.replay (g.R.Source.left c.args.reader.now) (g.R.Source.left c.loop.reader) (c.loop.invariant.so_far settings stands)
+    (omega (arith, c.loop.invariant.many, c.loop-test.false, c.loop.auto.counter-end))
+
+pub returns-clause-not_failed : goal.returns-clause-not_failed
+returns-clause-not_failed g c = c.loop.invariant.not_failed

@@ -1,0 +1,5 @@
+use Rattle.mtrace_replay.proofs.ToldLemmas.{told_first}
+use Rattle.mtrace_replay.proofs.laws.first_lines_again.Goals as goal
+
+pub returns : goal.returns
+returns c = told_first

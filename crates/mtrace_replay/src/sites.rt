@@ -1,0 +1,216 @@
+//! The run that tells who holds the memory of a log.
+
+ghost use Rattle.std.specs.Prelude.{◌≡◌, ◌∷◌, ◌++◌, ◌≤◌, ◌↔◌, List, [], length, reverse, flat_map, OnOk, OnErr, IfOk, IsErrOf, IsTrue};
+ghost use Rattle.mtrace_log.specs.Output.{Puts};
+ghost use Rattle.mtrace_log.specs.Trace.{HasNotFailed};
+ghost use Rattle.mtrace_log.specs.declared.call.Call.{Call};
+ghost use Rattle.mtrace_replay.specs.declared.settings.Settings.{Settings};
+ghost use Rattle.mtrace_replay.specs.Settings.{are_bad};
+ghost use Rattle.mtrace_replay.specs.Moment.{Reading};
+ghost use Rattle.mtrace_replay.specs.Replay.{StandsFor, entries};
+ghost use Rattle.mtrace_replay.specs.Sites.{AreSites};
+ghost use Rattle.mtrace_replay.specs.Texts.{total_size, site_text as text_of_site, section, peak_words as words_of_peak, end_words};
+ghost use Rattle.mtrace_replay.specs.Saving.{PutsAndFlushes};
+ghost use Rattle.mtrace_replay.specs.Again.{HasReplayedFirst};
+ghost use Rattle.mtrace_replay.specs.RunSites.{FailsAgain, SitesFollow, RunsSites};
+
+use crate::again::replay_first;
+use crate::grouping::Grouping;
+use crate::line_text::{peak_words, section_text, site_text};
+use crate::replay::{Replay, ReplayFault};
+use crate::report::Report;
+use crate::run::replay_log;
+use crate::settings::Settings;
+use crate::site::Site;
+use crate::status::{RunFault, Status};
+use mtrace_log::{Again, Failed, Sink, put_all};
+use std::alloc::Global;
+use tlsf_heap::{Heap, Heaped};
+
+/// Puts a line for each site.
+fn put_sites<W: Sink>(writer: &mut W, sites: &[Site<'_>]) -> Result<(), Failed>
+    ensures { Puts W.taken W.trace result (flat_map text_of_site sites.now) writer.old writer.new }
+{
+    for site in sites {
+        put_all(writer, site_text(site).as_slice())?;
+    }
+    Ok(())
+}
+
+/// How many blocks are held, and how many bytes they have together.
+#[derive(Clone, Copy)]
+struct Sum {
+    blocks: u64,
+    bytes: u64,
+}
+
+/// Groups what a replay holds.
+fn group_held<'a, H: Heaped>(replay: &'a Replay<H>, grouping: &mut Grouping<'a>) -> Sum
+    requires room { replay.now.content.records ≤ grouping.old.room }
+    ensures blocks { result.blocks ≡ length (entries replay.now) }
+    ensures bytes { result.bytes ≡ total_size (entries replay.now) }
+    ensures sites { AreSites (entries replay.now) grouping.new.sites }
+{
+    let sum = Sum {
+        blocks: replay.blocks(),
+        bytes: replay.bytes(),
+    };
+    grouping.group(replay.held());
+    sum
+}
+
+/// Puts a section: words, how many blocks are held and their bytes, and a line for each site.
+fn put_section<W: Sink>(
+    writer: &mut W,
+    words: &[u8],
+    sum: Sum,
+    sites: &[Site<'_>],
+) -> Result<(), Failed>
+    ensures { Puts W.taken W.trace result (section words.now sum.blocks sum.bytes sites.now) writer.old writer.new }
+{
+    put_all(writer, words)?;
+    put_all(writer, section_text(sum.blocks, sum.bytes).as_slice())?;
+    put_sites(writer, sites)
+}
+
+/// Begins the log again, and replays its first lines, `most` of them, or all where it has no more.
+fn replay_again<R: Again>(
+    reader: &mut R,
+    replay: &mut Replay<Heap>,
+    most: u64,
+) -> Result<(), Failed>
+    requires start { replay.old.totals.lines ≡ 0 }
+    ensures done { OnOk result ((settings : Settings) → StandsFor replay.old settings []
+        → HasReplayedFirst most settings replay.new (R.whole reader.old) (R.left reader.new)) }
+    ensures not_failed { OnOk result (HasNotFailed (Call.Began ∷ R.trace reader.old) (R.trace reader.new)) }
+    ensures read { OnErr result ((settings : Settings) → StandsFor replay.old settings []
+        → FailsAgain (R.whole reader.old) (R.left reader.old) (R.left reader.new) (R.trace reader.old) (R.trace reader.new)) }
+    ensures records { replay.new.content.records ≡ replay.old.content.records }
+{
+    reader.begin()?;
+    match replay_first(reader, replay, most) {
+        Ok(()) => Ok(()),
+        Err(RunFault::Read) => Err(Failed),
+        Err(_) => unreachable!(),
+    }
+}
+
+/// Puts what is held at the peak and what is held at the end, each by its sites.
+fn put_both<W: Sink>(
+    writer: &mut W,
+    line: u64,
+    peak_sum: Sum,
+    peak_sites: &[Site<'_>],
+    end_sum: Sum,
+    end_sites: &[Site<'_>],
+) -> Result<(), Failed>
+    ensures { Puts W.taken W.trace result (section (words_of_peak line) peak_sum.blocks peak_sum.bytes peak_sites.now
+        ++ section end_words end_sum.blocks end_sum.bytes end_sites.now) writer.old writer.new }
+{
+    put_section(writer, peak_words(line).as_slice(), peak_sum, peak_sites)?;
+    put_section(writer, b"Held at the end", end_sum, end_sites)
+}
+
+/// Puts both, and flushes.
+fn put_and_flush<W: Sink>(
+    writer: &mut W,
+    line: u64,
+    peak_sum: Sum,
+    peak_sites: &[Site<'_>],
+    end_sum: Sum,
+    end_sites: &[Site<'_>],
+) -> Result<(), Failed>
+    ensures { PutsAndFlushes W.taken W.trace result (section (words_of_peak line) peak_sum.blocks peak_sum.bytes peak_sites.now
+        ++ section end_words end_sum.blocks end_sum.bytes end_sites.now) writer.old writer.new }
+{
+    if put_both(writer, line, peak_sum, peak_sites, end_sum, end_sites).is_err() {
+        return Err(Failed);
+    }
+    writer.flush()
+}
+
+/// Reads the log again, up to the line of the peak, and puts who holds its memory.
+fn tell_sites<'a, R: Again, W: Sink>(
+    reader: &mut R,
+    writer: &mut W,
+    at_end: &'a Replay<Heap>,
+    at_peak: &'a mut Replay<Heap>,
+    mut end: Grouping<'a>,
+    mut peak: Grouping<'a>,
+) -> Result<(), RunFault>
+    requires start { at_peak.old.totals.lines ≡ 0 }
+    requires as_few { at_peak.old.content.records ≡ at_end.now.content.records }
+    requires end_room { at_end.now.content.records ≤ end.room }
+    requires peak_room { at_end.now.content.records ≤ peak.room }
+    ensures { (settings : Settings) (lines : List Reading) → StandsFor at_end.now settings (reverse lines) → StandsFor at_peak.old settings []
+        → SitesFollow settings lines R.left R.whole R.trace W.taken W.trace result reader.old reader.new writer.old writer.new }
+{
+    let line = at_end.totals().peak_line;
+    let end_sum = group_held(at_end, &mut end);
+    let Ok(()) = replay_again(reader, at_peak, line) else {
+        return Err(RunFault::Read);
+    };
+    let peak_sum = group_held(at_peak, &mut peak);
+    match put_and_flush(writer, line, peak_sum, peak.sites(), end_sum, end.sites()) {
+        Ok(()) => Ok(()),
+        Err(_) => Err(RunFault::Write),
+    }
+}
+
+/// What a run takes memory for beside its first replay: a replay to the peak, and room to group what is held there and at the
+/// end.
+fn take_memory<'a>(
+    alloc: Global,
+    settings: Settings,
+) -> Result<(Replay<Heap>, Grouping<'a>, Grouping<'a>), ReplayFault>
+    ensures replay { IfOk result (λ taken. StandsFor taken.0 settings []) }
+    ensures records { IfOk result (λ taken. taken.0.content.records ≡ settings.records) }
+    ensures peak_room { IfOk result (λ taken. settings.records ≤ taken.1.room) }
+    ensures end_room { IfOk result (λ taken. settings.records ≤ taken.2.room) }
+    ensures bad_settings { IsErrOf result ReplayFault.BadSettings ↔ IsTrue (are_bad settings) }
+{
+    let replay = Replay::create(alloc, settings)?;
+    let Ok(peak) = Grouping::new(alloc, settings.records) else {
+        return Err(ReplayFault::OutOfMemory);
+    };
+    let Ok(end) = Grouping::new(alloc, settings.records) else {
+        return Err(ReplayFault::OutOfMemory);
+    };
+    Ok((replay, peak, end))
+}
+
+/// Reads a log of mtrace(3), replays it on a heap by the settings, and writes what is wrong with its lines, each as it
+/// comes; then the writer is flushed. Then the log is read again, up to the line of the peak, and it is written who holds
+/// its memory: what is held at the peak, and what is held at the end, each by the locations that asked for it. The writer is
+/// flushed once more.
+///
+/// Memory is taken at the start alone, for two replays, and to group what they hold; all that is held at the end is grouped before
+/// the log is read again.
+///
+/// # Errors
+///
+/// `Read`, `Write`, `OutOfMemory` and `BadSettings` come as in the runs that write a report. `Read` where the reader doesn't begin
+/// again, or fails then, too: what is wrong with the lines is written, and nothing of what is held. `Write` where the writer fails
+/// at that, too: a beginning of it is written.
+pub fn run_sites<R: Again, W: Sink>(
+    alloc: Global,
+    reader: &mut R,
+    writer: &mut W,
+    settings: Settings,
+) -> Result<Status, RunFault>
+    ensures { RunsSites settings R.left R.whole R.trace W.taken W.trace result reader.old reader.new writer.old writer.new }
+{
+    let (mut at_peak, peak, end) = match take_memory(alloc, settings) {
+        Ok(taken) => taken,
+        Err(ReplayFault::BadSettings) => return Err(RunFault::BadSettings),
+        Err(ReplayFault::OutOfMemory) => return Err(RunFault::OutOfMemory),
+    };
+    let ended = match replay_log(alloc, reader, writer, settings, Report::Notes) {
+        Ok(ended) => ended,
+        Err(fault) => return Err(fault),
+    };
+    match tell_sites(reader, writer, &ended.replay, &mut at_peak, end, peak) {
+        Ok(()) => Ok(ended.status),
+        Err(fault) => Err(fault),
+    }
+}
