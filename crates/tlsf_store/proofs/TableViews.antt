@@ -83,15 +83,15 @@ write_changes records shown first vacant table view slot r within used new one =
     }
 
 -- an edit of a used record: the table in memory, and what callers see
-pub record Edited (edit : Record → Record) (room : ℕ) (records shown : List Record) (first : Option ℕ) (vacant slot : ℕ) (was : Record) : Type 0 where
-  pub stored : IsStored room (set records slot (edit was)) first vacant
+pub record Edited (edit : Record → Record) (capacity room : ℕ) (records shown : List Record) (first : Option ℕ) (vacant slot : ℕ) (was : Record) : Type 0 where
+  pub stored : IsStored capacity room (set records slot (edit was)) first vacant
   pub view : map seen (set records slot (edit was)) ≡ set shown slot (edit (record_at shown slot))
 
-pub edit_changes : (edit : Record → Record) (room : ℕ) (records shown : List Record) (first : Option ℕ) (vacant : ℕ) → IsStored room records first vacant →
+pub edit_changes : (edit : Record → Record) (capacity room : ℕ) (records shown : List Record) (first : Option ℕ) (vacant : ℕ) → IsStored capacity room records first vacant →
     map seen records ≡ shown → (slot index : ℕ) → index ≡ slot → slot < length shown → (record_at shown slot).state ≢ Vacant →
     (edit (record_at shown slot)).state ≢ Vacant → ((r : Record) → IsKept (length shown) r → IsKept (length shown) (edit r)) →
-    (was : Record) → was ≡ slice_index_or records index was → Edited edit room records shown first vacant slot was
-edit_changes edit room records shown first vacant stored view slot index at within used new keeps was is =
+    (was : Record) → was ≡ slice_index_or records index was → Edited edit capacity room records shown first vacant slot was
+edit_changes edit capacity room records shown first vacant stored view slot index at within used new keeps was is =
     let long : length records ≡ length shown = shown_length records shown view in
     let inside : slot < length records = omega arith in
     let here : was ≡ record_at records slot =
@@ -103,7 +103,7 @@ edit_changes edit room records shown first vacant stored view slot index at with
     let changed : Changed (set records slot (edit was)) (set shown slot (edit was)) first vacant =
     write_changes records shown first vacant stored.table view slot (edit was) within used (subst (λ r. (edit r).state ≢ Vacant) same new) one in
     record {
-      stored = record { exact = stored.exact ∙ sym (length-set records slot (edit was)); table = changed.table };
+      stored = record { exact = stored.exact; fits = omega (arith, stored.fits, length-set records slot (edit was)); table = changed.table };
       view = changed.view ∙ ap (λ r. set shown slot (edit r)) (sym same);
     }
 

@@ -33,7 +33,8 @@ pub record IsTable (records : List Record) (first : Option ℕ) (vacant : ℕ) :
   pub chained : IsChain (IsVacantAt records) (next_at records) vacant first
   pub counted : vacant_count records ≡ vacant
 
--- the same in memory that has room for these records and no more: so a table can keep no memory beside
-pub record IsStored (room : ℕ) (records : List Record) (first : Option ℕ) (vacant : ℕ) : Type 0 where
-  pub exact : room ≡ length records
+-- the same in memory that has room for as many records as the table was made with, and no more: so a table can keep no memory beside
+pub record IsStored (capacity room : ℕ) (records : List Record) (first : Option ℕ) (vacant : ℕ) : Type 0 where
+  pub exact : capacity ≡ room
+  pub fits : length records ≤ room
   pub table : IsTable records first vacant

@@ -38,7 +38,7 @@ pub struct Store {
     touches: GhostCount,
 }
 
-const _: () = prove!(size_of::<Store>() == 1_664);
+const _: () = prove!(size_of::<Store>() == 1_672);
 
 impl Model for Store {
     ghost use Rattle.tlsf_store.specs.Cells.{AreCells};
@@ -84,6 +84,24 @@ impl Store {
             pools: [None; MOST_POOLS],
             touches: GhostCount::new(),
         })
+    }
+
+    /// The store is one of this many vacant records, from 1 to as many as there are, with nothing in it. It takes
+    /// no memory, and isn't a touch.
+    pub fn restart(&mut self, records: u32)
+        requires some { 0 < records }
+        requires few { records ≤ length self.old.cells.records }
+        ensures cells { self.new.cells ≡ empty_cells records }
+        ensures touches { self.new.touches ≡ self.old.touches }
+    {
+        let heads = [MISSING; HEADS];
+        let step_words = [0; STEP_WORDS];
+        let pools = [None; MOST_POOLS];
+        self.table.restart(records);
+        self.heads = heads;
+        self.level_word = 0;
+        self.step_words = step_words;
+        self.pools = pools;
     }
 
     /// How many records there are. It isn't a touch.

@@ -1,8 +1,9 @@
 //! The table of records, and the chain of those that are vacant.
 
-ghost use Rattle.std.specs.Prelude.{◌≡◌, ◌+◌, ◌<◌, ◌≤◌, ◌≢◌, ◌%◌, true, IfOk, MatchOption, length, replicate, slice_set, Some};
+ghost use Rattle.std.specs.Prelude.{◌≡◌, ◌+◌, ◌<◌, ◌≤◌, ◌≢◌, ◌%◌, true, IfOk, MatchOption, length, map, replicate, slice_set, vec_capacity, [], Some};
 ghost use Rattle.tlsf_class.specs.Classes.{unit};
 ghost use Rattle.tlsf_store.specs.declared.records.State.TheVariants.{Vacant, Free};
+ghost use Rattle.tlsf_store.specs.Table.{seen, IsTable};
 ghost use Rattle.tlsf_store.specs.Records.{most_records, blank, blank_in, record_at, vacant_count, IsBelow, IsKept};
 
 use super::ghost_count::GhostCount;
@@ -18,6 +19,24 @@ pub(crate) struct Table {
     items: Vec<Packed>,
     first: Option<Slot>,
     vacant: u32,
+    room: u16,
+}
+
+/// Fills memory with `count` vacant records, and answers the first of their chain.
+fn fill(items: &mut Vec<Packed>, count: u32) -> Option<Slot>
+    requires few { count ≤ most_records }
+    requires empty { items.old.items ≡ [] }
+    requires room { count ≤ vec_capacity items.old }
+    ensures table { IsTable items.new.items result count }
+    ensures blank { map seen items.new.items ≡ replicate count blank }
+    ensures capacity { vec_capacity items.new ≡ vec_capacity items.old }
+{
+    let mut first = None;
+    for number in 0..count {
+        items.push_reserved(Packed::pack(Record::vacant(first)));
+        first = Some(Slot(number as u16));
+    }
+    first
 }
 
 impl Model for Table {
@@ -29,7 +48,7 @@ impl Model for Table {
 
     ghost view = { λ t. map seen t.items.items };
 
-    ghost invariant = { λ t. IsStored (vec_capacity t.items) t.items.items t.first t.vacant };
+    ghost invariant = { λ t. IsStored (vec_capacity t.items) t.room t.items.items t.first t.vacant };
 }
 
 impl Table {
@@ -39,16 +58,23 @@ impl Table {
         ensures { IfOk result (λ t. t ≡ replicate count blank) }
     {
         let mut items = Vec::with_capacity(alloc, count as usize)?;
-        let mut first = None;
-        for number in 0..count {
-            items.push_reserved(Packed::pack(Record::vacant(first)));
-            first = Some(Slot(number as u16));
-        }
+        let first = fill(&mut items, count);
         Ok(Table {
             items,
             first,
             vacant: count,
+            room: count as u16,
         })
+    }
+
+    /// The table is one of `count` vacant records, in the memory that it has: at most as many as there are.
+    pub(crate) fn restart(&mut self, count: u32)
+        requires { count ≤ length self.old }
+        ensures { self.new ≡ replicate count blank }
+    {
+        self.items.clear();
+        self.first = fill(&mut self.items, count);
+        self.vacant = count;
     }
 
     /// How many records there are.

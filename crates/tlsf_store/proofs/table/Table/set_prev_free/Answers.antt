@@ -5,12 +5,12 @@ pub invariant_of-self : goal.invariant_of-self
 invariant_of-self c =
     let r = c.requires in
     rw (c.index.ensures, c.set_prev_free.ensures)
-    (edit_changes (λ old. record old { prev_free = c.args.prev }) _ _ c.args.self.now _ _ c.self.invariant c.self.view_is c.args.slot _ c.index.ensures r.within r.used r.used
+    (edit_changes (λ old. record old { prev_free = c.args.prev }) _ _ _ c.args.self.now _ _ c.self.invariant c.self.view_is c.args.slot _ c.index.ensures r.within r.used r.used
     (λ old kept. record { place = kept.place; size = kept.size; prev = kept.prev; next = kept.next; prev_free = r.below; next_free = kept.next_free }) _ c.index_mut.ensures.value).stored
 
 pub returns : goal.returns
 returns c =
     let r = c.requires in
     rw (c.index.ensures, c.set_prev_free.ensures)
-    (edit_changes (λ old. record old { prev_free = c.args.prev }) _ _ c.args.self.now _ _ c.self.invariant c.self.view_is c.args.slot _ c.index.ensures r.within r.used r.used
+    (edit_changes (λ old. record old { prev_free = c.args.prev }) _ _ _ c.args.self.now _ _ c.self.invariant c.self.view_is c.args.slot _ c.index.ensures r.within r.used r.used
     (λ old kept. record { place = kept.place; size = kept.size; prev = kept.prev; next = kept.next; prev_free = r.below; next_free = kept.next_free }) _ c.index_mut.ensures.value).view

@@ -1,4 +1,4 @@
-use Rattle.std.proofs.Common.{◌≡◌, ◌∙◌, ◌<◌, Some, sym, ap, subst, length, arith}
+use Rattle.std.proofs.Common.{◌≡◌, ◌∙◌, ◌<◌, Some, ap, subst, length, arith}
 use Rattle.std.proofs.lemmas.List.{get_or_default, length-set}
 use Rattle.tlsf_store.specs.declared.records.State.TheVariants.{Free}
 use Rattle.tlsf_store.specs.Records.{blank, blank_in, record_at}
@@ -18,7 +18,8 @@ invariant_of-self c =
     let link : c.next-self-inside.result ≡ next_at items slot = c.next-self-inside.ensures ∙ ap (λ v. v.next) is in
     rw (c.index-index.ensures, c.pack.ensures, c.blank.ensures, link)
     (record {
-      exact = c.self.invariant.exact ∙ sym (length-set items slot (blank_in Free));
+      exact = c.self.invariant.exact;
+      fits = omega (arith, c.self.invariant.fits, length-set items slot (blank_in Free));
       table = taken.changed.table;
     })
 

@@ -1,4 +1,4 @@
-use Rattle.std.proofs.Common.{◌≤◌, ◌∙◌, sym, length, arith}
+use Rattle.std.proofs.Common.{◌≤◌, length, arith}
 use Rattle.std.proofs.lemmas.List.{length-set}
 use Rattle.tlsf_store.specs.Records.{most_records}
 use Rattle.tlsf_store.proofs.RecordLaws.{kept_more}
@@ -15,7 +15,8 @@ invariant_of-self c =
     let r = c.requires in
     rw (c.index.ensures, c.pack.ensures)
     (record {
-      exact = c.self.invariant.exact ∙ sym (length-set c.self.inside.items.items c.args.slot c.args.value);
+      exact = c.self.invariant.exact;
+      fits = omega (arith, c.self.invariant.fits, length-set c.self.inside.items.items c.args.slot c.args.value);
       table = (write_changes _ c.args.self.now _ _ c.self.invariant.table c.self.view_is c.args.slot c.args.value r.within r.used r.new_used r.kept).table;
     })
 
