@@ -66,7 +66,7 @@ module _ (chunks : List Chunk) (whole : AreWhole chunks) where
       ∙ take_put n (all_keys chunks) k key
 
 -- what an index opened says of the value it is seen as
-module _ (inside : Inside) (has : AreChunks inside.chunks.items (vec_capacity inside.chunks) inside.len inside.room) (now : Kept)
+module _ (inside : Inside) (has : AreChunks inside.chunks.items (vec_capacity inside.chunks) inside.len inside.room inside.most) (now : Kept)
     (is : let seen : Kept = record { keys = take inside.len (all_keys inside.chunks.items); rows = record { entries = all_rows inside.chunks.items; room = inside.room } } in seen ≡ now) where
   abbrev pub chunks : List Chunk
   chunks = inside.chunks.items
@@ -115,11 +115,12 @@ module _ (inside : Inside) (has : AreChunks inside.chunks.items (vec_capacity in
   covers count n all = ((λ less. omega (arith, rows_are, less, all)), (λ more. omega (arith, rows_are, more, all)))
 
   -- one more chunk
-  pub added_has : (new : Chunk) → IsWhole new → AreChunks (chunks ++ new ∷ []) memory len room
+  pub added_has : (new : Chunk) → IsWhole new → AreChunks (chunks ++ new ∷ []) memory len room inside.most
   added_has new new_whole = record {
     whole = whole_push chunks new has.whole new_whole;
     used = omega (arith, has.used, length-append chunks (new ∷ []));
     within = has.within;
+    fits = has.fits;
     reserved = has.reserved;
     few = has.few;
   }

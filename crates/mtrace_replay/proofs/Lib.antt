@@ -2,6 +2,7 @@ mod AgainLemmas
 mod ArrangeLemmas
 mod AskedBlock
 mod Flat
+mod FitLemmas
 mod FoundLemmas
 mod GapLemmas
 mod HeapSteps
@@ -19,6 +20,7 @@ mod NoteLemmas
 mod ReplayingLemmas
 mod RowLemmas
 mod RunLemmas
+mod RunsAgain
 pub mod SaveLemmas
 mod SearchLemmas
 mod Served
@@ -36,3 +38,4 @@ mod TextLemmas
 mod ToldLemmas
 mod TotalsLemmas
 mod TotalsStep
+mod TriedLemmas

@@ -1,6 +1,6 @@
 -- A replay stands for one line more.
 use Rattle.std.proofs.Common.{◌⊎◌, inl, inr, cond, option_map, is_some, Bool, true, false, ◌≤◌, Option, Some, None, ◌≡◌, ℕ, suc, ◌+◌, List, [], ◌∷◌, ◌++◌, length, refl, sym, ap, ◌∙◌, subst, arith}
-use Rattle.std.specs.Prelude.{Ok, Err, if◌then◌else◌}
+use Rattle.std.specs.Prelude.{Ok, Err, if◌then◌else◌, max}
 use Rattle.std.specs.List.Sorted.{IsStrictlyIncreasing}
 use Rattle.mtrace_log.specs.declared.event.Event.TheVariants.{Start, End, Alloc, Free, Old, New, Failed, Aligned}
 use Rattle.mtrace_log.specs.declared.event.LineFault.TheVariants as fault
@@ -24,10 +24,10 @@ use Rattle.mtrace_replay.specs.Holding.{Holding}
 use Rattle.mtrace_replay.specs.declared.totals.Totals.{Totals}
 use Rattle.mtrace_replay.specs.Index.{held_at}
 use Rattle.mtrace_replay.specs.Texts.{total_size}
-use Rattle.mtrace_replay.specs.Totals.{AreTotals, gone_on, is_refusal}
+use Rattle.mtrace_replay.specs.Totals.{AreTotals, IsMost, gone_on, is_refusal}
 use Rattle.mtrace_replay.proofs.StepLemmas.{found_given, given_under}
 use Rattle.mtrace_replay.proofs.Stood.{stood_outcome}
-use Rattle.mtrace_replay.proofs.TotalsLemmas.{sum_none, count_none, peak_none, high_none, started_free}
+use Rattle.mtrace_replay.proofs.TotalsLemmas.{sum_none, count_none, peak_none, most_goes_on, high_none, started_free}
 use Rattle.mtrace_replay.proofs.TotalsStep.{totals_of_line}
 use Rattle.mtrace_replay.proofs.Moments.{moments-line}
 use Rattle.mtrace_replay.proofs.SortedLemmas.{addresses}
@@ -139,11 +139,11 @@ module _ (old new : Replayed) (settings : Settings) (past : List Reading) (line 
 
     pub stands_for_line : IsStrictlyIncreasing (addresses new.given) → new.pending ≡ old_address line → new.out_of_memory ≡ false
         → (bytes blocks : ℕ) (refused : Bool) → new.totals ≡ gone_on old.totals end refused bytes blocks
-        → bytes ≡ total_size (entries_of new.given) → blocks ≡ length new.given
+        → bytes ≡ total_size (entries_of new.given) → blocks ≡ length new.given → new.most ≡ max old.most blocks
         → refused ≡ list_any (λ (note : Diagnostic). is_refusal note.kind) (added_notes settings line past)
         → StandsFor new settings (line ∷ past)
     unfolding its_outcome before now
-    stands_for_line ordered told works bytes blocks refused gone sum count noted =
+    stands_for_line ordered told works bytes blocks refused gone sum count most noted =
         let whole = moments-line (started settings) line past in
         let start = started settings in
         let ms = moments (started settings) past in
@@ -158,6 +158,8 @@ module _ (old new : Replayed) (settings : Settings) (past : List Reading) (line 
           held = subst P (sym whole) holds;
           totals = subst (λ past. T past new.totals) (sym whole) (subst (T (now ∷ ms)) (sym gone)
               (totals_of_line start ms now new.given old.totals end refused bytes blocks stands.totals comes_so.end_is noted holds sum count stood given_stands));
+          most = subst (λ past. IsMost past new.most) (sym whole) (subst (IsMost (now ∷ ms)) (sym most)
+              (most_goes_on now ms old.most blocks stands.most (record { all = new.given; held = holds; count = count })));
         }
 
   pub notes_of_line : (if is_new line then [] else half old.totals.lines old.pending) ++ notes ≡ added_notes settings line past

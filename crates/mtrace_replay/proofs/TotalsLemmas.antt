@@ -1,6 +1,6 @@
 -- How the totals of a log's lines go on by one line.
 use Rattle.std.proofs.Common.{◌≡◌, ℕ, zero, suc, ◌+◌, ◌-◌, ◌*◌, ◌<◌, ◌≤◌, true, false, List, [], ◌∷◌, length, drop, ◌⊎◌, inl, inr, refl, sym, ap, ◌∙◌, subst, arith, Ok, Err}
-use Rattle.std.specs.Prelude.{◌&&◌, nat_le, nat_lt}
+use Rattle.std.specs.Prelude.{◌&&◌, max, nat_le, nat_lt}
 use Rattle.std.specs.List.{Contains, list_all}
 use Rattle.std.proofs.lemmas.Bool.{cases_Bool, leb-true, leb-false}
 use Rattle.std.proofs.lemmas.List.Elements.{Contains-append_cases, Contains-append_left, Contains-append_right}
@@ -15,7 +15,7 @@ use Rattle.mtrace_replay.specs.Started.{Bare, left_by, with_pools, started}
 use Rattle.mtrace_replay.specs.Moment.{Given, Moment}
 use Rattle.mtrace_replay.specs.History.{content_after, entries_of}
 use Rattle.mtrace_replay.specs.Texts.{total_size}
-use Rattle.mtrace_replay.specs.Totals.{first_moments, IsSum, IsCount, IsPeak, IsLiveAfter, IsHighPlace}
+use Rattle.mtrace_replay.specs.Totals.{first_moments, IsSum, IsCount, IsMost, IsPeak, IsLiveAfter, IsHighPlace}
 use Rattle.mtrace_replay.proofs.SortedLemmas.{one_list}
 use Rattle.mtrace_replay.proofs.FoundLemmas.{none_held}
 
@@ -97,6 +97,38 @@ module _ (moment : Moment) (past : List Moment) (bytes line now : ℕ) (peak : I
     greatest = λ k sum is. sum_cases k sum is (λ within before. omega (arith, more, peak.greatest k sum before)) (λ beyond same. omega (arith, same));
     first = λ k sum below is. sum_cases k sum is (λ within before. omega (arith, more, peak.greatest k sum before)) (λ beyond same. absurd (omega (arith, beyond, below)));
   }
+
+pub most_none : IsMost [] 0
+most_none = record {
+  reached = (0, subst (λ (all : List Moment). IsCount all 0) (sym (none_first 0)) count_none);
+  greatest = λ k count is. (let same = count_is_one [] count 0 (subst (λ (all : List Moment). IsCount all count) (none_first k) is) count_none in omega (arith, same));
+}
+
+-- the most that are held, with one line more
+pub most_goes_on : (moment : Moment) (past : List Moment) (most now : ℕ) → IsMost past most → IsCount (moment ∷ past) now → IsMost (moment ∷ past) (max most now)
+most_goes_on moment past most now is count_now = record {
+  reached = elim (le_or_more now most) [
+    | inl within ↦
+        let same : most ≡ max most now = omega (arith, within) in
+        (reached.0, subst (λ n. IsCount (first_moments reached.0 (moment ∷ past)) n) same reached.1)
+    | inr more ↦
+        let same : now ≡ max most now = omega (arith, more) in
+        (length (moment ∷ past), subst (λ n. IsCount (first_moments (length (moment ∷ past)) (moment ∷ past)) n) same
+        (subst (λ (first : List Moment). IsCount first now) (sym (first_moments_all (moment ∷ past))) count_now))
+  ];
+  greatest = λ k count held. first_or_all k moment past
+      (λ within same. omega (arith, is.greatest k count (subst (λ (first : List Moment). IsCount first count) same held)))
+      (λ beyond same. omega (arith, count_is_one (moment ∷ past) count now (subst (λ (first : List Moment). IsCount first count) same held) count_now));
+}
+  where
+    -- as many are held after the same number of lines, or after all of them where the number is greater
+    reached : (k : ℕ) × IsCount (first_moments k (moment ∷ past)) most
+    reached = elim (le_or_more is.reached.0 (length past)) [
+      | inl within ↦ (is.reached.0, subst (λ (first : List Moment). IsCount first most) (sym (first_moments_before is.reached.0 moment past within)) is.reached.1)
+      | inr beyond ↦
+          (length past, subst (λ (first : List Moment). IsCount first most)
+          (first_moments_most is.reached.0 past (omega (arith, beyond)) ∙ sym (first_moments_before (length past) moment past (omega arith) ∙ first_moments_all past)) is.reached.1)
+    ]
 
 -- a block is live in the heap
 abbrev pub IsLiveIn : Bare → Block (Unit {0}) → Type 0

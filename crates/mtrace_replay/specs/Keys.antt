@@ -39,12 +39,13 @@ pub record IsWhole (chunk : Chunk) : Type 0 where
 abbrev pub AreWhole : List Chunk → Type 0
 AreWhole chunks = AllByRecursion IsWhole chunks
 
--- the chunks have the keys in use, and there is memory for exactly as many chunks as there can be
-pub record AreChunks (chunks : List Chunk) (memory len room : ℕ) : Type 0 where
+-- the chunks have the keys in use, and there is memory for exactly as many chunks as the index was made for
+pub record AreChunks (chunks : List Chunk) (memory len room most : ℕ) : Type 0 where
   pub whole : AreWhole chunks
   pub used : len ≤ 64 * length chunks
   pub within : len ≤ room
-  pub reserved : memory ≡ (room + 63) / 64
+  pub fits : room ≤ most
+  pub reserved : memory ≡ (most + 63) / 64
   pub few : room < 2 ^ 32
 
 -- the rows that there were stay, and more may be there

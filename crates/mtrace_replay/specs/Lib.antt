@@ -13,6 +13,7 @@ pub mod Arrange
 pub mod Step
 pub mod Replay
 pub mod Sites
+pub mod Fit
 pub mod Gather
 pub mod Texts
 pub mod Rows
@@ -21,3 +22,4 @@ pub mod Run
 pub mod Again
 pub mod Saving
 pub mod RunSites
+pub mod RunFit

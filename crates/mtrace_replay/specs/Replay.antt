@@ -9,18 +9,20 @@ use Rattle.mtrace_replay.specs.declared.settings.Settings.{Settings}
 use Rattle.mtrace_replay.specs.declared.totals.Totals.{Totals}
 use Rattle.mtrace_replay.specs.Started.{Bare, started}
 use Rattle.mtrace_replay.specs.Step.{found}
-use Rattle.mtrace_replay.specs.Totals.{AreTotals}
+use Rattle.mtrace_replay.specs.Totals.{AreTotals, IsMost}
 use Rattle.mtrace_replay.specs.Moment.{Reading, Given, moment, asks}
 use Rattle.mtrace_replay.specs.History.{AreHeld, held, moments, content_after, pending, entries_of}
 
 -- a replay: the heap's content and how often it was touched, how many addresses were compared, what is held in order of
--- address, the totals, the address of the last line where that is `<`, and whether memory was refused
+-- address, the totals, the most addresses that were held, the address of the last line where that is `<`, and whether memory
+-- was refused
 pub record Replayed : Type 0 where
   pub content : Bare
   pub touches : ℕ
   pub comparisons : ℕ
   pub given : List Given
   pub totals : Totals
+  pub most : ℕ
   pub pending : Option ℕ
   pub out_of_memory : Bool
 
@@ -36,6 +38,7 @@ pub record StandsFor (replay : Replayed) (settings : Settings) (past : List Read
   pub content_is : replay.content ≡ content_after (started settings) (moments (started settings) past)
   pub held : AreHeld replay.given (moments (started settings) past)
   pub totals : AreTotals (started settings) (moments (started settings) past) replay.totals
+  pub most : IsMost (moments (started settings) past) replay.most
 
 -- the diagnostics that one more line adds to those of the lines before it, of which the latest comes first
 abbrev pub added_notes : Settings → Reading → List Reading → List Diagnostic

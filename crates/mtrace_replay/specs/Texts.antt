@@ -12,6 +12,7 @@ use Rattle.mtrace_replay.specs.declared.report.Report.TheVariants.{Leaks, Peak, 
 use Rattle.mtrace_replay.specs.declared.totals.Totals.{Totals}
 use Rattle.mtrace_replay.specs.Started.{Bare}
 use Rattle.mtrace_replay.specs.Sites.{Site}
+use Rattle.mtrace_replay.specs.declared.fitted.Fitted.{Fitted}
 use Rattle.mtrace_replay.specs.declared.diagnostic.Diagnostic.{Diagnostic}
 use Rattle.mtrace_replay.specs.declared.diagnostic.Kind.{Kind}
 use Rattle.mtrace_replay.specs.declared.diagnostic.Kind.TheVariants.{TooLong, NotALine, NotHeld, AlreadyHeld, Refused, Half, Stray}
@@ -103,11 +104,15 @@ count_lines totals =
     ++ number_line (codes "served: ") totals.served
     ++ number_line (codes "refused: ") totals.refused
 
+-- `peak: B bytes at line K`, one line
+abbrev pub greatest_line : Totals → List ℕ
+greatest_line totals = pair_line (codes "peak: ") totals.peak_bytes (codes " bytes at line ") totals.peak_line []
+
 -- what is held, and what was at the most
 abbrev pub held_lines : Totals → List ℕ
 held_lines totals =
     pair_line (codes "live: ") totals.live_bytes (codes " bytes in ") totals.live_blocks (codes " blocks")
-    ++ pair_line (codes "peak: ") totals.peak_bytes (codes " bytes at line ") totals.peak_line []
+    ++ greatest_line totals
     ++ number_line (codes "high place: ") totals.high_place
 
 -- what is free: so many bytes, in so many blocks, the largest of so many bytes
@@ -164,6 +169,39 @@ peak_words line = codes "Held at the peak, line " ++ decimal line
 -- the words above the sites at the end
 abbrev pub end_words : List ℕ
 end_words = codes "Held at the end"
+
+-- a number between its words, one line
+abbrev pub count_line : List ℕ → ℕ → List ℕ → List ℕ
+count_line word number last = word ++ decimal number ++ last ++ newline ∷ []
+
+-- `held at most: L blocks`, one line
+abbrev pub most_line : ℕ → List ℕ
+most_line most = count_line (codes "held at most: ") most (codes " blocks")
+
+-- a size in bytes, or that there is none
+abbrev pub size_text : Option ℕ → List ℕ
+size_text None = codes "-"
+size_text (Some size) = decimal size ++ codes " bytes"
+
+-- `word` and a size, one line
+abbrev pub size_line : List ℕ → Option ℕ → List ℕ
+size_line word size = word ++ size_text size ++ newline ∷ []
+
+-- the records, and what the sizes tell that were tried with them
+abbrev pub fitted_lines : (records : ℕ) → Fitted → List ℕ
+fitted_lines records fitted =
+    number_line (codes "records: ") records
+    ++ size_line (codes "least pool: ") fitted.least
+    ++ size_line (codes "safe pool: ") fitted.safe
+    ++ pair_line (codes "sizes tried: ") fitted.tried (codes ", ") fitted.refused (codes " refused")
+
+-- that no size was tried
+abbrev pub untried_lines : List ℕ
+untried_lines =
+    size_line (codes "records: ") None
+    ++ size_line (codes "least pool: ") None
+    ++ size_line (codes "safe pool: ") None
+    ++ number_line (codes "sizes tried: ") 0
 
 -- the text of a report
 abbrev pub report_text : Report → List Entry → Totals → Bare → List ℕ

@@ -50,6 +50,11 @@ pub record IsPeak (past : List Moment) (bytes line : ℕ) : Type 0 where
   pub greatest : (k sum : ℕ) → IsSum (first_moments k past) sum → sum ≤ bytes
   pub first : (k sum : ℕ) → k < line → IsSum (first_moments k past) sum → sum < bytes
 
+-- the most addresses that are held after any number of lines
+pub record IsMost (past : List Moment) (blocks : ℕ) : Type 0 where
+  pub reached : (k : ℕ) × IsCount (first_moments k past) blocks
+  pub greatest : (k count : ℕ) → IsCount (first_moments k past) count → count ≤ blocks
+
 -- a block is live in the heap after the first k lines
 abbrev pub IsLiveAfter : Bare → List Moment → ℕ → Block (Unit {0}) → Type 0
 IsLiveAfter start past k block = Contains (blocks_of (content_after start (first_moments k past)).pools) block × (is_free block ≡ false)

@@ -91,6 +91,19 @@ impl Index {
         })
     }
 
+    /// Nothing is held, with room for so many addresses: at most as many as before. It takes no memory.
+    pub fn restart(&mut self, room: u32)
+        requires { room ≤ self.old.room }
+        ensures empty { self.new.all ≡ [] }
+        ensures room { self.new.room ≡ room }
+        ensures comparisons { self.new.comparisons ≡ self.old.comparisons }
+    {
+        self.keys.restart(room);
+        self.blocks = 0;
+        self.bytes = 0;
+        self.came = Came::nothing();
+    }
+
     /// Where the address stands. That is where a key of it stood last, if it still does, or else as `find` says.
     #[inline(always)]
     pub fn find_again(&mut self, address: Addr) -> Found

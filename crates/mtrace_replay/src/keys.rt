@@ -36,6 +36,7 @@ pub(crate) struct Keys {
     chunks: Vec<Chunk>,
     len: usize,
     room: usize,
+    most: usize,
     // A power of two less one: the number of the last hint that is used.
     last_hint: usize,
 }
@@ -49,7 +50,7 @@ impl Model for Keys {
 
     ghost view = { λ k. record { keys = take k.len (all_keys k.chunks.items); rows = record { entries = all_rows k.chunks.items; room = k.room } } };
 
-    ghost invariant = { λ k. AreChunks k.chunks.items (vec_capacity k.chunks) k.len k.room };
+    ghost invariant = { λ k. AreChunks k.chunks.items (vec_capacity k.chunks) k.len k.room k.most };
 }
 
 /// The place next to the hole, on the way to another.
@@ -81,8 +82,19 @@ impl Keys {
             chunks: Vec::with_capacity(alloc, room.div_ceil(CHUNK))?,
             len: 0,
             room,
+            most: room,
             last_hint: 0,
         })
+    }
+
+    /// There are no keys, and room for so many keys and rows: at most as many as before. It takes no memory.
+    pub(crate) fn restart(&mut self, room: u32)
+        requires { room ≤ self.old.rows.room }
+        ensures keys { self.new.keys ≡ [] }
+        ensures room { self.new.rows.room ≡ room }
+    {
+        self.len = 0;
+        self.room = room as usize;
     }
 
     /// How many keys there can be.

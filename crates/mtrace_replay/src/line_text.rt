@@ -4,7 +4,7 @@ ghost use Rattle.std.specs.Prelude.{◌≡◌, ◌+◌, ◌≤◌, ◌^◌, ◌<
 ghost use Rattle.std.specs.Option.{option_copied};
 ghost use Rattle.arrayvec.specs.ArrayVec.{array_vec_len};
 ghost use Rattle.mtrace_log.specs.Address.{address_text};
-ghost use Rattle.mtrace_replay.specs.Texts.{refusal_text as text_of_refusal, kind_text as text_of_kind, note_text as text_of_note, at_text as text_of_location, entry_text as text_of_entry, number_line, pair_line, spread_text as text_of_spread, count_lines, held_lines, free_lines, spread_line, peak_lines, peak_words as words_of_peak, site_text as text_of_site, use_text as text_of_use, row_text as text_of_row};
+ghost use Rattle.mtrace_replay.specs.Texts.{refusal_text as text_of_refusal, kind_text as text_of_kind, note_text as text_of_note, at_text as text_of_location, entry_text as text_of_entry, number_line, pair_line, spread_text as text_of_spread, count_lines, greatest_line, held_lines, free_lines, spread_line, peak_lines, peak_words as words_of_peak, site_text as text_of_site, use_text as text_of_use, row_text as text_of_row};
 
 use crate::diagnostic::{Diagnostic, Kind};
 use crate::entry::Entry;
@@ -17,13 +17,13 @@ use mtrace_log::{Addr, LONGEST_ADDRESS, LONGEST_LOCATION, Location};
 use tlsf_heap::{Refusal, Row};
 
 /// No text is longer, in bytes.
-const LONGEST_TEXT: usize = 800;
+pub(crate) const LONGEST_TEXT: usize = 800;
 
 /// The text of one line, or of a few.
 pub(crate) type LineText = ArrayVec<u8, LONGEST_TEXT>;
 
 /// Appends bytes, for which there is room.
-fn push_bytes(text: &mut LineText, bytes: &[u8])
+pub(crate) fn push_bytes(text: &mut LineText, bytes: &[u8])
     requires { array_vec_len text.old + length bytes.now ≤ LONGEST_TEXT }
     ensures bytes { text.new.items ≡ text.old.items ++ bytes.now }
     ensures len { array_vec_len text.new ≡ array_vec_len text.old + length bytes.now }
@@ -31,7 +31,7 @@ fn push_bytes(text: &mut LineText, bytes: &[u8])
     let _fits = text.try_extend_from_slice(bytes);
 }
 
-fn push_number(text: &mut LineText, number: u128)
+pub(crate) fn push_number(text: &mut LineText, number: u128)
     requires { array_vec_len text.old + 40 ≤ LONGEST_TEXT }
     ensures bytes { text.new.items ≡ text.old.items ++ decimal number }
     ensures len { array_vec_len text.new ≤ array_vec_len text.old + 40 }
@@ -136,7 +136,7 @@ pub(crate) fn entry_text(entry: &Entry) -> LineText
 }
 
 /// Appends a line of a number, behind its word.
-fn push_number_line(text: &mut LineText, word: &[u8], number: u64)
+pub(crate) fn push_number_line(text: &mut LineText, word: &[u8], number: u64)
     requires { array_vec_len text.old + length word.now + 41 ≤ LONGEST_TEXT }
     ensures bytes { text.new.items ≡ text.old.items ++ number_line word.now number }
     ensures len { array_vec_len text.new ≤ array_vec_len text.old + length word.now + 41 }
@@ -147,7 +147,7 @@ fn push_number_line(text: &mut LineText, word: &[u8], number: u64)
 }
 
 /// Appends a line of two numbers, each behind its words, and the last words.
-fn push_pair_line(
+pub(crate) fn push_pair_line(
     text: &mut LineText,
     word: &[u8],
     first: u64,
@@ -227,6 +227,22 @@ fn push_counts(text: &mut LineText, totals: Totals)
     push_number_line(text, b"refused: ", totals.refused);
 }
 
+/// Appends the line of the peak.
+pub(crate) fn push_greatest_line(text: &mut LineText, totals: Totals)
+    requires { array_vec_len text.old + 102 ≤ LONGEST_TEXT }
+    ensures bytes { text.new.items ≡ text.old.items ++ greatest_line totals }
+    ensures len { array_vec_len text.new ≤ array_vec_len text.old + 102 }
+{
+    push_pair_line(
+        text,
+        b"peak: ",
+        totals.peak_bytes,
+        b" bytes at line ",
+        totals.peak_line,
+        b"",
+    );
+}
+
 /// Appends what is held, and what was at the most.
 fn push_held(text: &mut LineText, totals: Totals)
     requires { array_vec_len text.old ≤ 300 }
@@ -241,14 +257,7 @@ fn push_held(text: &mut LineText, totals: Totals)
         totals.live_blocks,
         b" blocks",
     );
-    push_pair_line(
-        text,
-        b"peak: ",
-        totals.peak_bytes,
-        b" bytes at line ",
-        totals.peak_line,
-        b"",
-    );
+    push_greatest_line(text, totals);
     push_number_line(text, b"high place: ", totals.high_place);
 }
 

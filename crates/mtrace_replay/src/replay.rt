@@ -7,7 +7,7 @@ use crate::findings::Findings;
 use crate::free_blocks::{Free, free_in};
 use crate::index::{Entries, Index};
 use crate::settings::Settings;
-use crate::start::started_heap;
+use crate::start::{restart_heap, started_heap};
 use crate::step::outcome;
 use crate::totals::Totals;
 use crate::walk::put_walk;
@@ -78,6 +78,7 @@ pub struct Replay<H: Heaped> {
     heap: H,
     held: Index,
     totals: Totals,
+    most: u64,
     pending: Option<Addr>,
     out_of_memory: bool,
 }
@@ -96,6 +97,7 @@ impl<H: Heaped> Model for Replay<H> {
       comparisons = r.held.comparisons;
       given = all_given r.held.all;
       totals = r.totals;
+      most = r.most;
       pending = r.pending;
       out_of_memory = r.out_of_memory;
     } };
@@ -140,6 +142,7 @@ impl<H: Heaped> Replay<H> {
             heap,
             held,
             totals: Totals::new(),
+            most: 0,
             pending: None,
             out_of_memory: false,
         })
@@ -195,6 +198,7 @@ impl<H: Heaped> Replay<H> {
                 let is_refused = findings.has_refusal();
                 let (bytes, blocks) = (self.held.bytes(), self.held.len());
                 self.totals = self.totals.after(end, is_refused, bytes, blocks);
+                self.most = self.most.max(blocks);
                 self.pending = next;
                 Ok(())
             }
@@ -256,6 +260,13 @@ impl<H: Heaped> Replay<H> {
         self.totals
     }
 
+    /// The most addresses that were held after any line.
+    pub(crate) fn most(&self) -> u64
+        ensures { result ≡ self.now.most }
+    {
+        self.most
+    }
+
     /// What is free of the heap.
     pub(crate) fn free(&mut self) -> Free
         requires works { self.old.out_of_memory ≡ false }
@@ -278,7 +289,26 @@ impl<H: Heaped> Replay<H> {
 }
 
 impl Replay<Heap> {
+    ghost use Rattle.std.specs.Prelude.{◌≤◌, false, []};
+    ghost use Rattle.mtrace_replay.specs.Settings.{are_bad};
+    ghost use Rattle.mtrace_replay.specs.Replay.{StandsFor};
     ghost use Rattle.mtrace_replay.specs.Saving.{PutsImage};
+
+    /// The replay is of no line yet, on a heap by the settings, which aren't bad and ask for at most as many records as
+    /// before. It takes no memory.
+    pub(crate) fn restart(&mut self, settings: Settings)
+        requires good { are_bad settings ≡ false }
+        requires few { settings.records ≤ self.old.content.records }
+        ensures made { StandsFor self.new settings [] }
+        ensures records { self.new.content.records ≡ settings.records }
+    {
+        restart_heap(&mut self.heap, settings);
+        self.held.restart(settings.records);
+        self.totals = Totals::new();
+        self.most = 0;
+        self.pending = None;
+        self.out_of_memory = false;
+    }
 
     /// Puts an image of the heap.
     ///

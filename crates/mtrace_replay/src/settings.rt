@@ -5,9 +5,9 @@ use tlsf_class::GREATEST_SIZE;
 use tlsf_heap::{END_OF_PLACES, MOST_POOLS, MOST_RECORDS};
 
 /// The unit, and the greatest size of a pool, in bytes.
-const UNIT: u64 = tlsf_class::UNIT as u64;
+pub(crate) const UNIT: u64 = tlsf_class::UNIT as u64;
 
-const GREATEST_POOL: u64 = GREATEST_SIZE as u64;
+pub(crate) const GREATEST_POOL: u64 = GREATEST_SIZE as u64;
 
 /// The heap that a log is replayed on: so many pools of `pool` bytes each, one behind the other from
 /// place 0 on, and so many records, one for each block.

@@ -11,8 +11,8 @@ ghost use Rattle.mtrace_replay.specs.Replay.{StandsFor, entries};
 ghost use Rattle.mtrace_replay.specs.Sites.{AreSites};
 ghost use Rattle.mtrace_replay.specs.Texts.{total_size, site_text as text_of_site, section, peak_words as words_of_peak, end_words};
 ghost use Rattle.mtrace_replay.specs.Saving.{PutsAndFlushes};
-ghost use Rattle.mtrace_replay.specs.Again.{HasReplayedFirst};
-ghost use Rattle.mtrace_replay.specs.RunSites.{FailsAgain, SitesFollow, RunsSites};
+ghost use Rattle.mtrace_replay.specs.Again.{HasReplayedFirst, FailsAgain};
+ghost use Rattle.mtrace_replay.specs.RunSites.{SitesFollow, RunsSites};
 
 use crate::again::replay_first;
 use crate::grouping::Grouping;

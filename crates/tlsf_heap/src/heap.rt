@@ -84,6 +84,17 @@ impl Heap {
         }
     }
 
+    /// The heap is one of this many records, from 1 to as many as there are, with no pool. It takes no memory, and needs as
+    /// long as `create`.
+    pub fn restart(&mut self, records: u32)
+        requires some { 0 < records }
+        requires few { records ≤ self.old.content.records }
+        ensures made { self.new.content ≡ created records }
+        ensures touches { self.new.touches ≡ self.old.touches }
+    {
+        self.store.restart(records);
+    }
+
     /// The heap that an image describes, slots included: pointers of the heap saved are live. It takes memory once, for
     /// its table, and none where a rule is broken. At most 16 touches a record and 8 a class.
     ///

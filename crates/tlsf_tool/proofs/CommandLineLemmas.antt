@@ -17,12 +17,12 @@ use Rattle.clap.proofs.WalkLemmas.{one_text-rows}
 use Rattle.mtrace_replay.specs.declared.settings.Settings.{Settings}
 use Rattle.mtrace_replay.specs.declared.status.RunFault.TheVariants.{OutOfMemory}
 use Rattle.tlsf_tool.specs.declared.asked.Command.{Command}
-use Rattle.tlsf_tool.specs.declared.asked.Command.TheVariants.{Report, Sites, Save, Check}
+use Rattle.tlsf_tool.specs.declared.asked.Command.TheVariants.{Report, Sites, Fit, Save, Check}
 use Rattle.tlsf_tool.specs.declared.asked.Name.{Name}
 use Rattle.tlsf_tool.specs.declared.asked.Name.TheVariants.{Leaks, Peak, Walk}
 use Rattle.tlsf_tool.specs.declared.asked.ToolFault.{ToolFault}
 use Rattle.tlsf_tool.specs.declared.asked.ToolFault.TheVariants.{Help, Usage, CannotOpen, ReadsOnce, Run}
-use Rattle.tlsf_tool.specs.CommandLine.{AskFor, HasNumber, HasSettings, HasNoLog, MatchesAskFor, bare_line, report_line, save_line, check_line, name_text, texts_of, tlsf_line, wrong_with}
+use Rattle.tlsf_tool.specs.CommandLine.{AskFor, HasNumber, HasSettings, HasNoLog, MatchesAskFor, bare_line, report_line, fit_line, save_line, check_line, name_text, texts_of, tlsf_line, wrong_with}
 use Rattle.tlsf_tool.specs.Faults.{ExplainsKind, ExplainsWords, IsUsage}
 
 pub line_is_simple : is_simple tlsf_line ≡ true
@@ -34,10 +34,11 @@ unfolding clap_on_literals
 line_is_free = refl
 
 -- the lines of the subcommands, put to the bare one one after the other
-pub line_of : (bare leaks peak walk sites save saving check last : App) → bare ≡ bare_line → leaks ≡ with_subcommand bare (report_line (codes "leaks")).top
+pub line_of : (bare leaks peak walk sites fit fitting save saving check last : App) → bare ≡ bare_line → leaks ≡ with_subcommand bare (report_line (codes "leaks")).top
     → peak ≡ with_subcommand leaks (report_line (codes "peak")).top → walk ≡ with_subcommand peak (report_line (codes "walk")).top
-    → sites ≡ with_subcommand walk (report_line (codes "sites")).top → save ≡ save_line → saving ≡ with_subcommand sites save.top → check ≡ check_line → last ≡ with_subcommand saving check.top → last ≡ tlsf_line
-line_of bare leaks peak walk sites save saving check last bare_is leaks_is peak_is walk_is sites_is save_is saving_is check_is last_is =
+    → sites ≡ with_subcommand walk (report_line (codes "sites")).top → fit ≡ fit_line → fitting ≡ with_subcommand sites fit.top
+    → save ≡ save_line → saving ≡ with_subcommand fitting save.top → check ≡ check_line → last ≡ with_subcommand saving check.top → last ≡ tlsf_line
+line_of bare leaks peak walk sites fit fitting save saving check last bare_is leaks_is peak_is walk_is sites_is fit_is fitting_is save_is saving_is check_is last_is =
     let one : leaks ≡ with_subcommand bare_line (report_line (codes "leaks")).top = leaks_is ∙ ap (λ (a : App). with_subcommand a (report_line (codes "leaks")).top) bare_is in
     let two : peak ≡ with_subcommand (with_subcommand bare_line (report_line (codes "leaks")).top) (report_line (codes "peak")).top =
     peak_is ∙ ap (λ (a : App). with_subcommand a (report_line (codes "peak")).top) one in
@@ -45,7 +46,7 @@ line_of bare leaks peak walk sites save saving check last bare_is leaks_is peak_
     walk_is ∙ ap (λ (a : App). with_subcommand a (report_line (codes "walk")).top) two in
     let four : sites ≡ with_subcommand (with_subcommand (with_subcommand (with_subcommand bare_line (report_line (codes "leaks")).top) (report_line (codes "peak")).top) (report_line (codes "walk")).top) (report_line (codes "sites")).top =
     sites_is ∙ ap (λ (a : App). with_subcommand a (report_line (codes "sites")).top) three in
-    last_is ∙ ap₂ (λ (a b : App). with_subcommand a b.top) (saving_is ∙ ap₂ (λ (a b : App). with_subcommand a b.top) four save_is) check_is
+    last_is ∙ ap₂ (λ (a b : App). with_subcommand a b.top) (saving_is ∙ ap₂ (λ (a b : App). with_subcommand a b.top) (fitting_is ∙ ap₂ (λ (a b : App). with_subcommand a b.top) four fit_is) save_is) check_is
 
 -- ---- numbers
 
@@ -108,11 +109,12 @@ none_asks_nothing (Some p) is command asks = absurd (let e : Some p.1 ≡ None =
 
 -- no command has another name
 pub unnamed_asks_nothing : (found : Option (Text × List Row)) (name : Text) (rows : List Row) → found ≡ Some (name, rows) → ((n : Name) → name ≡ name_text n → ⊥)
-    → (name ≡ codes "sites" → ⊥) → (name ≡ codes "save" → ⊥) → (name ≡ codes "check" → ⊥) → AsksNothing found
-unnamed_asks_nothing found name rows is never no_sites no_save no_check (Report n settings log) asks = never n (subst (λ f. MatchesAskFor f (Report n settings log)) is asks).0
-unnamed_asks_nothing found name rows is never no_sites no_save no_check (Sites settings log) asks = no_sites (subst (λ f. MatchesAskFor f (Sites settings log)) is asks).0
-unnamed_asks_nothing found name rows is never no_sites no_save no_check (Save settings log image) asks = no_save (subst (λ f. MatchesAskFor f (Save settings log image)) is asks).0
-unnamed_asks_nothing found name rows is never no_sites no_save no_check (Check image) asks = no_check (subst (λ f. MatchesAskFor f (Check image)) is asks).0
+    → (name ≡ codes "sites" → ⊥) → (name ≡ codes "fit" → ⊥) → (name ≡ codes "save" → ⊥) → (name ≡ codes "check" → ⊥) → AsksNothing found
+unnamed_asks_nothing found name rows is never no_sites no_fit no_save no_check (Report n settings log) asks = never n (subst (λ f. MatchesAskFor f (Report n settings log)) is asks).0
+unnamed_asks_nothing found name rows is never no_sites no_fit no_save no_check (Sites settings log) asks = no_sites (subst (λ f. MatchesAskFor f (Sites settings log)) is asks).0
+unnamed_asks_nothing found name rows is never no_sites no_fit no_save no_check (Fit step log) asks = no_fit (subst (λ f. MatchesAskFor f (Fit step log)) is asks).0
+unnamed_asks_nothing found name rows is never no_sites no_fit no_save no_check (Save settings log image) asks = no_save (subst (λ f. MatchesAskFor f (Save settings log image)) is asks).0
+unnamed_asks_nothing found name rows is never no_sites no_fit no_save no_check (Check image) asks = no_check (subst (λ f. MatchesAskFor f (Check image)) is asks).0
 
 no_such : (one : Option Text) (text : Text) → one ≡ None → one ≡ Some text → ⊥
 no_such one text none some = let e : None ≡ Some text = sym none ∙ some in cc
@@ -130,8 +132,11 @@ module _ (rows : List Row) where
   report_asks_nothing Leaks missing (Sites settings log) asks = let e : 495722784108 ≡ 495623367027 = ap number_of asks.0 in omega (arith, e)
   report_asks_nothing Peak missing (Sites settings log) asks = let e : 1801545072 ≡ 495623367027 = ap number_of asks.0 in omega (arith, e)
   report_asks_nothing Walk missing (Sites settings log) asks = let e : 1802264951 ≡ 495623367027 = ap number_of asks.0 in omega (arith, e)
+  report_asks_nothing Leaks missing (Fit step log) asks = let e : 495722784108 ≡ 7629158 = ap number_of asks.0 in omega (arith, e)
   report_asks_nothing Leaks missing (Save settings log image) asks = let e : 495722784108 ≡ 1702257011 = ap number_of asks.0 in omega (arith, e)
+  report_asks_nothing Peak missing (Fit step log) asks = let e : 1801545072 ≡ 7629158 = ap number_of asks.0 in omega (arith, e)
   report_asks_nothing Peak missing (Save settings log image) asks = let e : 1801545072 ≡ 1702257011 = ap number_of asks.0 in omega (arith, e)
+  report_asks_nothing Walk missing (Fit step log) asks = let e : 1802264951 ≡ 7629158 = ap number_of asks.0 in omega (arith, e)
   report_asks_nothing Walk missing (Save settings log image) asks = let e : 1802264951 ≡ 1702257011 = ap number_of asks.0 in omega (arith, e)
   report_asks_nothing Leaks missing (Check image) asks = let e : 495722784108 ≡ 461229090915 = ap number_of asks.0 in omega (arith, e)
   report_asks_nothing Peak missing (Check image) asks = let e : 1801545072 ≡ 461229090915 = ap number_of asks.0 in omega (arith, e)
@@ -140,16 +145,27 @@ module _ (rows : List Row) where
   pub sites_asks_nothing : HasNoLog rows → AsksNothing (Some (codes "sites", rows))
   sites_asks_nothing (inl never) (Sites settings log) asks = never settings asks.1
   sites_asks_nothing (inr none) (Sites settings log) asks = no_such (first_of (codes "LOG") rows) (string_bytes log) none asks.2
+  sites_asks_nothing missing (Fit step log) asks = let e : 495623367027 ≡ 7629158 = ap number_of asks.0 in omega (arith, e)
   sites_asks_nothing missing (Report Leaks settings log) asks = let e : 495623367027 ≡ 495722784108 = ap number_of asks.0 in omega (arith, e)
   sites_asks_nothing missing (Report Peak settings log) asks = let e : 495623367027 ≡ 1801545072 = ap number_of asks.0 in omega (arith, e)
   sites_asks_nothing missing (Report Walk settings log) asks = let e : 495623367027 ≡ 1802264951 = ap number_of asks.0 in omega (arith, e)
   sites_asks_nothing missing (Save settings log image) asks = let e : 495623367027 ≡ 1702257011 = ap number_of asks.0 in omega (arith, e)
   sites_asks_nothing missing (Check image) asks = let e : 495623367027 ≡ 461229090915 = ap number_of asks.0 in omega (arith, e)
 
+  pub fit_asks_nothing : first_of (codes "LOG") rows ≡ None → AsksNothing (Some (codes "fit", rows))
+  fit_asks_nothing missing (Fit step log) asks = no_such (first_of (codes "LOG") rows) (string_bytes log) missing asks.2
+  fit_asks_nothing missing (Report Leaks settings log) asks = let e : 7629158 ≡ 495722784108 = ap number_of asks.0 in omega (arith, e)
+  fit_asks_nothing missing (Report Peak settings log) asks = let e : 7629158 ≡ 1801545072 = ap number_of asks.0 in omega (arith, e)
+  fit_asks_nothing missing (Report Walk settings log) asks = let e : 7629158 ≡ 1802264951 = ap number_of asks.0 in omega (arith, e)
+  fit_asks_nothing missing (Sites settings log) asks = let e : 7629158 ≡ 495623367027 = ap number_of asks.0 in omega (arith, e)
+  fit_asks_nothing missing (Save settings log image) asks = let e : 7629158 ≡ 1702257011 = ap number_of asks.0 in omega (arith, e)
+  fit_asks_nothing missing (Check image) asks = let e : 7629158 ≡ 461229090915 = ap number_of asks.0 in omega (arith, e)
+
   pub save_asks_nothing : HasNoLog rows ⊎ (first_of (codes "IMAGE") rows ≡ None) → AsksNothing (Some (codes "save", rows))
   save_asks_nothing (inl (inl never)) (Save settings log image) asks = never settings asks.1
   save_asks_nothing (inl (inr none)) (Save settings log image) asks = no_such (first_of (codes "LOG") rows) (string_bytes log) none asks.2
   save_asks_nothing (inr none) (Save settings log image) asks = no_such (first_of (codes "IMAGE") rows) (string_bytes image) none asks.3
+  save_asks_nothing missing (Fit step log) asks = let e : 1702257011 ≡ 7629158 = ap number_of asks.0 in omega (arith, e)
   save_asks_nothing missing (Report Leaks settings log) asks = let e : 1702257011 ≡ 495722784108 = ap number_of asks.0 in omega (arith, e)
   save_asks_nothing missing (Report Peak settings log) asks = let e : 1702257011 ≡ 1801545072 = ap number_of asks.0 in omega (arith, e)
   save_asks_nothing missing (Report Walk settings log) asks = let e : 1702257011 ≡ 1802264951 = ap number_of asks.0 in omega (arith, e)
@@ -158,6 +174,7 @@ module _ (rows : List Row) where
 
   pub check_asks_nothing : first_of (codes "IMAGE") rows ≡ None → AsksNothing (Some (codes "check", rows))
   check_asks_nothing missing (Check image) asks = no_such (first_of (codes "IMAGE") rows) (string_bytes image) missing asks.1
+  check_asks_nothing missing (Fit step log) asks = let e : 461229090915 ≡ 7629158 = ap number_of asks.0 in omega (arith, e)
   check_asks_nothing missing (Report Leaks settings log) asks = let e : 461229090915 ≡ 495722784108 = ap number_of asks.0 in omega (arith, e)
   check_asks_nothing missing (Report Peak settings log) asks = let e : 461229090915 ≡ 1801545072 = ap number_of asks.0 in omega (arith, e)
   check_asks_nothing missing (Report Walk settings log) asks = let e : 461229090915 ≡ 1802264951 = ap number_of asks.0 in omega (arith, e)

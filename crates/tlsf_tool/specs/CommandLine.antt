@@ -10,7 +10,7 @@ use Rattle.std.specs.Prelude.{pos}
 use Rattle.tlsf_class.specs.Classes.{unit, greatest_size}
 use Rattle.mtrace_replay.specs.declared.settings.Settings.{Settings}
 use Rattle.tlsf_tool.specs.declared.asked.Command.{Command}
-use Rattle.tlsf_tool.specs.declared.asked.Command.TheVariants.{Report, Sites, Save, Check}
+use Rattle.tlsf_tool.specs.declared.asked.Command.TheVariants.{Report, Sites, Fit, Save, Check}
 use Rattle.tlsf_tool.specs.declared.asked.Name.{Name}
 use Rattle.tlsf_tool.specs.declared.asked.Name.TheVariants.{Leaks, Peak, Walk}
 
@@ -34,6 +34,14 @@ pools_rule = option_rule (codes "pools") (codes "1") (parser.Signed (pos 1) (pos
 abbrev pub records_rule : Rule
 records_rule = option_rule (codes "records") (codes "8192") (parser.Signed (pos 1) (pos 65535))
 
+-- `--step` with one value, and no default
+abbrev pub step_rule : Rule
+step_rule = record (new_rule (codes "step")) {
+  long = Some (codes "step");
+  value_names = 1;
+  parser = Some (parser.Unsigned unit greatest_size);
+}
+
 -- one word that must be there
 abbrev pub log_rule : Rule
 log_rule = record (new_rule (codes "LOG")) { required = true }
@@ -44,6 +52,9 @@ image_rule = record (new_rule (codes "IMAGE")) { required = true }
 -- a report's subcommand, or one that takes the same words
 abbrev pub report_line : Text → App
 report_line name = with_rule (with_rule (with_rule (with_rule (new_app name) pool_rule) pools_rule) records_rule) log_rule
+
+abbrev pub fit_line : App
+fit_line = with_rule (with_rule (new_app (codes "fit")) step_rule) log_rule
 
 abbrev pub save_line : App
 save_line = with_rule (report_line (codes "save")) image_rule
@@ -56,8 +67,8 @@ abbrev pub bare_line : App
 bare_line = on_top (λ s. record s { has_version = true; subcommand_required = true }) (new_app (codes "tlsf"))
 
 abbrev pub tlsf_line : App
-tlsf_line = with_subcommand (with_subcommand (with_subcommand (with_subcommand (with_subcommand (with_subcommand bare_line (report_line (codes "leaks")).top)
-    (report_line (codes "peak")).top) (report_line (codes "walk")).top) (report_line (codes "sites")).top) save_line.top) check_line.top
+tlsf_line = with_subcommand (with_subcommand (with_subcommand (with_subcommand (with_subcommand (with_subcommand (with_subcommand bare_line (report_line (codes "leaks")).top)
+    (report_line (codes "peak")).top) (report_line (codes "walk")).top) (report_line (codes "sites")).top) fit_line.top) save_line.top) check_line.top
 
 -- ---- what matches ask for
 
@@ -75,6 +86,11 @@ abbrev pub HasSettings : List Row → Settings → Type 0
 HasSettings rows settings = HasNumber rows (codes "pool") 64 settings.pool
     × HasNumber rows (codes "pools") 32 settings.pools × HasNumber rows (codes "records") 32 settings.records
 
+-- the step, where there is a number of that id
+abbrev pub HasStep : List Row → Option ℕ → Type 0
+HasStep rows (Some step) = HasNumber rows (codes "step") 64 step
+HasStep rows None = (step : ℕ) → HasNumber rows (codes "step") 64 step → ⊥
+
 -- there are no settings, or there is no log
 abbrev pub HasNoLog : List Row → Type 0
 HasNoLog rows = ((settings : Settings) → HasSettings rows settings → ⊥) ⊎ (first_of (codes "LOG") rows ≡ None)
@@ -86,6 +102,7 @@ MatchesAskFor (Some found) (Report name settings log) = (found.0 ≡ name_text n
     × HasSettings found.1 settings × (first_of (codes "LOG") found.1 ≡ Some (string_bytes log))
 MatchesAskFor (Some found) (Sites settings log) = (found.0 ≡ codes "sites")
     × HasSettings found.1 settings × (first_of (codes "LOG") found.1 ≡ Some (string_bytes log))
+MatchesAskFor (Some found) (Fit step log) = (found.0 ≡ codes "fit") × HasStep found.1 step × (first_of (codes "LOG") found.1 ≡ Some (string_bytes log))
 MatchesAskFor (Some found) (Save settings log image) = (found.0 ≡ codes "save")
     × HasSettings found.1 settings × (first_of (codes "LOG") found.1 ≡ Some (string_bytes log)) × (first_of (codes "IMAGE") found.1 ≡ Some (string_bytes image))
 MatchesAskFor (Some found) (Check image) = (found.0 ≡ codes "check") × (first_of (codes "IMAGE") found.1 ≡ Some (string_bytes image))

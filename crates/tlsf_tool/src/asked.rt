@@ -37,6 +37,13 @@ pub enum Command {
         /// The log's name. It is read twice.
         log: String,
     },
+    /// How large a pool a log needs.
+    Fit {
+        /// How many bytes lie between two sizes that are tried, where that is given.
+        step: Option<u64>,
+        /// The log's name. It is read once for each size.
+        log: String,
+    },
     /// An image of the heap at the end of a log.
     Save {
         /// The heap that the log is replayed on.
@@ -65,7 +72,7 @@ pub enum ToolFault {
     /// The file of this name can't be opened or made.
     #[error("tlsf: cannot open {0}")]
     CannotOpen(String),
-    /// A log that has to be read twice is to come from standard input.
+    /// A log that has to be read more than once is to come from standard input.
     #[error("tlsf: standard input can't be read twice")]
     ReadsOnce,
     /// The run ended early.

@@ -3,7 +3,7 @@
 ghost use Rattle.std.specs.Prelude.{◌≡◌, IfOk, false};
 ghost use Rattle.clap.specs.Words.{app_of, rule_of, with_subcommand};
 ghost use Rattle.clap.specs.declared.builder.command.Command.TheViews.{out-Command};
-ghost use Rattle.tlsf_tool.specs.CommandLine.{log_rule, image_rule, pool_rule, pools_rule, records_rule, report_line, save_line, check_line, bare_line, tlsf_line};
+ghost use Rattle.tlsf_tool.specs.CommandLine.{log_rule, image_rule, pool_rule, pools_rule, records_rule, step_rule, report_line, fit_line, save_line, check_line, bare_line, tlsf_line};
 
 use clap::{Arg, Command, value_parser};
 use std::alloc::{AllocError, Global};
@@ -25,6 +25,7 @@ const EXAMPLES: &str = "Examples:
   tlsf peak --pool 1048576 --pools 2 a.log  the peak of a.log on two pools of 1 MiB
   tlsf walk --records 65535 -               the heap at the end of the log on standard input
   tlsf sites a.log                          who holds the memory of a.log, at its peak and at its end
+  tlsf fit a.log                            how large a pool a.log needs, and how many records
   tlsf save a.log a.image                   that heap at the end of a.log, in a file
   tlsf check a.image                        whether that file can be loaded
 
@@ -46,6 +47,10 @@ const WALK: &str =
 /// What the report of sites means.
 const SITES: &str =
     "Reports who holds the memory, at the peak and at the end of the log: blocks and bytes by the location that asked for them. LOG is read twice.";
+
+/// What the report of the sizes means.
+const FIT: &str =
+    "Reports how large a pool the log needs, and how many records: sizes from its peak to twice its peak are tried. LOG is read once for each.";
 
 /// What saving means.
 const SAVE: &str =
@@ -96,6 +101,19 @@ fn records_option<'a>(alloc: Global) -> Arg<'a>
         .help("Number of records, one for each block, from the number of pools to 65535")
 }
 
+/// The option of the bytes between two sizes.
+fn step_option<'a>(alloc: Global) -> Arg<'a>
+    ensures rule { rule_of result ≡ step_rule }
+    ensures own { result.global ≡ false }
+{
+    let parser = value_parser!(u64).range(i64::from(UNIT)..=i64::from(GREATEST_SIZE));
+    Arg::new(alloc, "step")
+        .long("step")
+        .value_name("BYTES")
+        .value_parser(parser)
+        .help("Bytes between two sizes that are tried, a multiple of 16 from 16 to 1073741808; else a 64th of the peak, rounded up")
+}
+
 /// The log's name.
 fn log_word<'a>(alloc: Global) -> Arg<'a>
     ensures rule { rule_of result ≡ log_rule }
@@ -131,6 +149,18 @@ fn report_command<'a>(
         .arg(pool_option(alloc))?
         .arg(pools_option(alloc))?
         .arg(records_option(alloc))?
+        .arg(log_word(alloc))
+}
+
+/// The subcommand that tries sizes.
+fn fit_command<'a>(alloc: Global) -> Result<Command<'a>, AllocError>
+    ensures line { IfOk result (λ command. app_of command ≡ fit_line) }
+    ensures own { IfOk result (λ command. (out-Command command).has_globals ≡ false) }
+{
+    Command::new(alloc, "fit")
+        .about(FIT)
+        .after_help(EXAMPLES)
+        .arg(step_option(alloc))?
         .arg(log_word(alloc))
 }
 
@@ -189,8 +219,10 @@ pub fn tlsf_command<'a>(alloc: Global) -> Result<Command<'a>, AllocError>
     let peak = with_report(leaks, alloc, "peak", PEAK)?;
     let walk = with_report(peak, alloc, "walk", WALK)?;
     let sites = with_report(walk, alloc, "sites", SITES)?;
+    let fit = fit_command(alloc)?;
+    let fitting = sites.subcommand(fit)?;
     let save = save_command(alloc)?;
-    let saving = sites.subcommand(save)?;
+    let saving = fitting.subcommand(save)?;
     let check = check_command(alloc)?;
     saving.subcommand(check)
 }

@@ -14,7 +14,7 @@ mod words;
 use crate::asked::{Command, Name, ToolFault};
 use crate::check::check_image;
 use crate::progress::{Cleared, Counted, Notice};
-use crate::service::{serve, serve_save, serve_sites};
+use crate::service::{serve, serve_fit, serve_save, serve_sites};
 use crate::words::command;
 use mtrace_log::{FromRead, ToWrite};
 use mtrace_replay::{RunFault, Settings};
@@ -111,14 +111,20 @@ fn report_log(
     }
 }
 
-/// Opens the log, which is read twice, and tells who holds its memory.
-fn tell_sites(rt: &HostRuntime, settings: Settings, log: String) -> Result<u8, ToolFault> {
+/// Opens a log that is read more than once.
+fn open_again(rt: &HostRuntime, log: String) -> Result<File, ToolFault> {
     if log.as_str() == "-" {
         return Err(ToolFault::ReadsOnce);
     }
-    let Ok(file) = open_file(rt, log.as_str()) else {
-        return Err(ToolFault::CannotOpen(log));
-    };
+    match open_file(rt, log.as_str()) {
+        Ok(file) => Ok(file),
+        Err(_) => Err(ToolFault::CannotOpen(log)),
+    }
+}
+
+/// Opens the log, which is read twice, and tells who holds its memory.
+fn tell_sites(rt: &HostRuntime, settings: Settings, log: String) -> Result<u8, ToolFault> {
+    let file = open_again(rt, log)?;
     let notice = Notice::new(rt, false);
     let Ok(writer) = BufWriter::new(rt.alloc(), Cleared::new(&notice, rt.stdout())) else {
         return Err(ToolFault::Run(RunFault::OutOfMemory));
@@ -126,6 +132,22 @@ fn tell_sites(rt: &HostRuntime, settings: Settings, log: String) -> Result<u8, T
     Ok(serve_sites(
         rt.alloc(),
         settings,
+        &mut FromRead::new(Counted::new(&notice, file)),
+        &mut ToWrite::new(writer),
+        &mut ToWrite::new(Cleared::new(&notice, rt.stderr())),
+    ))
+}
+
+/// Opens the log, which is read once for each size, and tells how large a pool it needs.
+fn tell_fit(rt: &HostRuntime, step: Option<u64>, log: String) -> Result<u8, ToolFault> {
+    let file = open_again(rt, log)?;
+    let notice = Notice::new(rt, false);
+    let Ok(writer) = BufWriter::new(rt.alloc(), Cleared::new(&notice, rt.stdout())) else {
+        return Err(ToolFault::Run(RunFault::OutOfMemory));
+    };
+    Ok(serve_fit(
+        rt.alloc(),
+        step,
         &mut FromRead::new(Counted::new(&notice, file)),
         &mut ToWrite::new(writer),
         &mut ToWrite::new(Cleared::new(&notice, rt.stderr())),
@@ -196,6 +218,7 @@ fn serve_words(rt: &HostRuntime) -> Result<u8, ToolFault> {
             log,
         } => report_log(rt, name, settings, log),
         Command::Sites { settings, log } => tell_sites(rt, settings, log),
+        Command::Fit { step, log } => tell_fit(rt, step, log),
         Command::Save {
             settings,
             log,

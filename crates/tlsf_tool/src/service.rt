@@ -6,6 +6,7 @@ ghost use Rattle.mtrace_log.specs.Trace.{HasGivenAll, HasNotFailed, HasTakenAndF
 ghost use Rattle.mtrace_replay.specs.Run.{Reports, Runs, FailsToRead, FailsToWrite};
 ghost use Rattle.mtrace_replay.specs.declared.status.Status.TheVariants.{Clean, Found};
 ghost use Rattle.mtrace_replay.specs.RunSites.{RunsSites};
+ghost use Rattle.mtrace_replay.specs.RunFit.{RunsFit};
 ghost use Rattle.mtrace_replay.specs.Saving.{RunsAndSaves};
 ghost use Rattle.tlsf_tool.specs.Statuses.{report_of, EndsAs};
 
@@ -14,7 +15,7 @@ use crate::statuses::{end_status, fault_status};
 use arrayvec::ArrayString;
 use mtrace_log::{Again, Sink, Source, put_all};
 use mtrace_replay::{
-    RunFault, Settings, Status, run_leaks, run_peak, run_save, run_sites, run_walk,
+    RunFault, Settings, Status, run_fit, run_leaks, run_peak, run_save, run_sites, run_walk,
 };
 use std::alloc::Global;
 use std::fmt::Write;
@@ -97,6 +98,28 @@ pub fn serve_sites<R: Again, W: Sink, E: Sink>(
     ensures no_errors { result ≤ 1 → errors.new ≡ errors.old }
 {
     match run_sites(alloc, reader, writer, settings) {
+        Ok(status) => end_status(status),
+        Err(fault) => {
+            put_fault(errors, &ToolFault::Run(fault));
+            fault_status(fault)
+        }
+    }
+}
+
+/// Tells how large a pool the log needs that the reader has left, by `run_fit`, and puts the line of a fault to `errors`, whose own
+/// fault doesn't matter. Answers the status that the program ends with: 0 where nothing was found, 1 where something was, 2 for a
+/// bad step, 3 where the reader or the writer failed, or the reader didn't begin again, 4 where memory was refused.
+pub fn serve_fit<R: Again, W: Sink, E: Sink>(
+    alloc: Global,
+    step: Option<u64>,
+    reader: &mut R,
+    writer: &mut W,
+    errors: &mut E,
+) -> u8
+    ensures told { EndsAs (λ outcome. RunsFit step R.left R.whole R.trace W.taken W.trace outcome reader.old reader.new writer.old writer.new) result }
+    ensures no_errors { result ≤ 1 → errors.new ≡ errors.old }
+{
+    match run_fit(alloc, reader, writer, step) {
         Ok(status) => end_status(status),
         Err(fault) => {
             put_fault(errors, &ToolFault::Run(fault));

@@ -31,12 +31,12 @@ fn named(text: &str) -> Option<Name>
     }
 }
 
-/// The size of a pool that a subcommand's matches have.
-fn pool_of(found: &ArgMatches<'_>) -> Option<u64>
-    ensures given { IfSome result (HasNumber (rows_of (found_of found.now)) (codes "pool") 64) }
-    ensures other { IfNone result ((number : ℕ) → HasNumber (rows_of (found_of found.now)) (codes "pool") 64 number → ⊥) }
+/// The size of this id, in bytes, that a subcommand's matches have.
+fn size_of(found: &ArgMatches<'_>, id: &str) -> Option<u64>
+    ensures given { IfSome result (HasNumber (rows_of (found_of found.now)) id.now 64) }
+    ensures other { IfNone result ((number : ℕ) → HasNumber (rows_of (found_of found.now)) id.now 64 number → ⊥) }
 {
-    found.get_one::<u64>("pool")
+    found.get_one::<u64>(id)
 }
 
 /// The number of this id that a subcommand's matches have.
@@ -52,7 +52,7 @@ fn settings_of(found: &ArgMatches<'_>) -> Option<Settings>
     ensures given { IfSome result (HasSettings (rows_of (found_of found.now))) }
     ensures other { IfNone result ((settings : _) → HasSettings (rows_of (found_of found.now)) settings → ⊥) }
 {
-    let Some(pool) = pool_of(found) else {
+    let Some(pool) = size_of(found, "pool") else {
         return None;
     };
     let Some(pools) = number_of(found, "pools") else {
@@ -107,6 +107,19 @@ fn asked_sites(alloc: Global, found: &ArgMatches<'_>) -> Result<Command, ToolFau
 {
     match log_of(alloc, found) {
         Ok((settings, log)) => Ok(Command::Sites { settings, log }),
+        Err(fault) => Err(fault),
+    }
+}
+
+/// What the matches of the subcommand that tries sizes ask for.
+fn asked_fit(alloc: Global, found: &ArgMatches<'_>) -> Result<Command, ToolFault>
+    ensures asked { IfOk result (MatchesAskFor (Some (codes "fit", rows_of (found_of found.now)))) }
+    ensures faults { IfErr result (λ fault. (fault ≡ ToolFault.Run RunFault.OutOfMemory)
+        ⊎ (IsUsage fault × ((command : _) → MatchesAskFor (Some (codes "fit", rows_of (found_of found.now))) command → ⊥))) }
+{
+    let step = size_of(found, "step");
+    match word_of(alloc, found, "LOG") {
+        Ok(log) => Ok(Command::Fit { step, log }),
         Err(fault) => Err(fault),
     }
 }
@@ -170,6 +183,7 @@ fn asked(alloc: Global, matches: &ArgMatches<'_>) -> Result<Command, ToolFault>
     };
     match text {
         "sites" => asked_sites(alloc, found),
+        "fit" => asked_fit(alloc, found),
         "save" => asked_save(alloc, found),
         "check" => asked_check(alloc, found),
         _ => match named(text) {

@@ -1,12 +1,12 @@
-use Rattle.std.proofs.Common.{rules, refl, subst}
+use Rattle.std.proofs.Common.{rules, refl}
 use Rattle.std.specs.Prelude.{Result, Ok, Err}
 use Rattle.mtrace_replay.specs.declared.status.Status.{Status}
 use Rattle.mtrace_replay.specs.declared.status.RunFault.{RunFault}
 use Rattle.mtrace_replay.specs.declared.status.RunFault.TheVariants.{OutOfMemory, BadSettings}
 use Rattle.mtrace_replay.specs.declared.report.Report.TheVariants.{Notes}
 use Rattle.mtrace_replay.specs.Run.{Runs}
-use Rattle.mtrace_replay.specs.RunSites.{EndsWithSites}
-use Rattle.mtrace_replay.proofs.SitesLemmas.{follows_ok, follows_err, same_answer}
+use Rattle.mtrace_replay.specs.RunSites.{SitesFollow}
+use Rattle.mtrace_replay.proofs.RunsAgain.{follows_ok, follows_err, again_fault, again_ended}
 use Rattle.mtrace_replay.proofs.sites.run_sites.Goals as goal
 
 pub returns-in-Err-BadSettings : goal.returns-in-Err-BadSettings
@@ -26,7 +26,8 @@ returns-in-Err-BadSettings g c =
       nothing_done = search rules;
       no_image_fault = search rules;
     } in
-    record { run = run; reader_middle = c.args.reader.now; writer_middle = c.args.writer.now; runs = runs; run_fault = λ fault is. (is, refl, refl); finished = λ status is. absurd (cc) }
+    again_fault c.args.settings (λ lines. SitesFollow c.args.settings lines g.R.Source.left g.R.Source.whole g.R.Source.trace g.W.Sink.taken g.W.Sink.trace) g.R.Source.left g.R.Source.whole g.R.Source.trace g.W.Sink.taken g.W.Sink.trace _
+    c.args.reader.now c.args.reader.now c.args.writer.now c.args.writer.now runs
 
 pub returns-in-Err-OutOfMemory : goal.returns-in-Err-OutOfMemory
 returns-in-Err-OutOfMemory g c =
@@ -45,52 +46,46 @@ returns-in-Err-OutOfMemory g c =
       nothing_done = search rules;
       no_image_fault = search rules;
     } in
-    record { run = run; reader_middle = c.args.reader.now; writer_middle = c.args.writer.now; runs = runs; run_fault = λ fault is. (is, refl, refl); finished = λ status is. absurd (cc) }
+    again_fault c.args.settings (λ lines. SitesFollow c.args.settings lines g.R.Source.left g.R.Source.whole g.R.Source.trace g.W.Sink.taken g.W.Sink.trace) g.R.Source.left g.R.Source.whole g.R.Source.trace g.W.Sink.taken g.W.Sink.trace _
+    c.args.reader.now c.args.reader.now c.args.writer.now c.args.writer.now runs
 
 pub returns-in-Ok-tell_sites : goal.returns-in-Ok-tell_sites
 returns-in-Ok-tell_sites g c =
+    let left = g.R.Source.left in
+    let whole = g.R.Source.whole in
+    let pulls = g.R.Source.trace in
+    let taken = g.W.Sink.taken in
+    let puts = g.W.Sink.trace in
+    let settings = c.args.settings in
     let ended = c.in-Ok-replay_log.ended in
     let last = c.in-Ok-replay_log.ensures.last refl in
-    let answer : Result Status RunFault = Ok ended.status in
-    let E : Status → Type 0 = λ status. EndsWithSites c.args.settings status g.R.Source.left g.R.Source.whole g.R.Source.trace g.W.Sink.taken g.W.Sink.trace answer
-    c.args.reader.now c.replay_log.new.reader c.tell_sites.new.reader c.args.writer.now c.replay_log.new.writer c.tell_sites.new.writer in
-    let ends : E ended.status = record {
+    let follow = c.in-Ok-tell_sites.ensures settings last.reports.lines last.stands c.in-Ok.ensures.replay in
+    again_ended settings (λ lines. SitesFollow settings lines left whole pulls taken puts) left whole pulls taken puts ended.status (Ok ended.status)
+    c.args.reader.now c.replay_log.new.reader c.tell_sites.new.reader c.args.writer.now c.replay_log.new.writer c.tell_sites.new.writer c.in-Ok-replay_log.ensures.ran
+    (record {
       reports = last.reports;
       answer = refl;
       whole_kept = c.in-Ok-replay_log.ensures.whole;
-      follow = follows_ok c.args.settings last.reports.lines g.R.Source.left g.R.Source.whole g.R.Source.trace g.W.Sink.taken g.W.Sink.trace ended.status
-          c.replay_log.new.reader c.tell_sites.new.reader c.replay_log.new.writer c.tell_sites.new.writer
-          (c.in-Ok-tell_sites.ensures c.args.settings last.reports.lines last.stands c.in-Ok.ensures.replay);
-    } in
-    record {
-      run = Ok ended.status;
-      reader_middle = c.replay_log.new.reader;
-      writer_middle = c.replay_log.new.writer;
-      runs = c.in-Ok-replay_log.ensures.ran;
-      run_fault = λ fault is. absurd (cc);
-      finished = λ status is. subst E (same_answer ended.status status is) ends;
-    }
+      follow = follows_ok _ _ _ left pulls taken puts c.replay_log.new.reader c.tell_sites.new.reader c.replay_log.new.writer c.tell_sites.new.writer ended.status follow;
+    })
 
 pub returns : goal.returns
 returns g c =
+    let left = g.R.Source.left in
+    let whole = g.R.Source.whole in
+    let pulls = g.R.Source.trace in
+    let taken = g.W.Sink.taken in
+    let puts = g.W.Sink.trace in
+    let settings = c.args.settings in
     let ended = c.in-Ok-replay_log.ended in
     let last = c.in-Ok-replay_log.ensures.last refl in
-    let answer : Result Status RunFault = Err c.in-Err-tell_sites.fault in
-    let E : Status → Type 0 = λ status. EndsWithSites c.args.settings status g.R.Source.left g.R.Source.whole g.R.Source.trace g.W.Sink.taken g.W.Sink.trace answer
-    c.args.reader.now c.replay_log.new.reader c.tell_sites.new.reader c.args.writer.now c.replay_log.new.writer c.tell_sites.new.writer in
-    let ends : E ended.status = record {
+    let fault = c.in-Err-tell_sites.fault in
+    let follow = c.in-Err-tell_sites.ensures settings last.reports.lines last.stands c.in-Ok.ensures.replay in
+    again_ended settings (λ lines. SitesFollow settings lines left whole pulls taken puts) left whole pulls taken puts ended.status (Err fault)
+    c.args.reader.now c.replay_log.new.reader c.tell_sites.new.reader c.args.writer.now c.replay_log.new.writer c.tell_sites.new.writer c.in-Ok-replay_log.ensures.ran
+    (record {
       reports = last.reports;
       answer = tt;
       whole_kept = c.in-Ok-replay_log.ensures.whole;
-      follow = follows_err c.args.settings last.reports.lines g.R.Source.left g.R.Source.whole g.R.Source.trace g.W.Sink.taken g.W.Sink.trace c.in-Err-tell_sites.fault
-          c.replay_log.new.reader c.tell_sites.new.reader c.replay_log.new.writer c.tell_sites.new.writer
-          (c.in-Err-tell_sites.ensures c.args.settings last.reports.lines last.stands c.in-Ok.ensures.replay);
-    } in
-    record {
-      run = Ok ended.status;
-      reader_middle = c.replay_log.new.reader;
-      writer_middle = c.replay_log.new.writer;
-      runs = c.in-Ok-replay_log.ensures.ran;
-      run_fault = λ fault is. absurd (cc);
-      finished = λ status is. subst E (same_answer ended.status status is) ends;
-    }
+      follow = follows_err _ _ _ left pulls taken puts c.replay_log.new.reader c.tell_sites.new.reader c.replay_log.new.writer c.tell_sites.new.writer fault follow;
+    })

@@ -7,7 +7,7 @@ pub push_reserved-requires : goal.push_reserved-requires
 push_reserved-requires c =
     let rows = rows_are c.self.inside c.self.invariant c.args.self.now c.self.view_is in
     let room = ap (λ (k : Kept). k.rows.room) c.self.view_is in
-    omega (arith, rows, room, c.requires, c.self.invariant.reserved)
+    omega (arith, rows, room, c.requires, c.self.invariant.fits, c.self.invariant.reserved)
 
 pub invariant_of-self : goal.invariant_of-self
 invariant_of-self c =

@@ -11,6 +11,7 @@ invariant_of-self c =
       whole = c.self.invariant.whole;
       used = omega (arith, rows, c.cover.ensures.covered);
       within = omega (arith, room, c.requires);
+      fits = c.self.invariant.fits;
       reserved = c.self.invariant.reserved;
       few = c.self.invariant.few;
     }

@@ -2,7 +2,7 @@ use Rattle.std.proofs.Common.{List, [], length, refl, sym, subst, ap, ◌∙◌,
 use Rattle.mtrace_replay.specs.Moment.{Given, Moment}
 use Rattle.mtrace_replay.specs.History.{AreHeld, content_after}
 use Rattle.mtrace_replay.specs.Started.{Bare, started}
-use Rattle.mtrace_replay.specs.Totals.{AreTotals}
+use Rattle.mtrace_replay.specs.Totals.{AreTotals, IsMost}
 use Rattle.mtrace_replay.specs.declared.totals.Totals.{Totals}
 use Rattle.mtrace_replay.specs.Index.{Indexed}
 use Rattle.mtrace_replay.specs.Step.{all_given, AreLive}
@@ -10,6 +10,7 @@ use Rattle.mtrace_replay.proofs.Moments.{moments-none}
 use Rattle.mtrace_replay.proofs.FoundLemmas.{none_held}
 use Rattle.mtrace_replay.proofs.Living.{none_live}
 use Rattle.mtrace_replay.proofs.StartLemmas.{started_records, started_room}
+use Rattle.mtrace_replay.proofs.TotalsLemmas.{most_none}
 use Rattle.mtrace_replay.proofs.Standing.{totals_none}
 use Rattle.mtrace_replay.proofs.replay.Replay.create.Goals as goal
 
@@ -42,6 +43,7 @@ returns-clause-made g c =
       content_is = c.in-Ok.ensures ∙ ap (content_after start) (sym none);
       held = subst (P (all_given c.in-Ok-new.held.all)) (sym none) (subst (λ (index : Indexed). P (all_given index.all) []) (sym c.in-Ok-new.ensures) none_held);
       totals = subst (λ past. T past c.new-2.result) (sym none) (subst (T []) (sym c.new-2.ensures) (totals_none c.args.settings));
+      most = subst (λ past. IsMost past 0) (sym none) most_none;
     }
 
 pub returns-clause-records : goal.returns-clause-records

@@ -50,6 +50,7 @@ returns-in-Ok g c =
       comparisons = c.outcome.new.held.comparisons;
       given = all_given holdings;
       totals = c.after-self-inside.result;
+      most = c.max-self-inside.result;
       pending = c.old_address-next.result;
       out_of_memory = c.self.inside.out_of_memory;
     } in
@@ -69,7 +70,7 @@ returns-in-Ok g c =
           heap holdings c.keeps_good.ensures.good c.in-Ok.ensures.live refl refl
           (subst IsStrictlyIncreasing (sym (addresses_given holdings)) c.keeps_order.ensures) c.old_address-next.ensures c.if-self.false
           c.bytes-bytes.result c.len-blocks.result c.has_refusal-is_refused.result c.after-self-inside.ensures
-          (c.bytes-bytes.ensures ∙ sizes_given holdings) (c.len-blocks.ensures.len ∙ sym (length-map holdings given_of))
+          (c.bytes-bytes.ensures ∙ sizes_given holdings) (c.len-blocks.ensures.len ∙ sym (length-map holdings given_of)) c.max-self-inside.ensures
           (c.has_refusal-is_refused.ensures ∙ ap (λ (notes : List Diagnostic). list_any (λ (note : Diagnostic). is_refusal note.kind) notes) (told stands)))
           c.requires.next (note settings past);
       note = note;

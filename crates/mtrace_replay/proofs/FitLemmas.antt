@@ -1,0 +1,182 @@
+-- What the sizes tell with one size more.
+use Rattle.std.proofs.Common.{◌≡◌, ℕ, zero, suc, ◌+◌, ◌-◌, ◌*◌, ◌/◌, ◌%◌, ◌<◌, ◌≤◌, Bool, true, false, cond, not, option_map, List, [], ◌∷◌, ◌++◌, map, length, length-append, reverse, Option, Some, None, refl, sym, subst, ap, ◌∙◌, arith}
+use Rattle.std.specs.Prelude.{◌&&◌}
+use Rattle.std.specs.List.{find, list_all}
+use Rattle.std.specs.Option.{option_or}
+use Rattle.std.proofs.lemmas.List.Folds.{find-append, list_all-append}
+use Rattle.std.proofs.lemmas.List.Sums.{sum_by-append}
+use Rattle.mtrace_replay.specs.Fit.{Verdict, least_size, safe_size, refused_sizes, fitted}
+use Rattle.std.specs.List.{range_with_len}
+use Rattle.std.proofs.lemmas.List.{length-map, map-append}
+use Rattle.std.proofs.lemmas.List.Sums.{count_by-le-length}
+use Rattle.std.proofs.lemmas.List.FromFn.{length-map-range_with_len, map-range_with_len_more}
+use Rattle.std.proofs.lemmas.Bool.{eq-eqb, le-ltb}
+use Rattle.std.proofs.lemmas.Nat.{mul-mod_second, div-add-mod'}
+use Rattle.std.proofs.Math.Nat.{mul-le-mul_right, mul-le-mul_left}
+use Rattle.mtrace_log.proofs.TextLemmas.{AllByRecursion-append}
+use Rattle.tlsf_class.specs.Classes.{unit, greatest_size}
+use Rattle.tlsf_heap.specs.Pools.{most_records, end_of_places}
+use Rattle.mtrace_replay.specs.Settings.{are_bad}
+use Rattle.mtrace_replay.specs.Fit.{one_pool, greatest_settings, enough_records, step_of, first_number, last_number, sizes}
+use Rattle.mtrace_replay.specs.Run.{Bytes}
+use Rattle.mtrace_replay.specs.RunFit.{IsTried, AreVerdicts, TellsSizes, TellsFit}
+use Rattle.mtrace_replay.specs.Moment.{Reading}
+use Rattle.mtrace_replay.specs.Replay.{Replayed, StandsFor}
+use Rattle.mtrace_replay.specs.Texts.{greatest_line, most_line, fitted_lines, untried_lines}
+
+abbrev serving : ℕ → Bool → List Verdict
+serving size serves = record { size = size; serves = serves } ∷ []
+
+and_true : (b : Bool) → (b && true) ≡ b
+and_true true = refl
+and_true false = refl
+
+and_false : (b : Bool) → (b && false) ≡ false
+and_false true = refl
+and_false false = refl
+
+size_or : (first : Option Verdict) (last : Verdict) → option_map (λ (v : Verdict). v.size) (option_or first (Some last)) ≡ option_or (option_map (λ (v : Verdict). v.size) first) (Some last.size)
+size_or None last = refl
+size_or (Some first) last = refl
+
+or_none : (first : Option Verdict) → option_or first None ≡ first
+or_none None = refl
+or_none (Some first) = refl
+
+least-yes : (verdicts : List Verdict) (size : ℕ) → least_size (verdicts ++ serving size true) ≡ option_or (least_size verdicts) (Some size)
+least-yes verdicts size =
+    ap (option_map (λ (v : Verdict). v.size)) (find-append (λ (v : Verdict). v.serves) verdicts (serving size true))
+    ∙ size_or (find (λ (v : Verdict). v.serves) verdicts) (record { size = size; serves = true })
+
+least-no : (verdicts : List Verdict) (size : ℕ) → least_size (verdicts ++ serving size false) ≡ least_size verdicts
+least-no verdicts size =
+    ap (option_map (λ (v : Verdict). v.size)) (find-append (λ (v : Verdict). v.serves) verdicts (serving size false) ∙ or_none (find (λ (v : Verdict). v.serves) verdicts))
+
+safe-by : (b : Bool) (one size : ℕ) (rest before : Option ℕ) → rest ≡ option_or before (Some size)
+    → cond b (Some one) rest ≡ option_or (cond b (Some one) before) (Some size)
+safe-by true one size rest before is = refl
+safe-by false one size rest before is = is
+
+safe-yes : (verdicts : List Verdict) (size : ℕ) → safe_size (verdicts ++ serving size true) ≡ option_or (safe_size verdicts) (Some size)
+safe-yes [] size = refl
+safe-yes (verdict ∷ verdicts) size =
+    let rest = safe_size (verdicts ++ serving size true) in
+    ap (λ b. cond b (Some verdict.size) rest) (list_all-append (λ (v : Verdict). v.serves) (verdict ∷ verdicts) (serving size true) ∙ and_true (list_all (λ (v : Verdict). v.serves) (verdict ∷ verdicts)))
+    ∙ safe-by (list_all (λ (v : Verdict). v.serves) (verdict ∷ verdicts)) verdict.size size rest (safe_size verdicts) (safe-yes verdicts size)
+
+safe-no : (verdicts : List Verdict) (size : ℕ) → safe_size (verdicts ++ serving size false) ≡ None
+safe-no [] size = refl
+safe-no (verdict ∷ verdicts) size =
+    ap (λ b. cond b (Some verdict.size) (safe_size (verdicts ++ serving size false)))
+    (list_all-append (λ (v : Verdict). v.serves) (verdict ∷ verdicts) (serving size false) ∙ and_false (list_all (λ (v : Verdict). v.serves) (verdict ∷ verdicts)))
+    ∙ safe-no verdicts size
+
+refused-yes : (verdicts : List Verdict) (size : ℕ) → refused_sizes (verdicts ++ serving size true) ≡ refused_sizes verdicts
+refused-yes verdicts size = sum_by-append (λ (v : Verdict). cond (not v.serves) 1 0) verdicts (serving size true) ∙ omega arith
+
+refused-no : (verdicts : List Verdict) (size : ℕ) → refused_sizes (verdicts ++ serving size false) ≡ refused_sizes verdicts + 1
+refused-no verdicts size = sum_by-append (λ (v : Verdict). cond (not v.serves) 1 0) verdicts (serving size false)
+
+-- one more size that serves
+pub fitted-yes : (verdicts : List Verdict) (size : ℕ)
+    → fitted (verdicts ++ serving size true)
+    ≡ record { least = option_or (least_size verdicts) (Some size); safe = option_or (safe_size verdicts) (Some size); tried = length verdicts + 1; refused = refused_sizes verdicts }
+fitted-yes verdicts size =
+    rw (least-yes verdicts size, safe-yes verdicts size, refused-yes verdicts size, length-append verdicts (serving size true)) refl
+
+-- one more size that doesn't
+pub fitted-no : (verdicts : List Verdict) (size : ℕ)
+    → fitted (verdicts ++ serving size false)
+    ≡ record { least = least_size verdicts; safe = None; tried = length verdicts + 1; refused = refused_sizes verdicts + 1 }
+fitted-no verdicts size =
+    rw (least-no verdicts size, safe-no verdicts size, refused-no verdicts size, length-append verdicts (serving size false)) refl
+
+-- so many sizes were tried, and no more are refused
+pub few_tried : (records : ℕ) (whole : Bytes) (step first count : ℕ) (verdicts : List Verdict)
+    → AreVerdicts records whole (map (λ number. number * step) (range_with_len first count)) verdicts
+    → (length verdicts ≡ count) × (refused_sizes verdicts ≤ count)
+few_tried records whole step first count verdicts are =
+    let all : length verdicts ≡ count =
+    sym (length-map verdicts (λ (v : Verdict). v.size)) ∙ ap (length {A = ℕ}) are.sizes_are ∙ length-map-range_with_len (λ number. number * step) first count in
+    (all, omega (arith, all, count_by-le-length (λ (v : Verdict). not v.serves) verdicts))
+
+-- no size
+pub none_tried : (records : ℕ) (whole : Bytes) → AreVerdicts records whole [] []
+none_tried records whole = record { sizes_are = refl; each = tt }
+
+-- one size more
+pub one_tried : (records : ℕ) (whole : Bytes) (step first number count : ℕ) (verdicts : List Verdict) (verdict : Verdict) → first + count ≡ number
+    → AreVerdicts records whole (map (λ i. i * step) (range_with_len first count)) verdicts
+    → verdict.size ≡ number * step → (left : Bytes) × IsTried (one_pool verdict.size records) verdict.serves whole left
+    → AreVerdicts records whole (map (λ i. i * step) (range_with_len first (count + 1))) (verdicts ++ verdict ∷ [])
+one_tried records whole step first number count verdicts verdict place are size tried = record {
+  sizes_are = map-append (λ (v : Verdict). v.size) verdicts (verdict ∷ [])
+      ∙ ap (λ sizes. sizes ++ verdict.size ∷ []) are.sizes_are
+      ∙ ap (λ n. map (λ i. i * step) (range_with_len first count) ++ n ∷ []) size
+      ∙ sym (map-range_with_len_more (λ i. i * step) first count number place);
+  each = AllByRecursion-append (λ (v : Verdict). (left : Bytes) × IsTried (one_pool v.size records) v.serves whole left) verdicts (verdict ∷ []) are.each (tried, tt);
+}
+
+-- one pool of a whole number of units, and enough records, are no bad settings
+pub one_pool-good : (size records : ℕ) → size % unit ≡ 0 → unit ≤ size → size ≤ greatest_size → 0 < records → records ≤ most_records → are_bad (one_pool size records) ≡ false
+one_pool-good size records in_units some within few most =
+    rw (eq-eqb _ _ in_units, le-ltb size unit some, le-ltb greatest_size size within, le-ltb records 1 (omega (arith, few)), le-ltb most_records records most,
+    le-ltb end_of_places (size * 1) (omega (arith, within))) refl
+
+-- a multiple of a step of whole units is one
+pub units_times : (number step : ℕ) → step % unit ≡ 0 → (number * step) % unit ≡ 0
+units_times number step in_units =
+    sym (mul-mod_second number step unit) ∙ ap (λ rest. (number * rest) % unit) in_units ∙ omega arith
+
+-- as many steps as the greatest size has are within it, and one step is some units
+pub within_greatest : (number step : ℕ) → number ≤ greatest_size / step → number * step ≤ greatest_size
+within_greatest number step few =
+    omega (arith, mul-le-mul_right step few, div-add-mod' greatest_size step)
+
+pub some_units : (number step : ℕ) → 0 < number → unit ≤ step → unit ≤ number * step
+some_units number step some units = omega (arith, units, mul-le-mul_right step some)
+
+-- there are no more steps in the greatest size than bytes
+pub few_steps : (step : ℕ) → 0 < step → greatest_size / step ≤ greatest_size
+few_steps step some = omega (arith, mul-le-mul_left (greatest_size / step) some, div-add-mod' greatest_size step)
+
+-- all sizes were tried
+pub all_tried : (records : ℕ) (whole : Bytes) (step peak first last count : ℕ) (verdicts : List Verdict) → first ≡ first_number step peak → last ≡ last_number step peak
+    → count ≡ suc last - first → AreVerdicts records whole (map (λ i. i * step) (range_with_len first count)) verdicts
+    → AreVerdicts records whole (sizes step peak) verdicts
+all_tried records whole step peak first last count verdicts first_is last_is many are =
+    let P : ℕ → ℕ → Type 0 = λ from n. AreVerdicts records whole (map (λ i. i * step) (range_with_len from n)) verdicts in
+    let same : count ≡ suc (last_number step peak) - first_number step peak = many ∙ ap (λ n. suc n - first) last_is ∙ ap (λ n. suc (last_number step peak) - n) first_is in
+    subst (P (first_number step peak)) same (subst (λ from. P from count) first_is are)
+
+-- the text of a log that the greatest pool doesn't serve
+pub tells_untried : (step : Option ℕ) (lines : List Reading) (whole : Bytes) (replay : Replayed) → StandsFor replay greatest_settings (reverse lines) → 0 < replay.totals.refused
+    → TellsFit step lines whole (greatest_line replay.totals ++ most_line replay.most ++ untried_lines)
+tells_untried step lines whole replay stands some = record {
+  totals = replay.totals;
+  summed = stands.totals;
+  most = replay.most;
+  is_most = stands.most;
+  rest = untried_lines;
+  tells = by_refused replay.totals.refused some;
+  text_is = refl;
+}
+  where
+    by_refused : (refused : ℕ) → 0 < refused → TellsSizes refused (step_of step replay.totals.peak_bytes) replay.totals.peak_bytes replay.most whole untried_lines
+    by_refused zero some = absurd (omega (arith, some))
+    by_refused (suc more) some = refl
+
+-- the text of a log that it serves
+pub tells_fitted : (step : Option ℕ) (lines : List Reading) (whole : Bytes) (replay : Replayed) → StandsFor replay greatest_settings (reverse lines) → replay.totals.refused ≡ 0
+    → (verdicts : List Verdict) → AreVerdicts (enough_records replay.most) whole (sizes (step_of step replay.totals.peak_bytes) replay.totals.peak_bytes) verdicts
+    → TellsFit step lines whole (greatest_line replay.totals ++ most_line replay.most ++ fitted_lines (enough_records replay.most) (fitted verdicts))
+tells_fitted step lines whole replay stands none verdicts are = record {
+  totals = replay.totals;
+  summed = stands.totals;
+  most = replay.most;
+  is_most = stands.most;
+  rest = fitted_lines (enough_records replay.most) (fitted verdicts);
+  tells = (let P : ℕ → Type 0 = λ refused. TellsSizes refused (step_of step replay.totals.peak_bytes) replay.totals.peak_bytes replay.most whole (fitted_lines (enough_records replay.most) (fitted verdicts)) in
+      subst P (sym none) (verdicts, are, refl));
+  text_is = refl;
+}

@@ -1,0 +1,73 @@
+use Rattle.std.proofs.Common.{◌≡◌, Bool, true, false, refl, sym, ◌∙◌, subst, inl, inr, ◌⊎◌}
+use Rattle.std.specs.Prelude.{Ok, Err, IsErrOf, IsTrue}
+use Rattle.mtrace_replay.specs.declared.report.Report.TheVariants.{Notes}
+use Rattle.mtrace_replay.specs.declared.settings.Settings.{Settings}
+use Rattle.mtrace_replay.specs.declared.status.Status.{Status}
+use Rattle.mtrace_replay.specs.declared.status.RunFault.{RunFault}
+use Rattle.mtrace_replay.specs.declared.status.RunFault.TheVariants.{Read, Write, BadSettings}
+use Rattle.mtrace_replay.specs.Fit.{greatest_settings}
+use Rattle.mtrace_replay.specs.Run.{Runs, EndsAt}
+use Rattle.mtrace_replay.specs.RunFit.{FitFollows}
+use Rattle.mtrace_replay.proofs.RunsAgain.{follows_ok, follows_err, again_ended}
+use Rattle.mtrace_replay.proofs.fit.run_fit.Goals as goal
+
+not_bad : (bad : Bool) → bad ≡ false → IsTrue bad → ⊥
+not_bad true is bad = cc
+not_bad false is bad = cc
+
+no_bad_settings : (fault : RunFault) → (fault ≡ Read) ⊎ (fault ≡ Write) → IsErrOf {T = Status} (Err fault) BadSettings → ⊥
+no_bad_settings fault (inl read) is = cc
+no_bad_settings fault (inr write) is = cc
+
+pub returns-in-Ok-tell_fit : goal.returns-in-Ok-tell_fit
+returns-in-Ok-tell_fit g c =
+    let left = g.R.Source.left in
+    let whole = g.R.Source.whole in
+    let pulls = g.R.Source.trace in
+    let taken = g.W.Sink.taken in
+    let puts = g.W.Sink.trace in
+    let ended = c.in-Ok.ended in
+    let E : Settings → Type 0 = λ settings. EndsAt settings ended.status ended.replay (left c.args.reader.now) (left c.replay_log.new.reader) (taken c.args.writer.now) (taken c.replay_log.new.writer) in
+    let R : Settings → Type 0 = λ settings. Runs Notes settings left pulls taken puts (Ok ended.status) c.args.reader.now c.replay_log.new.reader c.args.writer.now c.replay_log.new.writer in
+    let last = subst E c.greatest.ensures (c.in-Ok.ensures.last refl) in
+    let ran = subst R c.greatest.ensures c.in-Ok.ensures.ran in
+    let follow = c.in-Ok-tell_fit.ensures last.reports.lines last.stands in
+    record {
+      bad_step = ((λ is. absurd (cc)), (λ bad. absurd (not_bad _ (sym c.is_bad_step.ensures ∙ c.if-is_bad_step.false) bad)));
+      nothing_done = λ is. absurd (cc);
+      runs = λ good. again_ended greatest_settings (λ lines. FitFollows c.args.step lines left whole pulls taken puts) left whole pulls taken puts ended.status (Ok ended.status)
+          c.args.reader.now c.replay_log.new.reader c.tell_fit.new.reader c.args.writer.now c.replay_log.new.writer c.tell_fit.new.writer ran
+          (record {
+            reports = last.reports;
+            answer = refl;
+            whole_kept = c.in-Ok.ensures.whole;
+            follow = follows_ok _ _ _ left pulls taken puts c.replay_log.new.reader c.tell_fit.new.reader c.replay_log.new.writer c.tell_fit.new.writer ended.status follow;
+          });
+    }
+
+pub returns : goal.returns
+returns g c =
+    let left = g.R.Source.left in
+    let whole = g.R.Source.whole in
+    let pulls = g.R.Source.trace in
+    let taken = g.W.Sink.taken in
+    let puts = g.W.Sink.trace in
+    let ended = c.in-Ok.ended in
+    let fault = c.in-Err-tell_fit.fault in
+    let E : Settings → Type 0 = λ settings. EndsAt settings ended.status ended.replay (left c.args.reader.now) (left c.replay_log.new.reader) (taken c.args.writer.now) (taken c.replay_log.new.writer) in
+    let R : Settings → Type 0 = λ settings. Runs Notes settings left pulls taken puts (Ok ended.status) c.args.reader.now c.replay_log.new.reader c.args.writer.now c.replay_log.new.writer in
+    let last = subst E c.greatest.ensures (c.in-Ok.ensures.last refl) in
+    let ran = subst R c.greatest.ensures c.in-Ok.ensures.ran in
+    let follow = c.in-Err-tell_fit.ensures last.reports.lines last.stands in
+    record {
+      bad_step = ((λ is. absurd (no_bad_settings fault follow.faults is)), (λ bad. absurd (not_bad _ (sym c.is_bad_step.ensures ∙ c.if-is_bad_step.false) bad)));
+      nothing_done = λ is. absurd (no_bad_settings fault follow.faults is);
+      runs = λ good. again_ended greatest_settings (λ lines. FitFollows c.args.step lines left whole pulls taken puts) left whole pulls taken puts ended.status (Err fault)
+          c.args.reader.now c.replay_log.new.reader c.tell_fit.new.reader c.args.writer.now c.replay_log.new.writer c.tell_fit.new.writer ran
+          (record {
+            reports = last.reports;
+            answer = tt;
+            whole_kept = c.in-Ok.ensures.whole;
+            follow = follows_err _ _ _ left pulls taken puts c.replay_log.new.reader c.tell_fit.new.reader c.replay_log.new.writer c.tell_fit.new.writer fault follow;
+          });
+    }

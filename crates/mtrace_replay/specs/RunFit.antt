@@ -1,0 +1,87 @@
+-- What a run leaves that tells how large a pool a log needs.
+use Rattle.std.specs.Prelude.{◌≡◌, ◌≢◌, ◌⊎◌, ◌↔◌, ℕ, zero, suc, ◌<◌, Bool, true, false, List, ◌++◌, ◌∷◌, map, count_by, Option, Result, IsErrOf, IsTrue}
+use Rattle.std.specs.List.{AllByRecursion}
+use Rattle.std.specs.Io.KnownBytes.{prepend_known}
+use Rattle.mtrace_log.specs.HasRead.{HasRead, HasReadAll}
+use Rattle.mtrace_log.specs.declared.call.Call.{Call}
+use Rattle.mtrace_log.specs.declared.call.Call.TheVariants.{Began, Failed}
+use Rattle.mtrace_replay.specs.declared.settings.Settings.{Settings}
+use Rattle.mtrace_replay.specs.declared.status.Status.{Status}
+use Rattle.mtrace_replay.specs.declared.status.RunFault.{RunFault}
+use Rattle.mtrace_replay.specs.declared.status.RunFault.TheVariants.{BadSettings}
+use Rattle.mtrace_replay.specs.declared.totals.Totals.{Totals}
+use Rattle.mtrace_replay.specs.Started.{started}
+use Rattle.mtrace_replay.specs.Totals.{AreTotals, IsMost, is_refused}
+use Rattle.mtrace_replay.specs.Moment.{Reading}
+use Rattle.mtrace_replay.specs.History.{history}
+use Rattle.mtrace_replay.specs.Fit.{one_pool, greatest_settings, enough_records, is_bad_step, step_of, sizes, Verdict, fitted}
+use Rattle.mtrace_replay.specs.Texts.{greatest_line, most_line, fitted_lines, untried_lines}
+use Rattle.mtrace_replay.specs.Run.{Bytes, FailedInPiece, IsPastLastNumber}
+use Rattle.mtrace_replay.specs.Again.{Follows, RunsAgain}
+
+-- how many of the lines are refused on a heap by the settings
+abbrev pub refusals : Settings → List Reading → ℕ
+refusals settings lines = count_by is_refused (history settings lines)
+
+-- A log was tried on a heap by the settings: all of it was read, and no line is refused; or lines were read of which one is.
+abbrev pub IsTried : Settings → (serves : Bool) → (whole left : Bytes) → Type 0
+IsTried settings true whole left = (lines : List Reading) × HasReadAll whole left lines × (refusals settings lines ≡ 0)
+IsTried settings false whole left =
+    (lines : List Reading) × (unused : List ℕ) × (HasRead whole (prepend_known unused left) lines ⊎ HasReadAll whole left lines) × (0 < refusals settings lines)
+
+-- the log was tried on one pool of each size, with so many records, and these are the verdicts
+pub record AreVerdicts (records : ℕ) (whole : Bytes) (tried : List ℕ) (verdicts : List Verdict) : Type 0 where
+  pub sizes_are : map (λ verdict. verdict.size) verdicts ≡ tried
+  pub each : AllByRecursion (λ verdict. (left : Bytes) × IsTried (one_pool verdict.size records) verdict.serves whole left) verdicts
+
+-- what is told of the sizes: nothing where the greatest pool refuses a line; else the log was tried on all of them
+abbrev pub TellsSizes : (refused : ℕ) (step peak most : ℕ) (whole : Bytes) (text : List ℕ) → Type 0
+TellsSizes zero step peak most whole text =
+    (verdicts : List Verdict) × AreVerdicts (enough_records most) whole (sizes step peak) verdicts × (text ≡ fitted_lines (enough_records most) (fitted verdicts))
+TellsSizes (suc more) step peak most whole text = text ≡ untried_lines
+
+-- The text of how large a pool a log needs: the peak and the most addresses held, on the greatest pool, and what is told of the
+-- sizes.
+pub record TellsFit (step : Option ℕ) (lines : List Reading) (whole : Bytes) (text : List ℕ) : Type 0 where
+  pub totals : Totals
+  pub summed : AreTotals (started greatest_settings) (history greatest_settings lines) totals
+  pub most : ℕ
+  pub is_most : IsMost (history greatest_settings lines) most
+  pub rest : List ℕ
+  pub tells : TellsSizes totals.refused (step_of step totals.peak_bytes) totals.peak_bytes most whole rest
+  pub text_is : text ≡ greatest_line totals ++ most_line most ++ rest
+
+-- calls were made, and none of them failed
+pub record NoneFailed (old new : List Call) : Type 0 where
+  pub more : List Call
+  pub none : AllByRecursion (λ call. call ≢ Failed) more
+  pub calls : new ≡ more ++ old
+
+-- The reader didn't begin again, or failed in a later reading, or has a line past the last number there.
+abbrev pub FailsIn : (whole left_old left_new : Bytes) (calls_old calls_new : List Call) → Type 0
+FailsIn whole left_old left_new calls_old calls_new =
+    ((left_new ≡ left_old) × (calls_new ≡ Failed ∷ calls_old))
+    ⊎ ((lines : List Reading) × (FailedInPiece whole left_new (Began ∷ calls_old) calls_new lines
+    ⊎ ((unused : List ℕ) × IsPastLastNumber whole (prepend_known unused left_new) (Began ∷ calls_old) calls_new lines)))
+
+-- it did so after readings that didn't fail
+pub record FailsLater (whole left_old left_new : Bytes) (calls_old calls_new : List Call) : Type 0 where
+  pub left_middle : Bytes
+  pub calls_middle : List Call
+  pub none_failed : NoneFailed calls_old calls_middle
+  pub fails : FailsIn whole left_middle left_new calls_middle calls_new
+
+-- the log whose lines these are was read again for each size, and what they tell was written
+abbrev pub FitFollows : {R W T : Type 0} → (step : Option ℕ) (lines : List Reading) (left whole : R → Bytes) (pulls : R → List Call) (taken : W → Bytes) (puts : W → List Call)
+    → Result T RunFault → (reader_old reader_new : R) (writer_old writer_new : W) → Type 0
+FitFollows step lines left whole pulls taken puts result reader_old reader_new writer_old writer_new =
+    Follows (λ left_new. TellsFit step lines (whole reader_old)) NoneFailed (FailsLater (whole reader_old)) left pulls taken puts result reader_old reader_new writer_old writer_new
+
+-- What a run leaves that tells how large a pool a log needs: a bad step comes exactly where it is bad, and then nothing is done; else
+-- first a run without a report on the greatest pool, and then the log is read again.
+pub record RunsFit {R W : Type 0} (step : Option ℕ) (left whole : R → Bytes) (pulls : R → List Call) (taken : W → Bytes) (puts : W → List Call)
+    (result : Result Status RunFault) (reader_old reader_new : R) (writer_old writer_new : W) : Type 0 where
+  pub bad_step : IsErrOf result BadSettings ↔ IsTrue (is_bad_step step)
+  pub nothing_done : IsErrOf result BadSettings → (reader_new ≡ reader_old) × (writer_new ≡ writer_old)
+  pub runs : is_bad_step step ≡ false
+      → RunsAgain greatest_settings (λ lines. FitFollows step lines left whole pulls taken puts) left whole pulls taken puts result reader_old reader_new writer_old writer_new

@@ -1,0 +1,214 @@
+//! The run that tells how large a pool a log needs.
+
+ghost use Rattle.std.specs.Prelude.{◌≡◌, ◌%◌, ◌<◌, ◌≤◌, false, List, reverse, IfOk, OnOk, OnErr};
+ghost use Rattle.tlsf_heap.specs.Pools.{most_records};
+ghost use Rattle.mtrace_replay.specs.Moment.{Reading};
+ghost use Rattle.mtrace_replay.specs.Replay.{StandsFor};
+ghost use Rattle.mtrace_replay.specs.Saving.{PutsAndFlushes};
+ghost use Rattle.mtrace_replay.specs.Settings.{are_bad};
+ghost use Rattle.mtrace_replay.specs.Fit.{one_pool, greatest_settings, enough_records as enough_for, is_bad_step as is_bad, step_of as step_for, sizes, Verdict, fitted as fitted_by};
+ghost use Rattle.mtrace_replay.specs.RunFit.{IsTried, AreVerdicts, TellsFit, NoneFailed, FailsIn, FailsLater, FitFollows, RunsFit};
+
+use crate::fit_text::{fitted_text, untried_text};
+use crate::fitted::Fitted;
+use crate::line_text::LineText;
+use crate::replay::Replay;
+use crate::report::Report;
+use crate::run::replay_log;
+use crate::settings::{GREATEST_POOL, Settings, UNIT};
+use crate::status::{RunFault, Status};
+use crate::tried::is_served;
+use mtrace_log::{Again, Failed, Sink, put_all};
+use std::alloc::Global;
+use tlsf_heap::{Heap, MOST_RECORDS};
+
+/// The settings of the first replay: the greatest pool, and the most records.
+fn greatest() -> Settings
+    ensures { result ≡ greatest_settings }
+{
+    Settings {
+        pool: GREATEST_POOL,
+        pools: 1,
+        records: MOST_RECORDS,
+    }
+}
+
+/// Whether a step isn't a whole number of units from one to the greatest size.
+fn is_bad_step(step: Option<u64>) -> bool
+    ensures { result ≡ is_bad step }
+{
+    match step {
+        Some(step) => step % UNIT != 0 || step < UNIT || step > GREATEST_POOL,
+        None => false,
+    }
+}
+
+/// The step: where none is given, the least multiple of the unit from a 64th of the peak on, and at least the unit.
+fn step_of(step: Option<u64>, peak: u64) -> u64
+    requires { is_bad step ≡ false }
+    ensures value { result ≡ step_for step peak }
+    ensures some { UNIT ≤ result }
+    ensures in_units { result % UNIT ≡ 0 }
+{
+    match step {
+        Some(step) => step,
+        None => UNIT * peak.div_ceil(64 * UNIT).max(1),
+    }
+}
+
+/// The records that are enough where so many addresses are held at most.
+fn enough_records(most: u64) -> u32
+    ensures value { result ≡ enough_for most }
+    ensures some { 0 < result }
+    ensures few { result ≤ MOST_RECORDS }
+{
+    let records = most.saturating_mul(2).saturating_add(3);
+    records.min(u64::from(MOST_RECORDS)) as u32
+}
+
+/// Begins the log again, and tries it on one pool of this many bytes, with so many records: whether no line is refused.
+fn try_size<R: Again>(
+    reader: &mut R,
+    replay: &mut Replay<Heap>,
+    size: u64,
+    records: u32,
+) -> Result<bool, Failed>
+    requires good { are_bad (one_pool size records) ≡ false }
+    requires few { records ≤ replay.old.content.records }
+    ensures tried { IfOk result (λ serves. IsTried (one_pool size records) serves (R.whole reader.old) (R.left reader.new)) }
+    ensures not_failed { OnOk result (NoneFailed (R.trace reader.old) (R.trace reader.new)) }
+    ensures read { OnErr result (FailsIn (R.whole reader.old) (R.left reader.old) (R.left reader.new) (R.trace reader.old) (R.trace reader.new)) }
+    ensures whole { R.whole reader.new ≡ R.whole reader.old }
+    ensures records { replay.new.content.records ≡ records }
+{
+    replay.restart(Settings {
+        pool: size,
+        pools: 1,
+        records,
+    });
+    reader.begin()?;
+    is_served(reader, replay)
+}
+
+/// Tries the sizes for this step and this peak, in rising order, with so many records.
+fn try_sizes<R: Again>(
+    reader: &mut R,
+    replay: &mut Replay<Heap>,
+    step: u64,
+    peak: u64,
+    records: u32,
+) -> Result<Fitted, Failed>
+    requires some { UNIT ≤ step }
+    requires in_units { step % UNIT ≡ 0 }
+    requires some_records { 0 < records }
+    requires few { records ≤ MOST_RECORDS }
+    requires within { records ≤ replay.old.content.records }
+    ensures tried { IfOk result (λ fitted. (verdicts : List Verdict) × AreVerdicts records (R.whole reader.old) (sizes step peak) verdicts
+        × (fitted ≡ fitted_by verdicts)) }
+    ensures not_failed { OnOk result (NoneFailed (R.trace reader.old) (R.trace reader.new)) }
+    ensures read { OnErr result (FailsLater (R.whole reader.old) (R.left reader.old) (R.left reader.new) (R.trace reader.old) (R.trace reader.new)) }
+{
+    let first = peak.div_ceil(step).max(1);
+    let last = first.saturating_mul(2).min(GREATEST_POOL / step);
+    let mut fitted = Fitted::none();
+    for number in first..last + 1 {
+        let size = number * step;
+        let serves = match try_size(reader, replay, size, records) {
+            Ok(serves) => serves,
+            Err(failed) => return Err(failed),
+        };
+        fitted = fitted.with(size, serves);
+    }
+    Ok(fitted)
+}
+
+/// The text of how large a pool a log needs, of whose first replay these are the totals and the most addresses held: the log is
+/// read again for each size, but where the greatest pool refuses a line.
+fn fit_text<R: Again>(
+    reader: &mut R,
+    replay: &mut Replay<Heap>,
+    step: Option<u64>,
+) -> Result<LineText, Failed>
+    requires good { is_bad step ≡ false }
+    requires records { replay.old.content.records ≡ most_records }
+    ensures tells { IfOk result (λ text. (lines : List Reading) → StandsFor replay.old greatest_settings (reverse lines)
+        → TellsFit step lines (R.whole reader.old) text.items) }
+    ensures not_failed { OnOk result (NoneFailed (R.trace reader.old) (R.trace reader.new)) }
+    ensures read { OnErr result (FailsLater (R.whole reader.old) (R.left reader.old) (R.left reader.new) (R.trace reader.old) (R.trace reader.new)) }
+{
+    let totals = replay.totals();
+    let most = replay.most();
+    if totals.refused > 0 {
+        return Ok(untried_text(totals, most));
+    }
+    let peak = totals.peak_bytes;
+    let records = enough_records(most);
+    let fitted = try_sizes(reader, replay, step_of(step, peak), peak, records)?;
+    Ok(fitted_text(totals, most, records, fitted))
+}
+
+/// Puts a text, and flushes.
+fn put_and_flush<W: Sink>(writer: &mut W, text: &[u8]) -> Result<(), Failed>
+    ensures { PutsAndFlushes W.taken W.trace result text.now writer.old writer.new }
+{
+    if put_all(writer, text).is_err() {
+        return Err(Failed);
+    }
+    writer.flush()
+}
+
+/// Tells how large a pool the log needs that was replayed on the greatest one.
+fn tell_fit<R: Again, W: Sink>(
+    reader: &mut R,
+    writer: &mut W,
+    replay: &mut Replay<Heap>,
+    step: Option<u64>,
+) -> Result<(), RunFault>
+    requires good { is_bad step ≡ false }
+    requires records { replay.old.content.records ≡ most_records }
+    ensures { (lines : List Reading) → StandsFor replay.old greatest_settings (reverse lines)
+        → FitFollows step lines R.left R.whole R.trace W.taken W.trace result reader.old reader.new writer.old writer.new }
+{
+    let Ok(text) = fit_text(reader, replay, step) else {
+        return Err(RunFault::Read);
+    };
+    match put_and_flush(writer, text.as_slice()) {
+        Ok(()) => Ok(()),
+        Err(_) => Err(RunFault::Write),
+    }
+}
+
+/// Reads a log of mtrace(3), replays it on the greatest pool with the most records, and writes what is wrong with its lines,
+/// each as it comes; then the writer is flushed. Then it writes how large a pool the log needs: the peak, the most addresses
+/// held, the records that are always enough, and the least and the safe size among the multiples of the step from the peak to
+/// twice the peak. For that the log is read again, once for each size, until a line is refused. The writer is flushed once more.
+///
+/// Without a step, that is the least multiple of the unit from a 64th of the peak on. Memory is taken at the start alone, for one
+/// replay, which is made anew for each size.
+///
+/// # Errors
+///
+/// `BadSettings` exactly where the step isn't a whole number of units from one to the greatest size: then nothing is read or
+/// written. `Read`, `Write` and `OutOfMemory` come as in the runs that write a report. `Read` where the reader doesn't begin
+/// again, or fails then, too: what is wrong with the lines is written, and nothing of the sizes. `Write` where the writer fails at
+/// that, too: a beginning of it is written.
+pub fn run_fit<R: Again, W: Sink>(
+    alloc: Global,
+    reader: &mut R,
+    writer: &mut W,
+    step: Option<u64>,
+) -> Result<Status, RunFault>
+    ensures { RunsFit step R.left R.whole R.trace W.taken W.trace result reader.old reader.new writer.old writer.new }
+{
+    if is_bad_step(step) {
+        return Err(RunFault::BadSettings);
+    }
+    let mut ended = match replay_log(alloc, reader, writer, greatest(), Report::Notes) {
+        Ok(ended) => ended,
+        Err(fault) => return Err(fault),
+    };
+    match tell_fit(reader, writer, &mut ended.replay, step) {
+        Ok(()) => Ok(ended.status),
+        Err(fault) => Err(fault),
+    }
+}

@@ -1,0 +1,103 @@
+//! The text that tells how large a pool a log needs.
+
+ghost use Rattle.std.specs.Prelude.{◌≡◌, ◌+◌, ◌≤◌, ◌++◌, length};
+ghost use Rattle.arrayvec.specs.ArrayVec.{array_vec_len};
+ghost use Rattle.mtrace_replay.specs.Texts.{size_line, count_line, greatest_line, most_line, fitted_lines, untried_lines};
+
+use crate::fitted::Fitted;
+use crate::line_text::{
+    LONGEST_TEXT, LineText, push_bytes, push_greatest_line, push_number, push_number_line,
+    push_pair_line,
+};
+use crate::totals::Totals;
+use arrayvec::ArrayVec;
+
+/// Appends a line of a size behind its word, or that there is none.
+fn push_size_line(text: &mut LineText, word: &[u8], size: Option<u64>)
+    requires { array_vec_len text.old + length word.now + 50 ≤ LONGEST_TEXT }
+    ensures bytes { text.new.items ≡ text.old.items ++ size_line word.now size }
+    ensures len { array_vec_len text.new ≤ array_vec_len text.old + length word.now + 50 }
+{
+    push_bytes(text, word);
+    match size {
+        None => push_bytes(text, b"-"),
+        Some(size) => {
+            push_number(text, u128::from(size));
+            push_bytes(text, b" bytes");
+        }
+    }
+    push_bytes(text, b"\n");
+}
+
+/// Appends a line of a number between its words.
+fn push_count_line(text: &mut LineText, word: &[u8], number: u64, last: &[u8])
+    requires { array_vec_len text.old + length word.now + length last.now + 41 ≤ LONGEST_TEXT }
+    ensures bytes { text.new.items ≡ text.old.items ++ count_line word.now number last.now }
+    ensures len { array_vec_len text.new ≤ array_vec_len text.old + length word.now + length last.now + 41 }
+{
+    push_bytes(text, word);
+    push_number(text, u128::from(number));
+    push_bytes(text, last);
+    push_bytes(text, b"\n");
+}
+
+/// Appends the peak, and the most addresses that were held.
+fn push_most(text: &mut LineText, totals: Totals, most: u64)
+    requires { array_vec_len text.old ≤ 100 }
+    ensures bytes { text.new.items ≡ text.old.items ++ greatest_line totals ++ most_line most }
+    ensures len { array_vec_len text.new ≤ array_vec_len text.old + 200 }
+{
+    push_greatest_line(text, totals);
+    push_count_line(text, b"held at most: ", most, b" blocks");
+}
+
+/// Appends the records, and what the sizes tell that were tried with them.
+fn push_fitted(text: &mut LineText, records: u32, fitted: Fitted)
+    requires { array_vec_len text.old ≤ 300 }
+    ensures { text.new.items ≡ text.old.items ++ fitted_lines records fitted }
+{
+    push_number_line(text, b"records: ", u64::from(records));
+    push_size_line(text, b"least pool: ", fitted.least);
+    push_size_line(text, b"safe pool: ", fitted.safe);
+    push_pair_line(
+        text,
+        b"sizes tried: ",
+        fitted.tried,
+        b", ",
+        fitted.refused,
+        b" refused",
+    );
+}
+
+/// Appends that no size was tried.
+fn push_untried(text: &mut LineText)
+    requires { array_vec_len text.old ≤ 300 }
+    ensures { text.new.items ≡ text.old.items ++ untried_lines }
+{
+    push_size_line(text, b"records: ", None);
+    push_size_line(text, b"least pool: ", None);
+    push_size_line(text, b"safe pool: ", None);
+    push_number_line(text, b"sizes tried: ", 0);
+}
+
+/// The text of a log that the greatest pool serves: the peak, the most addresses that were held, the records, and what the
+/// sizes tell that were tried with them.
+pub(crate) fn fitted_text(totals: Totals, most: u64, records: u32, fitted: Fitted) -> LineText
+    ensures { result.items ≡ greatest_line totals ++ most_line most ++ fitted_lines records fitted }
+{
+    let mut text = ArrayVec::new();
+    push_most(&mut text, totals, most);
+    push_fitted(&mut text, records, fitted);
+    text
+}
+
+/// The text of a log that the greatest pool doesn't serve: the peak, the most addresses that were held, and that no size was
+/// tried.
+pub(crate) fn untried_text(totals: Totals, most: u64) -> LineText
+    ensures { result.items ≡ greatest_line totals ++ most_line most ++ untried_lines }
+{
+    let mut text = ArrayVec::new();
+    push_most(&mut text, totals, most);
+    push_untried(&mut text);
+    text
+}

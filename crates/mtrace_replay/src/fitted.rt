@@ -1,0 +1,54 @@
+//! What the sizes tell that a log was tried on.
+
+ghost use Rattle.std.specs.Prelude.{◌≡◌, ◌++◌, ◌∷◌, ◌+◌, ◌<◌, ◌^◌, [], List, length};
+ghost use Rattle.mtrace_replay.specs.Fit.{Verdict, fitted};
+
+/// What the sizes tell that were tried so far, in rising order.
+#[derive(Clone, Copy)]
+pub(crate) struct Fitted {
+    /// The first size that serves the log, in bytes.
+    pub(crate) least: Option<u64>,
+    /// The first size from which on all serve it, in bytes.
+    pub(crate) safe: Option<u64>,
+    /// How many sizes were tried.
+    pub(crate) tried: u64,
+    /// How many of them don't serve it.
+    pub(crate) refused: u64,
+}
+
+impl Fitted {
+    /// No size was tried.
+    pub(crate) fn none() -> Fitted
+        ensures { result ≡ fitted [] }
+    {
+        Fitted {
+            least: None,
+            safe: None,
+            tried: 0,
+            refused: 0,
+        }
+    }
+
+    /// With one size more, by whether it serves the log.
+    pub(crate) fn with(self, size: u64, serves: bool) -> Fitted
+        requires tried { self.tried + 1 < 2 ^ 64 }
+        requires refused { self.refused + 1 < 2 ^ 64 }
+        ensures { (verdicts : List Verdict) → self ≡ fitted verdicts → result ≡ fitted (verdicts ++ record { size = size; serves = serves } ∷ []) }
+    {
+        if serves {
+            Fitted {
+                least: self.least.or(Some(size)),
+                safe: self.safe.or(Some(size)),
+                tried: self.tried + 1,
+                refused: self.refused,
+            }
+        } else {
+            Fitted {
+                least: self.least,
+                safe: None,
+                tried: self.tried + 1,
+                refused: self.refused + 1,
+            }
+        }
+    }
+}

@@ -1,0 +1,23 @@
+use Rattle.std.proofs.Common.{◌≡◌, ◌∙◌, ap, ap₂, false, codes, ◌||◌, Bool}
+use Rattle.std.proofs.lemmas.Result.{IfOk-weaker}
+use Rattle.clap.specs.Words.{app_of, new_app, with_rule}
+use Rattle.clap.specs.Simple.{app_of_fields}
+use Rattle.clap.specs.declared.builder.command.Command.{Command}
+use Rattle.clap.specs.declared.builder.command.Command.TheOpen.{Command-F}
+use Rattle.clap.specs.declared.builder.command.Command.TheViews.{out-Command}
+use Rattle.tlsf_tool.proofs.command_line.fit_command.Goals as goal
+
+pub returns-clause-line : goal.returns-clause-line
+returns-clause-line c =
+    let bare : app_of c.after_help.result ≡ new_app (codes "fit") =
+    ap app_of_fields c.after_help.ensures ∙ ap app_of_fields c.about.ensures ∙ c.new.ensures.app in
+    let one = c.in_ok-arg.ensures.shape c.step_option.ensures.own ∙ ap₂ with_rule bare c.step_option.ensures.rule in
+    IfOk-weaker c.arg-2.result _ _ (λ r h. h.shape c.log_word.ensures.own ∙ ap₂ with_rule one c.log_word.ensures.rule) c.arg-2.ensures
+
+pub returns-clause-own : goal.returns-clause-own
+returns-clause-own c =
+    let globals : Command-F Command → Bool = λ f. f.has_globals in
+    let bare : (out-Command c.after_help.result).has_globals ≡ false =
+    ap globals c.after_help.ensures ∙ ap globals c.about.ensures ∙ c.new.ensures.local in
+    let one = c.in_ok-arg.ensures.globals ∙ ap₂ ◌||◌ bare c.step_option.ensures.own in
+    IfOk-weaker c.arg-2.result _ _ (λ r h. h.globals ∙ ap₂ ◌||◌ one c.log_word.ensures.own) c.arg-2.ensures

@@ -1,0 +1,6 @@
+use Rattle.clap.specs.Words.{found_of, rows_of}
+use Rattle.tlsf_tool.proofs.CommandLineLemmas.{refuses_too, fit_asks_nothing}
+use Rattle.tlsf_tool.proofs.words.asked_fit.Goals as goal
+
+pub returns-in-Err-clause-faults : goal.returns-in-Err-clause-faults
+returns-in-Err-clause-faults c = refuses_too c.in-Err.fault (fit_asks_nothing (rows_of (found_of c.args.found.now))) c.in-Err.ensures.faults
