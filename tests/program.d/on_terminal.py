@@ -14,7 +14,8 @@ from concurrent.futures import ThreadPoolExecutor
 from pathlib import Path
 
 PROGRAM, PRELOADED = sys.argv[1:3]
-NOTICE = rb"\r\x1b\[Ktlsf: (\d+) lines read"
+NOTICE = rb"\r\x1b\[Ktlsf: (\d+) lines read(?:, \d+ sizes tried)?"
+SIZES = rb"lines read, (\d+) sizes tried"
 PIECE = 4096
 
 # Five pieces of lines of several lengths: with no effect, and with a diagnostic each, which are
@@ -121,6 +122,7 @@ def wrong(case):
     for what, is_so, wanted in (
         ("status", status, case["status"]),
         ("notices", told, case.get("told", [])),
+        ("sizes", [int(number) for number in re.findall(SIZES, said)], case.get("sizes", [])),
         ("notices cleared", cleared, len(told)),
         ("clears without a notice", max(clears - len(told), 0), 0),
         ("on the terminal", rest, case.get("on_terminal", b"")),
@@ -149,6 +151,12 @@ def slow_cases():
     for word in REPORTS:
         for log in ("file", "fifo", "pipe", "-"):
             yield f"{word} of a slow {log}", served(word, QUIET, b"", log=log)
+    # The log is read three times, with six reads each: the first of the two sizes is tried then.
+    yield "sizes of a slow file", {
+        "word": "fit", "log": "file", "text": QUIET, "status": 0, "how": {"IO_WAIT": "2,14"}, "sizes": [1],
+        "told": [lines_in(QUIET, 2), 2 * QUIET.count(b"\n") + lines_in(QUIET, 2)],
+        "written": b"peak: 0 bytes at line 0\nheld at most: 0 blocks\nrecords: 3\nleast pool: 16 bytes\n"
+        b"safe pool: 16 bytes\nsizes tried: 2, 0 refused\n"}
     yield "a slow log with diagnostics", served("leaks", LOUD, diagnostics(LOUD), log="file")
     yield "a slow log with diagnostics, saved", served("save", LOUD, diagnostics(LOUD), log="fifo")
     for word in REPORTS:

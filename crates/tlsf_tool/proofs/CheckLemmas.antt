@@ -1,5 +1,5 @@
 -- What the answer of loading an image tells of its rules.
-use Rattle.std.proofs.Common.{◌≡◌, false, sym, ap, ◌∙◌, refl, Option, Some, None}
+use Rattle.std.proofs.Common.{◌≡◌, false, sym, ◌∙◌, refl, Option, Some, None}
 use Rattle.std.specs.Prelude.{Result, Ok, Err, if◌then◌else◌}
 use Rattle.std.specs.Result.{is_ok, is_err}
 use Rattle.tlsf_image.specs.declared.rule.Rule.{Rule}

@@ -43,9 +43,12 @@ impl<'a> Notice<'a> {
         }
     }
 
-    /// Writes the notice, over the one that stands.
-    fn tell(&self, lines: usize) {
+    /// Writes the notice, over the one that stands: how many lines are read, and how many sizes are tried, where some are.
+    fn tell(&self, lines: usize, sizes: usize) {
         let _ = eprint!(self.rt; "\r\x1b[Ktlsf: {lines} lines read");
+        if sizes > 0 {
+            let _ = eprint!(self.rt; ", {sizes} sizes tried");
+        }
         self.stands.set(true);
     }
 
@@ -58,12 +61,14 @@ impl<'a> Notice<'a> {
     }
 }
 
-/// A reader whose lines are counted for a notice. It seeks as the reader does; what is read again is counted again.
+/// A reader whose lines are counted for a notice. It seeks as the reader does; what is read again is counted again. A log that
+/// is begun again tries a size, and one that is begun once more has tried it.
 #[derive(Drop)]
 pub(crate) struct Counted<'a, R> {
     notice: &'a Notice<'a>,
     reader: R,
     lines: usize,
+    begun: usize,
     told: u64,
 }
 
@@ -74,6 +79,7 @@ impl<'a, R: Read> Counted<'a, R> {
             notice,
             reader,
             lines: 0,
+            begun: 0,
             told: 0,
         }
     }
@@ -87,7 +93,7 @@ impl<'a, R: Read> Counted<'a, R> {
         let seconds = self.notice.seconds();
         if seconds > self.told {
             self.told = seconds;
-            self.notice.tell(self.lines);
+            self.notice.tell(self.lines, self.begun.saturating_sub(1));
         }
     }
 }
@@ -109,6 +115,7 @@ impl<R: Seek> Seek for Counted<'_, R> {
     ghost stream_bytes = { λ counted. R.stream_bytes counted.reader };
 
     fn seek(&mut self, to: SeekFrom) -> io::Result<u64> {
+        self.begun = self.begun.wrapping_add(1);
         self.reader.seek(to)
     }
 }

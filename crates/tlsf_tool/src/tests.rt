@@ -2,6 +2,7 @@
 
 mod buffer;
 mod classes;
+mod fit;
 mod glibc_log;
 mod hostile;
 mod image_bytes;

@@ -1,4 +1,4 @@
-use Rattle.std.proofs.Common.{◌≡◌, sym, ap, ◌∙◌, Option, Err}
+use Rattle.std.proofs.Common.{sym, ap, ◌∙◌, Option, Err}
 use Rattle.tlsf_image.specs.declared.rule.Rule.{Rule}
 use Rattle.tlsf_image.specs.Rules.{first_broken}
 use Rattle.tlsf_tool.proofs.CheckLemmas.{none_where_loaded, some_where_broken}

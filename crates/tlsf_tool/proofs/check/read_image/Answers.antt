@@ -1,4 +1,4 @@
-use Rattle.std.proofs.Common.{◌≡◌, ℕ, ◌≤◌, List, ◌++◌, length, take, length-take, length-append, sym, ap, ◌∙◌, arith, inl}
+use Rattle.std.proofs.Common.{◌≡◌, ℕ, List, ◌++◌, length, take, length-take, length-append, sym, ap, ◌∙◌, arith, inl}
 use Rattle.std.specs.Io.KnownBytes.{prepend_known}
 use Rattle.mtrace_log.proofs.TextLemmas.{prepend_known-append}
 use Rattle.mtrace_log.proofs.TraceLemmas.{gave_more}

@@ -1,7 +1,6 @@
 use Rattle.std.proofs.Common.{◌≡◌, ◌∙◌, ap, true, codes}
 use Rattle.clap.specs.Words.{app_of, new_app}
 use Rattle.clap.specs.Simple.{app_of_fields, on_top}
-use Rattle.tlsf_tool.specs.CommandLine.{bare_line}
 use Rattle.tlsf_tool.proofs.command_line.bare_command.Goals as goal
 
 pub returns : goal.returns

@@ -1,4 +1,4 @@
-use Rattle.std.proofs.Common.{inl, inr}
+use Rattle.std.proofs.Common.{inl}
 use Rattle.clap.specs.Words.{found_of, rows_of}
 use Rattle.tlsf_tool.proofs.CommandLineLemmas.{refuses_too, save_asks_nothing}
 use Rattle.tlsf_tool.proofs.words.asked_save.Goals as goal

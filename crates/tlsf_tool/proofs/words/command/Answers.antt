@@ -1,4 +1,4 @@
-use Rattle.std.proofs.Common.{sym, subst, inl, inr, Option, List}
+use Rattle.std.proofs.Common.{subst, Option, List}
 use Rattle.std.proofs.lemmas.Result.{IfErr-weaker, IfOk-weaker}
 use Rattle.tlsf_tool.specs.CommandLine.{MatchesAskFor}
 use Rattle.clap.specs.Words.{app_of, Row, Text}
