@@ -351,9 +351,9 @@ static int walk(struct pool pool, tlsf_walker walker, void *user)
     tlsf_heap_row one;
     uint64_t count = 0;
     int faults = 0;
-    tlsf_heap_walk(&pool.control->heap, pool.place, &one, 0, &count);
+    tlsf_heap_walk(&pool.control->heap, pool.place, 0, &one, 0, &count);
     tlsf_heap_row rows[count + 1];
-    tlsf_heap_walk(&pool.control->heap, pool.place, rows, (size_t)count, &count);
+    tlsf_heap_walk(&pool.control->heap, pool.place, 0, rows, (size_t)count, &count);
     for (uint64_t k = 0; k < count; k++) {
         void *ptr = pool.memory + (rows[k].place - pool.place) + FRONT;
         tlsf_heap_block block = {0, 0};
