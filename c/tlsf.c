@@ -284,7 +284,7 @@ void *tlsf_realloc(tlsf_t tlsf, void *ptr, size_t size)
 {
     struct control *control = control_of(tlsf);
     tlsf_heap_block block = {0, 0}, given = {0, 0};
-    size_t had = tlsf_live_size(tlsf, ptr);
+    size_t had = size == 0 ? 0 : tlsf_live_size(tlsf, ptr);
     if (ptr == NULL) {
         return tlsf_malloc(tlsf, size);
     }
