@@ -413,6 +413,66 @@ static void free_block(void *ptr, size_t size, int used, void *user)
     }
 }
 
+/* A heap whose walker ends it: how often it is called. */
+struct ending {
+    tlsf_t tlsf;
+    pool_t pool;
+    size_t calls, ends_at;
+    bool whole;
+};
+
+static void end_all(void *ptr, size_t size, int used, void *user)
+{
+    struct ending *ending = (struct ending *)user;
+    if (++ending->calls > ending->ends_at) {
+        return;
+    }
+    free_block(ptr, size, used, ending->tlsf);
+    if (ending->calls == ending->ends_at && ending->whole) {
+        tlsf_destroy(ending->tlsf);
+    } else if (ending->calls == ending->ends_at) {
+        tlsf_remove_pool(ending->tlsf, ending->pool);
+    }
+}
+
+/* The walker goes on to the end of the blocks that were read, 64 at a time, and then there are none. */
+static void walks_that_end(void)
+{
+    for (int whole = 0; whole < 2; whole++) {
+        tlsf_t tlsf = tlsf_create_with_pool(memory, sizeof memory);
+        for (int k = 0; k < 100; k++) {
+            tlsf_malloc(tlsf, 100);
+        }
+        struct ending ending = {tlsf, tlsf_get_pool(tlsf), 0, whole ? 3 : 101, whole};
+        tlsf_walk_pool(ending.pool, end_all, &ending);
+        expect(ending.calls == (whole ? 64 : 101) && tlsf_get_pool(tlsf) == NULL
+                   && has(ending.pool, 0, 0),
+               whole ? "a walker may end the heap" : "a walker may end the pool");
+    }
+}
+
+static void grow_next(void *ptr, size_t size, int used, void *user)
+{
+    struct ending *ending = (struct ending *)user;
+    (void)ptr, (void)size;
+    ending->calls += used != 0;
+    if (ending->calls <= ending->ends_at) {
+        tlsf_malloc(ending->tlsf, 64);
+    }
+}
+
+/* Blocks that are made behind what was read are met. */
+static void walks_that_grow(void)
+{
+    tlsf_t tlsf = tlsf_create_with_pool(memory, sizeof memory);
+    for (int k = 0; k < 64; k++) {
+        tlsf_malloc(tlsf, 64);
+    }
+    struct ending ending = {tlsf, NULL, 0, 10, false};
+    tlsf_walk_pool(tlsf_get_pool(tlsf), grow_next, &ending);
+    expect(ending.calls == 74 && tlsf_check(tlsf) == 0, "a walker may allocate");
+}
+
 static void ends(void)
 {
     tlsf_t tlsf = tlsf_create_with_pool(memory, sizeof memory);
@@ -464,5 +524,7 @@ int main(void)
     old_pointers();
     overruns();
     ends();
+    walks_that_end();
+    walks_that_grow();
     return cases_end();
 }
