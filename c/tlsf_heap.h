@@ -22,11 +22,11 @@
  * several threads puts a lock around it at its own risk: that a heap may pass from thread to thread
  * isn't proved.
  *
- * What the program owes: a tlsf_heap starts with zeros; but for the calls that fill it and the one
- * that ends it, it is passed where a call filled it and none ended it. The program doesn't use two
- * copies of it, and doesn't write it. Each pointer points to an object of its type, and two of them
- * in one call to different ones. Nothing checks this. What a tlsf_heap_block holds is checked: a
- * wrong one is refused.
+ * What the program owes: a tlsf_heap starts with zeros. The calls that fill it and the one that
+ * ends it take it so; the others take one that was filled and isn't ended. The program doesn't use
+ * two copies of it, and doesn't write it. Each pointer points to an object of its type, and two of
+ * them in one call to different ones. Nothing checks this. What a tlsf_heap_block holds is checked:
+ * a wrong one is refused.
  */
 #ifndef TLSF_HEAP_H
 #define TLSF_HEAP_H
@@ -175,11 +175,11 @@ enum tlsf_status tlsf_heap_realloc(tlsf_heap *heap, tlsf_heap_block block, uint6
  * 0, or TLSF_BAD_POINTER unless a live block has both its place and its slot. */
 enum tlsf_status tlsf_heap_block_size(tlsf_heap *heap, tlsf_heap_block block, uint32_t *out);
 
-/* Puts blocks of the pool that begins at the place base into rows: in order of place, those that
- * begin at the place `from` or behind it, as many as `room` has room for. How many there are goes
- * into *count. So a call from 0 with room 0 tells how much room the whole pool needs; and with few
- * rows a pool is read piece by piece, each from the end of the last row on. At most 4 touches, and
- * one more for each block of the pool.
+/* Puts blocks of the pool that begins at the place base into rows, in order of place. They are
+ * those that begin at the place `from` or behind it, as many as `room` has room for. How many there
+ * are goes into *count. So a call from 0 with room 0 tells how much room the whole pool needs. With
+ * few rows a pool is read piece by piece, each from the end of the last row on. At most 4 touches,
+ * and one more for each block of the pool.
  * 0, or TLSF_NO_POOL where no pool begins there. Where room is 0, rows still points to a
  * tlsf_heap_row. */
 enum tlsf_status tlsf_heap_walk(tlsf_heap *heap, uint64_t base, uint64_t from, tlsf_heap_row *rows,

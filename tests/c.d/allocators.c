@@ -1,8 +1,8 @@
 /* One allocator at work: some blocks are live, and each step frees one of them and asks for another
  * of 1 to 512 bytes. The choices are the same for each. Built with -DOVER_HEAP it is tlsf_heap.h,
- * with -DOVER_TLSF tlsf.h, else whatever malloc is. The words are a mode and how many blocks are live:
+ * with -DOVER_TLSF tlsf.h, else whatever malloc is. The words are a mode and how many are live:
  *   times LIVE   nanoseconds of a pair of free and malloc
- *   calls LIVE   nanoseconds of one call: half of them, 99, 99.9 and 99.99 of a hundred take no more
+ *   calls LIVE   nanoseconds of one call: 50, 99, 99.9 and 99.99 of a hundred take no more
  *   pairs LIVE   pairs alone, for callgrind to count the instructions of counted_pairs
  * What was refused is told behind. No test. */
 #define _DEFAULT_SOURCE

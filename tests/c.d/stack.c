@@ -1,6 +1,6 @@
 /* The stack of each call: bytes below the frame that calls, the most over calls that take different
- * ways. Each runs on a stack of its own, filled with one byte before. It writes a line for each call,
- * its name and the bytes. */
+ * ways. Each runs on a stack of its own, filled with one byte before. It writes a line for each
+ * call, its name and the bytes. */
 #define _DEFAULT_SOURCE
 #include <stdio.h>
 #include <string.h>
@@ -22,7 +22,7 @@ static tlsf_heap_block blocks[BLOCKS];
 static tlsf_t tlsf;
 static void *pointers[BLOCKS];
 static int k, seen;
-static uint64_t count;
+static uint64_t count, walked;
 static size_t bytes;
 
 static void run(void)
@@ -81,7 +81,11 @@ static void heap_block_size(void)
 }
 static void heap_free(void) { tlsf_heap_free(&heap, blocks[k * 7 % BLOCKS]); }
 static tlsf_heap_row rows[RECORDS];
-static void heap_walk(void) { tlsf_heap_walk(&heap, 7 << 20, 0, rows, RECORDS, &count); }
+static void heap_walk(void)
+{
+    tlsf_heap_walk(&heap, 7 << 20, 0, rows, RECORDS, &count);
+    walked += count;
+}
 static void heap_check(void) { seen += tlsf_heap_check(&heap); }
 static void heap_save(void) { tlsf_heap_save(&heap, image, sizeof image, &count); }
 static void heap_load_in(void)
@@ -94,6 +98,7 @@ static void heap_destroy(void) { tlsf_heap_destroy(&heap); }
 static void of_heap(void)
 {
     most("tlsf_heap_create_in", heap_create_in, nothing);
+    k = 0;
     stack_of(heap_add_pool);
     most("tlsf_heap_malloc", heap_malloc, nothing);
     most("tlsf_heap_block_size", heap_block_size, nothing);
@@ -154,5 +159,5 @@ int main(void)
 {
     of_heap();
     of_tlsf();
-    return seen > 0 && bytes > 0 ? 0 : 1;
+    return seen > 0 && bytes > 0 && walked > 2 * BLOCKS ? 0 : 1;
 }

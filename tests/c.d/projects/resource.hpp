@@ -1,6 +1,6 @@
 // A memory resource for the containers of C++17, in the style in which projects write theirs over
-// Conte's tlsf: one pool to begin with, and one more where it is full. It is ours, and copied from no
-// project. It names nothing of tlsf but the calls and types of Conte's header.
+// Conte's tlsf: one pool to begin with, and one more where it is full. It is ours, and copied from
+// no project. It names nothing of tlsf but the calls and types of Conte's header.
 #pragma once
 
 #include <cstddef>
