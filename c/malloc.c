@@ -37,7 +37,7 @@ static unsigned long long held_blocks, held_bytes, most_bytes, refused;
 
 /* ---- how it begins, and the lock ---- */
 
-/* The C library's buffers would ask for memory. */
+/* A line on a file descriptor. A stream of the C library would ask for memory. */
 static void say(int to, const char *format, ...)
 {
     char line[200] = "libtlsf_malloc: ";
