@@ -70,6 +70,10 @@ void tlsf_free(tlsf_t tlsf, void *ptr);
  * read. */
 size_t tlsf_block_size(void *ptr);
 
+/* The same where it is a live block of this heap; else 0, and nothing in front of a pointer that is
+ * in none of its pools is read (this call isn't Conte's). */
+size_t tlsf_live_size(tlsf_t tlsf, void *ptr);
+
 /* The bytes that tlsf_create needs; what a block's address and size are multiples of; the least and
  * the greatest block; what to add to a pool for one block (a multiple of 16); what each block takes
  * beside its bytes. */
@@ -80,14 +84,18 @@ size_t tlsf_block_size_max(void);
 size_t tlsf_pool_overhead(void);
 size_t tlsf_alloc_overhead(void);
 
-/* Calls the walker with each block of the pool, live or free, in order of address, as they were
- * when the walk began; a null pointer stands for one that prints. It takes 12 bytes of stack for
- * each block of the pool. */
+/* The bytes that tlsf_create_records needs in front of a pool (this call isn't Conte's). */
+size_t tlsf_size_records(uint32_t records);
+
+/* Calls the walker with each block of the pool, live or free, in order of address; a null pointer
+ * stands for one that prints. Blocks are read 64 at a time, each time from the end of the last one
+ * on, so the walker may allocate and free. Each 64 read the pool's whole chain: no call for a path
+ * that has to be quick. */
 typedef void (*tlsf_walker)(void *ptr, size_t size, int used, void *user);
 void tlsf_walk_pool(pool_t pool, tlsf_walker walker, void *user);
 
 /* 0 where all is whole, else less than 0: the table, and the 16 bytes in front of each live block,
- * of all pools or of one. Stack as for a walk. */
+ * of all pools or of one. */
 int tlsf_check(tlsf_t tlsf);
 int tlsf_check_pool(pool_t pool);
 

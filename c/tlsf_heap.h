@@ -22,10 +22,11 @@
  * several threads puts a lock around it at its own risk: that a heap may pass from thread to thread
  * isn't proved.
  *
- * What the program owes: it passes a tlsf_heap that a call filled and tlsf_heap_destroy didn't end,
- * doesn't use two copies of it, and doesn't write it; and each pointer points to an object of its
- * type, and two of them in one call to different ones. Nothing checks this. What a tlsf_heap_block
- * holds is checked: a wrong one is refused.
+ * What the program owes: a tlsf_heap starts with zeros. The calls that fill it and the one that
+ * ends it take it so; the others take one that was filled and isn't ended. The program doesn't use
+ * two copies of it, and doesn't write it. Each pointer points to an object of its type, and two of
+ * them in one call to different ones. Nothing checks this. What a tlsf_heap_block holds is checked:
+ * a wrong one is refused.
  */
 #ifndef TLSF_HEAP_H
 #define TLSF_HEAP_H
@@ -128,9 +129,10 @@ enum tlsf_status tlsf_heap_create(uint32_t records, tlsf_heap *out);
  * at no multiple of 16, or at a null pointer. Not proved. */
 enum tlsf_status tlsf_heap_create_in(void *memory, size_t bytes, uint32_t records, tlsf_heap *out);
 
-/* Ends the heap, and gives its memory back; memory that the program handed in is the program's
- * again. The heap isn't used after it. */
-void tlsf_heap_destroy(tlsf_heap heap);
+/* Ends the heap, gives its memory back, and leaves zeros in *heap. Memory that the program handed
+ * in is the program's again. Where *heap is zeros nothing is done: so what was never filled may be
+ * ended, and what was ended may be ended once more. */
+void tlsf_heap_destroy(tlsf_heap *heap);
 
 /* A pool of `bytes` bytes from the place base on, as one free block. At most 28 touches.
  * 0, TLSF_BAD_POOL where base or bytes isn't a multiple of 16, bytes isn't from 16 to
@@ -173,14 +175,15 @@ enum tlsf_status tlsf_heap_realloc(tlsf_heap *heap, tlsf_heap_block block, uint6
  * 0, or TLSF_BAD_POINTER unless a live block has both its place and its slot. */
 enum tlsf_status tlsf_heap_block_size(tlsf_heap *heap, tlsf_heap_block block, uint32_t *out);
 
-/* Puts the blocks of the pool that begins at the place base into rows, in order of place, as many
- * as `room` has room for, and into *count how many the pool has. So a first call with room 0 tells
- * how much room a second one needs; a heap has at most as many blocks as records. At most 4
- * touches, and one more for each block of the pool.
+/* Puts blocks of the pool that begins at the place base into rows, in order of place. They are
+ * those that begin at the place `from` or behind it, as many as `room` has room for. How many there
+ * are goes into *count. So a call from 0 with room 0 tells how much room the whole pool needs. With
+ * few rows a pool is read piece by piece, each from the end of the last row on. At most 4 touches,
+ * and one more for each block of the pool.
  * 0, or TLSF_NO_POOL where no pool begins there. Where room is 0, rows still points to a
  * tlsf_heap_row. */
-enum tlsf_status tlsf_heap_walk(tlsf_heap *heap, uint64_t base, tlsf_heap_row *rows, size_t room,
-                                uint64_t *count);
+enum tlsf_status tlsf_heap_walk(tlsf_heap *heap, uint64_t base, uint64_t from, tlsf_heap_row *rows,
+                                size_t room, uint64_t *count);
 
 /* Whether the table is whole: its blocks, lists, bitmaps and pools, and the chain of its vacant
  * records. It always is, as is proved; where this is false, something wrote over it, and no call
@@ -215,16 +218,6 @@ enum tlsf_status tlsf_heap_load(const unsigned char *bytes, size_t length, tlsf_
  * pointer. Not proved. */
 enum tlsf_status tlsf_heap_load_in(void *memory, size_t bytes, const unsigned char *image,
                                    size_t length, tlsf_heap *out);
-
-/* Ends a heap and leaves zeros; where they are there already nothing is done, so what was never
- * filled may be ended, and what was ended once more. This test is C, and not proved. */
-static inline void tlsf_heap_end(tlsf_heap *heap)
-{
-    if (heap->at != NULL) {
-        tlsf_heap_destroy(*heap);
-        heap->at = NULL;
-    }
-}
 
 /* Where the table's memory comes from: the two functions that the proved library wants of a
  * program, beside memcpy, memmove and memset. tlsf_memory.c has both, over malloc and free, and

@@ -17,5 +17,5 @@ int main(void)
         puts(strcpy(text, "a hundred bytes"));
         tlsf_heap_free(&heap, block);
     }
-    tlsf_heap_end(&heap);
+    tlsf_heap_destroy(&heap);
 }

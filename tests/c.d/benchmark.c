@@ -45,7 +45,7 @@ static double of_heap(uint32_t live, uint32_t *refused, uint64_t *places)
         *places = *places * 31 + blocks[k].place;
     }
     double taken = seconds() - start;
-    tlsf_heap_destroy(heap);
+    tlsf_heap_destroy(&heap);
     return taken;
 }
 

@@ -243,7 +243,7 @@ static void refused(void)
     free(third);
 }
 
-/* Two blocks of 75 bytes are left, and 150 were the most. */
+/* Two blocks are left, of 80 and 16 bytes. The most were two of 112 and 64. */
 static void hold(void)
 {
     void *volatile one = malloc(100), *volatile other = malloc(50), *volatile third;

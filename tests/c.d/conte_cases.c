@@ -89,6 +89,10 @@ static void creates(void)
     expect(tlsf != NULL && tlsf_get_pool(tlsf) == NULL
                && tlsf_create_records(memory, control_bytes(1) - 1, 1) == NULL,
            "one record, and no byte for a pool");
+    expect(tlsf_size_records(1) == control_bytes(1) && tlsf_size_records(RECORDS) == tlsf_size()
+               && tlsf_create_records(memory + 8, tlsf_size_records(1), 1) != NULL
+               && tlsf_get_pool(memory + 8) == NULL,
+           "tlsf_size_records: the bytes of a heap without a pool");
     expect(tlsf_create_records(memory, control_bytes(1) + 31, 1) != NULL
                && tlsf_get_pool(memory) == NULL,
            "31 bytes are no pool");
@@ -322,8 +326,14 @@ static void pointers(void)
                   *two = (unsigned char *)tlsf_malloc(tlsf, 100);
     void *far = tlsf_malloc(other, 100);
     _Alignas(16) unsigned char on_stack[64] = {0};
+    expect(tlsf_live_size(tlsf, one) == 112 && tlsf_live_size(other, far) == 112, "a live block");
+    expect(tlsf_live_size(tlsf, far) == 0 && tlsf_live_size(NULL, one) == 0
+               && tlsf_live_size(tlsf, NULL) == 0 && tlsf_live_size(tlsf, (void *)16) == 0
+               && tlsf_live_size(tlsf, two + 16) == 0 && tlsf_live_size(tlsf, on_stack) == 0,
+           "none of this heap");
     tlsf_free(tlsf, one);
-    expect(refuses(tlsf, one) && tlsf_block_size(one) == 0, "a pointer that is free");
+    expect(refuses(tlsf, one) && tlsf_block_size(one) == 0 && tlsf_live_size(tlsf, one) == 0,
+           "a pointer that is free");
     expect(refuses(tlsf, far) && tlsf_block_size(far) == 112, "another heap's");
     unsigned char *block = (unsigned char *)tlsf_malloc(other, 16384);
     tlsf_t within = tlsf_create_with_pool(block, 16384);
@@ -403,18 +413,78 @@ static void free_block(void *ptr, size_t size, int used, void *user)
     }
 }
 
+/* A heap whose walker ends it: how often it is called. */
+struct ending {
+    tlsf_t tlsf;
+    pool_t pool;
+    size_t calls, ends_at;
+    bool whole;
+};
+
+static void end_all(void *ptr, size_t size, int used, void *user)
+{
+    struct ending *ending = (struct ending *)user;
+    if (++ending->calls > ending->ends_at) {
+        return;
+    }
+    free_block(ptr, size, used, ending->tlsf);
+    if (ending->calls == ending->ends_at && ending->whole) {
+        tlsf_destroy(ending->tlsf);
+    } else if (ending->calls == ending->ends_at) {
+        tlsf_remove_pool(ending->tlsf, ending->pool);
+    }
+}
+
+/* The walker goes on to the end of the blocks that were read, 64 at a time, and then there are none. */
+static void walks_that_end(void)
+{
+    for (int whole = 0; whole < 2; whole++) {
+        tlsf_t tlsf = tlsf_create_with_pool(memory, sizeof memory);
+        for (int k = 0; k < 100; k++) {
+            tlsf_malloc(tlsf, 100);
+        }
+        struct ending ending = {tlsf, tlsf_get_pool(tlsf), 0, whole ? 3 : 101, whole};
+        tlsf_walk_pool(ending.pool, end_all, &ending);
+        expect(ending.calls == (whole ? 64 : 101) && tlsf_get_pool(tlsf) == NULL
+                   && has(ending.pool, 0, 0),
+               whole ? "a walker may end the heap" : "a walker may end the pool");
+    }
+}
+
+static void grow_next(void *ptr, size_t size, int used, void *user)
+{
+    struct ending *ending = (struct ending *)user;
+    (void)ptr, (void)size;
+    ending->calls += used != 0;
+    if (ending->calls <= ending->ends_at) {
+        tlsf_malloc(ending->tlsf, 64);
+    }
+}
+
+/* Blocks that are made behind what was read are met. */
+static void walks_that_grow(void)
+{
+    tlsf_t tlsf = tlsf_create_with_pool(memory, sizeof memory);
+    for (int k = 0; k < 64; k++) {
+        tlsf_malloc(tlsf, 64);
+    }
+    struct ending ending = {tlsf, NULL, 0, 10, false};
+    tlsf_walk_pool(tlsf_get_pool(tlsf), grow_next, &ending);
+    expect(ending.calls == 74 && tlsf_check(tlsf) == 0, "a walker may allocate");
+}
+
 static void ends(void)
 {
     tlsf_t tlsf = tlsf_create_with_pool(memory, sizeof memory);
     void *one = NULL;
-    for (int k = 0; k < 50; k++) {
-        one = tlsf_malloc(tlsf, 10 * (size_t)k + 1);
+    for (int k = 0; k < 200; k++) {
+        one = tlsf_malloc(tlsf, 10 * (size_t)(k % 20) + 1);
     }
     pool_t pool = tlsf_get_pool(tlsf);
     memcpy(other_memory, memory, sizeof memory);
     expect(tlsf_malloc(other_memory, 1) == NULL && tlsf_check(other_memory) == -1,
            "a copy of a heap is none");
-    expect(has(pool, 50, 1), "fifty blocks");
+    expect(has(pool, 200, 1), "two hundred blocks");
     tlsf_walk_pool(pool, free_block, tlsf);
     expect(has(pool, 0, 1) && tlsf_check(tlsf) == 0, "a walker may free each block");
     one = tlsf_malloc(tlsf, 10);
@@ -454,5 +524,7 @@ int main(void)
     old_pointers();
     overruns();
     ends();
+    walks_that_end();
+    walks_that_grow();
     return cases_end();
 }

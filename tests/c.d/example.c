@@ -27,6 +27,6 @@ int main(void)
     printf("malloc of 8192: %s\n", tlsf_heap_status_name(status));
     printf("free: %s\n", tlsf_heap_status_name(tlsf_heap_free(&heap, block)));
     printf("free again: %s\n", tlsf_heap_status_name(tlsf_heap_free(&heap, block)));
-    tlsf_heap_end(&heap);
+    tlsf_heap_destroy(&heap);
     return 0;
 }

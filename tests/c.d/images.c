@@ -59,7 +59,7 @@ static void the_bytes(void)
     expect(tlsf_heap_save(&heap, bytes, SMALL, &count) == TLSF_OK && count == SMALL && memcmp(bytes, wanted, SMALL) == 0, "a room of just its length");
     tlsf_heap_block block;
     expect(tlsf_heap_malloc(&heap, 64, &block) == TLSF_OK && block.place == 0, "the heap goes on");
-    tlsf_heap_destroy(heap);
+    tlsf_heap_destroy(&heap);
 }
 
 /* No heap comes of these bytes, and what out points to stays. */
@@ -116,9 +116,9 @@ static void loaded_vector(void)
     expect(tlsf_heap_load(bytes, SMALL, &heap) == TLSF_OK, "the image is loaded");
     memset(bytes, 0, sizeof bytes);
     expect(tlsf_heap_check(&heap), "its table is whole");
-    expect(tlsf_heap_walk(&heap, 0, &row, 1, &count) == TLSF_OK && count == 1 && row.place == 0 && row.size == 64 && !row.used, "it has the row of the image");
+    expect(tlsf_heap_walk(&heap, 0, 0, &row, 1, &count) == TLSF_OK && count == 1 && row.place == 0 && row.size == 64 && !row.used, "it has the row of the image");
     expect(tlsf_heap_malloc(&heap, 60, &block) == TLSF_OK && block.place == 0 && tlsf_heap_malloc(&heap, 1, &block) == TLSF_NO_FIT, "it serves and refuses");
-    tlsf_heap_destroy(heap);
+    tlsf_heap_destroy(&heap);
 }
 
 /* ---- a heap, and the one that its image is ---- */
@@ -178,7 +178,7 @@ static bool same_rows(void)
         uint64_t count[2] = {0, 1};
         memset(rows, 0, sizeof rows);
         for (unsigned h = 0; h < 2; h++) {
-            same = tlsf_heap_walk(&heaps[h], base, rows[h], 300, &count[h]) == TLSF_OK && same;
+            same = tlsf_heap_walk(&heaps[h], base, 0, rows[h], 300, &count[h]) == TLSF_OK && same;
         }
         same = same && count[0] == count[1] && memcmp(rows[0], rows[1], sizeof rows[0]) == 0;
     }
@@ -210,11 +210,11 @@ static void saved_and_loaded(void)
         }
         expect(same && same_rows(), "both heaps answer alike");
         expect(tlsf_heap_check(&heaps[0]) && tlsf_heap_check(&heaps[1]), "both tables are whole");
-        tlsf_heap_destroy(heaps[0]);
+        tlsf_heap_destroy(&heaps[0]);
         heaps[0] = heaps[1];
         memcpy(live[0], live[1], sizeof live[0]);
     }
-    tlsf_heap_destroy(heaps[0]);
+    tlsf_heap_destroy(&heaps[0]);
 }
 
 int main(void)

@@ -93,7 +93,7 @@ static void at_its_bytes(bool loads)
     fill();
     start(0);
     bool made = make(loads, memory + EDGE, bytes, &heap) == TLSF_OK && works(&heap);
-    tlsf_heap_end(&heap);
+    tlsf_heap_destroy(&heap);
     snprintf(name, sizeof name, "%s at just its bytes, and no malloc", call);
     expect(made && takes == 0 && returns == 0, name);
     snprintf(name, sizeof name, "%s: the bytes around the table stay", call);
@@ -109,7 +109,7 @@ static void at_its_bytes(bool loads)
         uint32_t wanted = from % TLSF_HEAP_UNIT == 0 ? TLSF_OK : TLSF_BAD_MEMORY;
         aligned = aligned && make(loads, memory + from, bytes, &heap) == wanted;
         aligned = aligned && (heap.at != NULL) == (wanted == TLSF_OK);
-        tlsf_heap_end(&heap);
+        tlsf_heap_destroy(&heap);
     }
     snprintf(name, sizeof name, "%s at each alignment", call);
     expect(aligned, name);
@@ -129,7 +129,7 @@ static void other_refusals(void)
     expect(heap.at == NULL && takes == 0, "what out points to stays");
     expect(strcmp(tlsf_heap_status_name(TLSF_BAD_MEMORY), "bad memory") == 0 && TLSF_BAD_MEMORY == 15, "its status has a name");
     expect(tlsf_heap_create(RECORDS, &heap) == TLSF_OK && takes == 2, "behind a refused call memory is malloc's again");
-    tlsf_heap_end(&heap);
+    tlsf_heap_destroy(&heap);
 }
 
 /* What a heap of malloc's memory asks for is what the header tells, and each refusal is answered. */
@@ -143,7 +143,7 @@ static void of_malloc(void)
         bool made = tlsf_heap_create(counts[k], &heap) == TLSF_OK && takes == 2;
         snprintf(name, sizeof name, "%u records: the bytes of a table", (unsigned)counts[k]);
         expect(made && asked == TLSF_HEAP_TABLE_BYTES(counts[k]), name);
-        tlsf_heap_destroy(heap);
+        tlsf_heap_destroy(&heap);
         expect(returns == 2, "both are given back");
     }
     for (unsigned refused = 1; refused <= 4; refused++) {
@@ -151,10 +151,10 @@ static void of_malloc(void)
         start(refused);
         uint32_t status = tlsf_heap_create(RECORDS, &heap);
         bool right = refused <= 2 ? status == TLSF_OUT_OF_MEMORY && heap.at == NULL : status == TLSF_OK;
-        tlsf_heap_end(&heap);
+        tlsf_heap_destroy(&heap);
         uint32_t loaded = tlsf_heap_load(image, sizeof image, &heap);
         right = right && (refused > takes || refused <= 2 || (loaded == TLSF_OUT_OF_MEMORY && heap.at == NULL));
-        tlsf_heap_end(&heap);
+        tlsf_heap_destroy(&heap);
         expect(right && returns == takes - 1, "one of four requests refused: no heap, and all is given back");
     }
 }
@@ -163,18 +163,18 @@ static void ends(void)
 {
     tlsf_heap heap = {0};
     start(0);
-    tlsf_heap_end(&heap);
+    tlsf_heap_destroy(&heap);
     expect(heap.at == NULL && returns == 0, "zeros may be ended");
     expect(tlsf_heap_create(RECORDS, &heap) == TLSF_OK, "a heap");
-    tlsf_heap_end(&heap);
+    tlsf_heap_destroy(&heap);
     expect(heap.at == NULL && returns == 2, "its end leaves zeros");
-    tlsf_heap_end(&heap);
+    tlsf_heap_destroy(&heap);
     expect(heap.at == NULL && returns == 2, "and may come once more");
     expect(tlsf_heap_create_in(memory, sizeof memory, RECORDS, &heap) == TLSF_OK, "a heap in memory of the program");
-    tlsf_heap_destroy(heap);
+    tlsf_heap_destroy(&heap);
     expect(returns == 2, "its end by tlsf_heap_destroy gives nothing back to malloc");
     expect(tlsf_heap_create_in(memory, sizeof memory, RECORDS, &heap) == TLSF_OK && works(&heap), "another in the same memory");
-    tlsf_heap_end(&heap);
+    tlsf_heap_destroy(&heap);
 }
 
 /* Heaps side by side in one array, each with its own places, in use in turn. */
@@ -207,7 +207,7 @@ static void side_by_side(void)
         whole = whole && tlsf_heap_check(&heaps[h]);
     }
     for (unsigned h = 0; h < HEAPS; h += 2) {
-        tlsf_heap_end(&heaps[h]);
+        tlsf_heap_destroy(&heaps[h]);
         memset(array + h * EACH, 0xff, EACH);
     }
     for (unsigned h = 1; h < HEAPS; h += 2) {
@@ -215,7 +215,7 @@ static void side_by_side(void)
             ended = ended && tlsf_heap_free(&heaps[h], live[h][--lives[h]]) == TLSF_OK;
         }
         ended = ended && tlsf_heap_check(&heaps[h]) && tlsf_heap_remove_pool(&heaps[h], 65536u * h) == TLSF_OK;
-        tlsf_heap_end(&heaps[h]);
+        tlsf_heap_destroy(&heaps[h]);
     }
     expect(made, "forty heaps in one array");
     expect(served, "each serves from its own pool");
@@ -252,7 +252,7 @@ static bool is_enough(uint32_t records, unsigned most, uint32_t pools, bool alig
         }
         enough = enough && status != TLSF_TABLE_FULL;
     }
-    tlsf_heap_end(&heap);
+    tlsf_heap_destroy(&heap);
     return enough;
 }
 
@@ -265,7 +265,7 @@ static uint32_t beyond(uint32_t records)
     served = served && tlsf_heap_malloc(&heap, 16, &one) == TLSF_OK && tlsf_heap_malloc(&heap, 16, &other) == TLSF_OK;
     served = served && tlsf_heap_free(&heap, one) == TLSF_OK;
     uint32_t status = served ? tlsf_heap_memalign(&heap, 256, 100, &one) : TLSF_BAD_COUNT;
-    tlsf_heap_end(&heap);
+    tlsf_heap_destroy(&heap);
     return status;
 }
 
@@ -301,7 +301,7 @@ static void limits(void)
     }
     expect(status == TLSF_OK && tlsf_heap_add_pool(&heap, 0x50000000u, TLSF_HEAP_UNIT) == TLSF_POOLS_FULL, "the most pools");
     expect(tlsf_heap_add_pool(&heap, 0, TLSF_HEAP_UNIT / 2) == TLSF_BAD_POOL, "the unit");
-    tlsf_heap_end(&heap);
+    tlsf_heap_destroy(&heap);
 }
 
 int main(void)
@@ -309,7 +309,7 @@ int main(void)
     tlsf_heap heap = {0};
     uint64_t count = 0;
     expect(tlsf_heap_create(RECORDS, &heap) == TLSF_OK && tlsf_heap_save(&heap, image, sizeof image, &count) == TLSF_OK && count == sizeof image, "a heap is saved");
-    tlsf_heap_end(&heap);
+    tlsf_heap_destroy(&heap);
     at_its_bytes(false);
     at_its_bytes(true);
     other_refusals();

@@ -52,7 +52,7 @@ static void calls(tlsf_heap *heap)
     bool served = tlsf_heap_add_pool(heap, 0, 4096) == TLSF_OK && tlsf_heap_add_pool(heap, 8192, 64) == TLSF_OK;
     served = tlsf_heap_malloc(heap, 100, &one) == TLSF_OK && tlsf_heap_memalign(heap, 256, 40, &other) == TLSF_OK && served;
     served = tlsf_heap_realloc(heap, one, 2000, &third) == TLSF_OK && tlsf_heap_block_size(heap, third, &bytes) == TLSF_OK && served;
-    served = tlsf_heap_walk(heap, 0, rows, 4, &count) == TLSF_OK && tlsf_heap_check(heap) && served;
+    served = tlsf_heap_walk(heap, 0, 0, rows, 4, &count) == TLSF_OK && tlsf_heap_check(heap) && served;
     served = tlsf_heap_save(heap, image, sizeof image, &count) == TLSF_OK && tlsf_heap_save(heap, image, 100, &count) == TLSF_NO_ROOM && served;
     served = tlsf_heap_free(heap, third) == TLSF_OK && tlsf_heap_free(heap, other) == TLSF_OK && served;
     served = tlsf_heap_remove_pool(heap, 8192) == TLSF_OK && served;
@@ -66,7 +66,7 @@ static void loads(void)
     uint64_t count;
     start(0);
     expect(tlsf_heap_create(1000, &heap) == TLSF_OK && tlsf_heap_save(&heap, image, sizeof image, &count) == TLSF_OK, "a heap is saved");
-    tlsf_heap_destroy(heap);
+    tlsf_heap_destroy(&heap);
     for (unsigned refused = 1; refused <= 2; refused++) {
         tlsf_heap none = {0};
         start(refused);
@@ -76,7 +76,7 @@ static void loads(void)
     start(3);
     expect(tlsf_heap_load(image, sizeof image, &heap) == TLSF_OK && takes == 2 && live == 2, "load takes memory twice");
     calls(&heap);
-    tlsf_heap_destroy(heap);
+    tlsf_heap_destroy(&heap);
     expect(takes == 2 && returns == 2 && live == 0, "no other call takes any, and destroy gives both back");
     start(0);
     image[0] = 0;
@@ -104,7 +104,7 @@ static void each_count(void)
             break;
         }
         whole = whole && (records % 1000 != 0 || tlsf_heap_check(&heap));
-        tlsf_heap_destroy(heap);
+        tlsf_heap_destroy(&heap);
         returned = returned && live == 0 && returns == 2;
     }
     expect(made, "each count of records, 1 to 65,535: 16 bytes a record, and 1,664");
@@ -134,9 +134,7 @@ static bool loads_what_is_saved(uint32_t records, uint32_t pools)
     start(0);
     bool served = make_saved(&heap, records, pools, &block);
     served = served && tlsf_heap_save(&heap, image, sizeof image, &length) == TLSF_OK;
-    if (heap.at != NULL) {
-        tlsf_heap_destroy(heap);
-    }
+    tlsf_heap_destroy(&heap);
     start(0);
     if (!served || length != TLSF_HEAP_IMAGE_BYTES(records) || tlsf_heap_load(image, length, &other) != TLSF_OK) {
         return false;
@@ -148,7 +146,7 @@ static bool loads_what_is_saved(uint32_t records, uint32_t pools)
     for (uint32_t pool = 0; pool < pools; pool++) {
         served = served && tlsf_heap_remove_pool(&other, 4096u * pool) == TLSF_OK;
     }
-    tlsf_heap_destroy(other);
+    tlsf_heap_destroy(&other);
     return served;
 }
 
@@ -172,7 +170,7 @@ int main(void)
     expect(takes == 2 && live == 2, "create takes memory twice");
     calls(&heap);
     expect(takes == 2 && returns == 0, "no other call takes any or gives any back");
-    tlsf_heap_destroy(heap);
+    tlsf_heap_destroy(&heap);
     expect(takes == 2 && returns == 2 && live == 0, "destroy gives both back");
     for (unsigned refused = 1; refused <= 2; refused++) {
         tlsf_heap none = {0};
@@ -184,7 +182,7 @@ int main(void)
     start(3);
     expect(tlsf_heap_create(65535, &heap) == TLSF_OK, "create, where a third would be refused");
     expect(taken == 1050224, "a heap of 65,535 records takes 1,050,224 bytes");
-    tlsf_heap_destroy(heap);
+    tlsf_heap_destroy(&heap);
     expect(live == 0, "and its end");
     start(0);
     expect(tlsf_heap_create(0, &heap) == TLSF_BAD_COUNT && takes == 0, "a bad count takes no memory");

@@ -375,6 +375,26 @@ static bool ask_for_pool(void)
     return status == model_remove_pool(base);
 }
 
+/* The same rows are read piece by piece, each from the end of the one before. */
+static bool is_in_pieces(uint64_t base, const tlsf_heap_row *rows, uint64_t all)
+{
+    tlsf_heap_row piece[5];
+    size_t room = 1 + calls % 5;
+    uint64_t from = base, seen = 0, left = 0;
+    do {
+        if (tlsf_heap_walk(&heap, base, from, piece, room, &left) != TLSF_OK || seen + left != all) {
+            return false;
+        }
+        for (size_t k = 0; k < room && left > 0; k++, left--, seen++) {
+            if (piece[k].place != rows[seen].place || piece[k].size != rows[seen].size || piece[k].used != rows[seen].used) {
+                return false;
+            }
+            from = (uint64_t)piece[k].place + piece[k].size;
+        }
+    } while (left > 0);
+    return seen == all;
+}
+
 /* Every pool's rows are the model's blocks, and the table is whole. */
 static bool agrees(void)
 {
@@ -382,7 +402,7 @@ static bool agrees(void)
     for (uint64_t k = 0; k < pool_count; k++) {
         tlsf_heap_row rows[MOST_RECORDS];
         uint64_t given = 0, at = 0;
-        if (tlsf_heap_walk(&heap, pools[k][0], rows, MOST_RECORDS, &given) != TLSF_OK) {
+        if (tlsf_heap_walk(&heap, pools[k][0], 0, rows, MOST_RECORDS, &given) != TLSF_OK) {
             return false;
         }
         while (at < count && blocks[at].place != pools[k][0]) {
@@ -393,6 +413,9 @@ static bool agrees(void)
             if (rows[row].place != block->place || rows[row].size != block->size || rows[row].used != block->live || block->pool != pools[k][0]) {
                 return false;
             }
+        }
+        if (!is_in_pieces(pools[k][0], rows, given)) {
+            return false;
         }
         seen += given;
     }
@@ -416,7 +439,7 @@ static bool run(uint64_t seed, uint64_t how_many)
         good = kind < 18 ? ask_for_block() : kind < 30 ? ask_for_free() : kind < 37 ? ask_for_realloc() : ask_for_pool();
         good = good && agrees();
     }
-    tlsf_heap_destroy(heap);
+    tlsf_heap_destroy(&heap);
     return good;
 }
 

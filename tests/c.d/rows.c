@@ -20,7 +20,7 @@ static void begin(uint32_t records)
 static void end(void)
 {
     expect(tlsf_heap_check(&heap), "the table is whole at the end");
-    tlsf_heap_destroy(heap);
+    tlsf_heap_destroy(&heap);
 }
 
 static bool malloc_is(uint64_t bytes, uint32_t place)
@@ -40,7 +40,7 @@ static bool rows_are(uint64_t base, size_t count, const tlsf_heap_row *wanted)
 {
     tlsf_heap_row rows[MOST_ROWS];
     uint64_t given = 0;
-    if (tlsf_heap_walk(&heap, base, rows, MOST_ROWS, &given) != TLSF_OK || given != count) {
+    if (tlsf_heap_walk(&heap, base, 0, rows, MOST_ROWS, &given) != TLSF_OK || given != count) {
         return false;
     }
     for (size_t k = 0; k < count; k++) {
@@ -207,10 +207,16 @@ static void walks(void)
     first_split();
     tlsf_heap_row rows[2] = {{1, 1, false}, {2, 2, false}};
     uint64_t count = 99;
-    expect(tlsf_heap_walk(&heap, 16, rows, 2, &count) == TLSF_NO_POOL && count == 99 && rows[0].place == 1, "a walk of no pool changes nothing");
-    expect(tlsf_heap_walk(&heap, 0, rows, 1, &count) == TLSF_OK && count == 2, "a walk with room for one row tells that there are two");
+    expect(tlsf_heap_walk(&heap, 16, 0, rows, 2, &count) == TLSF_NO_POOL && count == 99 && rows[0].place == 1, "a walk of no pool changes nothing");
+    expect(tlsf_heap_walk(&heap, 0, 0, rows, 1, &count) == TLSF_OK && count == 2, "a walk with room for one row tells that there are two");
     expect(rows[0].size == 112 && rows[0].used && rows[1].place == 2 && rows[1].size == 2, "and puts one");
-    expect(tlsf_heap_walk(&heap, 0, rows, 0, &count) == TLSF_OK && count == 2, "a walk without room counts");
+    expect(tlsf_heap_walk(&heap, 0, 0, rows, 0, &count) == TLSF_OK && count == 2, "a walk without room counts");
+    for (uint64_t from = 1; from <= 112; from += 111) {
+        rows[0].place = 0;
+        expect(tlsf_heap_walk(&heap, 0, from, rows, 2, &count) == TLSF_OK && count == 1 && rows[0].place == 112 && rows[0].size == 912 && rows[1].place == 2, "a walk from a place that is behind the first block's");
+    }
+    expect(tlsf_heap_walk(&heap, 0, 113, rows, 2, &count) == TLSF_OK && count == 0 && rows[0].place == 112, "a walk from behind the last block's");
+    expect(tlsf_heap_walk(&heap, 0, UINT64_MAX, rows, 2, &count) == TLSF_OK && count == 0, "a walk from the last of all places");
     end();
 }
 

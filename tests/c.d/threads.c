@@ -37,11 +37,11 @@ static void *make(void *name)
         good = good && tlsf_heap_create(RECORDS, &of_malloc) == TLSF_OK && !is_in(&of_malloc, k);
         good = good && works(&in) && works(&of_malloc);
         good = good && tlsf_heap_save(&of_malloc, image, sizeof image, &count) == TLSF_OK;
-        tlsf_heap_end(&in);
+        tlsf_heap_destroy(&in);
         good = good && tlsf_heap_load_in(tables[k], BYTES, image, count, &in) == TLSF_OK && is_in(&in, k);
         good = good && tlsf_heap_check(&in);
-        tlsf_heap_end(&in);
-        tlsf_heap_end(&of_malloc);
+        tlsf_heap_destroy(&in);
+        tlsf_heap_destroy(&of_malloc);
     }
     right[k] = good;
     return NULL;

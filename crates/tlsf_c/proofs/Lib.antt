@@ -1,6 +1,7 @@
 -- Lemmas that several proofs share.
 mod FewRows
 mod FilledRows
+mod FromPlace
 mod LoadLemmas
 mod PlacedLemmas
 mod ReallocGives

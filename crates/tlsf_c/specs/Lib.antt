@@ -7,3 +7,4 @@ pub mod Rows
 pub mod Saving
 pub mod Status
 pub mod Window
+pub mod Zeros

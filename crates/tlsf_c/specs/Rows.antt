@@ -1,11 +1,15 @@
 -- What a walk puts into a C program's rows.
-use Rattle.std.specs.Prelude.{List, [], ◌∷◌}
+use Rattle.std.specs.Prelude.{ℕ, nat_le, List, [], ◌∷◌, filter}
 use Rattle.tlsf_heap.specs.declared.row.Row.{Row as HeapRow}
 use Rattle.tlsf_c.specs.declared.row.Row.{Row}
 
 -- the same row for C
 abbrev pub row_for : HeapRow → Row
 row_for row = record { place = row.place; size = row.size; used = row.used }
+
+-- those that begin at the place, or behind it
+abbrev pub from_place : ℕ → List HeapRow → List HeapRow
+from_place from rows = filter (λ row. nat_le from row.place) rows
 
 -- the rows, as many as there is room for, and behind them what stood there
 unfoldable pub filled : List HeapRow → List Row → List Row

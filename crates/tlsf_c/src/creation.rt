@@ -1,9 +1,10 @@
 //! A heap is made and ended.
 
-ghost use Rattle.std.specs.Prelude.{◌≡◌, ◌≢◌, ◌<◌, ◌⊎◌, ◌↔◌, Some};
+ghost use Rattle.std.specs.Prelude.{◌≡◌, ◌≢◌, ◌<◌, ◌⊎◌, ◌↔◌, Some, None};
 ghost use Rattle.tlsf_store.specs.Records.{most_records};
 ghost use Rattle.tlsf_c.specs.Creation.{IsNew};
 ghost use Rattle.tlsf_c.specs.Status.{bad_count, number};
+ghost use Rattle.tlsf_c.specs.Zeros.{zeros};
 ghost use Rattle.tlsf_heap.specs.declared.refusal.Refusal.TheVariants.{OutOfMemory};
 
 use crate::handle::Handle;
@@ -11,6 +12,7 @@ use crate::loose::Loose;
 use crate::made::Made;
 use crate::status::{BAD_COUNT, OUT_OF_MEMORY, SERVED};
 use std::alloc::Global;
+use std::mem::replace;
 use tlsf_heap::{Heap, StoreError};
 
 /// A heap of this many records, from 1 to 65,535, with no pool. It takes memory twice: for the table of records, and for
@@ -46,8 +48,13 @@ pub(crate) fn put(alloc: Global, heap: Heap, out: &mut Made) -> u32
     }
 }
 
-/// Ends the heap, and gives its memory back.
+/// Ends the heap, gives its memory back, and leaves zeros. Where there are zeros already nothing is done.
 #[unsafe(no_mangle)]
-pub extern "C" fn tlsf_heap_destroy(alloc: Global, handle: Handle) {
-    drop(handle.into_loose(alloc).into_box());
+pub extern "C" fn tlsf_heap_destroy(alloc: Global, heap: &mut Made)
+    ensures zeros { heap.new ≡ zeros }
+    ensures nothing { heap.old.value ≡ None → heap.new ≡ heap.old }
+{
+    if let Some(handle) = replace(heap, Made::zeros()).into_handle() {
+        drop(handle.into_loose(alloc).into_box());
+    }
 }

@@ -6,7 +6,7 @@ ghost use Rattle.tlsf_heap.specs.Counted.{IsUnchanged};
 ghost use Rattle.tlsf_heap.specs.Cursors.{rows_behind, is_at_row};
 ghost use Rattle.tlsf_heap.specs.Rows.{rows_from};
 ghost use Rattle.tlsf_heap.specs.Walk.{walk_touches};
-ghost use Rattle.tlsf_c.specs.Rows.{filled};
+ghost use Rattle.tlsf_c.specs.Rows.{filled, from_place};
 ghost use Rattle.tlsf_c.specs.Status.{status_of};
 
 use crate::handle::Handle;
@@ -14,20 +14,22 @@ use crate::row::Row;
 use crate::status::{SERVED, number};
 use tlsf_heap::{Cursor, Heap};
 
-/// Puts the rows of the pool that begins at the place `base` into `rows`, from the first on, as many as there is room
-/// for, and into `count` how many the pool has. At most four touches, and one more for each row of the pool.
+/// Puts the rows of the pool that begins at the place `base` into `rows`: in order, those that begin at the place `from` or
+/// behind it, as many as there is room for. How many there are goes into `count`. At most four touches, and one more for each
+/// row of the pool.
 ///
 /// The status is 0, or the number of `NoPool` where no pool begins there.
 #[unsafe(no_mangle)]
 pub extern "C" fn tlsf_heap_walk(
     handle: &mut Handle,
     base: u64,
+    from: u64,
     rows: &mut [Row],
     count: &mut u64,
 ) -> u32
     ensures status { status_of (rows_from base handle.old.value.content.pools) ≡ result }
-    ensures rows { IfOk (rows_from base handle.old.value.content.pools) (λ given. rows.new ≡ filled given rows.old) }
-    ensures count { IfOk (rows_from base handle.old.value.content.pools) (λ given. count.new ≡ length given) }
+    ensures rows { IfOk (rows_from base handle.old.value.content.pools) (λ given. rows.new ≡ filled (from_place from given) rows.old) }
+    ensures count { IfOk (rows_from base handle.old.value.content.pools) (λ given. count.new ≡ length (from_place from given)) }
     ensures rows_stay { result ≢ 0 → rows.new ≡ rows.old }
     ensures count_stays { result ≢ 0 → count.new ≡ count.old }
     ensures unchanged { IsUnchanged handle.old.value handle.new.value }
@@ -37,27 +39,30 @@ pub extern "C" fn tlsf_heap_walk(
     heap.keeps_good();
     match heap.first(base) {
         Ok(cursor) => {
-            *count = fill(heap, cursor, rows);
+            *count = fill(heap, cursor, from, rows);
             SERVED
         }
         Err(refusal) => number(refusal),
     }
 }
 
-/// Puts the rows from a cursor on into `rows`, as many as there is room for, and answers how many there are.
-fn fill(heap: &mut Heap, cursor: Cursor, rows: &mut [Row]) -> u64
+/// Puts the rows from a cursor on that begin at the place `from` or behind it into `rows`, as many as there is room for, and
+/// answers how many there are.
+fn fill(heap: &mut Heap, cursor: Cursor, from: u64, rows: &mut [Row]) -> u64
     requires stands { is_at_row heap.old.rows cursor }
     requires few { length (rows_behind heap.old.rows cursor) ≤ 2 ^ 32 }
-    ensures count { result ≡ length (rows_behind heap.old.rows cursor) }
-    ensures rows { rows.new ≡ filled (rows_behind heap.old.rows cursor) rows.old }
+    ensures count { result ≡ length (from_place from (rows_behind heap.old.rows cursor)) }
+    ensures rows { rows.new ≡ filled (from_place from (rows_behind heap.old.rows cursor)) rows.old }
     ensures unchanged { IsUnchanged heap.old heap.new }
     ensures bound { AtMost (length (rows_behind heap.old.rows cursor)) heap.old.touches heap.new.touches }
 {
     let mut count = 0;
     let mut here = cursor;
     while let Some(next) = heap.row(here) {
-        put(rows, count, Row::of(next.0));
-        count += 1;
+        if from <= next.0.place as u64 {
+            put(rows, count, Row::of(next.0));
+            count += 1;
+        }
         here = next.1;
     }
     count

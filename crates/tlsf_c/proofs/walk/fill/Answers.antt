@@ -3,15 +3,18 @@ use Rattle.std.proofs.lemmas.List.{length-append}
 use Rattle.tlsf_heap.specs.declared.row.Row.{Row as HeapRow}
 use Rattle.tlsf_heap.specs.Cursors.{rest_of, stands_at}
 use Rattle.tlsf_c.specs.declared.row.Row.{Row}
-use Rattle.tlsf_c.specs.Rows.{filled}
+use Rattle.tlsf_c.specs.Rows.{filled, from_place}
 use Rattle.tlsf_c.proofs.FilledRows.{filled_next, filled_none}
+use Rattle.tlsf_c.proofs.FromPlace.{from_place_next, from_place_passed}
 use Rattle.tlsf_c.proofs.walk.fill.Goals as goal
+use Rattle.tlsf_c.proofs.walk.fill.Goals.{then-from-next, else-from-next}
 
 pub loop-next-init : goal.loop-next-init
 loop-next-init c = record {
   past = [];
   whole = refl;
   count = refl;
+  fewer = omega arith;
   rows = sym (filled_none c.args.rows.now);
   stands = c.requires.stands;
   content = refl;
@@ -20,24 +23,42 @@ loop-next-init c = record {
   bound = omega arith;
 }
 
--- one row more is put
+-- one row more is passed, and put where it begins at the place or behind it
 pub loop-next-preserved : goal.loop-next-preserved
 loop-next-preserved c =
     let kept = c.loop-next.invariant in
     let item = c.in-Some.next.0 in
     let next = c.in-Some.next.1 in
+    let put = from_place c.args.from kept.past in
+    let all = kept.past ++ item ∷ [] in
     let same = c.in-Some.ensures.unchanged.rows ∙ kept.same in
     let rest : rest_of c.args.heap.now.rows c.loop-next.here.next ≡ item ∷ rest_of c.args.heap.now.rows next.next =
     sym (ap (λ (rows : List (List HeapRow)). rest_of rows c.loop-next.here.next) kept.same) ∙ c.in-Some.ensures.some ∙ ap (λ (rows : List (List HeapRow)). item ∷ rest_of rows next.next) same in
-    let more : length (kept.past ++ item ∷ []) ≡ length kept.past + 1 = length-append kept.past (item ∷ []) in
+    let more : length all ≡ length kept.past + 1 = length-append kept.past (item ∷ []) in
+    let one_more : length (put ++ item ∷ []) ≡ length put + 1 = length-append put (item ∷ []) in
     record {
-      past = kept.past ++ item ∷ [];
+      past = all;
       whole = append_assoc kept.past (item ∷ []) (rest_of c.args.heap.now.rows next.next) ∙ ap (λ (rows : List HeapRow). kept.past ++ rows) (sym rest) ∙ kept.whole;
-      count = omega (arith, more, kept.count);
-      rows = c.put.ensures ∙ ap (λ (rows : List Row). slice_set rows c.loop-next.count c.of.result) kept.rows
-          ∙ ap (λ (index : ℕ). slice_set (filled kept.past c.args.rows.now) index c.of.result) kept.count
-          ∙ ap (λ (row : Row). slice_set (filled kept.past c.args.rows.now) (length kept.past) row) c.of.ensures
-          ∙ filled_next kept.past item c.args.rows.now;
+      count = elim c.if-from-next.branch [
+        | then-from-next w ↦ let is = from_place_next c.args.from kept.past item w.if-from-next.true in
+            omega (arith, w.count-is, kept.count, one_more, ap length is)
+        | else-from-next w ↦ let is = from_place_passed c.args.from kept.past item w.if-from-next.false in
+            w.count-is ∙ kept.count ∙ sym (ap length is)
+      ];
+      fewer = elim c.if-from-next.branch [
+        | then-from-next w ↦ omega (arith, w.count-is, kept.fewer, more)
+        | else-from-next w ↦ omega (arith, w.count-is, kept.fewer, more)
+      ];
+      rows = elim c.if-from-next.branch [
+        | then-from-next w ↦ let is = from_place_next c.args.from kept.past item w.if-from-next.true in
+            w.rows-is ∙ w.put.ensures ∙ ap (λ (rows : List Row). slice_set rows c.loop-next.count w.of.result) kept.rows
+            ∙ ap (λ (index : ℕ). slice_set (filled put c.args.rows.now) index w.of.result) kept.count
+            ∙ ap (λ (row : Row). slice_set (filled put c.args.rows.now) (length put) row) w.of.ensures
+            ∙ filled_next put item c.args.rows.now
+            ∙ sym (ap (λ (rows : List HeapRow). filled rows c.args.rows.now) is)
+        | else-from-next w ↦ let is = from_place_passed c.args.from kept.past item w.if-from-next.false in
+            w.rows-is ∙ kept.rows ∙ sym (ap (λ (rows : List HeapRow). filled rows c.args.rows.now) is)
+      ];
       stands = subst (λ (rows : List (List HeapRow)). stands_at rows next.next) same c.in-Some.ensures.next_stands;
       content = c.in-Some.ensures.unchanged.content ∙ kept.content;
       same = same;

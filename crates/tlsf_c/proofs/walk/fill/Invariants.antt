@@ -1,7 +1,7 @@
 use Rattle.std.proofs.Common.{◌≡◌, ◌+◌, ◌≤◌, List, ◌++◌, length}
 use Rattle.tlsf_heap.specs.declared.row.Row.{Row as HeapRow}
 use Rattle.tlsf_heap.specs.Cursors.{rest_of, stands_at}
-use Rattle.tlsf_c.specs.Rows.{filled}
+use Rattle.tlsf_c.specs.Rows.{filled, from_place}
 use Rattle.tlsf_c.proofs.walk.fill.Given as goal
 
 -- the rows put so far, and those to come, are all
@@ -10,8 +10,9 @@ invariant-loop-next l =
     record {
       past : List HeapRow;
       whole : past ++ rest_of l.fn.heap.rows l.here.next ≡ rest_of l.fn.heap.rows l.fn.cursor.next;
-      count : l.count ≡ length past;
-      rows : l.rows ≡ filled past l.fn.rows;
+      count : l.count ≡ length (from_place l.fn.from past);
+      fewer : l.count ≤ length past;
+      rows : l.rows ≡ filled (from_place l.fn.from past) l.fn.rows;
       stands : stands_at l.fn.heap.rows l.here.next;
       content : l.heap.content ≡ l.fn.heap.content;
       same : l.heap.rows ≡ l.fn.heap.rows;

@@ -1,0 +1,68 @@
+-- `into_handle` tells by the pointer whether there is a heap.
+use Rattle.std.proofs.Common.{◌≡◌, List, [], ◌∷◌, ◌++◌, refl, sym, subst, lit<}
+use mir.Val.{Val, vptr, vnull, vcons, vnil}
+use base.Logic.{SProp, ent, emp, id⊢}
+use base.Fml.{ftrue}
+use prog.Wp.{WpFn}
+use types.Kit.{‵, raw, ◌⊛◌, at_ret, ◌$◌, ◌∵◌, !, qed, by, move, keep, drop, split, fsplit, fjoin, suffices, use0, use1}
+use types.Run.{stop, fld, lit, of_opd, bin, no_more, and_then, first, branches, exec, returns, enter}
+use types.ByLocal.{alloc_all, pass_all, free_all, look_at, get, get_in, sets, sets_last, env}
+use types.Part.{agg, sub, whole}
+use types.Match.{live}
+use contract.Monad.{fact, fact_i}
+use contract.Running.{tables}
+use denote.Exit.{yes}
+use denote.RattleType.{owns}
+use denote.RawPtr.{block_ptr, tests_null}
+use denote.Signature.{plain}
+use denote.Steps.{nothing}
+use denote.Triple.Walked.{Stays, stay_dropped, walk_of}
+use Rattle.core.proofs.alloc.Calls.{Goes-blank}
+use Rattle.core.proofs.alloc.Shapes.{after}
+use Rattle.core.specs.contracts.option.Option as OP
+use Rattle.core.proofs.option.Made.{Some-of, none_of}
+use Rattle.std.proofs.raw_atomic.Walks.{proved_at, leaves}
+use Rattle.std.specs.declared.option.Option.TheVariants.{None, Some}
+use Rattle.tlsf_c.proofs.Values.{one_field, handle_in, made_out}
+use Rattle.tlsf_c.specs.Zeros.{zeros}
+use Rattle.tlsf_c.specs.declared.handle.Handle.{Handle}
+use Rattle.tlsf_c.specs.contracts.handle.Handle.{the_row as H}
+use Rattle.tlsf_c.specs.contracts.made.Made.{the_row as R}
+use Rattle.tlsf_c.specs.contracts.made.Made.into_handle as f
+use Rattle.tlsf_c.proofs.made.Made.into_handle.Statement.{statement}
+use Rattle.tlsf_c.proofs.made.Made.into_handle.Code as code
+
+abbrev stayed : Stays f.ended.signature.params f.ended.kept
+stayed = (stay_dropped (plain (λ _. R)) yes, tt)
+
+pub into_handle_spec : {M : Type 1} → statement M
+into_handle_spec 𝓤 𝓛 𝓜 𝓡 wired =
+    let 𝓣 = tables 𝓤 𝓛.H 𝓜 𝓡 𝓡.env in let c = f.clauses 𝓛 𝓜.mem 𝓡.returns in let fn = code.function in
+    proved_at 𝓛 f.ended stayed c 𝓜 𝓡 (Goes-blank 𝓛 0 (plain (λ _. R)) yes (λ κs x w. tt), tt) f.Key.name fn (code.unfolded 𝓤 𝓛.H 𝓜 𝓡 wired) (λ z are.
+    let m = z.0.3.0 in let Post : Val → SProp 𝓤 = (walk_of 𝓛 f.ended stayed c).post z in let Run : List Val → SProp 𝓤 = λ ws. WpFn 𝓤 𝓛.H 𝓣.C 𝓣.Λ fn ws Post in
+    qed 𝓛 ((‵ ftrue ⊛ ‵ (owns (R ∷ []) z.0.3 z.0.4)) ∷ ‵ ftrue ∷ []) ∵ split ! $ drop ! $ fsplit ! $ made_out ! m z.0.4.0
+    (λ is ws. let w : Val = one_field vnull in let v : Val = live 0 vnil in
+    suffices ! (Run (w ∷ [])) (subst (λ (us : List Val). ent 𝓤 (Run (w ∷ [])) (Run us)) (sym (λ i. ws i ++ [])) (id⊢ 𝓤 (Run (w ∷ [])))) $
+    enter ! 𝓣.C 𝓣.Λ fn (w ∷ []) Post $ alloc_all ! (λ l. let Ev = env fn.locals l in pass_all ! refl ((tt, (record { fits = lit< tt }, tt)), tt) $
+    sets ! (of_opd ! (get_in ! (fld ! refl (stop !)) (sub ! 0 refl (whole !)))) refl (tt, record { fits = lit< tt }) $
+    sets ! (bin ! (get ! refl) (lit ! tt) tt) refl (tt, tt) $ first ! $ branches ! (get ! refl)
+    (λ _. sets_last ! (agg ! (and_then ! (lit ! tt) (no_more !))) refl (tt, (record { fits = lit< tt }, tt)) $
+    exec ! 𝓣.C 𝓣.Λ Ev (after 3 fn.body) (at_ret Ev Post) $ sets ! (of_opd ! (get ! refl)) refl (tt, (record { fits = lit< tt }, tt)) $
+    returns ! (look_at ! 0 refl) $ free_all ! refl $ keep ! [] $
+    use0 𝓛 (raw (fact 𝓤 (m ≡ zeros))) (fact_i 𝓤 (m ≡ zeros) (emp 𝓤) is) $
+    use0 𝓛 (‵ ((OP.the_row H).own_val None (v ∷ []))) (none_of 𝓛 H) $ nothing ! $ nothing ! $ fjoin ! $ nothing ! $
+    by ! (leaves 𝓛 f.ended stayed c z v None (tt, tt) (tt, tt)))
+    (λ wrong. absurd wrong)))
+    (λ b o x is ws may. let w : Val = one_field (vptr b o) in let v : Val = live 1 (vcons w vnil) in let d : Handle = record { at = block_ptr b o; value = x } in
+    suffices ! (Run (w ∷ [])) (subst (λ (us : List Val). ent 𝓤 (Run (w ∷ [])) (Run us)) (sym (λ i. ws i ++ [])) (id⊢ 𝓤 (Run (w ∷ [])))) $
+    enter ! 𝓣.C 𝓣.Λ fn (w ∷ []) Post $ alloc_all ! (λ l. let Ev = env fn.locals l in pass_all ! refl ((tt, (tt, tt)), tt) $
+    sets ! (of_opd ! (get_in ! (fld ! refl (stop !)) (sub ! 0 refl (whole !)))) refl (tt, tt) $
+    sets ! (bin ! (get ! refl) (lit ! tt) (tests_null (block_ptr b o) may)) refl (tt, tt) $ first ! $ branches ! (get ! refl)
+    (λ wrong. absurd wrong)
+    (λ _. sets ! (agg ! (and_then ! (get ! refl) (no_more !))) refl (tt, (tt, tt)) $
+    sets_last ! (agg ! (and_then ! (lit ! tt) (and_then ! (get ! refl) (no_more !)))) refl (tt, (record { fits = lit< tt }, ((tt, tt), tt))) $
+    exec ! 𝓣.C 𝓣.Λ Ev (after 3 fn.body) (at_ret Ev Post) $ sets ! (of_opd ! (get ! refl)) refl (tt, (record { fits = lit< tt }, ((tt, tt), tt))) $
+    returns ! (look_at ! 0 refl) $ free_all ! refl $ keep ! (0 ∷ []) $ handle_in ! b o x $
+    use1 𝓛 (‵ ((OP.the_row H).own_val (Some d) (v ∷ []))) (Some-of 𝓛 H d w) $
+    use0 𝓛 (raw (fact 𝓤 (m.value ≡ Some x))) (fact_i 𝓤 (m.value ≡ Some x) (emp 𝓤) is) $ move ! (1 ∷ 0 ∷ []) $ nothing ! $ nothing ! $ fjoin ! $ nothing ! $
+    by ! (leaves 𝓛 f.ended stayed c z v (Some d) (tt, tt) (tt, tt))))))
