@@ -6,30 +6,32 @@ ghost use Rattle.tlsf_store.specs.declared.records.State.TheVariants.{Vacant, Fr
 ghost use Rattle.tlsf_store.specs.Records.{most_records, blank, blank_in, record_at, vacant_count, IsBelow, IsKept};
 
 use super::ghost_count::GhostCount;
-use super::packed::Packed;
+use super::packed::{MISSING, Packed, link};
 use super::vacant_chain::is_whole_chain;
 use super::{Record, Slot, State};
 use std::alloc::{AllocError, Global};
 use std::marker::Model;
 
-/// All the records of a store, packed. A vacant one keeps the next vacant one as its link `next`.
+/// All the records of a store, packed. A vacant one keeps the next vacant one as its link `next`; the first is kept as the word
+/// of a link.
 #[derive(Drop)]
 pub(crate) struct Table {
     items: Vec<Packed>,
-    first: Option<Slot>,
+    first: u16,
     vacant: u32,
 }
 
 impl Model for Table {
     ghost use Rattle.std.specs.Prelude.{List, map, vec_capacity};
     ghost use Rattle.tlsf_store.specs.declared.records.Record.{Record};
+    ghost use Rattle.tlsf_store.specs.Packed.{link_of};
     ghost use Rattle.tlsf_store.specs.Table.{seen, IsStored};
 
     ghost Value = { List Record };
 
     ghost view = { λ t. map seen t.items.items };
 
-    ghost invariant = { λ t. IsStored (vec_capacity t.items) t.items.items t.first t.vacant };
+    ghost invariant = { λ t. IsStored (vec_capacity t.items) t.items.items (link_of t.first) t.vacant };
 }
 
 impl Table {
@@ -39,10 +41,10 @@ impl Table {
         ensures { IfOk result (λ t. t ≡ replicate count blank) }
     {
         let mut items = Vec::with_capacity(alloc, count as usize)?;
-        let mut first = None;
+        let mut first = MISSING;
         for number in 0..count {
-            items.push_reserved(Packed::pack(Record::vacant(first)));
-            first = Some(Slot(number as u16));
+            items.push_reserved(Packed::vacant(first));
+            first = number as u16;
         }
         Ok(Table {
             items,
@@ -67,6 +69,16 @@ impl Table {
         ensures vacant { result.state ≡ Vacant → result ≡ blank }
     {
         self.items[slot.index()].unpack().seen()
+    }
+
+    /// The record of a slot that isn't vacant.
+    pub(crate) fn read_used(&self, slot: Slot) -> Record
+        requires within { slot < length self.now }
+        requires used { (record_at self.now slot).state ≢ Vacant }
+        ensures value { result ≡ record_at self.now slot }
+        ensures kept { IsKept (length self.now) result }
+    {
+        self.items[slot.index()].unpack_used()
     }
 
     /// Writes a record that isn't vacant over one that isn't.
@@ -100,6 +112,18 @@ impl Table {
         ensures { self.new ≡ slice_set self.old slot (record (record_at self.old slot) { size = size; next = next }) }
     {
         self.items[slot.index()].set_size_and_next(size, next);
+    }
+
+    /// Writes the size, the state and the link `next` of a record that isn't vacant.
+    pub(crate) fn set_block(&mut self, slot: Slot, size: u32, state: State, next: Option<Slot>)
+        requires within { slot < length self.old }
+        requires used { (record_at self.old slot).state ≢ Vacant }
+        requires new_used { state ≢ Vacant }
+        requires in_units { size % unit ≡ 0 }
+        requires below { IsBelow (length self.old) next }
+        ensures { self.new ≡ slice_set self.old slot (record (record_at self.old slot) { size = size; state = state; next = next }) }
+    {
+        self.items[slot.index()].set_block(size, state, next);
     }
 
     /// Writes the link `prev` of a record that isn't vacant.
@@ -145,7 +169,7 @@ impl Table {
         ensures whole { result ≡ true }
         ensures touched { touches.new.count ≡ touches.old.count + length self.now + vacant_count self.now }
     {
-        is_whole_chain(&self.items, self.first, self.vacant, touches)
+        is_whole_chain(&self.items, link(self.first), self.vacant, touches)
     }
 
     /// Takes a vacant record, if there is one, for a block to come: free, with no place, size or links.
@@ -155,14 +179,15 @@ impl Table {
             (λ slot. (slot < length self.old) × (record_at self.old slot ≡ blank)
             × (self.new ≡ slice_set self.old slot (blank_in Free))) }
     {
-        let Some(slot) = self.first else {
+        let slot = self.first;
+        if slot == MISSING {
             return None;
-        };
-        let index = slot.index();
-        self.first = self.items[index].next();
-        self.items[index] = Packed::pack(Record::blank(State::Free));
+        }
+        let index = usize::from(slot);
+        self.first = self.items[index].next_word();
+        self.items[index] = Packed::free();
         self.vacant -= 1;
-        Some(slot)
+        Some(Slot(slot))
     }
 
     /// Makes a record vacant that isn't.
@@ -171,8 +196,8 @@ impl Table {
         requires used { (record_at self.old slot).state ≢ Vacant }
         ensures { self.new ≡ slice_set self.old slot blank }
     {
-        self.items[slot.index()] = Packed::pack(Record::vacant(self.first));
-        self.first = Some(slot);
+        self.items[slot.index()] = Packed::vacant(self.first);
+        self.first = slot.0;
         self.vacant += 1;
     }
 }
