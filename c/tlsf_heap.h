@@ -138,7 +138,7 @@ void tlsf_heap_destroy(tlsf_heap heap);
  * TLSF_TABLE_FULL. Pools are never merged. */
 enum tlsf_status tlsf_heap_add_pool(tlsf_heap *heap, uint64_t base, uint64_t bytes);
 
-/* The pool that begins at the place base is gone. At most 27 touches.
+/* The pool that begins at the place base is gone. At most 26 touches.
  * 0, TLSF_NO_POOL where none begins there, or TLSF_POOL_IN_USE unless it is one free block. */
 enum tlsf_status tlsf_heap_remove_pool(tlsf_heap *heap, uint64_t base);
 
@@ -149,20 +149,20 @@ enum tlsf_status tlsf_heap_remove_pool(tlsf_heap *heap, uint64_t base);
  * that none would do. */
 enum tlsf_status tlsf_heap_malloc(tlsf_heap *heap, uint64_t bytes, tlsf_heap_block *out);
 
-/* The same at a place that is a multiple of align, a power of two from 1 to 2^29. At most 43
+/* The same at a place that is a multiple of align, a power of two from 1 to 2^29. At most 42
  * touches.
  * 0, TLSF_BAD_ALIGN, TLSF_ZERO_SIZE, TLSF_NO_FIT or TLSF_TABLE_FULL. */
 enum tlsf_status tlsf_heap_memalign(tlsf_heap *heap, uint64_t align, uint64_t bytes,
                                     tlsf_heap_block *out);
 
-/* The block becomes free, and is one with its free neighbours in the pool. At most 35 touches.
+/* The block becomes free, and is one with its free neighbours in the pool. At most 32 touches.
  * 0, or TLSF_BAD_POINTER unless a live block has both its place and its slot. */
 enum tlsf_status tlsf_heap_free(tlsf_heap *heap, tlsf_heap_block block);
 
 /* Gives *out the block with room for `bytes` bytes: where it is, or another. A program that has
  * bytes in the block copies them where the place is another, before its next call: the new block
  * was given before the old one became free, so the two don't overlap, and no one has the old one's
- * bytes yet. At most 61 touches.
+ * bytes yet. At most 58 touches.
  * Where bytes is 0 the block becomes free, and *out stays.
  * 0, TLSF_BAD_POINTER unless a live block has both its place and its slot, TLSF_NO_FIT or
  * TLSF_TABLE_FULL: then the old block is as it was. */

@@ -7,7 +7,7 @@ ghost use Rattle.tlsf_heap.specs.Touches.{AtMost};
 ghost use Rattle.tlsf_heap.specs.Pools.{end_of_places};
 ghost use Rattle.tlsf_heap.specs.Inner.Edits.{IsUsed};
 ghost use Rattle.tlsf_heap.specs.Inner.Chains.{with_prev, with_state};
-ghost use Rattle.tlsf_heap.specs.Inner.Spans.{split_by, absorbed_by};
+ghost use Rattle.tlsf_heap.specs.Inner.Spans.{IsRead, split_by, absorbed_by};
 
 use crate::span::Span;
 use tlsf_store::{Record, Slot, State, Store};
@@ -20,6 +20,19 @@ pub(crate) fn set_state(store: &mut Store, slot: Slot, state: State)
     ensures touches { store.new.touches ≡ store.old.touches + 2 }
 {
     store.set_state(slot, state);
+}
+
+/// Makes a block free or live, by what is known of it. One touch.
+pub(crate) fn turn(store: &mut Store, block: &Span, state: State)
+    requires used { IsUsed store.old.cells.records (Some block.now.slot) }
+    requires new_used { state ≢ Vacant }
+    requires next_used { IsUsed store.old.cells.records block.now.next }
+    requires read { IsRead block.now store.old.cells.records }
+    requires in_units { block.now.size % unit ≡ 0 }
+    ensures cells { store.new.cells ≡ with_state block.now.slot state store.old.cells }
+    ensures touches { store.new.touches ≡ store.old.touches + 1 }
+{
+    store.set_block(block.slot, block.size, state, block.next);
 }
 
 /// Links a block, if there is one, to the one in front of it in its pool. At most one touch.
@@ -62,16 +75,18 @@ pub(crate) fn split(store: &mut Store, block: &Span, rest: Slot, bytes: u32)
     set_prev(store, block.next, rest);
 }
 
-/// A block takes in the one behind it, whose slot becomes vacant. It is then what `merged` says. At most six touches.
-pub(crate) fn absorb(store: &mut Store, merged: &Span, behind: Slot)
+/// A block in this state takes in the one behind it, whose slot becomes vacant. It is then what `merged` says. At most five
+/// touches.
+pub(crate) fn absorb(store: &mut Store, merged: &Span, state: State, behind: Slot)
     requires slot_used { IsUsed store.old.cells.records (Some merged.now.slot) }
     requires behind_used { IsUsed store.old.cells.records (Some behind) }
     requires next_used { IsUsed store.old.cells.records merged.now.next }
+    requires new_used { state ≢ Vacant }
     requires in_units { merged.now.size % unit ≡ 0 }
-    ensures cells { store.new.cells ≡ absorbed_by merged.now behind store.old.cells }
-    ensures touches { AtMost 6 store.old.touches store.new.touches }
+    ensures cells { store.new.cells ≡ absorbed_by merged.now state behind store.old.cells }
+    ensures touches { AtMost 5 store.old.touches store.new.touches }
 {
-    store.set_size_and_next(merged.slot, merged.size, merged.next);
+    store.set_block(merged.slot, merged.size, state, merged.next);
     set_prev(store, merged.next, merged.slot);
     store.give_vacant(behind);
 }

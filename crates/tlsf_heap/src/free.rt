@@ -1,7 +1,8 @@
 //! free: the block becomes free, takes in its free neighbours, and enters its class's list.
 
-ghost use Rattle.std.specs.Prelude.{◌≡◌, false, ◌==◌, ◌&&◌, ◌%◌, is_some, Ok, Err, OnOk, IfErr, IfSome, OnErr};
+ghost use Rattle.std.specs.Prelude.{◌≡◌, ◌≢◌, false, ◌==◌, ◌&&◌, ◌%◌, is_some, Ok, Err, OnOk, IfErr, IfSome, OnErr};
 ghost use Rattle.tlsf_class.specs.Classes.{unit, class};
+ghost use Rattle.tlsf_store.specs.declared.records.State.TheVariants.{Vacant};
 ghost use Rattle.tlsf_store.specs.Records.{record_at};
 ghost use Rattle.tlsf_heap.specs.Touches.{AtMost};
 ghost use Rattle.tlsf_heap.specs.Content.{blocks_of};
@@ -14,14 +15,14 @@ ghost use Rattle.tlsf_heap.specs.Inner.Following.{Stands, content_of};
 ghost use Rattle.tlsf_heap.specs.Inner.At.{At, StandsAt, previous_joined, next_joined, at_listed, at_freed};
 ghost use Rattle.tlsf_heap.specs.Inner.Spans.{IsRead, CanJoin, joined_by};
 
-use crate::chains::{absorb, set_state};
+use crate::chains::{absorb, turn};
 use crate::free_lists::{link, unlink};
 use crate::span::Span;
 use crate::{Ptr, Refusal};
 use tlsf_class::class_of;
 use tlsf_store::{Record, Slot, State, Store};
 
-/// The block becomes free, and one free block with its free neighbours in the pool. At most 35 touches.
+/// The block becomes free, and one free block with its free neighbours in the pool. At most 32 touches.
 ///
 /// # Errors
 ///
@@ -33,7 +34,7 @@ pub(crate) fn free(store: &mut Store, ptr: Ptr) -> Result<(), Refusal>
     ensures ok { OnOk result (freed (λ slot. slot == ptr.slot) ptr.place (content_of store.old.cells) ≡ Ok (content_of store.new.cells)) }
     ensures refused { IfErr result (λ refusal. freed (λ slot. slot == ptr.slot) ptr.place (content_of store.old.cells) ≡ Err refusal) }
     ensures cells { OnErr result (store.new.cells ≡ store.old.cells) }
-    ensures touches { AtMost 35 store.old.touches store.new.touches }
+    ensures touches { AtMost 32 store.old.touches store.new.touches }
 {
     let Some(block) = live(store, ptr) else {
         return Err(Refusal::BadPointer);
@@ -72,18 +73,19 @@ fn is_live_at(block: &Record, place: u32) -> bool
     }
 }
 
-/// The block of this record becomes free, and one free block with its free neighbours in the pool. At most 34 touches.
+/// The block of this record becomes free, and one free block with its free neighbours in the pool. At most 31 touches.
 #[inline(always)]
 pub(crate) fn release(store: &mut Store, slot: Slot, block: &Record)
     requires stands { (at : At) × StandsAt slot InUse store.old.cells at }
     requires read { block.now ≡ record_at store.old.cells.records slot }
     requires in_units { block.now.place % unit ≡ 0 }
     ensures leads { (at : At) → StandsAt slot InUse store.old.cells at → StandsAt (at_freed at).node.slot Listed store.new.cells (at_freed at) }
-    ensures touches { AtMost 34 store.old.touches store.new.touches }
+    ensures touches { AtMost 31 store.old.touches store.new.touches }
 {
-    set_state(store, slot, State::Free);
-    let merged = join_previous(store, block.prev, Span::of(slot, block));
-    let all = join_next(store, merged);
+    let whole = Span::of(slot, block);
+    turn(store, &whole, State::Free);
+    let merged = join_previous(store, block.prev, whole);
+    let all = join_next(store, merged, State::Free);
     enter(store, all.slot, all.size);
 }
 
@@ -98,7 +100,7 @@ pub(crate) fn is_free(state: State) -> bool
 }
 
 /// A free block before it, of the slot `previous`, takes in the block, which is free and in no list. The answer is the block
-/// that is left. At most 12 touches.
+/// that is left. At most 11 touches.
 #[inline(always)]
 fn join_previous(store: &mut Store, previous: Option<Slot>, block: Span) -> Span
     requires stands { (at : At) × StandsAt block.slot Loose store.old.cells at }
@@ -106,7 +108,7 @@ fn join_previous(store: &mut Store, previous: Option<Slot>, block: Span) -> Span
     requires previous { previous ≡ (record_at store.old.cells.records block.slot).prev }
     ensures leads { (at : At) → StandsAt block.slot Loose store.old.cells at → StandsAt result.slot Loose store.new.cells (previous_joined at) }
     ensures read { IsRead result store.new.cells.records }
-    ensures touches { AtMost 12 store.old.touches store.new.touches }
+    ensures touches { AtMost 11 store.old.touches store.new.touches }
 {
     let Some(previous_slot) = previous else {
         return block;
@@ -121,20 +123,21 @@ fn join_previous(store: &mut Store, previous: Option<Slot>, block: Span) -> Span
         size: front.size + block.size,
         next: block.next,
     };
-    join(store, &merged, block.slot, &front);
+    join(store, &merged, front.state, block.slot, &front);
     merged
 }
 
-/// The block, which is in no list, takes in a free one after it. The answer is the block that is left, with its slot. At most
-/// 12 touches.
+/// The block in this state, which is in no list, takes in a free one after it. The answer is the block that is left, with its slot. At most
+/// 11 touches.
 #[inline(always)]
-pub(crate) fn join_next(store: &mut Store, block: Span) -> Span
+pub(crate) fn join_next(store: &mut Store, block: Span, state: State) -> Span
     requires stands { (status : Status) × (at : At) × (is_listed status ≡ false) × StandsAt block.slot status store.old.cells at }
     requires read { IsRead block store.old.cells.records }
+    requires state { state ≡ (record_at store.old.cells.records block.slot).state }
     ensures slot { result.slot ≡ block.slot }
     ensures leads { (status : Status) (at : At) → is_listed status ≡ false → StandsAt block.slot status store.old.cells at → StandsAt block.slot status store.new.cells (next_joined at) }
     ensures read { IsRead result store.new.cells.records }
-    ensures touches { AtMost 12 store.old.touches store.new.touches }
+    ensures touches { AtMost 11 store.old.touches store.new.touches }
 {
     let Some(next_slot) = block.next else {
         return block;
@@ -148,20 +151,21 @@ pub(crate) fn join_next(store: &mut Store, block: Span) -> Span
         next: next.next,
         ..block
     };
-    join(store, &merged, next_slot, &next);
+    join(store, &merged, state, next_slot, &next);
     merged
 }
 
-/// One of two neighbours, of the record `listed`, leaves its class's list, and the first takes in the one behind. It is then
-/// what `merged` says. At most 11 touches.
+/// One of two neighbours, of the record `listed`, leaves its class's list, and the first, in this state, takes in the one behind. It is then
+/// what `merged` says. At most ten touches.
 #[inline(always)]
-fn join(store: &mut Store, merged: &Span, behind: Slot, listed: &Record)
-    requires { CanJoin merged.now behind listed.now store.old.cells.records (unlinked_by (class listed.now.size) listed.now store.old.cells).records }
-    ensures cells { store.new.cells ≡ joined_by merged.now behind listed.now store.old.cells }
-    ensures touches { AtMost 11 store.old.touches store.new.touches }
+fn join(store: &mut Store, merged: &Span, state: State, behind: Slot, listed: &Record)
+    requires can { CanJoin merged.now behind listed.now store.old.cells.records (unlinked_by (class listed.now.size) listed.now store.old.cells).records }
+    requires new_used { state ≢ Vacant }
+    ensures cells { store.new.cells ≡ joined_by merged.now state behind listed.now store.old.cells }
+    ensures touches { AtMost 10 store.old.touches store.new.touches }
 {
     unlink(store, class_of(listed.size), listed);
-    absorb(store, merged, behind);
+    absorb(store, merged, state, behind);
 }
 
 /// The block of `size` bytes, which is free and in no list, enters its class's list. At most eight touches.

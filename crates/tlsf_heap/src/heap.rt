@@ -143,7 +143,7 @@ impl Heap {
         add_pool(&mut self.store, base, bytes)
     }
 
-    /// The pool that begins at the place `base` is gone. At most 27 touches.
+    /// The pool that begins at the place `base` is gone. At most 26 touches.
     ///
     /// # Errors
     ///
@@ -153,7 +153,7 @@ impl Heap {
         ensures refused { IfErr result (λ refusal. removed base self.old.content ≡ Err refusal) }
         ensures never_memory { result ≢ Err Refusal.OutOfMemory }
         ensures unchanged { OnErr result (IsUnchanged self.old self.new) }
-        ensures bound { AtMost 27 self.old.touches self.new.touches }
+        ensures bound { AtMost 26 self.old.touches self.new.touches }
     {
         remove_pool(&mut self.store, base)
     }
@@ -184,7 +184,7 @@ impl Heap {
     /// A live block of at least `n` bytes, rounded up to the unit, that begins at a multiple of `align`. It is
     /// carved from the first of the first list that isn't empty, at or above the class from which each block
     /// holds `n` bytes, rounded up, and for an alignment above the unit `align` less the unit more. What is left
-    /// in front of it and behind it are free blocks; the one in front enters its list first. At most 43
+    /// in front of it and behind it are free blocks; the one in front enters its list first. At most 42
     /// touches.
     ///
     /// # Errors
@@ -203,13 +203,13 @@ impl Heap {
         ensures table_full { result ≡ Err TableFull → HasFewRecordsAndOne self.old.content }
         ensures never_memory { result ≢ Err Refusal.OutOfMemory }
         ensures unchanged { OnErr result (IsUnchanged self.old self.new) }
-        ensures bound { AtMost 43 self.old.touches self.new.touches }
+        ensures bound { AtMost 42 self.old.touches self.new.touches }
     {
         memalign(&mut self.store, align, n)
     }
 
     /// The block becomes free. It and its free neighbours in the pool are one free block then, the first
-    /// of its class's list. At most 35 touches.
+    /// of its class's list. At most 32 touches.
     ///
     /// # Errors
     ///
@@ -219,7 +219,7 @@ impl Heap {
         ensures refused { IfErr result (λ refusal. freed (λ slot. slot == ptr.slot) ptr.place self.old.content ≡ Err refusal) }
         ensures never_memory { result ≢ Err Refusal.OutOfMemory }
         ensures unchanged { OnErr result (IsUnchanged self.old self.new) }
-        ensures bound { AtMost 35 self.old.touches self.new.touches }
+        ensures bound { AtMost 32 self.old.touches self.new.touches }
     {
         free(&mut self.store, ptr)
     }
@@ -228,7 +228,7 @@ impl Heap {
     /// the free block behind it, or smaller. Else a new block is given, and the old one is freed; which bytes
     /// are copied is the caller's. Without a pointer it is `malloc`. The answer to 0 bytes is `None`, and the
     /// block is freed. A block that gets smaller stays as it is where no free block is behind it and each record
-    /// is in use. At most 61 touches.
+    /// is in use. At most 58 touches.
     ///
     /// # Errors
     ///
@@ -242,7 +242,7 @@ impl Heap {
         ensures table_full { result ≡ Err TableFull → HasFewRecords self.old.content }
         ensures never_memory { result ≢ Err Refusal.OutOfMemory }
         ensures unchanged { OnErr result (IsUnchanged self.old self.new) }
-        ensures bound { AtMost 61 self.old.touches self.new.touches }
+        ensures bound { AtMost 58 self.old.touches self.new.touches }
     {
         realloc(&mut self.store, ptr, n)
     }

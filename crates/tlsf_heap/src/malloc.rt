@@ -14,7 +14,7 @@ ghost use Rattle.tlsf_heap.specs.Inner.Nodes.{Status, InUse, Listed, is_listed};
 ghost use Rattle.tlsf_heap.specs.Inner.At.{At, StandsAt, with_slot, at_turned, at_taken, at_cut, at_trimmed};
 ghost use Rattle.tlsf_heap.specs.Inner.Spans.{IsRead};
 
-use crate::chains::{set_state, split};
+use crate::chains::{split, turn};
 use crate::free_lists::{link, unlink};
 use crate::search::search;
 use crate::span::Span;
@@ -134,15 +134,17 @@ fn take_part(store: &mut Store, slot: Slot, rest: Slot, bytes: u32, block: &Reco
     cut(store, &whole, rest, bytes);
 }
 
-/// A free block of this record leaves its class's list and is live. At most seven touches.
+/// A free block of this record leaves its class's list and is live. At most six touches.
 pub(crate) fn take_whole(store: &mut Store, slot: Slot, block: &Record)
     requires stands { (at : At) × StandsAt slot Listed store.old.cells at }
     requires read { block.now ≡ record_at store.old.cells.records slot }
+    requires in_units { block.now.place % unit ≡ 0 }
     ensures leads { (at : At) → StandsAt slot Listed store.old.cells at → StandsAt slot InUse store.new.cells (at_taken at) }
-    ensures touches { AtMost 7 store.old.touches store.new.touches }
+    ensures touches { AtMost 6 store.old.touches store.new.touches }
 {
     unlink(store, class_of(block.size), block);
-    set_state(store, slot, State::Live);
+    let whole = Span::of(slot, block);
+    turn(store, &whole, State::Live);
 }
 
 /// A block that is in no list keeps its first bytes and is live. What is left is a free block of the slot `rest`, first in its

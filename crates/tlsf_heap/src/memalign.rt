@@ -26,7 +26,7 @@ use tlsf_store::{Slot, State, Store};
 /// The greatest alignment, in bytes.
 const GREATEST_ALIGNMENT: u64 = 1 << 29;
 
-/// A live block of `n` bytes, rounded up to the unit, that begins at a multiple of the alignment. At most 43
+/// A live block of `n` bytes, rounded up to the unit, that begins at a multiple of the alignment. At most 42
 /// touches.
 ///
 /// # Errors
@@ -40,7 +40,7 @@ pub(crate) fn memalign(store: &mut Store, align: u64, n: u64) -> Result<Ptr, Ref
     ensures slot_new { IfOk result (λ ptr. slot_times ptr.slot (blocks_of (content_of store.old.cells).pools) ≡ 0) }
     ensures refused { IfErr result (λ refusal. (slot : ℕ) → served slot align n (content_of store.old.cells) ≡ Err refusal) }
     ensures cells { OnErr result (store.new.cells ≡ store.old.cells) }
-    ensures touches { AtMost 43 store.old.touches store.new.touches }
+    ensures touches { AtMost 42 store.old.touches store.new.touches }
 {
     if !is_alignment(align) {
         return Err(Refusal::BadAlign);
@@ -59,7 +59,7 @@ pub(crate) fn memalign(store: &mut Store, align: u64, n: u64) -> Result<Ptr, Ref
 }
 
 /// The block picked is carved: a live block of `asked` bytes begins at the least multiple of the alignment
-/// at or above its place. At most 39 touches.
+/// at or above its place. At most 38 touches.
 ///
 /// # Errors
 ///
@@ -77,7 +77,7 @@ fn carve(store: &mut Store, slot: Slot, align: u32, asked: u32) -> Result<Ptr, R
     ensures slot_new { IfOk result (λ ptr. slot_times ptr.slot (blocks_of (content_of store.old.cells).pools) ≡ 0) }
     ensures refused { IfErr result (λ refusal. (owner : ℕ) → memalign_picked owner align asked (Some (record_at store.old.cells.records slot).place) (content_of store.old.cells) ≡ Err refusal) }
     ensures cells { OnErr result (store.new.cells ≡ store.old.cells) }
-    ensures touches { AtMost 39 store.old.touches store.new.touches }
+    ensures touches { AtMost 38 store.old.touches store.new.touches }
 {
     let block = store.read_used(slot);
     let start = start_of(block.place, align);

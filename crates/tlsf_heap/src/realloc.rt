@@ -20,9 +20,9 @@ use crate::malloc::{allocate, malloc, trim};
 use crate::span::Span;
 use crate::{Ptr, Refusal};
 use tlsf_class::round;
-use tlsf_store::{Slot, Store};
+use tlsf_store::{Slot, State, Store};
 
-/// The block with another size, in its place or moved; without a pointer a new block. At most 61 touches.
+/// The block with another size, in its place or moved; without a pointer a new block. At most 58 touches.
 ///
 /// # Errors
 ///
@@ -35,7 +35,7 @@ pub(crate) fn realloc(store: &mut Store, ptr: Option<Ptr>, n: u64) -> Result<Opt
     ensures slot_new { IfOk result (λ given. IfSome given (λ p. ptr ≢ Some p → slot_times p.slot (blocks_of (content_of store.old.cells).pools) ≡ 0)) }
     ensures refused { IfErr result (λ refusal. (owner : ℕ) → reallocated (λ a b. a == b) owner (place_and_slot ptr) n (content_of store.old.cells) ≡ Err refusal) }
     ensures cells { OnErr result (store.new.cells ≡ store.old.cells) }
-    ensures touches { AtMost 61 store.old.touches store.new.touches }
+    ensures touches { AtMost 58 store.old.touches store.new.touches }
 {
     match ptr {
         Some(ptr) => reallocate(store, ptr, n),
@@ -46,7 +46,7 @@ pub(crate) fn realloc(store: &mut Store, ptr: Option<Ptr>, n: u64) -> Result<Opt
     }
 }
 
-/// The block with another size; none where no byte is asked for, for then it is freed. At most 61
+/// The block with another size; none where no byte is asked for, for then it is freed. At most 58
 /// touches.
 ///
 /// # Errors
@@ -60,7 +60,7 @@ fn reallocate(store: &mut Store, ptr: Ptr, n: u64) -> Result<Option<Ptr>, Refusa
     ensures slot_new { IfOk result (λ given. IfSome given (λ p. ptr ≢ p → slot_times p.slot (blocks_of (content_of store.old.cells).pools) ≡ 0)) }
     ensures refused { IfErr result (λ refusal. (owner : ℕ) → reallocated (λ a b. a == b) owner (Some (ptr.place, ptr.slot)) n (content_of store.old.cells) ≡ Err refusal) }
     ensures cells { OnErr result (store.new.cells ≡ store.old.cells) }
-    ensures touches { AtMost 61 store.old.touches store.new.touches }
+    ensures touches { AtMost 58 store.old.touches store.new.touches }
 {
     if n == 0 {
         return match free(store, ptr) {
@@ -81,7 +81,7 @@ fn reallocate(store: &mut Store, ptr: Ptr, n: u64) -> Result<Option<Ptr>, Refusa
 }
 
 /// The live block with `asked` bytes, in its place where it can have them. A block that gets smaller and
-/// can't give back what is left stays as it is. At most 60 touches.
+/// can't give back what is left stays as it is. At most 57 touches.
 ///
 /// # Errors
 ///
@@ -100,7 +100,7 @@ fn resize(store: &mut Store, ptr: Ptr, block: Span, asked: u32) -> Result<Ptr, R
     ensures slot_new { IfOk result (λ given. ptr ≢ given → slot_times given.slot (blocks_of (content_of store.old.cells).pools) ≡ 0) }
     ensures refused { IfErr result (λ refusal. (owner : ℕ) → realloc_sized owner ptr.place ptr.slot asked (content_of store.old.cells) ≡ Err refusal) }
     ensures cells { OnErr result (store.new.cells ≡ store.old.cells) }
-    ensures touches { AtMost 60 store.old.touches store.new.touches }
+    ensures touches { AtMost 57 store.old.touches store.new.touches }
 {
     if asked == block.size {
         return Ok(ptr);
@@ -150,7 +150,7 @@ fn free_behind(store: &mut Store, block: &Span) -> Option<u32>
 }
 
 /// The live block takes in a free one behind it, and keeps the first `asked` bytes. What is left, where
-/// anything is, is a free block. At most 25 touches.
+/// anything is, is a free block. At most 24 touches.
 fn resize_in_place(store: &mut Store, block: Span, asked: u32)
     requires stands { Stands store.old.cells }
     requires live { is_live_in (λ slot. slot == block.slot) block.place (blocks_of (content_of store.old.cells).pools) ≡ true }
@@ -161,13 +161,13 @@ fn resize_in_place(store: &mut Store, block: Span, asked: u32)
     requires whole { asked % unit ≡ 0 }
     ensures stands { Stands store.new.cells }
     ensures content { content_of store.new.cells ≡ resized block.slot block.place asked (content_of store.old.cells) }
-    ensures touches { AtMost 25 store.old.touches store.new.touches }
+    ensures touches { AtMost 24 store.old.touches store.new.touches }
 {
-    let grown = join_next(store, block);
+    let grown = join_next(store, block, State::Live);
     trim(store, &grown, asked);
 }
 
-/// A new block, and the old one is freed. At most 58 touches.
+/// A new block, and the old one is freed. At most 55 touches.
 ///
 /// # Errors
 ///
@@ -183,7 +183,7 @@ fn relocate(store: &mut Store, ptr: Ptr, asked: u32) -> Result<Ptr, Refusal>
     ensures slot_new { IfOk result (λ given. slot_times given.slot (blocks_of (content_of store.old.cells).pools) ≡ 0) }
     ensures refused { IfErr result (λ refusal. (owner : ℕ) → moved owner ptr.place (malloc_rounded owner (Some asked) (content_of store.old.cells)) ≡ Err refusal) }
     ensures cells { OnErr result (store.new.cells ≡ store.old.cells) }
-    ensures touches { AtMost 58 store.old.touches store.new.touches }
+    ensures touches { AtMost 55 store.old.touches store.new.touches }
 {
     match allocate(store, asked) {
         Ok(given) => {

@@ -111,7 +111,7 @@ impl Region {
         self.heap.add_pool(base, bytes)
     }
 
-    /// The pool that begins at the place `base` is gone; its bytes stay as they are. At most 27 touches.
+    /// The pool that begins at the place `base` is gone; its bytes stay as they are. At most 26 touches.
     ///
     /// # Errors
     ///
@@ -122,7 +122,7 @@ impl Region {
         ensures never_memory { result ≢ Err Refusal.OutOfMemory }
         ensures unchanged { OnErr result (IsUnchanged self.old self.new) }
         ensures bytes { self.new.bytes ≡ self.old.bytes }
-        ensures bound { AtMost 27 self.old.touches self.new.touches }
+        ensures bound { AtMost 26 self.old.touches self.new.touches }
     {
         self.heap.remove_pool(base)
     }
@@ -150,7 +150,7 @@ impl Region {
     }
 
     /// A live block of at least `n` bytes that begins at a multiple of `align`, as `Heap::memalign` gives it. Its
-    /// bytes are those that were there. At most 43 touches.
+    /// bytes are those that were there. At most 42 touches.
     ///
     /// # Errors
     ///
@@ -168,12 +168,12 @@ impl Region {
         ensures never_memory { result ≢ Err Refusal.OutOfMemory }
         ensures unchanged { OnErr result (IsUnchanged self.old self.new) }
         ensures bytes { self.new.bytes ≡ self.old.bytes }
-        ensures bound { AtMost 43 self.old.touches self.new.touches }
+        ensures bound { AtMost 42 self.old.touches self.new.touches }
     {
         self.heap.memalign(align, n)
     }
 
-    /// The block becomes free, as `Heap::free` makes it. At most 35 touches.
+    /// The block becomes free, as `Heap::free` makes it. At most 32 touches.
     ///
     /// # Errors
     ///
@@ -184,13 +184,13 @@ impl Region {
         ensures never_memory { result ≢ Err Refusal.OutOfMemory }
         ensures unchanged { OnErr result (IsUnchanged self.old self.new) }
         ensures bytes { self.new.bytes ≡ self.old.bytes }
-        ensures bound { AtMost 35 self.old.touches self.new.touches }
+        ensures bound { AtMost 32 self.old.touches self.new.touches }
     {
         self.heap.free(ptr)
     }
 
     /// The block with room for `n` bytes, as `Heap::realloc` gives it. A block that moves takes its bytes
-    /// along: they are the start of the new block then. Else no byte changes. At most 62 touches.
+    /// along: they are the start of the new block then. Else no byte changes. At most 59 touches.
     ///
     /// # Errors
     ///
@@ -206,7 +206,7 @@ impl Region {
         ensures unchanged { OnErr result (IsUnchanged self.old self.new) }
         ensures bytes { IfOk result (λ given. self.new.bytes ≡ bytes_after_realloc ptr given self.old.content self.old.bytes) }
         ensures bytes_unchanged { OnErr result (self.new.bytes ≡ self.old.bytes) }
-        ensures bound { AtMost 62 self.old.touches self.new.touches }
+        ensures bound { AtMost 59 self.old.touches self.new.touches }
     {
         let Some(old) = ptr else {
             return self.heap.realloc(None, n);

@@ -4,6 +4,7 @@ use Rattle.std.proofs.lemmas.Bool.{eq-eqb}
 use Rattle.std.proofs.lemmas.List.{set-set, set_comm}
 use Rattle.tlsf_class.specs.Classes.{unit, class, steps, greatest_size}
 use Rattle.tlsf_store.specs.declared.records.State.TheVariants.{Free, Live}
+use Rattle.tlsf_store.specs.declared.records.State.{State}
 use Rattle.tlsf_store.specs.declared.records.Record.{Record}
 use Rattle.tlsf_store.specs.Records.{blank, record_at}
 use Rattle.tlsf_store.specs.Cells.{Cells, with_record}
@@ -12,6 +13,7 @@ use Rattle.tlsf_heap.specs.declared.span.Span.{Span}
 use Rattle.tlsf_heap.specs.Inner.Edits.{IsUsed, edited_in, with_prev_free, with_behind, unlinked, unlinked_by}
 use Rattle.tlsf_heap.specs.Inner.Chains.{with_prev, with_state, split, absorbed, rest_record}
 use Rattle.tlsf_heap.specs.Inner.Nodes.{Status, InUse, Listed, Loose, is_listed}
+use Rattle.tlsf_heap.specs.Inner.Represents.{InPool, state_of}
 use Rattle.tlsf_heap.specs.Inner.At.{At, StandsAt, with_slot, at_turned, at_unlisted, at_split}
 use Rattle.tlsf_heap.specs.Inner.Spans.{span_of, IsRead, IsSpanOf, rest_of, split_by, absorbed_by, joined_by, CanJoin}
 use Rattle.tlsf_heap.proofs.Counts.{one_if}
@@ -23,6 +25,13 @@ use Rattle.tlsf_heap.proofs.Inner.Unlinked.{cleared_is}
 use Rattle.tlsf_heap.proofs.Inner.Steps.{slot_used, size_read, place_read, whole_at, turned_stands}
 use Rattle.tlsf_heap.proofs.Inner.Allotted.{split_stands, prev_used as prev_free_used, behind_used, unlinked_stands}
 use Rattle.tlsf_heap.proofs.Inner.Joinable.{Joins, next_is}
+
+-- the state that a node's record says
+pub state_read : (cells : Cells) (slot : ℕ) (status : Status) (at : At) → StandsAt slot status cells at → (record_at cells.records slot).state ≡ state_of status
+state_read cells slot status at stands =
+    ap (λ q. (record_at cells.records q).state) (sym stands.1.slot_is)
+    ∙ ap (λ (v : InPool). v.state) (at_node cells.records at.position at.node at.nodes at.taken stands.0.chains).says
+    ∙ ap state_of stands.1.status_is
 
 -- a record that was read
 pub read_of : (records : List Record) (slot : ℕ) (block : Record) → block ≡ record_at records slot → block.place % unit ≡ 0 → IsRead (span_of slot block) records
@@ -138,30 +147,31 @@ module _ {V : Type 0} (view : Record → V) (blind_prev : (o : Option ℕ) (r : 
       behind_kept number block.prev_free block.next_free (with_prev_free block.next_free block.prev_free cells) q
       ∙ edited_kept view (λ r. record r { prev_free = block.prev_free }) (blind_prev block.prev_free) block.next_free cells.records q
 
-absorbed_is : (cells : Cells) (span : Span) (behind : ℕ) → span.size ≡ (record_at cells.records span.slot).size + (record_at cells.records behind).size → span.next ≡ (record_at cells.records behind).next
-    → absorbed_by span behind cells ≡ absorbed span.slot behind cells
-absorbed_is cells span behind size next =
-    λ i. with_record (with_prev (next i) (Some span.slot) (with_record cells span.slot (record (record_at cells.records span.slot) { size = size i; next = next i }))) behind blank
+absorbed_is : (cells : Cells) (span : Span) (state : State) (behind : ℕ) → state ≡ (record_at cells.records span.slot).state → span.size ≡ (record_at cells.records span.slot).size + (record_at cells.records behind).size → span.next ≡ (record_at cells.records behind).next
+    → absorbed_by span state behind cells ≡ absorbed span.slot behind cells
+absorbed_is cells span state behind same size next =
+    λ i. with_record (with_prev (next i) (Some span.slot) (with_record cells span.slot (record (record_at cells.records span.slot) { size = size i; state = same i; next = next i }))) behind blank
 
 -- what a join by what is known leads to
-pub record JoinsBy (span : Span) (behind : ℕ) (listed : Record) (status : Status) (cells : Cells) (after : At) : Type 0 where
+pub record JoinsBy (span : Span) (state : State) (behind : ℕ) (listed : Record) (status : Status) (cells : Cells) (after : At) : Type 0 where
   pub ready : CanJoin span behind listed cells.records (unlinked_by (class listed.size) listed cells).records
-  pub leads : StandsAt span.slot status (joined_by span behind listed cells) after
-  pub read : IsRead span (joined_by span behind listed cells).records
+  pub leads : StandsAt span.slot status (joined_by span state behind listed cells) after
+  pub read : IsRead span (joined_by span state behind listed cells).records
 
-pub joins_by : (cells : Cells) (span : Span) (behind listed : ℕ) (r : Record) (status : Status) (after : At) → Joins span.slot behind listed r.size span.slot status cells after → r ≡ record_at cells.records listed
+pub joins_by : (cells : Cells) (span : Span) (state : State) (behind listed : ℕ) (r : Record) (status : Status) (after : At) → Joins span.slot behind listed r.size span.slot status cells after → r ≡ record_at cells.records listed
     → span.place ≡ (record_at cells.records span.slot).place → span.size ≡ (record_at cells.records span.slot).size + (record_at cells.records behind).size → span.next ≡ (record_at cells.records behind).next → span.place % unit ≡ 0
-    → JoinsBy span behind r status cells after
-joins_by cells span behind listed r status after joins is place size next in_units =
+    → state ≡ (record_at cells.records span.slot).state → JoinsBy span state behind r status cells after
+joins_by cells span state behind listed r status after joins is place size next in_units same =
     let out : Cells = unlinked_by (class r.size) r cells in
     let out_is : out ≡ unlinked (class r.size) listed cells = ap (λ x. unlinked_by (class r.size) x cells) is in
     let sizes : span.size ≡ (record_at out.records span.slot).size + (record_at out.records behind).size =
     omega (arith, size, unlinked_kept (λ x. x.size) (λ o x. refl) (λ o x. refl) (class r.size) r cells span.slot, unlinked_kept (λ x. x.size) (λ o x. refl) (λ o x. refl) (class r.size) r cells behind) in
     let behind_next : span.next ≡ (record_at out.records behind).next = next ∙ sym (unlinked_kept (λ x. x.next) (λ o x. refl) (λ o x. refl) (class r.size) r cells behind) in
+    let state_out : state ≡ (record_at out.records span.slot).state = same ∙ sym (unlinked_kept (λ x. x.state) (λ o x. refl) (λ o x. refl) (class r.size) r cells span.slot) in
     let P : Cells → Type 0 = λ c. StandsAt span.slot status (absorbed span.slot behind c) after in
     let there : StandsAt span.slot status (absorbed span.slot behind out) after = subst P (sym out_is) joins.leads in
-    let leads : StandsAt span.slot status (joined_by span behind r cells) after = subst (λ c. StandsAt span.slot status c after) (sym (absorbed_is out span behind sizes behind_next)) there in
-    let whole = whole_at (joined_by span behind r cells) span.slot status after leads in
+    let leads : StandsAt span.slot status (joined_by span state behind r cells) after = subst (λ c. StandsAt span.slot status c after) (sym (absorbed_is out span state behind state_out sizes behind_next)) there in
+    let whole = whole_at (joined_by span state behind r cells) span.slot status after leads in
     let size_of : (c : Cells) → c ≡ unlinked (class r.size) listed cells → (record_at c.records span.slot).size + (record_at c.records behind).size ≡ after.node.size = λ c e. ap (λ (x : Cells). (record_at x.records span.slot).size + (record_at x.records behind).size) e ∙ joins.size_is in
     let known : IsSpanOf span after = record {
       slot = sym leads.1.slot_is;
@@ -187,7 +197,7 @@ joins_by cells span behind listed r status after joins is place size next in_uni
         in_units = ap (λ n. n % unit) known.size ∙ whole.in_units;
       };
       leads = leads;
-      read = by_record (joined_by span behind r cells) status after span leads known;
+      read = by_record (joined_by span state behind r cells) status after span leads known;
     }
 
 -- what is known of a listed block whose record was read

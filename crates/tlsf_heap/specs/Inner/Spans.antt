@@ -44,14 +44,13 @@ abbrev pub split_by : Span → ℕ → ℕ → Cells → Cells
 split_by span rest bytes cells =
     with_prev span.next (Some rest) (with_block span.slot bytes Live (Some rest) (with_record cells rest (rest_of span bytes)))
 
--- the block takes in the one behind it, whose slot becomes vacant; the span says what it is then
-abbrev pub absorbed_by : Span → ℕ → Cells → Cells
-absorbed_by span behind cells =
-    with_record (with_prev span.next (Some span.slot) (edited (λ r. record r { size = span.size; next = span.next }) (Some span.slot) cells)) behind blank
+-- the block, which is in this state, takes in the one behind it, whose slot becomes vacant; the span says what it is then
+abbrev pub absorbed_by : Span → State → ℕ → Cells → Cells
+absorbed_by span state behind cells = with_record (with_prev span.next (Some span.slot) (with_block span.slot span.size state span.next cells)) behind blank
 
 -- one of two neighbours, of this record, left its list, and the first took in the other
-abbrev pub joined_by : Span → ℕ → Record → Cells → Cells
-joined_by span behind listed cells = absorbed_by span behind (unlinked_by (class listed.size) listed cells)
+abbrev pub joined_by : Span → State → ℕ → Record → Cells → Cells
+joined_by span state behind listed cells = absorbed_by span state behind (unlinked_by (class listed.size) listed cells)
 
 -- one of two neighbours, of this record, can leave its list, and the first can then take in the other;
 -- out: the records once it left

@@ -1,4 +1,5 @@
 use Rattle.std.proofs.Common.{◌≡◌, ℕ, ◌+◌, true, false, sym, ap, ◌∙◌, subst, arith, Some}
+use Rattle.tlsf_store.specs.declared.records.State.{State}
 use Rattle.tlsf_store.specs.declared.records.Record.{Record}
 use Rattle.tlsf_store.specs.Records.{record_at}
 use Rattle.tlsf_store.specs.Cells.{Cells}
@@ -9,6 +10,7 @@ use Rattle.tlsf_heap.specs.Inner.Nodes.{Status, is_listed}
 use Rattle.tlsf_heap.specs.Inner.At.{At, StandsAt, next_joined}
 use Rattle.tlsf_heap.specs.Inner.Spans.{IsRead}
 use Rattle.tlsf_heap.proofs.Inner.Joinable.{Joins, next_joins, back_stays, back_is_live}
+use Rattle.tlsf_heap.proofs.Inner.Steps.{slot_used}
 use Rattle.tlsf_heap.proofs.Inner.Spans.{back_used, join_fits, joins_by, JoinsBy}
 use Rattle.tlsf_heap.proofs.free.join_next.Goals as goal
 
@@ -41,11 +43,11 @@ joining old span n status at next unlisted stands read link is free =
     next_joins old at span.slot status unlisted stands n next.size (sym read.next ∙ link) (sym (ap (λ (r : Record). is_state_free r.state) is) ∙ free) (ap (λ (r : Record). r.size) is)
 
 -- what join needs and leaves
-joined : (old : Cells) (span : Span) (n : ℕ) (status : Status) (at : At) (next : Record) → is_listed status ≡ false → StandsAt span.slot status old at → IsRead span old.records → span.next ≡ Some n → next ≡ record_at old.records n → is_state_free next.state ≡ true
-    → JoinsBy (record span { size = span.size + next.size; next = next.next }) n next status old (next_joined at)
-joined old span n status at next unlisted stands read link is free =
-    joins_by old (record span { size = span.size + next.size; next = next.next }) n n next status (next_joined at) (joining old span n status at next unlisted stands read link is free) is
-    read.place (omega (arith, ap (λ (r : Record). r.size) is, read.size)) (ap (λ (r : Record). r.next) is) read.in_units
+joined : (old : Cells) (span : Span) (state : State) (n : ℕ) (status : Status) (at : At) (next : Record) → is_listed status ≡ false → StandsAt span.slot status old at → IsRead span old.records → span.next ≡ Some n → next ≡ record_at old.records n → is_state_free next.state ≡ true → state ≡ (record_at old.records span.slot).state
+    → JoinsBy (record span { size = span.size + next.size; next = next.next }) state n next status old (next_joined at)
+joined old span state n status at next unlisted stands read link is free same =
+    joins_by old (record span { size = span.size + next.size; next = next.next }) state n n next status (next_joined at) (joining old span n status at next unlisted stands read link is free) is
+    read.place (omega (arith, ap (λ (r : Record). r.size) is, read.size)) (ap (λ (r : Record). r.next) is) read.in_units same
 
 pub overflow_add-merged : goal.overflow_add-merged
 overflow_add-merged c =
@@ -58,17 +60,20 @@ overflow_add-merged c =
       c.requires.read.size,
     )
 
-pub join-requires : goal.join-requires
-join-requires c =
+pub join-requires-clause-can : goal.join-requires-clause-can
+join-requires-clause-can c =
     rw c.read_used-next.ensures.cells
-    (joined c.args.store.now.cells c.args.block c.in-Some.next_slot c.requires.stands.0 c.requires.stands.1 c.read_used-next.result c.requires.stands.2 c.requires.stands.3 c.requires.read c.in-Some.is c.read_used-next.ensures.value (sym c.is_free.ensures ∙ c.if-not-is_free.false)).ready
+    (joined c.args.store.now.cells c.args.block c.args.state c.in-Some.next_slot c.requires.stands.0 c.requires.stands.1 c.read_used-next.result c.requires.stands.2 c.requires.stands.3 c.requires.read c.in-Some.is c.read_used-next.ensures.value (sym c.is_free.ensures ∙ c.if-not-is_free.false) c.requires.state).ready
 
 pub returns-clause-leads : goal.returns-clause-leads
 returns-clause-leads c status at unlisted stands =
     rw (c.join.ensures.cells, c.read_used-next.ensures.cells)
-    (joined c.args.store.now.cells c.args.block c.in-Some.next_slot status at c.read_used-next.result unlisted stands c.requires.read c.in-Some.is c.read_used-next.ensures.value (sym c.is_free.ensures ∙ c.if-not-is_free.false)).leads
+    (joined c.args.store.now.cells c.args.block c.args.state c.in-Some.next_slot status at c.read_used-next.result unlisted stands c.requires.read c.in-Some.is c.read_used-next.ensures.value (sym c.is_free.ensures ∙ c.if-not-is_free.false) c.requires.state).leads
 
 pub returns-clause-read : goal.returns-clause-read
 returns-clause-read c =
     rw (c.join.ensures.cells, c.read_used-next.ensures.cells)
-    (joined c.args.store.now.cells c.args.block c.in-Some.next_slot c.requires.stands.0 c.requires.stands.1 c.read_used-next.result c.requires.stands.2 c.requires.stands.3 c.requires.read c.in-Some.is c.read_used-next.ensures.value (sym c.is_free.ensures ∙ c.if-not-is_free.false)).read
+    (joined c.args.store.now.cells c.args.block c.args.state c.in-Some.next_slot c.requires.stands.0 c.requires.stands.1 c.read_used-next.result c.requires.stands.2 c.requires.stands.3 c.requires.read c.in-Some.is c.read_used-next.ensures.value (sym c.is_free.ensures ∙ c.if-not-is_free.false) c.requires.state).read
+
+pub join-requires-clause-new_used : goal.join-requires-clause-new_used
+join-requires-clause-new_used c e = (slot_used c.args.store.now.cells c.args.block.slot c.requires.stands.0 c.requires.stands.1 c.requires.stands.3).1 (sym c.requires.state ∙ e)

@@ -43,10 +43,10 @@ joining old slot p at previous front stands previous_is link is free =
 
 -- what join needs and leaves
 joined : (old : Cells) (span : Span) (p : ℕ) (at : At) (previous : Option ℕ) (front : Record) → StandsAt span.slot Loose old at → IsRead span old.records → previous ≡ (record_at old.records span.slot).prev → previous ≡ Some p → front ≡ record_at old.records p → is_state_free front.state ≡ true → front.place % unit ≡ 0
-    → JoinsBy (record { slot = p; place = front.place; size = front.size + span.size; next = span.next }) span.slot front Loose old (previous_joined at)
+    → JoinsBy (record { slot = p; place = front.place; size = front.size + span.size; next = span.next }) front.state span.slot front Loose old (previous_joined at)
 joined old span p at previous front stands read previous_is link is free in_units =
-    joins_by old (record { slot = p; place = front.place; size = front.size + span.size; next = span.next }) span.slot p front Loose (previous_joined at) (joining old span.slot p at previous front stands previous_is link is free) is
-    (ap (λ (r : Record). r.place) is) (omega (arith, ap (λ (r : Record). r.size) is, read.size)) read.next in_units
+    joins_by old (record { slot = p; place = front.place; size = front.size + span.size; next = span.next }) front.state span.slot p front Loose (previous_joined at) (joining old span.slot p at previous front stands previous_is link is free) is
+    (ap (λ (r : Record). r.place) is) (omega (arith, ap (λ (r : Record). r.size) is, read.size)) read.next in_units (ap (λ (r : Record). r.state) is)
 
 pub overflow_add-merged : goal.overflow_add-merged
 overflow_add-merged c =
@@ -59,8 +59,8 @@ overflow_add-merged c =
       c.requires.read.size,
     )
 
-pub join-requires : goal.join-requires
-join-requires c =
+pub join-requires-clause-can : goal.join-requires-clause-can
+join-requires-clause-can c =
     rw c.read_used-front.ensures.cells
     (joined c.args.store.now.cells c.args.block c.in-Some.previous_slot c.requires.stands.0 c.args.previous c.read_used-front.result c.requires.stands.1 c.requires.read c.requires.previous c.in-Some.is c.read_used-front.ensures.value (sym c.is_free.ensures ∙ c.if-not-is_free.false) c.read_used-front.ensures.kept.place).ready
 
@@ -73,3 +73,7 @@ pub returns-clause-read : goal.returns-clause-read
 returns-clause-read c =
     rw (c.join.ensures.cells, c.read_used-front.ensures.cells)
     (joined c.args.store.now.cells c.args.block c.in-Some.previous_slot c.requires.stands.0 c.args.previous c.read_used-front.result c.requires.stands.1 c.requires.read c.requires.previous c.in-Some.is c.read_used-front.ensures.value (sym c.is_free.ensures ∙ c.if-not-is_free.false) c.read_used-front.ensures.kept.place).read
+
+pub join-requires-clause-new_used : goal.join-requires-clause-new_used
+join-requires-clause-new_used c e =
+    (in_use c.args.store.now.cells c.args.block.slot c.in-Some.previous_slot c.requires.stands.0 c.args.previous c.requires.stands.1 c.requires.previous c.in-Some.is).1 (sym (ap (λ (r : Record). r.state) c.read_used-front.ensures.value) ∙ e)

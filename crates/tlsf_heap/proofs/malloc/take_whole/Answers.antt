@@ -1,8 +1,14 @@
-use Rattle.std.proofs.Common.{refl}
-use Rattle.tlsf_heap.specs.Inner.Nodes.{InUse, Loose}
-use Rattle.tlsf_heap.specs.Inner.At.{At, at_unlisted}
+use Rattle.std.proofs.Common.{◌≡◌, ℕ, ◌%◌, refl, sym, subst}
+use Rattle.tlsf_class.specs.Classes.{class, unit}
+use Rattle.tlsf_store.specs.declared.records.Record.{Record}
+use Rattle.tlsf_store.specs.Records.{record_at}
+use Rattle.tlsf_store.specs.Cells.{Cells}
+use Rattle.tlsf_heap.specs.Inner.Edits.{IsUsed, unlinked_by}
+use Rattle.tlsf_heap.specs.Inner.Nodes.{InUse, Listed, Loose}
+use Rattle.tlsf_heap.specs.Inner.At.{At, StandsAt, at_unlisted}
+use Rattle.tlsf_heap.specs.Inner.Spans.{span_of, IsRead}
 use Rattle.tlsf_heap.proofs.Inner.Steps.{slot_used, turned_stands}
-use Rattle.tlsf_heap.proofs.Inner.Spans.{listed_read, read_leaves}
+use Rattle.tlsf_heap.proofs.Inner.Spans.{listed_read, read_leaves, read_of, by_node, by_record, back_used}
 use Rattle.tlsf_heap.proofs.malloc.take_whole.Goals as goal
 
 pub class_of-requires-clause-whole : goal.class_of-requires-clause-whole
@@ -20,12 +26,34 @@ unlink-requires-clause-prev_used c = (listed_read c.args.store.now.cells c.args.
 pub unlink-requires-clause-next_used : goal.unlink-requires-clause-next_used
 unlink-requires-clause-next_used c = (listed_read c.args.store.now.cells c.args.slot c.args.block.now c.requires.stands.0 c.requires.stands.1 c.requires.read).next_used
 
-pub set_state-requires-clause-used : goal.set_state-requires-clause-used
-set_state-requires-clause-used c =
+-- the block as it is known once it left its list
+known : (old new : Cells) (slot number : ℕ) (block : Record) (at : At) → StandsAt slot Listed old at → block ≡ record_at old.records slot → block.place % unit ≡ 0 → number ≡ class block.size → new ≡ unlinked_by number block old → IsRead (span_of slot block) new.records
+known old new slot number block at stands read in_units number_is left =
+    let of = by_node old Listed at (span_of slot block) stands (read_of old.records slot block read in_units) in
+    by_record new Loose (at_unlisted at) (span_of slot block) (read_leaves old new slot number block at stands read number_is left)
+    (record { slot = of.slot; place = of.place; size = of.size; next = of.next; in_units = of.in_units })
+
+pub turn-requires-clause-used : goal.turn-requires-clause-used
+turn-requires-clause-used c =
     let at : At = c.requires.stands.0 in
-    slot_used c.unlink.new.store.cells c.args.slot Loose (at_unlisted at) (read_leaves c.args.store.now.cells c.unlink.new.store.cells c.args.slot c.class_of.result c.args.block.now at c.requires.stands.1 c.requires.read c.class_of.ensures c.unlink.ensures.cells)
+    rw c.of-whole.ensures (slot_used c.unlink.new.store.cells c.args.slot Loose (at_unlisted at) (read_leaves c.args.store.now.cells c.unlink.new.store.cells c.args.slot c.class_of.result c.args.block.now at c.requires.stands.1 c.requires.read c.class_of.ensures c.unlink.ensures.cells))
+
+pub turn-requires-clause-next_used : goal.turn-requires-clause-next_used
+turn-requires-clause-next_used c =
+    let at : At = c.requires.stands.0 in
+    let new : Cells = c.unlink.new.store.cells in
+    let left = read_leaves c.args.store.now.cells new c.args.slot c.class_of.result c.args.block.now at c.requires.stands.1 c.requires.read c.class_of.ensures c.unlink.ensures.cells in
+    let read = known c.args.store.now.cells new c.args.slot c.class_of.result c.args.block.now at c.requires.stands.1 c.requires.read c.requires.in_units c.class_of.ensures c.unlink.ensures.cells in
+    rw c.of-whole.ensures (subst (λ o. IsUsed new.records o) (sym read.next) (back_used new c.args.slot Loose (at_unlisted at) left))
+
+pub turn-requires-clause-read : goal.turn-requires-clause-read
+turn-requires-clause-read c =
+    rw c.of-whole.ensures (known c.args.store.now.cells c.unlink.new.store.cells c.args.slot c.class_of.result c.args.block.now c.requires.stands.0 c.requires.stands.1 c.requires.read c.requires.in_units c.class_of.ensures c.unlink.ensures.cells)
+
+pub turn-requires-clause-in_units : goal.turn-requires-clause-in_units
+turn-requires-clause-in_units c = rw c.of-whole.ensures (listed_read c.args.store.now.cells c.args.slot c.args.block.now c.requires.stands.0 c.requires.stands.1 c.requires.read).whole
 
 pub returns-clause-leads : goal.returns-clause-leads
 returns-clause-leads c at stands =
-    rw c.set_state.ensures.cells
+    rw (c.turn.ensures.cells, c.of-whole.ensures)
     (turned_stands c.unlink.new.store.cells c.args.slot Loose (at_unlisted at) (read_leaves c.args.store.now.cells c.unlink.new.store.cells c.args.slot c.class_of.result c.args.block.now at stands c.requires.read c.class_of.ensures c.unlink.ensures.cells) InUse refl refl)

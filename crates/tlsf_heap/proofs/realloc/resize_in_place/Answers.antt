@@ -1,4 +1,4 @@
-use Rattle.std.proofs.Common.{◌≡◌, refl, ◌∙◌, arith, ap}
+use Rattle.std.proofs.Common.{◌≡◌, refl, ◌∙◌, arith, ap, sym}
 use Rattle.tlsf_store.specs.Cells.{Cells}
 use Rattle.tlsf_store.specs.Records.{record_at}
 use Rattle.tlsf_heap.specs.Realloc.{resized}
@@ -6,6 +6,7 @@ use Rattle.tlsf_heap.specs.Inner.Following.{Stands, content_of}
 use Rattle.tlsf_heap.specs.Inner.Nodes.{InUse}
 use Rattle.tlsf_heap.specs.Inner.At.{next_joined}
 use Rattle.tlsf_heap.proofs.Inner.Steps.{size_read}
+use Rattle.tlsf_heap.proofs.Inner.Spans.{state_read}
 use Rattle.tlsf_heap.proofs.Inner.Live.{live_at}
 use Rattle.tlsf_heap.proofs.Inner.Resizing.{joined_holds, resized_stands}
 use Rattle.tlsf_heap.proofs.realloc.resize_in_place.Goals as goal
@@ -14,6 +15,11 @@ pub join_next-grown-requires-clause-stands : goal.join_next-grown-requires-claus
 join_next-grown-requires-clause-stands c =
     let by = live_at c.args.store.now.cells c.requires.stands c.args.block.place c.args.block.slot c.requires.live in
     (InUse, by.at, refl, by.stands)
+
+pub join_next-grown-requires-clause-state : goal.join_next-grown-requires-clause-state
+join_next-grown-requires-clause-state c =
+    let by = live_at c.args.store.now.cells c.requires.stands c.args.block.place c.args.block.slot c.requires.live in
+    sym (state_read c.args.store.now.cells c.args.block.slot InUse by.at by.stands)
 
 pub trim-requires-clause-stands : goal.trim-requires-clause-stands
 trim-requires-clause-stands c =
