@@ -47,8 +47,8 @@ fn set_prev(store: &mut Store, slot: Option<Slot>, prev: Slot)
     }
 }
 
-/// A block keeps its first bytes and is live, and what is left is a free block of the slot `rest` behind it. At
-/// most three touches.
+/// A block keeps its first bytes and is live, and what is left is a free block of the slot `rest` behind
+/// it. At most three touches.
 pub(crate) fn split(store: &mut Store, block: &Span, rest: Slot, bytes: u32)
     requires slot_used { IsUsed store.old.cells.records (Some block.now.slot) }
     requires rest_used { IsUsed store.old.cells.records (Some rest) }
@@ -75,8 +75,8 @@ pub(crate) fn split(store: &mut Store, block: &Span, rest: Slot, bytes: u32)
     set_prev(store, block.next, rest);
 }
 
-/// A block in this state takes in the one behind it, whose slot becomes vacant. It is then what `merged` says. At most five
-/// touches.
+/// A block in this state takes in the one behind it, whose slot becomes vacant. It is then what `merged`
+/// says. At most five touches.
 pub(crate) fn absorb(store: &mut Store, merged: &Span, state: State, behind: Slot)
     requires slot_used { IsUsed store.old.cells.records (Some merged.now.slot) }
     requires behind_used { IsUsed store.old.cells.records (Some behind) }

@@ -43,7 +43,8 @@ pub(crate) fn free(store: &mut Store, ptr: Ptr) -> Result<(), Refusal>
     Ok(())
 }
 
-/// The record of the live block that has the pointer's place and slot, if there is one. At most one touch.
+/// The record of the live block that has the pointer's place and slot, if there is one. At most one
+/// touch.
 pub(crate) fn live(store: &mut Store, ptr: Ptr) -> Option<Record>
     requires { Stands store.old.cells }
     ensures value { is_some result ≡ is_live_in (λ slot. slot == ptr.slot) ptr.place (blocks_of (content_of store.old.cells).pools) }
@@ -73,7 +74,8 @@ fn is_live_at(block: &Record, place: u32) -> bool
     }
 }
 
-/// The block of this record becomes free, and one free block with its free neighbours in the pool. At most 31 touches.
+/// The block of this record becomes free, and one free block with its free neighbours in the pool. At
+/// most 31 touches.
 #[inline(always)]
 pub(crate) fn release(store: &mut Store, slot: Slot, block: &Record)
     requires stands { (at : At) × StandsAt slot InUse store.old.cells at }
@@ -99,8 +101,8 @@ pub(crate) fn is_free(state: State) -> bool
     }
 }
 
-/// A free block before it, of the slot `previous`, takes in the block, which is free and in no list. The answer is the block
-/// that is left. At most 11 touches.
+/// A free block before it, of the slot `previous`, takes in the block, which is free and in no list. The
+/// answer is the block that is left. At most 11 touches.
 #[inline(always)]
 fn join_previous(store: &mut Store, previous: Option<Slot>, block: Span) -> Span
     requires stands { (at : At) × StandsAt block.slot Loose store.old.cells at }
@@ -127,8 +129,8 @@ fn join_previous(store: &mut Store, previous: Option<Slot>, block: Span) -> Span
     merged
 }
 
-/// The block in this state, which is in no list, takes in a free one after it. The answer is the block that is left, with its slot. At most
-/// 11 touches.
+/// The block in this state, which is in no list, takes in a free one after it. The answer is the block
+/// that is left, under its slot. At most 11 touches.
 #[inline(always)]
 pub(crate) fn join_next(store: &mut Store, block: Span, state: State) -> Span
     requires stands { (status : Status) × (at : At) × (is_listed status ≡ false) × StandsAt block.slot status store.old.cells at }
@@ -155,8 +157,8 @@ pub(crate) fn join_next(store: &mut Store, block: Span, state: State) -> Span
     merged
 }
 
-/// One of two neighbours, of the record `listed`, leaves its class's list, and the first, in this state, takes in the one behind. It is then
-/// what `merged` says. At most ten touches.
+/// One of two neighbours, of the record `listed`, leaves its class's list. The first, in this state, takes
+/// in the one behind, and is then what `merged` says. At most ten touches.
 #[inline(always)]
 fn join(store: &mut Store, merged: &Span, state: State, behind: Slot, listed: &Record)
     requires can { CanJoin merged.now behind listed.now store.old.cells.records (unlinked_by (class listed.now.size) listed.now store.old.cells).records }
@@ -168,7 +170,8 @@ fn join(store: &mut Store, merged: &Span, state: State, behind: Slot, listed: &R
     absorb(store, merged, state, behind);
 }
 
-/// The block of `size` bytes, which is free and in no list, enters its class's list. At most eight touches.
+/// The block of `size` bytes, which is free and in no list, enters its class's list. At most eight
+/// touches.
 pub(crate) fn enter(store: &mut Store, slot: Slot, size: u32)
     requires stands { (at : At) × StandsAt slot Loose store.old.cells at }
     requires size { size ≡ (record_at store.old.cells.records slot).size }

@@ -46,7 +46,8 @@ fn link_alone(store: &mut Store, class: Class, slot: Slot)
     set_class_bit(store, class);
 }
 
-/// Takes the free block of this record out of its class's list, wherever it stands in it. At most five touches.
+/// Takes the free block of this record out of its class's list, wherever it stands in it. At most five
+/// touches.
 pub(crate) fn unlink(store: &mut Store, class: Class, block: &Record)
     requires prev_used { IsUsed store.old.cells.records block.now.prev_free }
     requires next_used { IsUsed store.old.cells.records block.now.next_free }

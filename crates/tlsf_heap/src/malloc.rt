@@ -117,8 +117,8 @@ fn take(store: &mut Store, slot: Slot, asked: u32) -> Result<Ptr, Refusal>
     Ok(Ptr::new(block.place, slot.0))
 }
 
-/// The first bytes of a free block of this record, which leaves its class's list, are a live block. What is left is a
-/// free block of the slot `rest`, first in its class's list. At most 16 touches.
+/// The first bytes of a free block of this record, which leaves its class's list, are a live block. What
+/// is left is a free block of the slot `rest`, first in its class's list. At most 16 touches.
 fn take_part(store: &mut Store, slot: Slot, rest: Slot, bytes: u32, block: &Record)
     requires stands { (at : At) × StandsAt slot Listed store.old.cells (with_slot rest at) }
     requires read { block.now ≡ record_at store.old.cells.records slot }
@@ -147,8 +147,8 @@ pub(crate) fn take_whole(store: &mut Store, slot: Slot, block: &Record)
     turn(store, &whole, State::Live);
 }
 
-/// A block that is in no list keeps its first bytes and is live. What is left is a free block of the slot `rest`, first in its
-/// class's list. At most 11 touches.
+/// A block that is in no list keeps its first bytes and is live. What is left is a free block of the slot
+/// `rest`, first in its class's list. At most 11 touches.
 fn cut(store: &mut Store, block: &Span, rest: Slot, bytes: u32)
     requires stands { (status : Status) × (at : At) × (is_listed status ≡ false) × StandsAt block.now.slot status store.old.cells (with_slot rest at) }
     requires read { IsRead block.now store.old.cells.records }

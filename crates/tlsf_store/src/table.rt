@@ -12,8 +12,8 @@ use super::{Record, Slot, State};
 use std::alloc::{AllocError, Global};
 use std::marker::Model;
 
-/// All the records of a store, packed. A vacant one keeps the next vacant one as its link `next`; the first is kept as the word
-/// of a link.
+/// All the records of a store, packed. A vacant one keeps the next vacant one as its link `next`; the
+/// first is kept as the word of a link.
 #[derive(Drop)]
 pub(crate) struct Table {
     items: Vec<Packed>,
