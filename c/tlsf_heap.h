@@ -134,44 +134,44 @@ enum tlsf_status tlsf_heap_create_in(void *memory, size_t bytes, uint32_t record
  * ended, and what was ended may be ended once more. */
 void tlsf_heap_destroy(tlsf_heap *heap);
 
-/* A pool of `bytes` bytes from the place base on, as one free block. At most 28 touches.
+/* A pool of `bytes` bytes from the place base on, as one free block. At most 27 touches.
  * 0, TLSF_BAD_POOL where base or bytes isn't a multiple of 16, bytes isn't from 16 to
  * 1,073,741,808, the end is above 2^32, or the pool overlaps another; TLSF_POOLS_FULL or
  * TLSF_TABLE_FULL. Pools are never merged. */
 enum tlsf_status tlsf_heap_add_pool(tlsf_heap *heap, uint64_t base, uint64_t bytes);
 
-/* The pool that begins at the place base is gone. At most 28 touches.
+/* The pool that begins at the place base is gone. At most 26 touches.
  * 0, TLSF_NO_POOL where none begins there, or TLSF_POOL_IN_USE unless it is one free block. */
 enum tlsf_status tlsf_heap_remove_pool(tlsf_heap *heap, uint64_t base);
 
-/* Gives *out a live block of at least `bytes` bytes, rounded up to 16. At most 28 touches.
+/* Gives *out a live block of at least `bytes` bytes, rounded up to 16. At most 23 touches.
  * 0, TLSF_ZERO_SIZE, TLSF_NO_FIT or TLSF_TABLE_FULL.
  * It is the first block of the first list that isn't empty, at or above the class from which each
  * block holds the bytes: so TLSF_NO_FIT says that each free block is smaller than that class, not
  * that none would do. */
 enum tlsf_status tlsf_heap_malloc(tlsf_heap *heap, uint64_t bytes, tlsf_heap_block *out);
 
-/* The same at a place that is a multiple of align, a power of two from 1 to 2^29. At most 50
+/* The same at a place that is a multiple of align, a power of two from 1 to 2^29. At most 42
  * touches.
  * 0, TLSF_BAD_ALIGN, TLSF_ZERO_SIZE, TLSF_NO_FIT or TLSF_TABLE_FULL. */
 enum tlsf_status tlsf_heap_memalign(tlsf_heap *heap, uint64_t align, uint64_t bytes,
                                     tlsf_heap_block *out);
 
-/* The block becomes free, and is one with its free neighbours in the pool. At most 45 touches.
+/* The block becomes free, and is one with its free neighbours in the pool. At most 32 touches.
  * 0, or TLSF_BAD_POINTER unless a live block has both its place and its slot. */
 enum tlsf_status tlsf_heap_free(tlsf_heap *heap, tlsf_heap_block block);
 
 /* Gives *out the block with room for `bytes` bytes: where it is, or another. A program that has
  * bytes in the block copies them where the place is another, before its next call: the new block
  * was given before the old one became free, so the two don't overlap, and no one has the old one's
- * bytes yet. At most 78 touches.
+ * bytes yet. At most 58 touches.
  * Where bytes is 0 the block becomes free, and *out stays.
  * 0, TLSF_BAD_POINTER unless a live block has both its place and its slot, TLSF_NO_FIT or
  * TLSF_TABLE_FULL: then the old block is as it was. */
 enum tlsf_status tlsf_heap_realloc(tlsf_heap *heap, tlsf_heap_block block, uint64_t bytes,
                                    tlsf_heap_block *out);
 
-/* Gives *out the bytes that a live block has, a multiple of 16. At most 2 touches.
+/* Gives *out the bytes that a live block has, a multiple of 16. At most one touch.
  * 0, or TLSF_BAD_POINTER unless a live block has both its place and its slot. */
 enum tlsf_status tlsf_heap_block_size(tlsf_heap *heap, tlsf_heap_block block, uint32_t *out);
 

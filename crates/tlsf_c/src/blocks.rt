@@ -17,7 +17,7 @@ use crate::block::Block;
 use crate::handle::Handle;
 use crate::status::{SERVED, number};
 
-/// A live block of at least `bytes` bytes, which goes to `out`. At most 28 touches.
+/// A live block of at least `bytes` bytes, which goes to `out`. At most 23 touches.
 ///
 /// The status is 0 or the number of `ZeroSize`, `NoFit` or `TableFull`.
 #[unsafe(no_mangle)]
@@ -28,7 +28,7 @@ pub extern "C" fn tlsf_heap_malloc(handle: &mut Handle, bytes: u64, out: &mut Bl
     ensures slot_new { result ≡ 0 → slot_times out.new.slot (blocks_of handle.old.value.content.pools) ≡ 0 }
     ensures unchanged { result ≢ 0 → IsUnchanged handle.old.value handle.new.value }
     ensures out { result ≢ 0 → out.new ≡ out.old }
-    ensures bound { AtMost 28 handle.old.value.touches handle.new.value.touches }
+    ensures bound { AtMost 23 handle.old.value.touches handle.new.value.touches }
 {
     match handle.heap().malloc(bytes) {
         Ok(ptr) => {
@@ -39,7 +39,7 @@ pub extern "C" fn tlsf_heap_malloc(handle: &mut Handle, bytes: u64, out: &mut Bl
     }
 }
 
-/// A live block of at least `bytes` bytes that begins at a multiple of `align`, which goes to `out`. At most 50 touches.
+/// A live block of at least `bytes` bytes that begins at a multiple of `align`, which goes to `out`. At most 42 touches.
 ///
 /// The status is 0 or the number of `BadAlign`, `ZeroSize`, `NoFit` or `TableFull`.
 #[unsafe(no_mangle)]
@@ -56,7 +56,7 @@ pub extern "C" fn tlsf_heap_memalign(
     ensures slot_new { result ≡ 0 → slot_times out.new.slot (blocks_of handle.old.value.content.pools) ≡ 0 }
     ensures unchanged { result ≢ 0 → IsUnchanged handle.old.value handle.new.value }
     ensures out { result ≢ 0 → out.new ≡ out.old }
-    ensures bound { AtMost 50 handle.old.value.touches handle.new.value.touches }
+    ensures bound { AtMost 42 handle.old.value.touches handle.new.value.touches }
 {
     match handle.heap().memalign(align, bytes) {
         Ok(ptr) => {
@@ -67,7 +67,7 @@ pub extern "C" fn tlsf_heap_memalign(
     }
 }
 
-/// The block becomes free. At most 45 touches.
+/// The block becomes free. At most 32 touches.
 ///
 /// The status is 0, or the number of `BadPointer` unless a live block has both the place and the slot.
 #[unsafe(no_mangle)]
@@ -75,7 +75,7 @@ pub extern "C" fn tlsf_heap_free(handle: &mut Handle, block: Block) -> u32
     ensures status { status_of (freed (λ slot. slot == block.slot) block.place handle.old.value.content) ≡ result }
     ensures ok { result ≡ 0 → freed (λ slot. slot == block.slot) block.place handle.old.value.content ≡ Ok handle.new.value.content }
     ensures unchanged { result ≢ 0 → IsUnchanged handle.old.value handle.new.value }
-    ensures bound { AtMost 45 handle.old.value.touches handle.new.value.touches }
+    ensures bound { AtMost 32 handle.old.value.touches handle.new.value.touches }
 {
     match handle.heap().free(block.ptr()) {
         Ok(()) => SERVED,
@@ -84,7 +84,7 @@ pub extern "C" fn tlsf_heap_free(handle: &mut Handle, block: Block) -> u32
 }
 
 /// The live block with room for `bytes` bytes, in its place or moved, which goes to `out`; which bytes are copied is the
-/// caller's. Where `bytes` is 0 the block becomes free, and `out` stays. At most 78 touches.
+/// caller's. Where `bytes` is 0 the block becomes free, and `out` stays. At most 58 touches.
 ///
 /// The status is 0 or the number of `BadPointer`, `NoFit` or `TableFull`.
 #[unsafe(no_mangle)]
@@ -99,7 +99,7 @@ pub extern "C" fn tlsf_heap_realloc(
     ensures slot_below { result ≡ 0 → bytes ≢ 0 → out.new.slot < handle.old.value.content.records }
     ensures unchanged { result ≢ 0 → IsUnchanged handle.old.value handle.new.value }
     ensures out { (result ≢ 0) ⊎ (bytes ≡ 0) → out.new ≡ out.old }
-    ensures bound { AtMost 78 handle.old.value.touches handle.new.value.touches }
+    ensures bound { AtMost 58 handle.old.value.touches handle.new.value.touches }
 {
     match handle.heap().realloc(Some(block.ptr()), bytes) {
         Ok(Some(ptr)) => {
@@ -111,7 +111,7 @@ pub extern "C" fn tlsf_heap_realloc(
     }
 }
 
-/// The size of a live block, in bytes, which goes to `out`. At most two touches.
+/// The size of a live block, in bytes, which goes to `out`. At most one touch.
 ///
 /// The status is 0, or the number of `BadPointer` unless a live block has both the place and the slot.
 #[unsafe(no_mangle)]
@@ -120,7 +120,7 @@ pub extern "C" fn tlsf_heap_block_size(handle: &mut Handle, block: Block, out: &
     ensures ok { result ≡ 0 → sized (λ slot. slot == block.slot) block.place handle.old.value.content ≡ Ok out.new }
     ensures unchanged { IsUnchanged handle.old.value handle.new.value }
     ensures out { result ≢ 0 → out.new ≡ out.old }
-    ensures bound { AtMost 2 handle.old.value.touches handle.new.value.touches }
+    ensures bound { AtMost 1 handle.old.value.touches handle.new.value.touches }
 {
     match handle.heap().block_size(block.ptr()) {
         Ok(bytes) => {

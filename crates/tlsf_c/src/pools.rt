@@ -9,7 +9,7 @@ ghost use Rattle.tlsf_c.specs.Status.{status_of};
 use crate::handle::Handle;
 use crate::status::{SERVED, number};
 
-/// A pool of `bytes` bytes from the place `base` on, as one free block. At most 28 touches.
+/// A pool of `bytes` bytes from the place `base` on, as one free block. At most 27 touches.
 ///
 /// The status is 0 or the number of `BadPool`, `PoolsFull` or `TableFull`.
 #[unsafe(no_mangle)]
@@ -17,7 +17,7 @@ pub extern "C" fn tlsf_heap_add_pool(handle: &mut Handle, base: u64, bytes: u64)
     ensures status { status_of (added base bytes handle.old.value.content) ≡ result }
     ensures ok { result ≡ 0 → added base bytes handle.old.value.content ≡ Ok handle.new.value.content }
     ensures unchanged { result ≢ 0 → IsUnchanged handle.old.value handle.new.value }
-    ensures bound { AtMost 28 handle.old.value.touches handle.new.value.touches }
+    ensures bound { AtMost 27 handle.old.value.touches handle.new.value.touches }
 {
     match handle.heap().add_pool(base, bytes) {
         Ok(()) => SERVED,
@@ -25,7 +25,7 @@ pub extern "C" fn tlsf_heap_add_pool(handle: &mut Handle, base: u64, bytes: u64)
     }
 }
 
-/// The pool that begins at the place `base` is gone. At most 28 touches.
+/// The pool that begins at the place `base` is gone. At most 26 touches.
 ///
 /// The status is 0 or the number of `NoPool` or `PoolInUse`.
 #[unsafe(no_mangle)]
@@ -33,7 +33,7 @@ pub extern "C" fn tlsf_heap_remove_pool(handle: &mut Handle, base: u64) -> u32
     ensures status { status_of (removed base handle.old.value.content) ≡ result }
     ensures ok { result ≡ 0 → removed base handle.old.value.content ≡ Ok handle.new.value.content }
     ensures unchanged { result ≢ 0 → IsUnchanged handle.old.value handle.new.value }
-    ensures bound { AtMost 28 handle.old.value.touches handle.new.value.touches }
+    ensures bound { AtMost 26 handle.old.value.touches handle.new.value.touches }
 {
     match handle.heap().remove_pool(base) {
         Ok(()) => SERVED,

@@ -22,6 +22,7 @@ pub mod Resizing
 pub mod Gapped
 pub mod Carving
 pub mod Allotted
+pub mod Spans
 pub mod Served
 pub mod Picked
 pub mod Empty

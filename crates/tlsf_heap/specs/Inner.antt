@@ -14,3 +14,4 @@ pub mod Entries
 pub mod States
 pub mod Loading
 pub mod Imaged
+pub mod Spans

@@ -23,7 +23,7 @@ use tlsf_class::class_of;
 use tlsf_image::can_be_pool;
 use tlsf_store::{MOST_POOLS, Record, Slot, State, Store};
 
-/// A pool of `bytes` bytes from the place `base` on enters the store, as one free block. At most 28
+/// A pool of `bytes` bytes from the place `base` on enters the store, as one free block. At most 27
 /// touches.
 ///
 /// # Errors
@@ -35,7 +35,7 @@ pub(crate) fn add_pool(store: &mut Store, base: u64, bytes: u64) -> Result<(), R
     ensures ok { OnOk result (added base bytes (content_of store.old.cells) ≡ Ok (content_of store.new.cells)) }
     ensures refused { IfErr result (λ refusal. added base bytes (content_of store.old.cells) ≡ Err refusal) }
     ensures cells { OnErr result (store.new.cells ≡ store.old.cells) }
-    ensures touches { AtMost 28 store.old.touches store.new.touches }
+    ensures touches { AtMost 27 store.old.touches store.new.touches }
 {
     let entries = entries(store);
     if !can_enter(entries.as_slice(), base, bytes) {
@@ -64,7 +64,7 @@ fn can_enter(entries: &[PoolEntry], base: u64, bytes: u64) -> bool
 }
 
 /// Makes a pool one free block, whose slot was taken, the first of its class's list, and puts its entry
-/// among the others. At most 18 touches.
+/// among the others. At most 17 touches.
 fn put_pool(store: &mut Store, mut entries: ArrayVec<PoolEntry, MOST_POOLS>, entry: PoolEntry)
     requires can { can_be entry.base entry.bytes ≡ true }
     requires room { array_vec_len entries < most_pools }
@@ -74,7 +74,7 @@ fn put_pool(store: &mut Store, mut entries: ArrayVec<PoolEntry, MOST_POOLS>, ent
     requires slot_used { IsUsed store.old.cells.records (Some entry.first) }
     requires taken { (layout : Layout) × Represents store.old.cells (record layout { taken = entry.first ∷ layout.taken }) }
     ensures leads { (layout : Layout) → Represents store.old.cells (record layout { taken = entry.first ∷ layout.taken }) → Represents store.new.cells (pool_laid entry layout) }
-    ensures touches { AtMost 18 store.old.touches store.new.touches }
+    ensures touches { AtMost 17 store.old.touches store.new.touches }
 {
     let slot = Slot(entry.first);
     let place = place_for(entries.as_slice(), entry.base);

@@ -1,14 +1,15 @@
 //! The chain of a pool: its blocks in order of place, linked both ways.
 
-ghost use Rattle.std.specs.Prelude.{◌≡◌, ◌≢◌, ◌+◌, ◌%◌, ◌<◌, ◌≤◌, ◌^◌, length, Some, None};
+ghost use Rattle.std.specs.Prelude.{◌≡◌, ◌≢◌, ◌+◌, ◌%◌, ◌<◌, ◌≤◌, length, Some, None};
 ghost use Rattle.tlsf_class.specs.Classes.{unit};
 ghost use Rattle.tlsf_store.specs.declared.records.State.TheVariants.{Vacant};
-ghost use Rattle.tlsf_store.specs.Records.{record_at};
 ghost use Rattle.tlsf_heap.specs.Touches.{AtMost};
 ghost use Rattle.tlsf_heap.specs.Pools.{end_of_places};
 ghost use Rattle.tlsf_heap.specs.Inner.Edits.{IsUsed};
-ghost use Rattle.tlsf_heap.specs.Inner.Chains.{with_prev, with_state, split as split_cells, absorbed};
+ghost use Rattle.tlsf_heap.specs.Inner.Chains.{with_prev, with_state};
+ghost use Rattle.tlsf_heap.specs.Inner.Spans.{IsRead, split_by, absorbed_by};
 
+use crate::span::Span;
 use tlsf_store::{Record, Slot, State, Store};
 
 /// Makes a block free or live. Two touches.
@@ -19,6 +20,19 @@ pub(crate) fn set_state(store: &mut Store, slot: Slot, state: State)
     ensures touches { store.new.touches ≡ store.old.touches + 2 }
 {
     store.set_state(slot, state);
+}
+
+/// Makes a block free or live, by what is known of it. One touch.
+pub(crate) fn turn(store: &mut Store, block: &Span, state: State)
+    requires used { IsUsed store.old.cells.records (Some block.now.slot) }
+    requires new_used { state ≢ Vacant }
+    requires next_used { IsUsed store.old.cells.records block.now.next }
+    requires read { IsRead block.now store.old.cells.records }
+    requires in_units { block.now.size % unit ≡ 0 }
+    ensures cells { store.new.cells ≡ with_state block.now.slot state store.old.cells }
+    ensures touches { store.new.touches ≡ store.old.touches + 1 }
+{
+    store.set_block(block.slot, block.size, state, block.next);
 }
 
 /// Links a block, if there is one, to the one in front of it in its pool. At most one touch.
@@ -33,50 +47,46 @@ fn set_prev(store: &mut Store, slot: Option<Slot>, prev: Slot)
     }
 }
 
-/// A block keeps its first bytes, and what is left is a free block of the slot `rest` behind it. At most
-/// four touches.
-pub(crate) fn split(store: &mut Store, slot: Slot, rest: Slot, bytes: u32)
-    requires slot_used { IsUsed store.old.cells.records (Some slot) }
+/// A block keeps its first bytes and is live, and what is left is a free block of the slot `rest` behind
+/// it. At most three touches.
+pub(crate) fn split(store: &mut Store, block: &Span, rest: Slot, bytes: u32)
+    requires slot_used { IsUsed store.old.cells.records (Some block.now.slot) }
     requires rest_used { IsUsed store.old.cells.records (Some rest) }
-    requires next_used { IsUsed store.old.cells.records (record_at store.old.cells.records slot).next }
-    requires less { bytes < (record_at store.old.cells.records slot).size }
+    requires next_used { IsUsed store.old.cells.records block.now.next }
+    requires less { bytes < block.now.size }
     requires in_units { bytes % unit ≡ 0 }
-    requires ends { (record_at store.old.cells.records slot).place + (record_at store.old.cells.records slot).size ≤ end_of_places }
-    ensures cells { store.new.cells ≡ split_cells slot rest bytes store.old.cells }
-    ensures touches { AtMost 4 store.old.touches store.new.touches }
+    requires place_in_units { block.now.place % unit ≡ 0 }
+    requires size_in_units { block.now.size % unit ≡ 0 }
+    requires ends { block.now.place + block.now.size ≤ end_of_places }
+    ensures cells { store.new.cells ≡ split_by block.now rest bytes store.old.cells }
+    ensures touches { AtMost 3 store.old.touches store.new.touches }
 {
-    let block = store.read(slot);
     let left = Record {
         place: block.place + bytes,
         size: block.size - bytes,
         state: State::Free,
-        prev: Some(slot),
+        prev: Some(block.slot),
         next: block.next,
         prev_free: None,
         next_free: None,
     };
     store.write(rest, left);
-    let kept = Record {
-        size: bytes,
-        next: Some(rest),
-        ..block
-    };
-    store.write(slot, kept);
+    store.set_block(block.slot, bytes, State::Live, Some(rest));
     set_prev(store, block.next, rest);
 }
 
-/// A block takes in the one behind it, whose slot becomes vacant. At most eight touches.
-pub(crate) fn absorb(store: &mut Store, slot: Slot, behind: Slot)
-    requires slot_used { IsUsed store.old.cells.records (Some slot) }
+/// A block in this state takes in the one behind it, whose slot becomes vacant. It is then what `merged`
+/// says. At most five touches.
+pub(crate) fn absorb(store: &mut Store, merged: &Span, state: State, behind: Slot)
+    requires slot_used { IsUsed store.old.cells.records (Some merged.now.slot) }
     requires behind_used { IsUsed store.old.cells.records (Some behind) }
-    requires next_used { IsUsed store.old.cells.records (record_at store.old.cells.records behind).next }
-    requires fits { (record_at store.old.cells.records slot).size + (record_at store.old.cells.records behind).size < 2 ^ 32 }
-    ensures cells { store.new.cells ≡ absorbed slot behind store.old.cells }
-    ensures touches { AtMost 8 store.old.touches store.new.touches }
+    requires next_used { IsUsed store.old.cells.records merged.now.next }
+    requires new_used { state ≢ Vacant }
+    requires in_units { merged.now.size % unit ≡ 0 }
+    ensures cells { store.new.cells ≡ absorbed_by merged.now state behind store.old.cells }
+    ensures touches { AtMost 5 store.old.touches store.new.touches }
 {
-    let block = store.read(slot);
-    let taken = store.read(behind);
-    store.set_size_and_next(slot, block.size + taken.size, taken.next);
-    set_prev(store, taken.next, slot);
+    store.set_block(merged.slot, merged.size, state, merged.next);
+    set_prev(store, merged.next, merged.slot);
     store.give_vacant(behind);
 }

@@ -1,71 +1,94 @@
 //! free: the block becomes free, takes in its free neighbours, and enters its class's list.
 
-ghost use Rattle.std.specs.Prelude.{◌≡◌, false, ◌==◌, Ok, Err, OnOk, IfErr, OnErr};
-ghost use Rattle.tlsf_class.specs.Classes.{class};
+ghost use Rattle.std.specs.Prelude.{◌≡◌, ◌≢◌, false, ◌==◌, ◌&&◌, ◌%◌, is_some, Ok, Err, OnOk, IfErr, IfSome, OnErr};
+ghost use Rattle.tlsf_class.specs.Classes.{unit, class};
+ghost use Rattle.tlsf_store.specs.declared.records.State.TheVariants.{Vacant};
+ghost use Rattle.tlsf_store.specs.Records.{record_at};
 ghost use Rattle.tlsf_heap.specs.Touches.{AtMost};
 ghost use Rattle.tlsf_heap.specs.Content.{blocks_of};
 ghost use Rattle.tlsf_heap.specs.Free.{is_live as is_live_in};
 ghost use Rattle.tlsf_heap.specs.Free.{free as freed};
-ghost use Rattle.tlsf_heap.specs.Inner.Edits.{unlinked};
-ghost use Rattle.tlsf_heap.specs.Inner.States.{is_state_free};
-ghost use Rattle.tlsf_heap.specs.Inner.Chains.{joined};
+ghost use Rattle.tlsf_heap.specs.Inner.Edits.{unlinked_by};
+ghost use Rattle.tlsf_heap.specs.Inner.States.{is_state_free, is_state_live};
 ghost use Rattle.tlsf_heap.specs.Inner.Nodes.{Status, InUse, Listed, Loose, is_listed};
 ghost use Rattle.tlsf_heap.specs.Inner.Following.{Stands, content_of};
-ghost use Rattle.tlsf_heap.specs.Inner.At.{At, StandsAt, IsJoinable, previous_joined, next_joined, at_listed, at_freed};
+ghost use Rattle.tlsf_heap.specs.Inner.At.{At, StandsAt, previous_joined, next_joined, at_listed, at_freed};
+ghost use Rattle.tlsf_heap.specs.Inner.Spans.{IsRead, CanJoin, joined_by};
 
-use crate::chains::{absorb, set_state};
+use crate::chains::{absorb, turn};
 use crate::free_lists::{link, unlink};
+use crate::span::Span;
 use crate::{Ptr, Refusal};
 use tlsf_class::class_of;
-use tlsf_store::{Slot, State, Store};
+use tlsf_store::{Record, Slot, State, Store};
 
-/// The block becomes free, and one free block with its free neighbours in the pool. At most 45 touches.
+/// The block becomes free, and one free block with its free neighbours in the pool. At most 32 touches.
 ///
 /// # Errors
 ///
 /// As `Heap::free`.
+#[inline(always)]
 pub(crate) fn free(store: &mut Store, ptr: Ptr) -> Result<(), Refusal>
     requires { Stands store.old.cells }
     ensures stands { Stands store.new.cells }
     ensures ok { OnOk result (freed (λ slot. slot == ptr.slot) ptr.place (content_of store.old.cells) ≡ Ok (content_of store.new.cells)) }
     ensures refused { IfErr result (λ refusal. freed (λ slot. slot == ptr.slot) ptr.place (content_of store.old.cells) ≡ Err refusal) }
     ensures cells { OnErr result (store.new.cells ≡ store.old.cells) }
-    ensures touches { AtMost 45 store.old.touches store.new.touches }
+    ensures touches { AtMost 32 store.old.touches store.new.touches }
 {
-    if !is_live(store, ptr) {
+    let Some(block) = live(store, ptr) else {
         return Err(Refusal::BadPointer);
-    }
-    release(store, Slot(ptr.slot()));
+    };
+    release(store, Slot(ptr.slot()), &block);
     Ok(())
 }
 
-/// Whether a live block has the pointer's place and slot. At most one touch.
-pub(crate) fn is_live(store: &mut Store, ptr: Ptr) -> bool
+/// The record of the live block that has the pointer's place and slot, if there is one. At most one
+/// touch.
+pub(crate) fn live(store: &mut Store, ptr: Ptr) -> Option<Record>
     requires { Stands store.old.cells }
-    ensures value { result ≡ is_live_in (λ slot. slot == ptr.slot) ptr.place (blocks_of (content_of store.old.cells).pools) }
+    ensures value { is_some result ≡ is_live_in (λ slot. slot == ptr.slot) ptr.place (blocks_of (content_of store.old.cells).pools) }
+    ensures read { IfSome result (λ block. block ≡ record_at store.old.cells.records ptr.slot) }
+    ensures place { IfSome result (λ block. block.place ≡ ptr.place) }
+    ensures in_units { IfSome result (λ block. block.place % unit ≡ 0) }
     ensures cells { store.new.cells ≡ store.old.cells }
     ensures touches { AtMost 1 store.old.touches store.new.touches }
 {
     if u32::from(ptr.slot()) >= store.records() {
-        return false;
+        return None;
     }
     let block = store.read(Slot(ptr.slot()));
+    if !is_live_at(&block, ptr.place()) {
+        return None;
+    }
+    Some(block)
+}
+
+/// Whether the record is of a live block that begins at the place.
+fn is_live_at(block: &Record, place: u32) -> bool
+    ensures { result ≡ (is_state_live block.now.state && (block.now.place == place)) }
+{
     match block.state {
-        State::Live => block.place == ptr.place(),
+        State::Live => block.place == place,
         State::Vacant | State::Free => false,
     }
 }
 
-/// The block becomes free, and one free block with its free neighbours in the pool. At most 44 touches.
-pub(crate) fn release(store: &mut Store, slot: Slot)
-    requires { (at : At) × StandsAt slot InUse store.old.cells at }
+/// The block of this record becomes free, and one free block with its free neighbours in the pool. At
+/// most 31 touches.
+#[inline(always)]
+pub(crate) fn release(store: &mut Store, slot: Slot, block: &Record)
+    requires stands { (at : At) × StandsAt slot InUse store.old.cells at }
+    requires read { block.now ≡ record_at store.old.cells.records slot }
+    requires in_units { block.now.place % unit ≡ 0 }
     ensures leads { (at : At) → StandsAt slot InUse store.old.cells at → StandsAt (at_freed at).node.slot Listed store.new.cells (at_freed at) }
-    ensures touches { AtMost 44 store.old.touches store.new.touches }
+    ensures touches { AtMost 31 store.old.touches store.new.touches }
 {
-    set_state(store, slot, State::Free);
-    let start = join_previous(store, slot);
-    join_next(store, start);
-    enter(store, start);
+    let whole = Span::of(slot, block);
+    turn(store, &whole, State::Free);
+    let merged = join_previous(store, block.prev, whole);
+    let all = join_next(store, merged, State::Free);
+    enter(store, all.slot, all.size);
 }
 
 /// Whether a record in this state is of a free block.
@@ -78,59 +101,82 @@ pub(crate) fn is_free(state: State) -> bool
     }
 }
 
-/// A free block before it takes in the block, which is free and in no list. The answer is where the block
-/// that is left begins. At most 16 touches.
-fn join_previous(store: &mut Store, slot: Slot) -> Slot
-    requires { (at : At) × StandsAt slot Loose store.old.cells at }
-    ensures leads { (at : At) → StandsAt slot Loose store.old.cells at → StandsAt result Loose store.new.cells (previous_joined at) }
-    ensures touches { AtMost 16 store.old.touches store.new.touches }
+/// A free block before it, of the slot `previous`, takes in the block, which is free and in no list. The
+/// answer is the block that is left. At most 11 touches.
+#[inline(always)]
+fn join_previous(store: &mut Store, previous: Option<Slot>, block: Span) -> Span
+    requires stands { (at : At) × StandsAt block.slot Loose store.old.cells at }
+    requires read { IsRead block store.old.cells.records }
+    requires previous { previous ≡ (record_at store.old.cells.records block.slot).prev }
+    ensures leads { (at : At) → StandsAt block.slot Loose store.old.cells at → StandsAt result.slot Loose store.new.cells (previous_joined at) }
+    ensures read { IsRead result store.new.cells.records }
+    ensures touches { AtMost 11 store.old.touches store.new.touches }
 {
-    let block = store.read(slot);
-    let Some(previous_slot) = block.prev else {
-        return slot;
+    let Some(previous_slot) = previous else {
+        return block;
     };
-    let previous = store.read(previous_slot);
-    if !is_free(previous.state) {
-        return slot;
+    let front = store.read_used(previous_slot);
+    if !is_free(front.state) {
+        return block;
     }
-    join(store, previous_slot, slot, previous_slot, previous.size);
-    previous_slot
+    let merged = Span {
+        slot: previous_slot,
+        place: front.place,
+        size: front.size + block.size,
+        next: block.next,
+    };
+    join(store, &merged, front.state, block.slot, &front);
+    merged
 }
 
-/// The block, which is in no list, takes in a free one after it. At most 16 touches.
-pub(crate) fn join_next(store: &mut Store, slot: Slot)
-    requires { (status : Status) × (at : At) × (is_listed status ≡ false) × StandsAt slot status store.old.cells at }
-    ensures leads { (status : Status) (at : At) → is_listed status ≡ false → StandsAt slot status store.old.cells at → StandsAt slot status store.new.cells (next_joined at) }
-    ensures touches { AtMost 16 store.old.touches store.new.touches }
+/// The block in this state, which is in no list, takes in a free one after it. The answer is the block
+/// that is left, under its slot. At most 11 touches.
+#[inline(always)]
+pub(crate) fn join_next(store: &mut Store, block: Span, state: State) -> Span
+    requires stands { (status : Status) × (at : At) × (is_listed status ≡ false) × StandsAt block.slot status store.old.cells at }
+    requires read { IsRead block store.old.cells.records }
+    requires state { state ≡ (record_at store.old.cells.records block.slot).state }
+    ensures slot { result.slot ≡ block.slot }
+    ensures leads { (status : Status) (at : At) → is_listed status ≡ false → StandsAt block.slot status store.old.cells at → StandsAt block.slot status store.new.cells (next_joined at) }
+    ensures read { IsRead result store.new.cells.records }
+    ensures touches { AtMost 11 store.old.touches store.new.touches }
 {
-    let block = store.read(slot);
     let Some(next_slot) = block.next else {
-        return;
+        return block;
     };
-    let next = store.read(next_slot);
+    let next = store.read_used(next_slot);
     if !is_free(next.state) {
-        return;
+        return block;
     }
-    join(store, slot, next_slot, next_slot, next.size);
+    let merged = Span {
+        size: block.size + next.size,
+        next: next.next,
+        ..block
+    };
+    join(store, &merged, state, next_slot, &next);
+    merged
 }
 
-/// One of two neighbours, `listed`, leaves its class's list, and the first takes in the other. At most 14
-/// touches.
-fn join(store: &mut Store, first: Slot, second: Slot, listed: Slot, size: u32)
-    requires { IsJoinable first second listed size store.old.cells.records (unlinked (class size) listed store.old.cells).records }
-    ensures cells { store.new.cells ≡ joined first second listed size store.old.cells }
-    ensures touches { AtMost 14 store.old.touches store.new.touches }
-{
-    unlink(store, class_of(size), listed);
-    absorb(store, first, second);
-}
-
-/// The block, which is free and in no list, enters its class's list. At most ten touches.
-pub(crate) fn enter(store: &mut Store, slot: Slot)
-    requires { (at : At) × StandsAt slot Loose store.old.cells at }
-    ensures leads { (at : At) → StandsAt slot Loose store.old.cells at → StandsAt slot Listed store.new.cells (at_listed at) }
+/// One of two neighbours, of the record `listed`, leaves its class's list. The first, in this state, takes
+/// in the one behind, and is then what `merged` says. At most ten touches.
+#[inline(always)]
+fn join(store: &mut Store, merged: &Span, state: State, behind: Slot, listed: &Record)
+    requires can { CanJoin merged.now behind listed.now store.old.cells.records (unlinked_by (class listed.now.size) listed.now store.old.cells).records }
+    requires new_used { state ≢ Vacant }
+    ensures cells { store.new.cells ≡ joined_by merged.now state behind listed.now store.old.cells }
     ensures touches { AtMost 10 store.old.touches store.new.touches }
 {
-    let block = store.read(slot);
-    link(store, class_of(block.size), slot);
+    unlink(store, class_of(listed.size), listed);
+    absorb(store, merged, state, behind);
+}
+
+/// The block of `size` bytes, which is free and in no list, enters its class's list. At most eight
+/// touches.
+pub(crate) fn enter(store: &mut Store, slot: Slot, size: u32)
+    requires stands { (at : At) × StandsAt slot Loose store.old.cells at }
+    requires size { size ≡ (record_at store.old.cells.records slot).size }
+    ensures leads { (at : At) → StandsAt slot Loose store.old.cells at → StandsAt slot Listed store.new.cells (at_listed at) }
+    ensures touches { AtMost 8 store.old.touches store.new.touches }
+{
+    link(store, class_of(size), slot);
 }

@@ -1,56 +1,61 @@
 //! The free lists: for each class its free blocks, linked both ways.
 
 ghost use Rattle.std.specs.Prelude.{◌≡◌, ◌+◌, ◌<◌, length, IfSome, IfNone, Some, None};
-ghost use Rattle.tlsf_store.specs.Records.{record_at, IsBelow};
-ghost use Rattle.tlsf_store.specs.Cells.{head_at};
+ghost use Rattle.tlsf_store.specs.Records.{IsBelow};
+ghost use Rattle.tlsf_store.specs.Cells.{with_head, head_at};
 ghost use Rattle.tlsf_heap.specs.Touches.{AtMost};
-ghost use Rattle.tlsf_heap.specs.Inner.Edits.{IsUsed, with_prev_free, with_next_free, with_free_links, with_first, with_behind, linked, unlinked};
+ghost use Rattle.tlsf_heap.specs.Inner.Edits.{IsUsed, with_prev_free, with_next_free, with_free_links, with_class_bit, with_first, with_behind, linked, unlinked_by};
 
 use crate::bitmaps::{clear_class_bit, set_class_bit};
 use tlsf_class::Class;
-use tlsf_store::{Slot, Store};
+use tlsf_store::{Record, Slot, Store};
 
-/// Makes a free block the first of its class's list. At most nine touches.
+/// Makes a free block the first of its class's list. At most eight touches.
 pub(crate) fn link(store: &mut Store, class: Class, slot: Slot)
     requires slot_used { IsUsed store.old.cells.records (Some slot) }
     requires first_used { IsUsed store.old.cells.records (head_at store.old.cells.heads class) }
     ensures cells { store.new.cells ≡ linked class slot store.old.cells }
-    ensures touches { AtMost 9 store.old.touches store.new.touches }
+    ensures touches { AtMost 8 store.old.touches store.new.touches }
 {
-    let first = store.head(class);
-    set_in_front(store, slot, first);
+    match store.head(class) {
+        Some(first) => link_before(store, class, slot, first),
+        None => link_alone(store, class, slot),
+    }
+}
+
+/// Makes a free block the first of its class's list, in front of the one that was first. Four touches.
+fn link_before(store: &mut Store, class: Class, slot: Slot, first: Slot)
+    requires slot_used { IsUsed store.old.cells.records (Some slot) }
+    requires first_used { IsUsed store.old.cells.records (Some first) }
+    ensures cells { store.new.cells ≡ with_head (with_prev_free (Some first) (Some slot) (with_free_links slot None (Some first) store.old.cells)) class (Some slot) }
+    ensures touches { store.new.touches ≡ store.old.touches + 4 }
+{
+    set_free_links(store, slot, None, Some(first));
+    set_prev_free(store, first, Some(slot));
+    store.set_head(class, Some(slot));
+}
+
+/// Makes a free block the only one of its class's list. Seven touches.
+fn link_alone(store: &mut Store, class: Class, slot: Slot)
+    requires { IsUsed store.old.cells.records (Some slot) }
+    ensures cells { store.new.cells ≡ with_class_bit class (with_head (with_free_links slot None None store.old.cells) class (Some slot)) }
+    ensures touches { store.new.touches ≡ store.old.touches + 7 }
+{
+    set_free_links(store, slot, None, None);
     store.set_head(class, Some(slot));
     set_class_bit(store, class);
 }
 
-/// Takes a free block out of its class's list, wherever it stands in it. At most six touches.
-pub(crate) fn unlink(store: &mut Store, class: Class, slot: Slot)
-    requires within { slot < length store.old.cells.records }
-    requires prev_used { IsUsed store.old.cells.records (record_at store.old.cells.records slot).prev_free }
-    requires next_used { IsUsed store.old.cells.records (record_at store.old.cells.records slot).next_free }
-    ensures cells { store.new.cells ≡ unlinked class slot store.old.cells }
-    ensures touches { AtMost 6 store.old.touches store.new.touches }
+/// Takes the free block of this record out of its class's list, wherever it stands in it. At most five
+/// touches.
+pub(crate) fn unlink(store: &mut Store, class: Class, block: &Record)
+    requires prev_used { IsUsed store.old.cells.records block.now.prev_free }
+    requires next_used { IsUsed store.old.cells.records block.now.next_free }
+    ensures cells { store.new.cells ≡ unlinked_by class block.now store.old.cells }
+    ensures touches { AtMost 5 store.old.touches store.new.touches }
 {
-    let block = store.read(slot);
     set_in_back(store, block.next_free, block.prev_free);
     set_behind(store, class, block.prev_free, block.next_free);
-}
-
-/// Links a free block, with none in front of it, to the one that was first, if there was one. At most
-/// three touches.
-fn set_in_front(store: &mut Store, slot: Slot, first: Option<Slot>)
-    requires slot_used { IsUsed store.old.cells.records (Some slot) }
-    requires first_used { IsUsed store.old.cells.records first }
-    ensures cells { store.new.cells ≡ with_prev_free first (Some slot) (with_free_links slot None first store.old.cells) }
-    ensures touches { AtMost 3 store.old.touches store.new.touches }
-{
-    match first {
-        Some(next) => {
-            set_free_links(store, slot, None, Some(next));
-            set_prev_free(store, next, Some(slot));
-        }
-        None => set_free_links(store, slot, None, None),
-    }
 }
 
 /// Links a free block to both its neighbours in its class's list. Two touches.

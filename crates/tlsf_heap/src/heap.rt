@@ -135,7 +135,7 @@ impl Heap {
         }
     }
 
-    /// A pool of `bytes` bytes from the place `base` on, as one free block. At most 28 touches.
+    /// A pool of `bytes` bytes from the place `base` on, as one free block. At most 27 touches.
     ///
     /// # Errors
     ///
@@ -149,12 +149,12 @@ impl Heap {
         ensures table_full { result ≡ Err TableFull → HasFewRecords self.old.content }
         ensures never_memory { result ≢ Err Refusal.OutOfMemory }
         ensures unchanged { OnErr result (IsUnchanged self.old self.new) }
-        ensures bound { AtMost 28 self.old.touches self.new.touches }
+        ensures bound { AtMost 27 self.old.touches self.new.touches }
     {
         add_pool(&mut self.store, base, bytes)
     }
 
-    /// The pool that begins at the place `base` is gone. At most 28 touches.
+    /// The pool that begins at the place `base` is gone. At most 26 touches.
     ///
     /// # Errors
     ///
@@ -164,14 +164,14 @@ impl Heap {
         ensures refused { IfErr result (λ refusal. removed base self.old.content ≡ Err refusal) }
         ensures never_memory { result ≢ Err Refusal.OutOfMemory }
         ensures unchanged { OnErr result (IsUnchanged self.old self.new) }
-        ensures bound { AtMost 28 self.old.touches self.new.touches }
+        ensures bound { AtMost 26 self.old.touches self.new.touches }
     {
         remove_pool(&mut self.store, base)
     }
 
     /// A live block of at least `n` bytes: the first of the first list that isn't empty, at or above the
     /// class from which each block holds `n` bytes, rounded up to the unit. What is left of it behind
-    /// these bytes is a free block. At most 28 touches.
+    /// these bytes is a free block. At most 23 touches.
     ///
     /// # Errors
     ///
@@ -187,7 +187,7 @@ impl Heap {
         ensures table_full { result ≡ Err TableFull → HasFewRecords self.old.content }
         ensures never_memory { result ≢ Err Refusal.OutOfMemory }
         ensures unchanged { OnErr result (IsUnchanged self.old self.new) }
-        ensures bound { AtMost 28 self.old.touches self.new.touches }
+        ensures bound { AtMost 23 self.old.touches self.new.touches }
     {
         malloc(&mut self.store, n)
     }
@@ -195,7 +195,7 @@ impl Heap {
     /// A live block of at least `n` bytes, rounded up to the unit, that begins at a multiple of `align`. It is
     /// carved from the first of the first list that isn't empty, at or above the class from which each block
     /// holds `n` bytes, rounded up, and for an alignment above the unit `align` less the unit more. What is left
-    /// in front of it and behind it are free blocks; the one in front enters its list first. At most 50
+    /// in front of it and behind it are free blocks; the one in front enters its list first. At most 42
     /// touches.
     ///
     /// # Errors
@@ -214,13 +214,13 @@ impl Heap {
         ensures table_full { result ≡ Err TableFull → HasFewRecordsAndOne self.old.content }
         ensures never_memory { result ≢ Err Refusal.OutOfMemory }
         ensures unchanged { OnErr result (IsUnchanged self.old self.new) }
-        ensures bound { AtMost 50 self.old.touches self.new.touches }
+        ensures bound { AtMost 42 self.old.touches self.new.touches }
     {
         memalign(&mut self.store, align, n)
     }
 
     /// The block becomes free. It and its free neighbours in the pool are one free block then, the first
-    /// of its class's list. At most 45 touches.
+    /// of its class's list. At most 32 touches.
     ///
     /// # Errors
     ///
@@ -230,7 +230,7 @@ impl Heap {
         ensures refused { IfErr result (λ refusal. freed (λ slot. slot == ptr.slot) ptr.place self.old.content ≡ Err refusal) }
         ensures never_memory { result ≢ Err Refusal.OutOfMemory }
         ensures unchanged { OnErr result (IsUnchanged self.old self.new) }
-        ensures bound { AtMost 45 self.old.touches self.new.touches }
+        ensures bound { AtMost 32 self.old.touches self.new.touches }
     {
         free(&mut self.store, ptr)
     }
@@ -239,7 +239,7 @@ impl Heap {
     /// the free block behind it, or smaller. Else a new block is given, and the old one is freed; which bytes
     /// are copied is the caller's. Without a pointer it is `malloc`. The answer to 0 bytes is `None`, and the
     /// block is freed. A block that gets smaller stays as it is where no free block is behind it and each record
-    /// is in use. At most 78 touches.
+    /// is in use. At most 58 touches.
     ///
     /// # Errors
     ///
@@ -253,12 +253,12 @@ impl Heap {
         ensures table_full { result ≡ Err TableFull → HasFewRecords self.old.content }
         ensures never_memory { result ≢ Err Refusal.OutOfMemory }
         ensures unchanged { OnErr result (IsUnchanged self.old self.new) }
-        ensures bound { AtMost 78 self.old.touches self.new.touches }
+        ensures bound { AtMost 58 self.old.touches self.new.touches }
     {
         realloc(&mut self.store, ptr, n)
     }
 
-    /// The size of a live block, in bytes. At most two touches.
+    /// The size of a live block, in bytes. At most one touch.
     ///
     /// # Errors
     ///
@@ -268,7 +268,7 @@ impl Heap {
         ensures refused { IfErr result (λ refusal. sized (λ slot. slot == ptr.slot) ptr.place self.old.content ≡ Err refusal) }
         ensures never_memory { result ≢ Err Refusal.OutOfMemory }
         ensures unchanged { IsUnchanged self.old self.new }
-        ensures bound { AtMost 2 self.old.touches self.new.touches }
+        ensures bound { AtMost 1 self.old.touches self.new.touches }
     {
         block_size(&mut self.store, ptr)
     }

@@ -29,6 +29,7 @@ mod request;
 mod row;
 mod runs;
 mod search;
+mod span;
 mod walk;
 
 pub use crate::answer::Answer;

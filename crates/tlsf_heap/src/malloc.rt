@@ -1,6 +1,6 @@
 //! malloc: the block picked is taken, whole or in part.
 
-ghost use Rattle.std.specs.Prelude.{◌≡◌, ℕ, ◌%◌, ◌<◌, ◌≤◌, Some, None, Ok, Err, IfSome, IfNone, IfOk, IfErr, OnErr};
+ghost use Rattle.std.specs.Prelude.{◌≡◌, ℕ, false, ◌%◌, ◌<◌, ◌≤◌, Some, None, Ok, Err, IfSome, IfNone, IfOk, IfErr, OnErr};
 ghost use Rattle.tlsf_class.specs.Classes.{unit};
 ghost use Rattle.tlsf_store.specs.declared.records.State.TheVariants.{Free};
 ghost use Rattle.tlsf_store.specs.Records.{record_at, vacant_count};
@@ -10,17 +10,19 @@ ghost use Rattle.tlsf_heap.specs.Lists.{pick as picked};
 ghost use Rattle.tlsf_heap.specs.Malloc.{malloc as served, malloc_rounded, malloc_picked};
 ghost use Rattle.tlsf_heap.specs.GoodSlots.{slot_times};
 ghost use Rattle.tlsf_heap.specs.Inner.Following.{Stands, content_of};
-ghost use Rattle.tlsf_heap.specs.Inner.Nodes.{InUse, Listed};
-ghost use Rattle.tlsf_heap.specs.Inner.At.{At, StandsAt, with_slot, at_taken, at_cut, at_trimmed};
+ghost use Rattle.tlsf_heap.specs.Inner.Nodes.{Status, InUse, Listed, is_listed};
+ghost use Rattle.tlsf_heap.specs.Inner.At.{At, StandsAt, with_slot, at_turned, at_taken, at_cut, at_trimmed};
+ghost use Rattle.tlsf_heap.specs.Inner.Spans.{IsRead};
 
-use crate::chains::{set_state, split};
+use crate::chains::{split, turn};
 use crate::free_lists::{link, unlink};
 use crate::search::search;
+use crate::span::Span;
 use crate::{Ptr, Refusal};
 use tlsf_class::{class_for, class_of, round};
-use tlsf_store::{Slot, State, Store};
+use tlsf_store::{Record, Slot, State, Store};
 
-/// A live block of `n` bytes, rounded up to the unit. At most 28 touches.
+/// A live block of `n` bytes, rounded up to the unit. At most 23 touches.
 ///
 /// # Errors
 ///
@@ -33,7 +35,7 @@ pub(crate) fn malloc(store: &mut Store, n: u64) -> Result<Ptr, Refusal>
     ensures slot_new { IfOk result (λ ptr. slot_times ptr.slot (blocks_of (content_of store.old.cells).pools) ≡ 0) }
     ensures refused { IfErr result (λ refusal. (slot : ℕ) → served slot n (content_of store.old.cells) ≡ Err refusal) }
     ensures cells { OnErr result (store.new.cells ≡ store.old.cells) }
-    ensures touches { AtMost 28 store.old.touches store.new.touches }
+    ensures touches { AtMost 23 store.old.touches store.new.touches }
 {
     if n == 0 {
         return Err(Refusal::ZeroSize);
@@ -44,7 +46,7 @@ pub(crate) fn malloc(store: &mut Store, n: u64) -> Result<Ptr, Refusal>
     allocate(store, asked)
 }
 
-/// A live block of `asked` bytes: the first of those that the block picked has. At most 28 touches.
+/// A live block of `asked` bytes: the first of those that the block picked has. At most 23 touches.
 ///
 /// # Errors
 ///
@@ -59,7 +61,7 @@ pub(crate) fn allocate(store: &mut Store, asked: u32) -> Result<Ptr, Refusal>
     ensures slot_new { IfOk result (λ ptr. slot_times ptr.slot (blocks_of (content_of store.old.cells).pools) ≡ 0) }
     ensures refused { IfErr result (λ refusal. (slot : ℕ) → malloc_rounded slot (Some asked) (content_of store.old.cells) ≡ Err refusal) }
     ensures cells { OnErr result (store.new.cells ≡ store.old.cells) }
-    ensures touches { AtMost 28 store.old.touches store.new.touches }
+    ensures touches { AtMost 23 store.old.touches store.new.touches }
 {
     let Some(slot) = pick(store, asked) else {
         return Err(Refusal::NoFit);
@@ -85,7 +87,7 @@ pub(crate) fn pick(store: &mut Store, asked: u32) -> Option<Slot>
     search(store, class)
 }
 
-/// The first `asked` bytes of the block picked are a live block. At most 24 touches.
+/// The first `asked` bytes of the block picked are a live block. At most 19 touches.
 ///
 /// # Errors
 ///
@@ -101,74 +103,82 @@ fn take(store: &mut Store, slot: Slot, asked: u32) -> Result<Ptr, Refusal>
     ensures slot { IfOk result (λ ptr. ptr.slot ≡ slot) }
     ensures refused { IfErr result (λ refusal. (owner : ℕ) → malloc_picked owner asked (Some (record_at store.old.cells.records slot).place) (content_of store.old.cells) ≡ Err refusal) }
     ensures cells { OnErr result (store.new.cells ≡ store.old.cells) }
-    ensures touches { AtMost 24 store.old.touches store.new.touches }
+    ensures touches { AtMost 19 store.old.touches store.new.touches }
 {
-    let block = store.read(slot);
+    let block = store.read_used(slot);
     if block.size == asked {
-        take_whole(store, slot, asked);
+        take_whole(store, slot, &block);
         return Ok(Ptr::new(block.place, slot.0));
     }
     let Some(rest) = store.take_vacant() else {
         return Err(Refusal::TableFull);
     };
-    take_part(store, slot, rest, asked, block.size);
+    take_part(store, slot, rest, asked, &block);
     Ok(Ptr::new(block.place, slot.0))
 }
 
-/// The first bytes of a free block of `size` bytes, which leaves its class's list, are a live block. What
-/// is left is a free block of the slot `rest`, first in its class's list. At most 21 touches.
-fn take_part(store: &mut Store, slot: Slot, rest: Slot, bytes: u32, size: u32)
-    requires stands { (at : At) × StandsAt slot Listed store.old.cells (with_slot rest at) × (size ≡ at.node.size) }
+/// The first bytes of a free block of this record, which leaves its class's list, are a live block. What
+/// is left is a free block of the slot `rest`, first in its class's list. At most 16 touches.
+fn take_part(store: &mut Store, slot: Slot, rest: Slot, bytes: u32, block: &Record)
+    requires stands { (at : At) × StandsAt slot Listed store.old.cells (with_slot rest at) }
+    requires read { block.now ≡ record_at store.old.cells.records slot }
+    requires in_units { block.now.place % unit ≡ 0 }
     requires some { 0 < bytes }
-    requires less { bytes < size }
+    requires less { bytes < block.now.size }
     requires whole { bytes % unit ≡ 0 }
-    ensures leads { (at : At) → StandsAt slot Listed store.old.cells (with_slot rest at) → size ≡ at.node.size → StandsAt rest Listed store.new.cells (at_cut rest bytes (at_taken at)) }
-    ensures touches { AtMost 21 store.old.touches store.new.touches }
+    ensures leads { (at : At) → StandsAt slot Listed store.old.cells (with_slot rest at) → StandsAt rest Listed store.new.cells (at_cut rest bytes (at_taken at)) }
+    ensures touches { AtMost 16 store.old.touches store.new.touches }
 {
-    take_whole(store, slot, size);
-    cut(store, slot, rest, bytes, size);
+    unlink(store, class_of(block.size), block);
+    let whole = Span::of(slot, block);
+    cut(store, &whole, rest, bytes);
 }
 
-/// A free block of `size` bytes leaves its class's list and is live. At most eight touches.
-pub(crate) fn take_whole(store: &mut Store, slot: Slot, size: u32)
-    requires { (at : At) × StandsAt slot Listed store.old.cells at × (size ≡ at.node.size) }
-    ensures leads { (at : At) → StandsAt slot Listed store.old.cells at → size ≡ at.node.size → StandsAt slot InUse store.new.cells (at_taken at) }
-    ensures touches { AtMost 8 store.old.touches store.new.touches }
+/// A free block of this record leaves its class's list and is live. At most six touches.
+pub(crate) fn take_whole(store: &mut Store, slot: Slot, block: &Record)
+    requires stands { (at : At) × StandsAt slot Listed store.old.cells at }
+    requires read { block.now ≡ record_at store.old.cells.records slot }
+    requires in_units { block.now.place % unit ≡ 0 }
+    ensures leads { (at : At) → StandsAt slot Listed store.old.cells at → StandsAt slot InUse store.new.cells (at_taken at) }
+    ensures touches { AtMost 6 store.old.touches store.new.touches }
 {
-    unlink(store, class_of(size), slot);
-    set_state(store, slot, State::Live);
+    unlink(store, class_of(block.size), block);
+    let whole = Span::of(slot, block);
+    turn(store, &whole, State::Live);
 }
 
-/// A live block of `size` bytes keeps its first bytes. What is left is a free block of the slot `rest`,
-/// first in its class's list. At most 13 touches.
-fn cut(store: &mut Store, slot: Slot, rest: Slot, bytes: u32, size: u32)
-    requires stands { (at : At) × StandsAt slot InUse store.old.cells (with_slot rest at) × (size ≡ at.node.size) }
+/// A block that is in no list keeps its first bytes and is live. What is left is a free block of the slot
+/// `rest`, first in its class's list. At most 11 touches.
+fn cut(store: &mut Store, block: &Span, rest: Slot, bytes: u32)
+    requires stands { (status : Status) × (at : At) × (is_listed status ≡ false) × StandsAt block.now.slot status store.old.cells (with_slot rest at) }
+    requires read { IsRead block.now store.old.cells.records }
     requires some { 0 < bytes }
-    requires less { bytes < size }
+    requires less { bytes < block.now.size }
     requires whole { bytes % unit ≡ 0 }
-    ensures leads { (at : At) → StandsAt slot InUse store.old.cells (with_slot rest at) → size ≡ at.node.size → StandsAt rest Listed store.new.cells (at_cut rest bytes at) }
-    ensures touches { AtMost 13 store.old.touches store.new.touches }
+    ensures leads { (status : Status) (at : At) → is_listed status ≡ false → StandsAt block.now.slot status store.old.cells (with_slot rest at) → StandsAt rest Listed store.new.cells (at_cut rest bytes (at_turned InUse at)) }
+    ensures touches { AtMost 11 store.old.touches store.new.touches }
 {
-    split(store, slot, rest, bytes);
-    link(store, class_of(size - bytes), rest);
+    split(store, block, rest, bytes);
+    link(store, class_of(block.size - bytes), rest);
 }
 
 /// A live block keeps its first bytes. What is left, where anything is, is a free block first in its
-/// class's list. At most 16 touches.
-pub(crate) fn trim(store: &mut Store, slot: Slot, bytes: u32)
-    requires stands { (at : At) × StandsAt slot InUse store.old.cells at × (bytes ≤ at.node.size) }
+/// class's list. At most 13 touches.
+pub(crate) fn trim(store: &mut Store, block: &Span, bytes: u32)
+    requires stands { (at : At) × StandsAt block.now.slot InUse store.old.cells at }
+    requires read { IsRead block.now store.old.cells.records }
+    requires most { bytes ≤ block.now.size }
     requires some { 0 < bytes }
     requires whole { bytes % unit ≡ 0 }
-    requires room { bytes < (record_at store.old.cells.records slot).size → 0 < vacant_count store.old.cells.records }
-    ensures leads { (at : At) → StandsAt slot InUse store.old.cells at → (rest : ℕ) × StandsAt slot InUse store.new.cells (at_trimmed rest bytes at) }
-    ensures touches { AtMost 16 store.old.touches store.new.touches }
+    requires room { bytes < block.now.size → 0 < vacant_count store.old.cells.records }
+    ensures leads { (at : At) → StandsAt block.now.slot InUse store.old.cells at → (rest : ℕ) × StandsAt block.now.slot InUse store.new.cells (at_trimmed rest bytes at) }
+    ensures touches { AtMost 13 store.old.touches store.new.touches }
 {
-    let block = store.read(slot);
     if block.size == bytes {
         return;
     }
     let Some(rest) = store.take_vacant() else {
         unreachable!()
     };
-    cut(store, slot, rest, bytes, block.size);
+    cut(store, block, rest, bytes);
 }

@@ -13,10 +13,12 @@ ghost use Rattle.tlsf_heap.specs.GoodSlots.{slot_times};
 ghost use Rattle.tlsf_heap.specs.Inner.Following.{Stands, content_of};
 ghost use Rattle.tlsf_heap.specs.Inner.Nodes.{InUse};
 ghost use Rattle.tlsf_heap.specs.Inner.At.{At, StandsAt, at_gapped};
+ghost use Rattle.tlsf_heap.specs.Inner.Spans.{IsRead};
 
 use crate::chains::{set_state, split};
 use crate::free::enter;
 use crate::malloc::{pick, take_whole, trim};
+use crate::span::Span;
 use crate::{Ptr, Refusal};
 use tlsf_class::{UNIT, round};
 use tlsf_store::{Slot, State, Store};
@@ -24,7 +26,7 @@ use tlsf_store::{Slot, State, Store};
 /// The greatest alignment, in bytes.
 const GREATEST_ALIGNMENT: u64 = 1 << 29;
 
-/// A live block of `n` bytes, rounded up to the unit, that begins at a multiple of the alignment. At most 50
+/// A live block of `n` bytes, rounded up to the unit, that begins at a multiple of the alignment. At most 42
 /// touches.
 ///
 /// # Errors
@@ -38,7 +40,7 @@ pub(crate) fn memalign(store: &mut Store, align: u64, n: u64) -> Result<Ptr, Ref
     ensures slot_new { IfOk result (λ ptr. slot_times ptr.slot (blocks_of (content_of store.old.cells).pools) ≡ 0) }
     ensures refused { IfErr result (λ refusal. (slot : ℕ) → served slot align n (content_of store.old.cells) ≡ Err refusal) }
     ensures cells { OnErr result (store.new.cells ≡ store.old.cells) }
-    ensures touches { AtMost 50 store.old.touches store.new.touches }
+    ensures touches { AtMost 42 store.old.touches store.new.touches }
 {
     if !is_alignment(align) {
         return Err(Refusal::BadAlign);
@@ -57,7 +59,7 @@ pub(crate) fn memalign(store: &mut Store, align: u64, n: u64) -> Result<Ptr, Ref
 }
 
 /// The block picked is carved: a live block of `asked` bytes begins at the least multiple of the alignment
-/// at or above its place. At most 46 touches.
+/// at or above its place. At most 38 touches.
 ///
 /// # Errors
 ///
@@ -75,18 +77,25 @@ fn carve(store: &mut Store, slot: Slot, align: u32, asked: u32) -> Result<Ptr, R
     ensures slot_new { IfOk result (λ ptr. slot_times ptr.slot (blocks_of (content_of store.old.cells).pools) ≡ 0) }
     ensures refused { IfErr result (λ refusal. (owner : ℕ) → memalign_picked owner align asked (Some (record_at store.old.cells.records slot).place) (content_of store.old.cells) ≡ Err refusal) }
     ensures cells { OnErr result (store.new.cells ≡ store.old.cells) }
-    ensures touches { AtMost 46 store.old.touches store.new.touches }
+    ensures touches { AtMost 38 store.old.touches store.new.touches }
 {
-    let block = store.read(slot);
+    let block = store.read_used(slot);
     let start = start_of(block.place, align);
     let gap = start - block.place;
     let left = block.size - gap;
     if store.vacant() < records_for(gap) + records_for(left - asked) {
         return Err(Refusal::TableFull);
     }
-    take_whole(store, slot, block.size);
-    let live = leave_gap(store, slot, gap);
-    trim(store, live, asked);
+    take_whole(store, slot, &block);
+    let whole = Span::of(slot, &block);
+    let live = leave_gap(store, &whole, gap);
+    let behind = Span {
+        slot: live,
+        place: start,
+        size: left,
+        next: block.next,
+    };
+    trim(store, &behind, asked);
     Ok(Ptr::new(start, live.0))
 }
 
@@ -133,27 +142,29 @@ pub(crate) fn start_of(place: u32, align: u32) -> u32
 }
 
 /// A live block keeps what is behind its first bytes, under another slot. These are a free block, first in
-/// its class's list; where there are none, nothing changes. The answer is the live block's slot. At most 20
+/// its class's list; where there are none, nothing changes. The answer is the live block's slot. At most 17
 /// touches.
-fn leave_gap(store: &mut Store, slot: Slot, bytes: u32) -> Slot
-    requires stands { (at : At) × StandsAt slot InUse store.old.cells at × (bytes < at.node.size) }
+fn leave_gap(store: &mut Store, block: &Span, bytes: u32) -> Slot
+    requires stands { (at : At) × StandsAt block.now.slot InUse store.old.cells at }
+    requires read { IsRead block.now store.old.cells.records }
+    requires less { bytes < block.now.size }
     requires whole { bytes % unit ≡ 0 }
     requires room { 0 < bytes → 0 < vacant_count store.old.cells.records }
-    ensures leads { (at : At) → StandsAt slot InUse store.old.cells at → StandsAt result InUse store.new.cells (at_gapped result bytes at) }
-    ensures same { bytes ≡ 0 → result ≡ slot }
+    ensures leads { (at : At) → StandsAt block.now.slot InUse store.old.cells at → StandsAt result InUse store.new.cells (at_gapped result bytes at) }
+    ensures same { bytes ≡ 0 → result ≡ block.now.slot }
     ensures vacant { 0 < bytes → record_at store.old.cells.records result ≡ blank }
     ensures below { result < length store.old.cells.records }
-    ensures touches { AtMost 20 store.old.touches store.new.touches }
+    ensures touches { AtMost 17 store.old.touches store.new.touches }
 {
     if bytes == 0 {
-        return slot;
+        return block.slot;
     }
     let Some(live) = store.take_vacant() else {
         unreachable!()
     };
-    split(store, slot, live, bytes);
+    split(store, block, live, bytes);
     set_state(store, live, State::Live);
-    set_state(store, slot, State::Free);
-    enter(store, slot);
+    set_state(store, block.slot, State::Free);
+    enter(store, block.slot, bytes);
     live
 }

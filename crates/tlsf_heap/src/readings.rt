@@ -10,7 +10,7 @@ ghost use Rattle.tlsf_heap.specs.BlockSize.{block_size as sized};
 ghost use Rattle.tlsf_heap.specs.Cursors.{rows_by, rest_of, stands_at, slot_for, begins_below, slot_if, AreInOrder, IsNarrowed};
 ghost use Rattle.tlsf_heap.specs.Inner.States.{is_state_live};
 
-use crate::free::is_live;
+use crate::free::live;
 use crate::{Cursor, Ptr, Refusal, Row};
 use tlsf_store::{MOST_POOLS, Pool, Slot, State, Store};
 
@@ -145,7 +145,7 @@ fn number_of(slot: Option<Slot>) -> Option<u32>
     }
 }
 
-/// The size in bytes of the block that the pointer is of. At most two touches.
+/// The size in bytes of the block that the pointer is of. At most one touch.
 ///
 /// # Errors
 ///
@@ -155,11 +155,10 @@ pub(crate) fn block_size(store: &mut Store, ptr: Ptr) -> Result<u32, Refusal>
     ensures ok { IfOk result (λ bytes. sized (λ slot. slot == ptr.slot) ptr.place (content_of store.old.cells) ≡ Ok bytes) }
     ensures refused { IfErr result (λ refusal. sized (λ slot. slot == ptr.slot) ptr.place (content_of store.old.cells) ≡ Err refusal) }
     ensures cells { store.new.cells ≡ store.old.cells }
-    ensures touches { AtMost 2 store.old.touches store.new.touches }
+    ensures touches { AtMost 1 store.old.touches store.new.touches }
 {
-    if !is_live(store, ptr) {
+    let Some(block) = live(store, ptr) else {
         return Err(Refusal::BadPointer);
-    }
-    let block = store.read(Slot(ptr.slot()));
+    };
     Ok(block.size)
 }

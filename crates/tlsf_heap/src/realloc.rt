@@ -13,14 +13,16 @@ ghost use Rattle.tlsf_heap.specs.Inner.Following.{Stands, content_of};
 ghost use Rattle.tlsf_heap.specs.Inner.Nodes.{InUse};
 ghost use Rattle.tlsf_heap.specs.Inner.Joined.{listed_first};
 ghost use Rattle.tlsf_heap.specs.Inner.At.{At, StandsAt};
+ghost use Rattle.tlsf_heap.specs.Inner.Spans.{IsRead};
 
-use crate::free::{free, is_free, is_live, join_next, release};
+use crate::free::{free, is_free, join_next, live, release};
 use crate::malloc::{allocate, malloc, trim};
+use crate::span::Span;
 use crate::{Ptr, Refusal};
 use tlsf_class::round;
-use tlsf_store::{Slot, Store};
+use tlsf_store::{Slot, State, Store};
 
-/// The block with another size, in its place or moved; without a pointer a new block. At most 78 touches.
+/// The block with another size, in its place or moved; without a pointer a new block. At most 58 touches.
 ///
 /// # Errors
 ///
@@ -33,7 +35,7 @@ pub(crate) fn realloc(store: &mut Store, ptr: Option<Ptr>, n: u64) -> Result<Opt
     ensures slot_new { IfOk result (λ given. IfSome given (λ p. ptr ≢ Some p → slot_times p.slot (blocks_of (content_of store.old.cells).pools) ≡ 0)) }
     ensures refused { IfErr result (λ refusal. (owner : ℕ) → reallocated (λ a b. a == b) owner (place_and_slot ptr) n (content_of store.old.cells) ≡ Err refusal) }
     ensures cells { OnErr result (store.new.cells ≡ store.old.cells) }
-    ensures touches { AtMost 78 store.old.touches store.new.touches }
+    ensures touches { AtMost 58 store.old.touches store.new.touches }
 {
     match ptr {
         Some(ptr) => reallocate(store, ptr, n),
@@ -44,7 +46,7 @@ pub(crate) fn realloc(store: &mut Store, ptr: Option<Ptr>, n: u64) -> Result<Opt
     }
 }
 
-/// The block with another size; none where no byte is asked for, for then it is freed. At most 78
+/// The block with another size; none where no byte is asked for, for then it is freed. At most 58
 /// touches.
 ///
 /// # Errors
@@ -58,7 +60,7 @@ fn reallocate(store: &mut Store, ptr: Ptr, n: u64) -> Result<Option<Ptr>, Refusa
     ensures slot_new { IfOk result (λ given. IfSome given (λ p. ptr ≢ p → slot_times p.slot (blocks_of (content_of store.old.cells).pools) ≡ 0)) }
     ensures refused { IfErr result (λ refusal. (owner : ℕ) → reallocated (λ a b. a == b) owner (Some (ptr.place, ptr.slot)) n (content_of store.old.cells) ≡ Err refusal) }
     ensures cells { OnErr result (store.new.cells ≡ store.old.cells) }
-    ensures touches { AtMost 78 store.old.touches store.new.touches }
+    ensures touches { AtMost 58 store.old.touches store.new.touches }
 {
     if n == 0 {
         return match free(store, ptr) {
@@ -66,27 +68,30 @@ fn reallocate(store: &mut Store, ptr: Ptr, n: u64) -> Result<Option<Ptr>, Refusa
             Err(refusal) => Err(refusal),
         };
     }
-    if !is_live(store, ptr) {
+    let Some(block) = live(store, ptr) else {
         return Err(Refusal::BadPointer);
-    }
+    };
     let Some(asked) = round(n) else {
         return Err(Refusal::NoFit);
     };
-    match resize(store, ptr, asked) {
+    match resize(store, ptr, Span::of(Slot(ptr.slot()), &block), asked) {
         Ok(given) => Ok(Some(given)),
         Err(refusal) => Err(refusal),
     }
 }
 
 /// The live block with `asked` bytes, in its place where it can have them. A block that gets smaller and
-/// can't give back what is left stays as it is. At most 77 touches.
+/// can't give back what is left stays as it is. At most 57 touches.
 ///
 /// # Errors
 ///
 /// As `Heap::malloc`, where the block has to move.
-fn resize(store: &mut Store, ptr: Ptr, asked: u32) -> Result<Ptr, Refusal>
+fn resize(store: &mut Store, ptr: Ptr, block: Span, asked: u32) -> Result<Ptr, Refusal>
     requires stands { Stands store.old.cells }
     requires live { is_live_in (λ slot. slot == ptr.slot) ptr.place (blocks_of (content_of store.old.cells).pools) ≡ true }
+    requires slot { block.slot ≡ ptr.slot }
+    requires place { block.place ≡ ptr.place }
+    requires read { IsRead block store.old.cells.records }
     requires some { 0 < asked }
     requires whole { asked % unit ≡ 0 }
     ensures stands { Stands store.new.cells }
@@ -95,49 +100,49 @@ fn resize(store: &mut Store, ptr: Ptr, asked: u32) -> Result<Ptr, Refusal>
     ensures slot_new { IfOk result (λ given. ptr ≢ given → slot_times given.slot (blocks_of (content_of store.old.cells).pools) ≡ 0) }
     ensures refused { IfErr result (λ refusal. (owner : ℕ) → realloc_sized owner ptr.place ptr.slot asked (content_of store.old.cells) ≡ Err refusal) }
     ensures cells { OnErr result (store.new.cells ≡ store.old.cells) }
-    ensures touches { AtMost 77 store.old.touches store.new.touches }
+    ensures touches { AtMost 57 store.old.touches store.new.touches }
 {
-    let size = store.read(Slot(ptr.slot())).size;
-    if asked == size {
+    if asked == block.size {
         return Ok(ptr);
     }
-    if fits_in_place(store, ptr, asked) {
-        resize_in_place(store, ptr, asked);
+    if fits_in_place(store, &block, asked) {
+        resize_in_place(store, block, asked);
         return Ok(ptr);
     }
-    if asked < size {
+    if asked < block.size {
         return Ok(ptr);
     }
     relocate(store, ptr, asked)
 }
 
-/// Whether the live block can have `asked` bytes in its place. At most four touches.
-fn fits_in_place(store: &mut Store, ptr: Ptr, asked: u32) -> bool
+/// Whether the live block can have `asked` bytes in its place. At most two touches.
+fn fits_in_place(store: &mut Store, block: &Span, asked: u32) -> bool
     requires stands { Stands store.old.cells }
-    requires live { is_live_in (λ slot. slot == ptr.slot) ptr.place (blocks_of (content_of store.old.cells).pools) ≡ true }
-    ensures value { result ≡ fits ptr.place asked (content_of store.old.cells) }
+    requires live { is_live_in (λ slot. slot == block.now.slot) block.now.place (blocks_of (content_of store.old.cells).pools) ≡ true }
+    requires read { IsRead block.now store.old.cells.records }
+    ensures value { result ≡ fits block.now.place asked (content_of store.old.cells) }
     ensures cells { store.new.cells ≡ store.old.cells }
-    ensures touches { AtMost 4 store.old.touches store.new.touches }
+    ensures touches { AtMost 2 store.old.touches store.new.touches }
 {
-    let size = store.read(Slot(ptr.slot())).size;
-    let behind = free_behind(store, Slot(ptr.slot()));
-    if size <= asked {
-        return asked - size <= behind.unwrap_or(0);
+    let behind = free_behind(store, block);
+    if block.size <= asked {
+        return asked - block.size <= behind.unwrap_or(0);
     }
     behind.is_some() || store.vacant() > 0
 }
 
-/// The size of the block behind, in bytes, where it is free. At most two touches.
-fn free_behind(store: &mut Store, slot: Slot) -> Option<u32>
-    requires { (at : At) × StandsAt slot InUse store.old.cells at }
-    ensures value { (at : At) → StandsAt slot InUse store.old.cells at → result ≡ option_map (λ node. node.size) (listed_first at.nodes) }
+/// The size of the block behind, in bytes, where it is free. At most one touch.
+fn free_behind(store: &mut Store, block: &Span) -> Option<u32>
+    requires stands { (at : At) × StandsAt block.now.slot InUse store.old.cells at }
+    requires read { IsRead block.now store.old.cells.records }
+    ensures value { (at : At) → StandsAt block.now.slot InUse store.old.cells at → result ≡ option_map (λ node. node.size) (listed_first at.nodes) }
     ensures cells { store.new.cells ≡ store.old.cells }
-    ensures touches { AtMost 2 store.old.touches store.new.touches }
+    ensures touches { AtMost 1 store.old.touches store.new.touches }
 {
-    let Some(next_slot) = store.read(slot).next else {
+    let Some(next_slot) = block.next else {
         return None;
     };
-    let next = store.read(next_slot);
+    let next = store.read_used(next_slot);
     if !is_free(next.state) {
         return None;
     }
@@ -145,24 +150,24 @@ fn free_behind(store: &mut Store, slot: Slot) -> Option<u32>
 }
 
 /// The live block takes in a free one behind it, and keeps the first `asked` bytes. What is left, where
-/// anything is, is a free block. At most 32 touches.
-fn resize_in_place(store: &mut Store, ptr: Ptr, asked: u32)
+/// anything is, is a free block. At most 24 touches.
+fn resize_in_place(store: &mut Store, block: Span, asked: u32)
     requires stands { Stands store.old.cells }
-    requires live { is_live_in (λ slot. slot == ptr.slot) ptr.place (blocks_of (content_of store.old.cells).pools) ≡ true }
-    requires fits { fits ptr.place asked (content_of store.old.cells) ≡ true }
-    requires other { asked ≢ size_at ptr.place (blocks_of (content_of store.old.cells).pools) }
+    requires live { is_live_in (λ slot. slot == block.slot) block.place (blocks_of (content_of store.old.cells).pools) ≡ true }
+    requires read { IsRead block store.old.cells.records }
+    requires fits { fits block.place asked (content_of store.old.cells) ≡ true }
+    requires other { asked ≢ size_at block.place (blocks_of (content_of store.old.cells).pools) }
     requires some { 0 < asked }
     requires whole { asked % unit ≡ 0 }
     ensures stands { Stands store.new.cells }
-    ensures content { content_of store.new.cells ≡ resized ptr.slot ptr.place asked (content_of store.old.cells) }
-    ensures touches { AtMost 32 store.old.touches store.new.touches }
+    ensures content { content_of store.new.cells ≡ resized block.slot block.place asked (content_of store.old.cells) }
+    ensures touches { AtMost 24 store.old.touches store.new.touches }
 {
-    let slot = Slot(ptr.slot());
-    join_next(store, slot);
-    trim(store, slot, asked);
+    let grown = join_next(store, block, State::Live);
+    trim(store, &grown, asked);
 }
 
-/// A new block, and the old one is freed. At most 72 touches.
+/// A new block, and the old one is freed. At most 55 touches.
 ///
 /// # Errors
 ///
@@ -178,11 +183,13 @@ fn relocate(store: &mut Store, ptr: Ptr, asked: u32) -> Result<Ptr, Refusal>
     ensures slot_new { IfOk result (λ given. slot_times given.slot (blocks_of (content_of store.old.cells).pools) ≡ 0) }
     ensures refused { IfErr result (λ refusal. (owner : ℕ) → moved owner ptr.place (malloc_rounded owner (Some asked) (content_of store.old.cells)) ≡ Err refusal) }
     ensures cells { OnErr result (store.new.cells ≡ store.old.cells) }
-    ensures touches { AtMost 72 store.old.touches store.new.touches }
+    ensures touches { AtMost 55 store.old.touches store.new.touches }
 {
     match allocate(store, asked) {
         Ok(given) => {
-            release(store, Slot(ptr.slot()));
+            let slot = Slot(ptr.slot());
+            let block = store.read_used(slot);
+            release(store, slot, &block);
             Ok(given)
         }
         Err(refusal) => Err(refusal),

@@ -1,7 +1,9 @@
 //! remove_pool: a pool that is one free block leaves.
 
-ghost use Rattle.std.specs.Prelude.{◌≡◌, ◌<◌, ◌≤◌, ◌&&◌, [], length, is_none, All, Ok, Err, OnOk, OnErr, IfErr};
+ghost use Rattle.std.specs.Prelude.{◌≡◌, ◌%◌, ◌<◌, ◌≤◌, ◌&&◌, [], length, is_none, All, Ok, Err, OnOk, OnErr, IfErr};
+ghost use Rattle.tlsf_class.specs.Classes.{unit};
 ghost use Rattle.tlsf_store.specs.Cells.{most_pools};
+ghost use Rattle.tlsf_store.specs.Records.{record_at};
 ghost use Rattle.tlsf_heap.specs.Touches.{AtMost};
 ghost use Rattle.tlsf_heap.specs.Pools.{remove_pool as removed};
 ghost use Rattle.tlsf_heap.specs.Inner.States.{is_state_free};
@@ -19,7 +21,7 @@ use crate::malloc::take_whole;
 use crate::pool_entry::PoolEntry;
 use tlsf_store::{Record, Slot, Store};
 
-/// The pool that begins at `base` leaves the store, and its one free block its class's list. At most 28 touches.
+/// The pool that begins at `base` leaves the store, and its one free block its class's list. At most 26 touches.
 ///
 /// # Errors
 ///
@@ -30,7 +32,7 @@ pub(crate) fn remove_pool(store: &mut Store, base: u64) -> Result<(), Refusal>
     ensures ok { OnOk result (removed base (content_of store.old.cells) ≡ Ok (content_of store.new.cells)) }
     ensures refused { IfErr result (λ refusal. removed base (content_of store.old.cells) ≡ Err refusal) }
     ensures cells { OnErr result (store.new.cells ≡ store.old.cells) }
-    ensures touches { AtMost 28 store.old.touches store.new.touches }
+    ensures touches { AtMost 26 store.old.touches store.new.touches }
 {
     let mut entries = entries(store);
     let Some(number) = number_of(entries.as_slice(), base) else {
@@ -39,32 +41,33 @@ pub(crate) fn remove_pool(store: &mut Store, base: u64) -> Result<(), Refusal>
     let entry = entries.remove(number);
     let slot = Slot(entry.first);
     let block = store.read(slot);
-    let size = block.size;
-    if !is_alone(block) {
+    if !is_alone(&block) {
         return Err(Refusal::PoolInUse);
     }
-    drop_pool(store, slot, size, entries.as_slice());
+    drop_pool(store, slot, &block, entries.as_slice());
     Ok(())
 }
 
 /// Whether the first block of a pool is free, and the only one.
-fn is_alone(block: Record) -> bool
-    ensures { result ≡ (is_state_free block.state && is_none block.next) }
+fn is_alone(block: &Record) -> bool
+    ensures { result ≡ (is_state_free block.now.state && is_none block.now.next) }
 {
     is_free(block.state) && block.next.is_none()
 }
 
-/// The one free block of a pool, of `size` bytes, leaves its class's list, its record is vacant, and these are
-/// the entries. At most 19 touches.
-fn drop_pool(store: &mut Store, slot: Slot, size: u32, entries: &[PoolEntry])
-    requires stands { (at : At) × StandsAt slot Listed store.old.cells at × (size ≡ at.node.size) }
+/// The one free block of a pool, of this record, leaves its class's list, its record is vacant, and these are
+/// the entries. At most 17 touches.
+fn drop_pool(store: &mut Store, slot: Slot, block: &Record, entries: &[PoolEntry])
+    requires stands { (at : At) × StandsAt slot Listed store.old.cells at }
+    requires read { block.now ≡ record_at store.old.cells.records slot }
+    requires in_units { block.now.place % unit ≡ 0 }
     requires count { length store.old.cells.pools ≡ most_pools }
     requires few { length entries.now ≤ most_pools }
     requires below { All (λ entry. entry.first < length store.old.cells.records) entries.now }
-    ensures leads { (at : At) → StandsAt slot Listed store.old.cells at → size ≡ at.node.size → at.position.before ≡ [] → at.nodes ≡ [] → entries.now ≡ entries_in (plug at.position.areas_before at.position.areas_behind) → Represents store.new.cells (without_area at) }
-    ensures touches { AtMost 19 store.old.touches store.new.touches }
+    ensures leads { (at : At) → StandsAt slot Listed store.old.cells at → at.position.before ≡ [] → at.nodes ≡ [] → entries.now ≡ entries_in (plug at.position.areas_before at.position.areas_behind) → Represents store.new.cells (without_area at) }
+    ensures touches { AtMost 17 store.old.touches store.new.touches }
 {
-    take_whole(store, slot, size);
+    take_whole(store, slot, block);
     store.give_vacant(slot);
     set_entries(store, entries);
 }

@@ -9,9 +9,9 @@ use Rattle.tlsf_region.specs.Region.{CountedRegion, WasRead}
 use Rattle.tlsf_region.specs.Bytes.{overwritten}
 use Rattle.tlsf_region.specs.contracts.region.Region.{the_row}
 
--- its heap was read, in at most two touches, and no byte changed
+-- its heap was read, in at most one touch, and no byte changed
 abbrev pub IsSame : CountedRegion → CountedRegion → Type 0
-IsSame old new = WasRead 2 old new × (new.bytes ≡ old.bytes)
+IsSame old new = WasRead 1 old new × (new.bytes ≡ old.bytes)
 
 -- bytes were lent to read
 abbrev pub ends_read : MutBor CountedRegion → Fml
@@ -30,5 +30,5 @@ lends_from region place lent = Lends the_row (Array u8 0) region lent (written p
 -- was written last, as long as the block, is over the block's bytes. No other byte changed
 abbrev pub lends_block : MutBor CountedRegion → Pointer → Option (MutBor (List ℕ)) → Fml
 lends_block region ptr lent =
-    LendsSo the_row (Array u8 0) region lent (λ new last. OnSome lent (WasRead 2 region.now new
+    LendsSo the_row (Array u8 0) region lent (λ new last. OnSome lent (WasRead 1 region.now new
     × (length last ≡ size_at ptr.place (blocks_of region.now.content.pools) → new.bytes ≡ overwritten ptr.place last region.now.bytes))) (IsSame region.now)

@@ -87,7 +87,7 @@ impl Region {
         Ok(Region { heap, bytes })
     }
 
-    /// A pool of `bytes` bytes from the place `base` on, as one free block. At most 28 touches.
+    /// A pool of `bytes` bytes from the place `base` on, as one free block. At most 27 touches.
     ///
     /// # Errors
     ///
@@ -102,7 +102,7 @@ impl Region {
         ensures never_memory { result ≢ Err Refusal.OutOfMemory }
         ensures unchanged { OnErr result (IsUnchanged self.old self.new) }
         ensures bytes { self.new.bytes ≡ self.old.bytes }
-        ensures bound { AtMost 28 self.old.touches self.new.touches }
+        ensures bound { AtMost 27 self.old.touches self.new.touches }
     {
         let len = self.bytes.len() as u64;
         if base > len || bytes > len - base {
@@ -111,7 +111,7 @@ impl Region {
         self.heap.add_pool(base, bytes)
     }
 
-    /// The pool that begins at the place `base` is gone; its bytes stay as they are. At most 28 touches.
+    /// The pool that begins at the place `base` is gone; its bytes stay as they are. At most 26 touches.
     ///
     /// # Errors
     ///
@@ -122,13 +122,13 @@ impl Region {
         ensures never_memory { result ≢ Err Refusal.OutOfMemory }
         ensures unchanged { OnErr result (IsUnchanged self.old self.new) }
         ensures bytes { self.new.bytes ≡ self.old.bytes }
-        ensures bound { AtMost 28 self.old.touches self.new.touches }
+        ensures bound { AtMost 26 self.old.touches self.new.touches }
     {
         self.heap.remove_pool(base)
     }
 
     /// A live block of at least `n` bytes, as `Heap::malloc` gives it. Its bytes are those that were there.
-    /// At most 28 touches.
+    /// At most 23 touches.
     ///
     /// # Errors
     ///
@@ -144,13 +144,13 @@ impl Region {
         ensures never_memory { result ≢ Err Refusal.OutOfMemory }
         ensures unchanged { OnErr result (IsUnchanged self.old self.new) }
         ensures bytes { self.new.bytes ≡ self.old.bytes }
-        ensures bound { AtMost 28 self.old.touches self.new.touches }
+        ensures bound { AtMost 23 self.old.touches self.new.touches }
     {
         self.heap.malloc(n)
     }
 
     /// A live block of at least `n` bytes that begins at a multiple of `align`, as `Heap::memalign` gives it. Its
-    /// bytes are those that were there. At most 50 touches.
+    /// bytes are those that were there. At most 42 touches.
     ///
     /// # Errors
     ///
@@ -168,12 +168,12 @@ impl Region {
         ensures never_memory { result ≢ Err Refusal.OutOfMemory }
         ensures unchanged { OnErr result (IsUnchanged self.old self.new) }
         ensures bytes { self.new.bytes ≡ self.old.bytes }
-        ensures bound { AtMost 50 self.old.touches self.new.touches }
+        ensures bound { AtMost 42 self.old.touches self.new.touches }
     {
         self.heap.memalign(align, n)
     }
 
-    /// The block becomes free, as `Heap::free` makes it. At most 45 touches.
+    /// The block becomes free, as `Heap::free` makes it. At most 32 touches.
     ///
     /// # Errors
     ///
@@ -184,13 +184,13 @@ impl Region {
         ensures never_memory { result ≢ Err Refusal.OutOfMemory }
         ensures unchanged { OnErr result (IsUnchanged self.old self.new) }
         ensures bytes { self.new.bytes ≡ self.old.bytes }
-        ensures bound { AtMost 45 self.old.touches self.new.touches }
+        ensures bound { AtMost 32 self.old.touches self.new.touches }
     {
         self.heap.free(ptr)
     }
 
     /// The block with room for `n` bytes, as `Heap::realloc` gives it. A block that moves takes its bytes
-    /// along: they are the start of the new block then. Else no byte changes. At most 80 touches.
+    /// along: they are the start of the new block then. Else no byte changes. At most 59 touches.
     ///
     /// # Errors
     ///
@@ -206,7 +206,7 @@ impl Region {
         ensures unchanged { OnErr result (IsUnchanged self.old self.new) }
         ensures bytes { IfOk result (λ given. self.new.bytes ≡ bytes_after_realloc ptr given self.old.content self.old.bytes) }
         ensures bytes_unchanged { OnErr result (self.new.bytes ≡ self.old.bytes) }
-        ensures bound { AtMost 80 self.old.touches self.new.touches }
+        ensures bound { AtMost 59 self.old.touches self.new.touches }
     {
         let Some(old) = ptr else {
             return self.heap.realloc(None, n);
@@ -221,7 +221,7 @@ impl Region {
         Ok(Some(new))
     }
 
-    /// The size of a live block, in bytes. At most two touches.
+    /// The size of a live block, in bytes. At most one touch.
     ///
     /// # Errors
     ///
@@ -231,13 +231,13 @@ impl Region {
         ensures refused { IfErr result (λ refusal. sized (λ slot. slot == ptr.slot) ptr.place self.old.content ≡ Err refusal) }
         ensures unchanged { IsUnchanged self.old self.new }
         ensures bytes { self.new.bytes ≡ self.old.bytes }
-        ensures bound { AtMost 2 self.old.touches self.new.touches }
+        ensures bound { AtMost 1 self.old.touches self.new.touches }
     {
         self.heap.block_size(ptr)
     }
 
     /// The size of the live block that the pointer names, which ends within the bytes; none where it names
-    /// no live block. At most two touches.
+    /// no live block. At most one touch.
     fn live_size(&mut self, ptr: Ptr) -> Option<u32>
         ensures some { IfSome result (λ size. sized (λ slot. slot == ptr.slot) ptr.place self.old.content ≡ Ok size) }
         ensures within { IfSome result (λ size. ptr.place + size ≤ length self.old.bytes) }
@@ -245,7 +245,7 @@ impl Region {
         ensures none { IfNone result (is_live (λ slot. slot == ptr.slot) ptr.place (blocks_of self.old.content.pools) ≡ false) }
         ensures good { IsGood self.old.content }
         ensures ends { IsWithin self.old.content self.old.bytes }
-        ensures read { WasRead 2 self.old self.new }
+        ensures read { WasRead 1 self.old self.new }
         ensures bytes { self.new.bytes ≡ self.old.bytes }
     {
         self.heap.keeps_good();
@@ -253,12 +253,12 @@ impl Region {
     }
 
     /// How many bytes the pointer's block has, and 0 where it names no live block: no block is empty. At
-    /// most two touches.
+    /// most one touch.
     fn lent_len(&mut self, ptr: Ptr) -> u32
         ensures some { 0 < result → sized (λ slot. slot == ptr.slot) ptr.place self.old.content ≡ Ok result }
         ensures within { 0 < result → ptr.place + result ≤ length self.old.bytes }
         ensures none { result ≡ 0 → is_live (λ slot. slot == ptr.slot) ptr.place (blocks_of self.old.content.pools) ≡ false }
-        ensures read { WasRead 2 self.old self.new }
+        ensures read { WasRead 1 self.old self.new }
         ensures bytes { self.new.bytes ≡ self.old.bytes }
     {
         self.live_size(ptr).unwrap_or(0)
@@ -275,7 +275,7 @@ impl Region {
     }
 
     /// The bytes of a live block, as many as its size, to read; none where the pointer names no live block.
-    /// At most two touches.
+    /// At most one touch.
     pub fn bytes(&mut self, ptr: Ptr) -> Option<&[u8]>
         ensures lent { option_map (λ block. block.now) result ≡ live_bytes ptr self.old.content self.old.bytes }
         ensures* after { sem 𝓛 (ends_read self.entry) }
@@ -286,7 +286,7 @@ impl Region {
     }
 
     /// The bytes of a live block, as many as its size, to write; none where the pointer names no live block.
-    /// What is written through them changes these bytes alone. At most two touches.
+    /// What is written through them changes these bytes alone. At most one touch.
     pub fn bytes_mut(&mut self, ptr: Ptr) -> Option<&mut [u8]>
         ensures* writes_back { sem 𝓛 (lends_block self.entry ptr result) }
         ensures lent { option_map (λ block. block.now) result ≡ live_bytes ptr self.old.content self.old.bytes }

@@ -1,12 +1,17 @@
 -- Vacant records counted, and records written and read back.
 use Rattle.std.proofs.Common.{◌≡◌, ◌≢◌, ℕ, zero, suc, ◌+◌, ◌<◌, ◌≤◌, true, false, cond, List, length, set, replicate, Option, Some, None, ap, refl, arith}
-use Rattle.std.proofs.lemmas.Bool.{cond-true, cond-false}
+use Rattle.std.proofs.lemmas.Bool.{cond-true, cond-false, ne_eqb}
 use Rattle.std.proofs.lemmas.List.{get_or-set_same, get_or-set_other}
 use Rattle.std.proofs.lemmas.List.Sums.{sum_by-set, sum_by-cons, count_by-le-length}
 use Rattle.tlsf_store.specs.declared.records.State.{State}
 use Rattle.tlsf_store.specs.declared.records.State.TheVariants.{Vacant, Free, Live}
 use Rattle.tlsf_store.specs.declared.records.Record.{Record}
 use Rattle.tlsf_store.specs.Records.{blank, record_at, is_vacant, vacant_count, IsBelow, IsKept}
+use Rattle.tlsf_store.specs.Packed.{missing, link_of}
+
+-- a word that isn't that of a missing link is that of a slot
+pub link_of-slot : (word : ℕ) → word ≢ missing → link_of word ≡ Some word
+link_of-slot word there = rw (ne_eqb word missing there) refl
 
 -- what a record adds to the count of vacant records
 abbrev pub mark : Record → ℕ

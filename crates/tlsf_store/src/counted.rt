@@ -38,7 +38,7 @@ pub struct Store {
     touches: GhostCount,
 }
 
-const _: () = prove!(size_of::<Store>() == 1_672);
+const _: () = prove!(size_of::<Store>() == 1_664);
 
 impl Model for Store {
     ghost use Rattle.tlsf_store.specs.Cells.{AreCells};
@@ -126,6 +126,19 @@ impl Store {
         self.table.read(slot)
     }
 
+    /// The record of a slot that isn't vacant. One touch.
+    pub fn read_used(&mut self, slot: Slot) -> Record
+        requires within { slot < length self.old.cells.records }
+        requires used { (record_at self.old.cells.records slot).state ≢ Vacant }
+        ensures value { result ≡ record_at self.old.cells.records slot }
+        ensures kept { IsKept (length self.old.cells.records) result }
+        ensures cells { self.new.cells ≡ self.old.cells }
+        ensures touch { self.new.touches ≡ self.old.touches + 1 }
+    {
+        self.touches.tick();
+        self.table.read_used(slot)
+    }
+
     /// Writes a record that isn't vacant over one that isn't. Places and sizes are multiples of the
     /// unit, links are of records of this store. One touch.
     pub fn write(&mut self, slot: Slot, value: Record)
@@ -167,6 +180,21 @@ impl Store {
         self.touches.tick();
         self.touches.tick();
         self.table.set_size_and_next(slot, size, next);
+    }
+
+    /// Writes the size, the state and the link `next` of a record that isn't vacant. One touch: nothing
+    /// is read.
+    pub fn set_block(&mut self, slot: Slot, size: u32, state: State, next: Option<Slot>)
+        requires within { slot < length self.old.cells.records }
+        requires used { (record_at self.old.cells.records slot).state ≢ Vacant }
+        requires new_used { state ≢ Vacant }
+        requires in_units { size % unit ≡ 0 }
+        requires below { IsBelow (length self.old.cells.records) next }
+        ensures written { self.new.cells ≡ with_record self.old.cells slot (record (record_at self.old.cells.records slot) { size = size; state = state; next = next }) }
+        ensures touch { self.new.touches ≡ self.old.touches + 1 }
+    {
+        self.touches.tick();
+        self.table.set_block(slot, size, state, next);
     }
 
     /// Writes the link `prev` of a record that isn't vacant. One touch.

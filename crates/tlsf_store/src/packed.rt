@@ -1,8 +1,9 @@
 //! A record as the table keeps it, in sixteen bytes.
 
-ghost use Rattle.std.specs.Prelude.{◌≡◌, ◌%◌};
+ghost use Rattle.std.specs.Prelude.{◌≡◌, ◌≢◌, ◌%◌};
 ghost use Rattle.tlsf_class.specs.Classes.{unit};
-ghost use Rattle.tlsf_store.specs.Records.{most_records, is_vacant, IsBelow, IsKept};
+ghost use Rattle.tlsf_store.specs.declared.records.State.TheVariants.{Vacant, Free};
+ghost use Rattle.tlsf_store.specs.Records.{most_records, blank, blank_in, is_vacant, IsBelow, IsKept};
 ghost use Rattle.tlsf_store.specs.Packed.{link_of};
 
 use super::{Record, Slot, State};
@@ -74,6 +75,51 @@ impl Packed {
         }
     }
 
+    /// The record that was packed, where it isn't vacant.
+    pub(crate) fn unpack_used(&self) -> Record
+        requires { self.now.state ≢ Vacant }
+        ensures { result ≡ self.now }
+    {
+        let code = self.size_word % UNIT;
+        Record {
+            place: self.place,
+            size: self.size_word - code,
+            state: if code == 1 { State::Free } else { State::Live },
+            prev: link(self.prev),
+            next: link(self.next),
+            prev_free: link(self.prev_free),
+            next_free: link(self.next_free),
+        }
+    }
+
+    /// A vacant record, with the word of the link to the next vacant one.
+    pub(crate) fn vacant(next: u16) -> Packed
+        ensures { result ≡ record blank { next = link_of next } }
+    {
+        Packed {
+            place: 0,
+            size_word: 0,
+            prev: MISSING,
+            next,
+            prev_free: MISSING,
+            next_free: MISSING,
+        }
+    }
+
+    /// A record of a free block to come, with no place, size or links.
+    pub(crate) fn free() -> Packed
+        ensures { result ≡ blank_in Free }
+    {
+        Packed {
+            place: 0,
+            size_word: 1,
+            prev: MISSING,
+            next: MISSING,
+            prev_free: MISSING,
+            next_free: MISSING,
+        }
+    }
+
     /// Whether the record is of no block.
     pub(crate) fn is_vacant(&self) -> bool
         ensures { result ≡ is_vacant self.now.state }
@@ -86,6 +132,13 @@ impl Packed {
         ensures { result ≡ self.now.next }
     {
         link(self.next)
+    }
+
+    /// The word of the record's link `next`.
+    pub(crate) fn next_word(&self) -> u16
+        ensures { link_of result ≡ self.now.next }
+    {
+        self.next
     }
 
     /// Writes the state alone.
@@ -102,6 +155,16 @@ impl Packed {
         ensures { self.new ≡ record self.old { size = size; next = next } }
     {
         self.size_word = size + self.size_word % UNIT;
+        self.next = link_word(next);
+    }
+
+    /// Writes the size, a multiple of the unit, the state and the link `next` alone.
+    pub(crate) fn set_block(&mut self, size: u32, state: State, next: Option<Slot>)
+        requires in_units { size % unit ≡ 0 }
+        requires below { IsBelow most_records next }
+        ensures { self.new ≡ record self.old { size = size; state = state; next = next } }
+    {
+        self.size_word = size + state as u32;
         self.next = link_word(next);
     }
 

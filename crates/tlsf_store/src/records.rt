@@ -53,16 +53,6 @@ impl Record {
         }
     }
 
-    /// A vacant record, linked to the next vacant one.
-    pub(crate) fn vacant(link: Option<Slot>) -> Record
-        ensures { result ≡ record blank { next = link } }
-    {
-        Record {
-            next: link,
-            ..Record::blank(State::Vacant)
-        }
-    }
-
     /// The record as callers see it: a vacant one holds nothing, whatever links it to the next.
     pub(crate) fn seen(self) -> Record
         ensures { result ≡ seen self }

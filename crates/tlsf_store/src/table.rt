@@ -3,38 +3,40 @@
 ghost use Rattle.std.specs.Prelude.{◌≡◌, ◌+◌, ◌<◌, ◌≤◌, ◌≢◌, ◌%◌, true, IfOk, MatchOption, length, map, replicate, slice_set, vec_capacity, [], Some};
 ghost use Rattle.tlsf_class.specs.Classes.{unit};
 ghost use Rattle.tlsf_store.specs.declared.records.State.TheVariants.{Vacant, Free};
+ghost use Rattle.tlsf_store.specs.Packed.{link_of};
 ghost use Rattle.tlsf_store.specs.Table.{seen, IsTable};
 ghost use Rattle.tlsf_store.specs.Records.{most_records, blank, blank_in, record_at, vacant_count, IsBelow, IsKept};
 
 use super::ghost_count::GhostCount;
-use super::packed::Packed;
+use super::packed::{MISSING, Packed, link};
 use super::vacant_chain::is_whole_chain;
 use super::{Record, Slot, State};
 use std::alloc::{AllocError, Global};
 use std::marker::Model;
 
-/// All the records of a store, packed. A vacant one keeps the next vacant one as its link `next`.
+/// All the records of a store, packed. A vacant one keeps the next vacant one as its link `next`; the
+/// first is kept as the word of a link. It has room for as many records as it was made with.
 #[derive(Drop)]
 pub(crate) struct Table {
     items: Vec<Packed>,
-    first: Option<Slot>,
-    vacant: u32,
+    first: u16,
     room: u16,
+    vacant: u32,
 }
 
-/// Fills memory with `count` vacant records, and answers the first of their chain.
-fn fill(items: &mut Vec<Packed>, count: u32) -> Option<Slot>
+/// Fills memory with `count` vacant records, and answers the word of the first of their chain.
+fn fill(items: &mut Vec<Packed>, count: u32) -> u16
     requires few { count ≤ most_records }
     requires empty { items.old.items ≡ [] }
     requires room { count ≤ vec_capacity items.old }
-    ensures table { IsTable items.new.items result count }
+    ensures table { IsTable items.new.items (link_of result) count }
     ensures blank { map seen items.new.items ≡ replicate count blank }
     ensures capacity { vec_capacity items.new ≡ vec_capacity items.old }
 {
-    let mut first = None;
+    let mut first = MISSING;
     for number in 0..count {
-        items.push_reserved(Packed::pack(Record::vacant(first)));
-        first = Some(Slot(number as u16));
+        items.push_reserved(Packed::vacant(first));
+        first = number as u16;
     }
     first
 }
@@ -42,13 +44,14 @@ fn fill(items: &mut Vec<Packed>, count: u32) -> Option<Slot>
 impl Model for Table {
     ghost use Rattle.std.specs.Prelude.{List, map, vec_capacity};
     ghost use Rattle.tlsf_store.specs.declared.records.Record.{Record};
+    ghost use Rattle.tlsf_store.specs.Packed.{link_of};
     ghost use Rattle.tlsf_store.specs.Table.{seen, IsStored};
 
     ghost Value = { List Record };
 
     ghost view = { λ t. map seen t.items.items };
 
-    ghost invariant = { λ t. IsStored (vec_capacity t.items) t.room t.items.items t.first t.vacant };
+    ghost invariant = { λ t. IsStored (vec_capacity t.items) t.room t.items.items (link_of t.first) t.vacant };
 }
 
 impl Table {
@@ -95,6 +98,16 @@ impl Table {
         self.items[slot.index()].unpack().seen()
     }
 
+    /// The record of a slot that isn't vacant.
+    pub(crate) fn read_used(&self, slot: Slot) -> Record
+        requires within { slot < length self.now }
+        requires used { (record_at self.now slot).state ≢ Vacant }
+        ensures value { result ≡ record_at self.now slot }
+        ensures kept { IsKept (length self.now) result }
+    {
+        self.items[slot.index()].unpack_used()
+    }
+
     /// Writes a record that isn't vacant over one that isn't.
     pub(crate) fn write(&mut self, slot: Slot, value: Record)
         requires within { slot < length self.old }
@@ -126,6 +139,18 @@ impl Table {
         ensures { self.new ≡ slice_set self.old slot (record (record_at self.old slot) { size = size; next = next }) }
     {
         self.items[slot.index()].set_size_and_next(size, next);
+    }
+
+    /// Writes the size, the state and the link `next` of a record that isn't vacant.
+    pub(crate) fn set_block(&mut self, slot: Slot, size: u32, state: State, next: Option<Slot>)
+        requires within { slot < length self.old }
+        requires used { (record_at self.old slot).state ≢ Vacant }
+        requires new_used { state ≢ Vacant }
+        requires in_units { size % unit ≡ 0 }
+        requires below { IsBelow (length self.old) next }
+        ensures { self.new ≡ slice_set self.old slot (record (record_at self.old slot) { size = size; state = state; next = next }) }
+    {
+        self.items[slot.index()].set_block(size, state, next);
     }
 
     /// Writes the link `prev` of a record that isn't vacant.
@@ -171,7 +196,7 @@ impl Table {
         ensures whole { result ≡ true }
         ensures touched { touches.new.count ≡ touches.old.count + length self.now + vacant_count self.now }
     {
-        is_whole_chain(&self.items, self.first, self.vacant, touches)
+        is_whole_chain(&self.items, link(self.first), self.vacant, touches)
     }
 
     /// Takes a vacant record, if there is one, for a block to come: free, with no place, size or links.
@@ -181,14 +206,15 @@ impl Table {
             (λ slot. (slot < length self.old) × (record_at self.old slot ≡ blank)
             × (self.new ≡ slice_set self.old slot (blank_in Free))) }
     {
-        let Some(slot) = self.first else {
+        let slot = self.first;
+        if slot == MISSING {
             return None;
-        };
-        let index = slot.index();
-        self.first = self.items[index].next();
-        self.items[index] = Packed::pack(Record::blank(State::Free));
+        }
+        let index = usize::from(slot);
+        self.first = self.items[index].next_word();
+        self.items[index] = Packed::free();
         self.vacant -= 1;
-        Some(slot)
+        Some(Slot(slot))
     }
 
     /// Makes a record vacant that isn't.
@@ -197,8 +223,8 @@ impl Table {
         requires used { (record_at self.old slot).state ≢ Vacant }
         ensures { self.new ≡ slice_set self.old slot blank }
     {
-        self.items[slot.index()] = Packed::pack(Record::vacant(self.first));
-        self.first = Some(slot);
+        self.items[slot.index()] = Packed::vacant(self.first);
+        self.first = slot.0;
         self.vacant += 1;
     }
 }

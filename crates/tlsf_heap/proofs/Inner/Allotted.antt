@@ -59,7 +59,7 @@ covers_cut rest bytes node nodes some less whole from to c =
     let same : from + node.size ≡ (from + bytes) + (node.size - bytes) = omega (arith, less) in
     (c.0, some, whole, (omega (arith, c.0), omega (arith, less), omega (arith, c.2, whole, less), subst P same c.3))
 
-module _ (cells : Cells) (slot rest : ℕ) (at : At) (stands : StandsAt slot InUse cells (with_slot rest at)) where
+module _ (cells : Cells) (slot rest : ℕ) (status : Status) (at : At) (stands : StandsAt slot status cells (with_slot rest at)) where
   pub rest_used : IsUsed cells.records (Some rest)
   rest_used = stands_used cells (layout_at (with_slot rest at)) rest stands.0 (omega (arith, times-cons rest rest at.taken, ap one_if (eq-eqb rest rest refl)))
 
@@ -68,6 +68,7 @@ module _ (cells : Cells) (slot rest : ℕ) (at : At) (stands : StandsAt slot InU
       let P : ℕ → Type 0 = λ q. IsUsed cells.records (record_at cells.records q).next in
       subst P stands.1.slot_is (next_used cells.records at.position at.node at.nodes (rest ∷ at.taken) (at_node cells.records at.position at.node at.nodes (rest ∷ at.taken) stands.0.chains))
 
+module _ (cells : Cells) (slot rest : ℕ) (at : At) (stands : StandsAt slot InUse cells (with_slot rest at)) where
   module _ (bytes : ℕ) (some : 0 < bytes) (less : bytes < at.node.size) (whole : bytes % unit ≡ 0) where
     pub split_stands : StandsAt rest Loose (split slot rest bytes cells) (at_split rest bytes at)
     split_stands =

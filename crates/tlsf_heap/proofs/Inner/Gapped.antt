@@ -1,18 +1,16 @@
 -- A live node that leaves a gap of its first bytes: the steps from one node of two neighbours to the other, and what they come to.
-use Rattle.std.proofs.Common.{◌≡◌, ℕ, ◌+◌, ◌-◌, ◌%◌, ◌<◌, Bool, false, cond, List, [], ◌∷◌, ◌++◌, refl, sym, ap, subst, arith}
+use Rattle.std.proofs.Common.{◌≡◌, ℕ, ◌+◌, ◌-◌, ◌<◌, Bool, false, cond, List, [], ◌∷◌, ◌++◌, refl, sym, ap, subst, arith}
 use Rattle.std.specs.Prelude.{◌==◌}
 use Rattle.std.proofs.lemmas.Bool.{ne_eqb}
-use Rattle.tlsf_class.specs.Classes.{unit}
 use Rattle.tlsf_store.specs.declared.records.State.TheVariants.{Live}
 use Rattle.tlsf_store.specs.Cells.{Cells}
-use Rattle.tlsf_heap.specs.Inner.Chains.{split, with_state}
+use Rattle.tlsf_heap.specs.Inner.Chains.{with_state}
 use Rattle.tlsf_heap.specs.Inner.Nodes.{Status, InUse, Listed, Loose, Node, turned, rest_node, entered}
 use Rattle.tlsf_heap.specs.Inner.Joined.{is_loose}
-use Rattle.tlsf_heap.specs.Inner.At.{At, StandsAt, at_turned, with_slot, at_split, at_listed, at_gapped}
+use Rattle.tlsf_heap.specs.Inner.At.{At, StandsAt, at_turned, at_split, at_listed, at_gapped}
 use Rattle.tlsf_heap.proofs.Counts.{one_if, count-cons}
 use Rattle.tlsf_heap.proofs.Inner.Plugs.{count-filled}
 use Rattle.tlsf_heap.proofs.Inner.Steps.{turned_stands}
-use Rattle.tlsf_heap.proofs.Inner.Allotted.{split_stands}
 
 module _ (cells : Cells) (at : At) (first second : Node) (before nodes : List Node) where
   abbrev loose : Node → Bool
@@ -78,11 +76,10 @@ module _ (slot live bytes : ℕ) (at : At) where
   at_front = record at { node = record at.node { size = bytes }; nodes = turned InUse (rest_node live bytes at.node) ∷ at.nodes }
 
   -- it was split, and what is behind is live
-  pub front_stands : (cells : Cells) → StandsAt slot InUse cells (with_slot live at) → 0 < bytes → bytes < at.node.size → bytes % unit ≡ 0 → StandsAt slot InUse (with_state live Live (split slot live bytes cells)) at_front
-  front_stands cells stands some less whole =
-      let cut = split_stands cells slot live at stands bytes some less whole in
-      stepped_back (with_state live Live (split slot live bytes cells)) at (record at.node { size = bytes }) (turned InUse (rest_node live bytes at.node)) at.position.before at.nodes slot live InUse InUse
-      (turned_stands (split slot live bytes cells) live Loose (at_split live bytes at) cut InUse refl refl) refl stands.1.slot_is stands.1.status_is
+  pub front_stands : (cells : Cells) → StandsAt live Loose cells (at_split live bytes at) → at.node.slot ≡ slot → at.node.status ≡ InUse → StandsAt slot InUse (with_state live Live cells) at_front
+  front_stands cells cut slot_is status_is =
+      stepped_back (with_state live Live cells) at (record at.node { size = bytes }) (turned InUse (rest_node live bytes at.node)) at.position.before at.nodes slot live InUse InUse
+      (turned_stands cells live Loose (at_split live bytes at) cut InUse refl refl) refl slot_is status_is
 
   -- the first node entered its list: the gap is left
   pub gapped_stands : (cells : Cells) → at.node.slot ≡ slot → at.node.status ≡ InUse → 0 < bytes → StandsAt slot Listed cells (at_listed (at_turned Loose at_front)) → StandsAt live InUse cells (at_gapped live bytes at)

@@ -27,6 +27,9 @@ use Rattle.tlsf_heap.proofs.Meaning.Covered.{node_whole, covered_refilled, cover
 -- what a step leads to
 pub record Joins (slot behind listed size result : ℕ) (status : Status) (cells : Cells) (after : At) : Type 0 where
   pub ready : IsJoinable slot behind listed size cells.records (unlinked (class size) listed cells).records
+  pub place_is : (record_at (unlinked (class size) listed cells).records slot).place ≡ after.node.place
+  pub size_is : (record_at (unlinked (class size) listed cells).records slot).size + (record_at (unlinked (class size) listed cells).records behind).size ≡ after.node.size
+  pub next_is : (record_at (unlinked (class size) listed cells).records behind).next ≡ first_slot after.nodes
   pub leads : StandsAt result status (joined slot behind listed size cells) after
 
 -- two nodes side by side, of which one was listed and leaves its list
@@ -62,13 +65,20 @@ module _ (cells : Cells) (count : ℕ) (listed_position : Position) (listed : No
 
   joins_sides : (status : Status) → front.status ≡ status → count_by (λ node. is_loose node.status) (nodes_of (filled position nodes)) ≡ 0
       → Joins front.slot behind.slot listed.slot listed.size front.slot status cells (record { count = count; position = position; node = record front { size = front.size + behind.size }; nodes = nodes; lists = left (turned Listed listed) lists; taken = taken })
-  joins_sides status status_is settled = record {
-    ready = joinable;
-    leads = (
-      join_laid (unlinked (class listed.size) listed.slot cells) count position front behind nodes (left (turned Listed listed) lists) taken unlinked_was front_unlisted behind_unlisted,
-      record { slot_is = refl; status_is = status_is; others_settled = settled; covered = covered_after },
-    );
-  }
+  joins_sides status status_is settled =
+      let records : List Record = (unlinked (class listed.size) listed.slot cells).records in
+      let here : AtNode records position front (behind ∷ nodes) taken = at_node records position front (behind ∷ nodes) taken unlinked_was.chains in
+      let there : AtNode records (record position { before = front ∷ position.before }) behind nodes taken = at_node records (record position { before = front ∷ position.before }) behind nodes taken unlinked_was.chains in
+      record {
+        ready = joinable;
+        place_is = ap (λ (v : InPool). v.place) here.says;
+        size_is = omega (arith, ap (λ (v : InPool). v.size) here.says, ap (λ (v : InPool). v.size) there.says);
+        next_is = ap (λ (v : InPool). v.next) there.says;
+        leads = (
+          join_laid (unlinked (class listed.size) listed.slot cells) count position front behind nodes (left (turned Listed listed) lists) taken unlinked_was front_unlisted behind_unlisted,
+          record { slot_is = refl; status_is = status_is; others_settled = settled; covered = covered_after },
+        );
+      }
 
 -- the node in front is free
 module _ (cells : Cells) (at : At) (front : Node) (before : List Node) where

@@ -1,17 +1,18 @@
 -- A free block that is in no list enters its class's list.
 use Rattle.std.proofs.Common.{◌≡◌, ◌≢◌, ℕ, ◌≤◌, Bool, ◌&&◌, List, ◌∷◌, length, set, refl, sym, ap, ◌∙◌, subst, arith, count_by, Option, Some, None}
 use Rattle.std.proofs.lemmas.List.{length-set, length-map}
-use Rattle.tlsf_class.specs.Classes.{class}
+use Rattle.tlsf_class.specs.Classes.{class, classes}
 use Rattle.tlsf_class.proofs.ClassLaws.{class-lt}
 use Rattle.tlsf_store.specs.declared.records.Record.{Record}
 use Rattle.tlsf_store.specs.Records.{record_at}
 use Rattle.tlsf_store.specs.Cells.{Cells, with_head, head_at}
+use Rattle.tlsf_image.specs.Bitmaps.{head_bit, AreBitmapsOf}
 use Rattle.tlsf_heap.specs.Inner.Entries.{padded}
-use Rattle.tlsf_heap.specs.Inner.Edits.{edited_in, with_prev_free, with_free_links, with_class_bit, linked}
+use Rattle.tlsf_heap.specs.Inner.Edits.{edited_in, with_prev_free, with_free_links, with_bit_before, linked}
 use Rattle.tlsf_heap.specs.Inner.Nodes.{Status, Node, Area, Listed, Loose, turned, nodes_of, has_slot, list_of, is_listed_in, entered}
 use Rattle.tlsf_heap.specs.Inner.Positions.{Position, laid, filled}
-use Rattle.tlsf_heap.specs.Inner.Represents.{InPool, pool_view, list_view, pool_views, list_views, state_of, in_pool, in_list, first_slot, AreLinked, AreChains, Agree, Represents}
-use Rattle.tlsf_heap.proofs.Bits.Edits.{bits_set}
+use Rattle.tlsf_heap.specs.Inner.Represents.{InPool, pool_view, list_view, pool_views, list_views, state_of, in_pool, in_list, first_slot, AreLinked, AreChains, Agree, Represented, Represents}
+use Rattle.tlsf_heap.proofs.Bits.Edits.{bits_set, bits_kept}
 use Rattle.tlsf_heap.proofs.Counts.{count-cons}
 use Rattle.tlsf_heap.proofs.Inner.Plugs.{count-filled}
 use Rattle.tlsf_heap.proofs.Inner.Links.{linked_same, linked_moved, first_stands}
@@ -112,25 +113,41 @@ module _ (cells : Cells) (count : ℕ) (position : Position) (node : Node) (node
 
   -- the cells, where this is the first of the list
   abbrev after : Option ℕ → Cells
-  after first = with_class_bit (class node.size) (with_head (with_prev_free first (Some node.slot) (with_free_links node.slot None first cells)) (class node.size) (Some node.slot))
+  after first = with_bit_before first (class node.size) (with_head (with_prev_free first (Some node.slot) (with_free_links node.slot None first cells)) (class node.size) (Some node.slot))
 
-  linked_before : Represents (after (first_slot list)) (laid count position (turned Listed node ∷ nodes) (entered (turned Listed node) lists) taken)
+  -- with these bitmaps
+  laid_with : (level_word : ℕ) (step_words : List ℕ) → length step_words ≡ length cells.step_words → AreBitmapsOf (set cells.heads (class node.size) (Some node.slot)) step_words level_word
+      → Represented new (set cells.heads (class node.size) (Some node.slot)) level_word step_words cells.pools (laid count position (turned Listed node ∷ nodes) (entered (turned Listed node) lists) taken)
   unfolding entered
-  linked_before = record {
+  laid_with level_word step_words words_are bitmaps = record {
     count = length-edited moved (first_slot list) one ∙ length-edited opened (Some node.slot) cells.records ∙ was.count;
     entries = was.entries ∙ ap padded (sym (entries-filled position (turned Loose node ∷ nodes) (turned Listed node ∷ nodes)));
     chains = chains_turned (pool_views cells.records) (pool_views new) position node nodes Loose Listed taken refl pools_same was.chains;
     index = record {
       heads_are = ap (λ heads. set heads (class node.size) (Some node.slot)) was.index.heads_are ∙ sym (heads-written node lists was.index.lists_count (turned Listed node ∷ list));
       lists_count = length-set lists (class node.size) (turned Listed node ∷ list) ∙ was.index.lists_count;
-      words_count = length-set cells.step_words _ _ ∙ was.index.words_count;
+      words_count = words_are ∙ was.index.words_count;
       linked = links;
-      bitmaps = bits_set cells.heads cells.step_words cells.level_word (class node.size) (ap length was.index.heads_are ∙ length-map lists first_slot ∙ was.index.lists_count) was.index.words_count (class-lt node.size) was.index.bitmaps node.slot;
+      bitmaps = bitmaps;
     };
     agree = agrees;
   }
 
+  heads_count : length cells.heads ≡ classes
+  heads_count = ap length was.index.heads_are ∙ length-map lists first_slot ∙ was.index.lists_count
+
+  head_is : head_at cells.heads (class node.size) ≡ first_slot list
+  head_is = ap (λ heads. head_at heads (class node.size)) was.index.heads_are ∙ head_of node lists was.index.lists_count
+
+  linked_before : (first : Option ℕ) → head_at cells.heads (class node.size) ≡ first → first_slot list ≡ first → Represents (after first) (laid count position (turned Listed node ∷ nodes) (entered (turned Listed node) lists) taken)
+  linked_before None head is =
+      let P : Option ℕ → Type 0 = λ o. Represented (edited_in moved o (edited_in (λ r. record r { prev_free = None; next_free = o }) (Some node.slot) cells.records)) (set cells.heads (class node.size) (Some node.slot)) (after None).level_word (after None).step_words cells.pools (laid count position (turned Listed node ∷ nodes) (entered (turned Listed node) lists) taken) in
+      subst P is (laid_with (after None).level_word (after None).step_words (length-set cells.step_words _ _)
+      (bits_set cells.heads cells.step_words cells.level_word (class node.size) heads_count was.index.words_count (class-lt node.size) was.index.bitmaps node.slot))
+  linked_before (Some other) head is =
+      let P : Option ℕ → Type 0 = λ o. Represented (edited_in moved o (edited_in (λ r. record r { prev_free = None; next_free = o }) (Some node.slot) cells.records)) (set cells.heads (class node.size) (Some node.slot)) cells.level_word cells.step_words cells.pools (laid count position (turned Listed node ∷ nodes) (entered (turned Listed node) lists) taken) in
+      subst P is (laid_with cells.level_word cells.step_words refl
+      (bits_kept cells.heads cells.step_words cells.level_word (class node.size) heads_count was.index.words_count (class-lt node.size) was.index.bitmaps node.slot (ap head_bit head)))
+
   pub linked_laid : Represents (linked (class node.size) node.slot cells) (laid count position (turned Listed node ∷ nodes) (entered (turned Listed node) lists) taken)
-  linked_laid =
-      let P : Option ℕ → Type 0 = λ first. Represents (after first) (laid count position (turned Listed node ∷ nodes) (entered (turned Listed node) lists) taken) in
-      subst P (sym (ap (λ heads. head_at heads (class node.size)) was.index.heads_are ∙ head_of node lists was.index.lists_count)) linked_before
+  linked_laid = linked_before (head_at cells.heads (class node.size)) refl (sym head_is)

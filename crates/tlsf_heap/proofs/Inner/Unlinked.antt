@@ -23,7 +23,7 @@ use Rattle.tlsf_heap.proofs.Inner.Chains.{uses_most, used_below, listed_within, 
 use Rattle.tlsf_heap.proofs.Inner.Linked.{chains_turned}
 use Rattle.tlsf_heap.proofs.Inner.Used.{listed_used}
 
-cleared_is : (level word : ℕ) (cells : Cells) → with_level_cleared level word cells ≡ record cells { level_word = cond (eqb word 0) (without_bit cells.level_word level) cells.level_word }
+pub cleared_is : (level word : ℕ) (cells : Cells) → with_level_cleared level word cells ≡ record cells { level_word = cond (eqb word 0) (without_bit cells.level_word level) cells.level_word }
 cleared_is level word cells = elim (eqb word 0) as (λ b. cond b (with_level_word cells (without_bit cells.level_word level)) cells ≡ record cells { level_word = cond b (without_bit cells.level_word level) cells.level_word }) [
   | true ↦ refl
   | false ↦ refl

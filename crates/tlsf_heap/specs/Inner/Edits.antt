@@ -53,11 +53,16 @@ without_class_bit class cells =
     let word = without_bit (slice_index cells.step_words (class / steps)) (class % steps) in
     with_level_cleared (class / steps) word (with_step_word cells (class / steps) word)
 
+-- the class's bit is set, and that of its first level, where its list was empty
+abbrev pub with_bit_before : Option ℕ → ℕ → Cells → Cells
+with_bit_before None class cells = with_class_bit class cells
+with_bit_before (Some first) class cells = cells
+
 -- the slot's free block enters the class's list in front of the others
 abbrev pub linked : ℕ → ℕ → Cells → Cells
 linked class slot cells =
     let first = head_at cells.heads class in
-    with_class_bit class (with_head (with_prev_free first (Some slot) (with_free_links slot None first cells)) class (Some slot))
+    with_bit_before first class (with_head (with_prev_free first (Some slot) (with_free_links slot None first cells)) class (Some slot))
 
 -- the slot, if there is one, is of a record that isn't vacant
 abbrev pub IsUsed : List Record → Option ℕ → Type 0
@@ -74,8 +79,10 @@ abbrev pub with_behind : ℕ → Option ℕ → Option ℕ → Cells → Cells
 with_behind class None next cells = with_first class next cells
 with_behind class (Some slot) next cells = with_next_free (Some slot) next cells
 
--- the slot's free block leaves its class's list, wherever it stands in it
+-- the free block of this record leaves its class's list, wherever it stands in it
+abbrev pub unlinked_by : ℕ → Record → Cells → Cells
+unlinked_by class block cells = with_behind class block.prev_free block.next_free (with_prev_free block.next_free block.prev_free cells)
+
+-- the slot's free block leaves its class's list
 abbrev pub unlinked : ℕ → ℕ → Cells → Cells
-unlinked class slot cells =
-    let old = record_at cells.records slot in
-    with_behind class old.prev_free old.next_free (with_prev_free old.next_free old.prev_free cells)
+unlinked class slot cells = unlinked_by class (record_at cells.records slot) cells

@@ -6,21 +6,24 @@ use Rattle.tlsf_heap.specs.Inner.Following.{Stands, content_of}
 use Rattle.tlsf_heap.proofs.Inner.Live.{live_at, freed_stands}
 use Rattle.tlsf_heap.proofs.free.free.Goals as goal
 
-pub release-requires : goal.release-requires
-release-requires c =
-    let node = live_at c.args.store.now.cells c.requires c.args.ptr.place c.args.ptr.slot (sym c.is_live.ensures.value ∙ c.if-not-is_live.false) in
-    (node.at, rw (c.is_live.ensures.cells, c.slot.ensures) node.stands)
+pub release-requires-clause-stands : goal.release-requires-clause-stands
+release-requires-clause-stands c =
+    let node = live_at c.args.store.now.cells c.requires c.args.ptr.place c.args.ptr.slot (sym c.in-Some.ensures.value) in
+    (node.at, rw (c.live.ensures.cells, c.slot.ensures) node.stands)
+
+pub release-requires-clause-read : goal.release-requires-clause-read
+release-requires-clause-read c = rw (c.live.ensures.cells, c.slot.ensures) c.in-Some.ensures.read
 
 freed : (c : goal.After-release) → Stands c.release.new.store.cells × (content_of c.release.new.store.cells ≡ after_free c.args.ptr.place (content_of c.args.store.now.cells))
 freed c =
     let old : Cells = c.args.store.now.cells in
-    let live = sym c.is_live.ensures.value ∙ c.if-not-is_live.false in
+    let live = sym c.in-Some.ensures.value in
     let node = live_at old c.requires c.args.ptr.place c.args.ptr.slot live in
-    freed_stands old c.requires c.args.ptr.place c.args.ptr.slot c.release.new.store.cells node live (c.release.ensures.leads node.at (rw (c.is_live.ensures.cells, c.slot.ensures) node.stands))
+    freed_stands old c.requires c.args.ptr.place c.args.ptr.slot c.release.new.store.cells node live (c.release.ensures.leads node.at (rw (c.live.ensures.cells, c.slot.ensures) node.stands))
 
 pub returns-clause-stands : goal.returns-clause-stands
 returns-clause-stands c = (freed c).0
 
 pub returns-clause-ok : goal.returns-clause-ok
 returns-clause-ok c =
-    ap (λ b. cond b (Ok (after_free c.args.ptr.place (content_of c.args.store.now.cells))) (Err BadPointer)) (sym c.is_live.ensures.value ∙ c.if-not-is_live.false) ∙ ap (λ x. Ok x) (sym (freed c).1)
+    ap (λ b. cond b (Ok (after_free c.args.ptr.place (content_of c.args.store.now.cells))) (Err BadPointer)) (sym c.in-Some.ensures.value) ∙ ap (λ x. Ok x) (sym (freed c).1)

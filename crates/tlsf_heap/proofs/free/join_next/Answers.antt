@@ -1,45 +1,79 @@
-use Rattle.std.proofs.Common.{◌≡◌, ℕ, true, false, sym, ap, ◌∙◌, subst, Some}
+use Rattle.std.proofs.Common.{◌≡◌, ℕ, ◌+◌, true, false, sym, ap, ◌∙◌, subst, arith, Some}
+use Rattle.tlsf_store.specs.declared.records.State.{State}
 use Rattle.tlsf_store.specs.declared.records.Record.{Record}
 use Rattle.tlsf_store.specs.Records.{record_at}
 use Rattle.tlsf_store.specs.Cells.{Cells}
+use Rattle.tlsf_heap.specs.declared.span.Span.{Span}
+use Rattle.tlsf_heap.specs.Inner.Edits.{IsUsed}
 use Rattle.tlsf_heap.specs.Inner.States.{is_state_free}
 use Rattle.tlsf_heap.specs.Inner.Nodes.{Status, is_listed}
 use Rattle.tlsf_heap.specs.Inner.At.{At, StandsAt, next_joined}
+use Rattle.tlsf_heap.specs.Inner.Spans.{IsRead}
 use Rattle.tlsf_heap.proofs.Inner.Joinable.{Joins, next_joins, back_stays, back_is_live}
 use Rattle.tlsf_heap.proofs.Inner.Steps.{slot_used}
+use Rattle.tlsf_heap.proofs.Inner.Spans.{back_used, join_fits, joins_by, JoinsBy}
 use Rattle.tlsf_heap.proofs.free.join_next.Goals as goal
 
-pub read-block-requires : goal.read-block-requires
-read-block-requires c = (slot_used c.args.store.now.cells c.args.slot c.requires.0 c.requires.1 c.requires.3).0
+-- the slot behind is in use
+in_use : (cells : Cells) (span : Span) (n : ℕ) (status : Status) (at : At) → StandsAt span.slot status cells at → IsRead span cells.records → span.next ≡ Some n → IsUsed cells.records (Some n)
+in_use cells span n status at stands read link = subst (λ o. IsUsed cells.records o) (sym read.next ∙ link) (back_used cells span.slot status at stands)
+
+pub read_used-next-requires-clause-within : goal.read_used-next-requires-clause-within
+read_used-next-requires-clause-within c = (in_use c.args.store.now.cells c.args.block c.in-Some.next_slot c.requires.stands.0 c.requires.stands.1 c.requires.stands.3 c.requires.read c.in-Some.is).0
+
+pub read_used-next-requires-clause-used : goal.read_used-next-requires-clause-used
+read_used-next-requires-clause-used c = (in_use c.args.store.now.cells c.args.block c.in-Some.next_slot c.requires.stands.0 c.requires.stands.1 c.requires.stands.3 c.requires.read c.in-Some.is).1
 
 pub returns-in_default-clause-leads : goal.returns-in_default-clause-leads
 returns-in_default-clause-leads c status at unlisted stands =
-    let same = back_stays c.args.store.now.cells at c.args.slot status unlisted stands (ap (λ r. r.next) (sym c.read-block.ensures.value) ∙ c.in_default.is) in
-    rw c.read-block.ensures.cells (subst (λ (a : At). StandsAt c.args.slot status c.args.store.now.cells a) (sym same) stands)
+    let same = back_stays c.args.store.now.cells at c.args.block.slot status unlisted stands (sym c.requires.read.next ∙ c.in_default.is) in
+    subst (λ (a : At). StandsAt c.args.block.slot status c.args.store.now.cells a) (sym same) stands
 
 pub returns-then-not-is_free-clause-leads : goal.returns-then-not-is_free-clause-leads
 returns-then-not-is_free-clause-leads c status at unlisted stands =
     let old : Cells = c.args.store.now.cells in
-    let link = ap (λ r. r.next) (sym c.read-block.ensures.value) ∙ c.in-Some.is in
-    let back_at : c.read-next.result ≡ record_at old.records c.in-Some.next_slot = c.read-next.ensures.value ∙ ap (λ (s : Cells). record_at s.records c.in-Some.next_slot) c.read-block.ensures.cells in
-    let live : is_state_free (record_at old.records c.in-Some.next_slot).state ≡ false = sym (ap (λ r. is_state_free r.state) back_at) ∙ sym c.is_free.ensures ∙ c.if-not-is_free.true in
-    rw (c.read-next.ensures.cells, c.read-block.ensures.cells)
-    (subst (λ (a : At). StandsAt c.args.slot status old a) (sym (back_is_live old at c.args.slot status unlisted stands c.in-Some.next_slot link live)) stands)
+    let live : is_state_free (record_at old.records c.in-Some.next_slot).state ≡ false = sym (ap (λ (r : Record). is_state_free r.state) c.read_used-next.ensures.value) ∙ sym c.is_free.ensures ∙ c.if-not-is_free.true in
+    rw c.read_used-next.ensures.cells
+    (subst (λ (a : At). StandsAt c.args.block.slot status old a) (sym (back_is_live old at c.args.block.slot status unlisted stands c.in-Some.next_slot (sym c.requires.read.next ∙ c.in-Some.is) live)) stands)
+
+-- the two that join
+joining : (old : Cells) (span : Span) (n : ℕ) (status : Status) (at : At) (next : Record) → is_listed status ≡ false → StandsAt span.slot status old at → IsRead span old.records → span.next ≡ Some n → next ≡ record_at old.records n → is_state_free next.state ≡ true
+    → Joins span.slot n n next.size span.slot status old (next_joined at)
+joining old span n status at next unlisted stands read link is free =
+    next_joins old at span.slot status unlisted stands n next.size (sym read.next ∙ link) (sym (ap (λ (r : Record). is_state_free r.state) is) ∙ free) (ap (λ (r : Record). r.size) is)
 
 -- what join needs and leaves
-joins : (old : Cells) (slot p : ℕ) (status : Status) (at : At) → is_listed status ≡ false → StandsAt slot status old at → (block next : Record) → block ≡ record_at old.records slot → block.next ≡ Some p → next ≡ record_at old.records p → is_state_free next.state ≡ true
-    → Joins slot p p next.size slot status old (next_joined at)
-joins old slot p status at unlisted stands block next block_is link back_is free =
-    next_joins old at slot status unlisted stands p next.size (ap (λ r. r.next) (sym block_is) ∙ link) (sym (ap (λ r. is_state_free r.state) back_is) ∙ free) (ap (λ r. r.size) back_is)
+joined : (old : Cells) (span : Span) (state : State) (n : ℕ) (status : Status) (at : At) (next : Record) → is_listed status ≡ false → StandsAt span.slot status old at → IsRead span old.records → span.next ≡ Some n → next ≡ record_at old.records n → is_state_free next.state ≡ true → state ≡ (record_at old.records span.slot).state
+    → JoinsBy (record span { size = span.size + next.size; next = next.next }) state n next status old (next_joined at)
+joined old span state n status at next unlisted stands read link is free same =
+    joins_by old (record span { size = span.size + next.size; next = next.next }) state n n next status (next_joined at) (joining old span n status at next unlisted stands read link is free) is
+    read.place (omega (arith, ap (λ (r : Record). r.size) is, read.size)) (ap (λ (r : Record). r.next) is) read.in_units same
 
-pub join-requires : goal.join-requires
-join-requires c =
-    let back_is = c.read-next.ensures.value ∙ ap (λ (s : Cells). record_at s.records c.in-Some.next_slot) c.read-block.ensures.cells in
-    rw (c.read-next.ensures.cells, c.read-block.ensures.cells)
-    (joins c.args.store.now.cells c.args.slot c.in-Some.next_slot c.requires.0 c.requires.1 c.requires.2 c.requires.3 c.read-block.result c.read-next.result c.read-block.ensures.value c.in-Some.is back_is (sym c.is_free.ensures ∙ c.if-not-is_free.false)).ready
+pub overflow_add-merged : goal.overflow_add-merged
+overflow_add-merged c =
+    let old : Cells = c.args.store.now.cells in
+    omega (
+      arith,
+      join_fits old c.args.block.slot c.in-Some.next_slot c.in-Some.next_slot c.read_used-next.result.size c.args.block.slot c.requires.stands.0 (next_joined c.requires.stands.1)
+          (joining old c.args.block c.in-Some.next_slot c.requires.stands.0 c.requires.stands.1 c.read_used-next.result c.requires.stands.2 c.requires.stands.3 c.requires.read c.in-Some.is c.read_used-next.ensures.value (sym c.is_free.ensures ∙ c.if-not-is_free.false)),
+      ap (λ (r : Record). r.size) c.read_used-next.ensures.value,
+      c.requires.read.size,
+    )
+
+pub join-requires-clause-can : goal.join-requires-clause-can
+join-requires-clause-can c =
+    rw c.read_used-next.ensures.cells
+    (joined c.args.store.now.cells c.args.block c.args.state c.in-Some.next_slot c.requires.stands.0 c.requires.stands.1 c.read_used-next.result c.requires.stands.2 c.requires.stands.3 c.requires.read c.in-Some.is c.read_used-next.ensures.value (sym c.is_free.ensures ∙ c.if-not-is_free.false) c.requires.state).ready
 
 pub returns-clause-leads : goal.returns-clause-leads
 returns-clause-leads c status at unlisted stands =
-    let back_is = c.read-next.ensures.value ∙ ap (λ (s : Cells). record_at s.records c.in-Some.next_slot) c.read-block.ensures.cells in
-    rw (c.join.ensures.cells, c.read-next.ensures.cells, c.read-block.ensures.cells)
-    (joins c.args.store.now.cells c.args.slot c.in-Some.next_slot status at unlisted stands c.read-block.result c.read-next.result c.read-block.ensures.value c.in-Some.is back_is (sym c.is_free.ensures ∙ c.if-not-is_free.false)).leads
+    rw (c.join.ensures.cells, c.read_used-next.ensures.cells)
+    (joined c.args.store.now.cells c.args.block c.args.state c.in-Some.next_slot status at c.read_used-next.result unlisted stands c.requires.read c.in-Some.is c.read_used-next.ensures.value (sym c.is_free.ensures ∙ c.if-not-is_free.false) c.requires.state).leads
+
+pub returns-clause-read : goal.returns-clause-read
+returns-clause-read c =
+    rw (c.join.ensures.cells, c.read_used-next.ensures.cells)
+    (joined c.args.store.now.cells c.args.block c.args.state c.in-Some.next_slot c.requires.stands.0 c.requires.stands.1 c.read_used-next.result c.requires.stands.2 c.requires.stands.3 c.requires.read c.in-Some.is c.read_used-next.ensures.value (sym c.is_free.ensures ∙ c.if-not-is_free.false) c.requires.state).read
+
+pub join-requires-clause-new_used : goal.join-requires-clause-new_used
+join-requires-clause-new_used c e = (slot_used c.args.store.now.cells c.args.block.slot c.requires.stands.0 c.requires.stands.1 c.requires.stands.3).1 (sym c.requires.state ∙ e)

@@ -1,45 +1,79 @@
-use Rattle.std.proofs.Common.{◌≡◌, ℕ, true, false, sym, ap, ◌∙◌, subst, Some}
+use Rattle.std.proofs.Common.{◌≡◌, ℕ, ◌+◌, ◌%◌, true, false, sym, ap, ◌∙◌, subst, arith, Option, Some}
+use Rattle.tlsf_class.specs.Classes.{unit}
 use Rattle.tlsf_store.specs.declared.records.Record.{Record}
 use Rattle.tlsf_store.specs.Records.{record_at}
 use Rattle.tlsf_store.specs.Cells.{Cells}
+use Rattle.tlsf_heap.specs.declared.span.Span.{Span}
+use Rattle.tlsf_heap.specs.Inner.Edits.{IsUsed}
 use Rattle.tlsf_heap.specs.Inner.States.{is_state_free}
 use Rattle.tlsf_heap.specs.Inner.Nodes.{Loose}
 use Rattle.tlsf_heap.specs.Inner.At.{At, StandsAt, previous_joined}
+use Rattle.tlsf_heap.specs.Inner.Spans.{IsRead}
 use Rattle.tlsf_heap.proofs.Inner.Joinable.{Joins, previous_joins, front_stays, front_is_live}
-use Rattle.tlsf_heap.proofs.Inner.Steps.{slot_used}
+use Rattle.tlsf_heap.proofs.Inner.Spans.{front_used, join_fits, joins_by, JoinsBy}
 use Rattle.tlsf_heap.proofs.free.join_previous.Goals as goal
 
-pub read-block-requires : goal.read-block-requires
-read-block-requires c = (slot_used c.args.store.now.cells c.args.slot Loose c.requires.0 c.requires.1).0
+-- the slot in front is in use
+in_use : (cells : Cells) (slot p : ℕ) (at : At) (previous : Option ℕ) → StandsAt slot Loose cells at → previous ≡ (record_at cells.records slot).prev → previous ≡ Some p → IsUsed cells.records (Some p)
+in_use cells slot p at previous stands is link = subst (λ o. IsUsed cells.records o) (sym is ∙ link) (front_used cells slot Loose at stands)
+
+pub read_used-front-requires-clause-within : goal.read_used-front-requires-clause-within
+read_used-front-requires-clause-within c = (in_use c.args.store.now.cells c.args.block.slot c.in-Some.previous_slot c.requires.stands.0 c.args.previous c.requires.stands.1 c.requires.previous c.in-Some.is).0
+
+pub read_used-front-requires-clause-used : goal.read_used-front-requires-clause-used
+read_used-front-requires-clause-used c = (in_use c.args.store.now.cells c.args.block.slot c.in-Some.previous_slot c.requires.stands.0 c.args.previous c.requires.stands.1 c.requires.previous c.in-Some.is).1
 
 pub returns-in_default-clause-leads : goal.returns-in_default-clause-leads
 returns-in_default-clause-leads c at stands =
-    let same = front_stays c.args.store.now.cells at c.args.slot stands (ap (λ r. r.prev) (sym c.read-block.ensures.value) ∙ c.in_default.is) in
-    rw c.read-block.ensures.cells (subst (λ (a : At). StandsAt c.args.slot Loose c.args.store.now.cells a) (sym same) stands)
+    let same = front_stays c.args.store.now.cells at c.args.block.slot stands (sym c.requires.previous ∙ c.in_default.is) in
+    subst (λ (a : At). StandsAt c.args.block.slot Loose c.args.store.now.cells a) (sym same) stands
 
 pub returns-then-not-is_free-clause-leads : goal.returns-then-not-is_free-clause-leads
 returns-then-not-is_free-clause-leads c at stands =
     let old : Cells = c.args.store.now.cells in
-    let link = ap (λ r. r.prev) (sym c.read-block.ensures.value) ∙ c.in-Some.is in
-    let front_at : c.read-previous.result ≡ record_at old.records c.in-Some.previous_slot = c.read-previous.ensures.value ∙ ap (λ (s : Cells). record_at s.records c.in-Some.previous_slot) c.read-block.ensures.cells in
-    let live : is_state_free (record_at old.records c.in-Some.previous_slot).state ≡ false = sym (ap (λ r. is_state_free r.state) front_at) ∙ sym c.is_free.ensures ∙ c.if-not-is_free.true in
-    rw (c.read-previous.ensures.cells, c.read-block.ensures.cells)
-    (subst (λ (a : At). StandsAt c.args.slot Loose old a) (sym (front_is_live old at c.args.slot stands c.in-Some.previous_slot link live)) stands)
+    let live : is_state_free (record_at old.records c.in-Some.previous_slot).state ≡ false = sym (ap (λ (r : Record). is_state_free r.state) c.read_used-front.ensures.value) ∙ sym c.is_free.ensures ∙ c.if-not-is_free.true in
+    rw c.read_used-front.ensures.cells
+    (subst (λ (a : At). StandsAt c.args.block.slot Loose old a) (sym (front_is_live old at c.args.block.slot stands c.in-Some.previous_slot (sym c.requires.previous ∙ c.in-Some.is) live)) stands)
+
+-- the two that join
+joining : (old : Cells) (slot p : ℕ) (at : At) (previous : Option ℕ) (front : Record) → StandsAt slot Loose old at → previous ≡ (record_at old.records slot).prev → previous ≡ Some p → front ≡ record_at old.records p → is_state_free front.state ≡ true
+    → Joins p slot p front.size p Loose old (previous_joined at)
+joining old slot p at previous front stands previous_is link is free =
+    previous_joins old at slot stands p front.size (sym previous_is ∙ link) (sym (ap (λ (r : Record). is_state_free r.state) is) ∙ free) (ap (λ (r : Record). r.size) is)
 
 -- what join needs and leaves
-joins : (old : Cells) (slot p : ℕ) (at : At) → StandsAt slot Loose old at → (block previous : Record) → block ≡ record_at old.records slot → block.prev ≡ Some p → previous ≡ record_at old.records p → is_state_free previous.state ≡ true
-    → Joins p slot p previous.size p Loose old (previous_joined at)
-joins old slot p at stands block previous block_is link front_is free =
-    previous_joins old at slot stands p previous.size (ap (λ r. r.prev) (sym block_is) ∙ link) (sym (ap (λ r. is_state_free r.state) front_is) ∙ free) (ap (λ r. r.size) front_is)
+joined : (old : Cells) (span : Span) (p : ℕ) (at : At) (previous : Option ℕ) (front : Record) → StandsAt span.slot Loose old at → IsRead span old.records → previous ≡ (record_at old.records span.slot).prev → previous ≡ Some p → front ≡ record_at old.records p → is_state_free front.state ≡ true → front.place % unit ≡ 0
+    → JoinsBy (record { slot = p; place = front.place; size = front.size + span.size; next = span.next }) front.state span.slot front Loose old (previous_joined at)
+joined old span p at previous front stands read previous_is link is free in_units =
+    joins_by old (record { slot = p; place = front.place; size = front.size + span.size; next = span.next }) front.state span.slot p front Loose (previous_joined at) (joining old span.slot p at previous front stands previous_is link is free) is
+    (ap (λ (r : Record). r.place) is) (omega (arith, ap (λ (r : Record). r.size) is, read.size)) read.next in_units (ap (λ (r : Record). r.state) is)
 
-pub join-requires : goal.join-requires
-join-requires c =
-    let front_is = c.read-previous.ensures.value ∙ ap (λ (s : Cells). record_at s.records c.in-Some.previous_slot) c.read-block.ensures.cells in
-    rw (c.read-previous.ensures.cells, c.read-block.ensures.cells)
-    (joins c.args.store.now.cells c.args.slot c.in-Some.previous_slot c.requires.0 c.requires.1 c.read-block.result c.read-previous.result c.read-block.ensures.value c.in-Some.is front_is (sym c.is_free.ensures ∙ c.if-not-is_free.false)).ready
+pub overflow_add-merged : goal.overflow_add-merged
+overflow_add-merged c =
+    let old : Cells = c.args.store.now.cells in
+    omega (
+      arith,
+      join_fits old c.in-Some.previous_slot c.args.block.slot c.in-Some.previous_slot c.read_used-front.result.size c.in-Some.previous_slot Loose (previous_joined c.requires.stands.0)
+          (joining old c.args.block.slot c.in-Some.previous_slot c.requires.stands.0 c.args.previous c.read_used-front.result c.requires.stands.1 c.requires.previous c.in-Some.is c.read_used-front.ensures.value (sym c.is_free.ensures ∙ c.if-not-is_free.false)),
+      ap (λ (r : Record). r.size) c.read_used-front.ensures.value,
+      c.requires.read.size,
+    )
+
+pub join-requires-clause-can : goal.join-requires-clause-can
+join-requires-clause-can c =
+    rw c.read_used-front.ensures.cells
+    (joined c.args.store.now.cells c.args.block c.in-Some.previous_slot c.requires.stands.0 c.args.previous c.read_used-front.result c.requires.stands.1 c.requires.read c.requires.previous c.in-Some.is c.read_used-front.ensures.value (sym c.is_free.ensures ∙ c.if-not-is_free.false) c.read_used-front.ensures.kept.place).ready
 
 pub returns-clause-leads : goal.returns-clause-leads
 returns-clause-leads c at stands =
-    let front_is = c.read-previous.ensures.value ∙ ap (λ (s : Cells). record_at s.records c.in-Some.previous_slot) c.read-block.ensures.cells in
-    rw (c.join.ensures.cells, c.read-previous.ensures.cells, c.read-block.ensures.cells)
-    (joins c.args.store.now.cells c.args.slot c.in-Some.previous_slot at stands c.read-block.result c.read-previous.result c.read-block.ensures.value c.in-Some.is front_is (sym c.is_free.ensures ∙ c.if-not-is_free.false)).leads
+    rw (c.join.ensures.cells, c.read_used-front.ensures.cells)
+    (joined c.args.store.now.cells c.args.block c.in-Some.previous_slot at c.args.previous c.read_used-front.result stands c.requires.read c.requires.previous c.in-Some.is c.read_used-front.ensures.value (sym c.is_free.ensures ∙ c.if-not-is_free.false) c.read_used-front.ensures.kept.place).leads
+
+pub returns-clause-read : goal.returns-clause-read
+returns-clause-read c =
+    rw (c.join.ensures.cells, c.read_used-front.ensures.cells)
+    (joined c.args.store.now.cells c.args.block c.in-Some.previous_slot c.requires.stands.0 c.args.previous c.read_used-front.result c.requires.stands.1 c.requires.read c.requires.previous c.in-Some.is c.read_used-front.ensures.value (sym c.is_free.ensures ∙ c.if-not-is_free.false) c.read_used-front.ensures.kept.place).read
+
+pub join-requires-clause-new_used : goal.join-requires-clause-new_used
+join-requires-clause-new_used c e =
+    (in_use c.args.store.now.cells c.args.block.slot c.in-Some.previous_slot c.requires.stands.0 c.args.previous c.requires.stands.1 c.requires.previous c.in-Some.is).1 (sym (ap (λ (r : Record). r.state) c.read_used-front.ensures.value) ∙ e)

@@ -1,12 +1,14 @@
-use Rattle.std.proofs.Common.{◌≡◌, ℕ, ◌<◌, length, sym, ◌∙◌, arith, Option, Some, Ok}
+use Rattle.std.proofs.Common.{◌≡◌, ◌≢◌, ℕ, ◌<◌, length, sym, ap, ◌∙◌, arith, Option, Some, Ok}
 use Rattle.tlsf_store.specs.declared.records.Record.{Record}
+use Rattle.tlsf_store.specs.declared.records.State.TheVariants.{Free}
 use Rattle.tlsf_store.specs.Records.{blank, record_at}
 use Rattle.tlsf_store.specs.Cells.{Cells, with_taken}
+use Rattle.tlsf_store.proofs.RecordLaws.{record_at-set_other}
 use Rattle.tlsf_heap.specs.Malloc.{malloc_picked}
 use Rattle.tlsf_heap.specs.Inner.Nodes.{Listed}
 use Rattle.tlsf_heap.specs.Inner.Following.{Stands, content_of}
 use Rattle.tlsf_heap.specs.Inner.At.{At, StandsAt, with_slot}
-use Rattle.tlsf_heap.proofs.Inner.Steps.{size_read}
+use Rattle.tlsf_heap.proofs.Inner.Steps.{slot_used, size_read}
 use Rattle.tlsf_heap.proofs.Inner.Allotted.{slot_stands}
 use Rattle.tlsf_heap.proofs.Inner.Live.{free_at}
 use Rattle.tlsf_heap.proofs.Inner.Served.{room_left, holds, whole_stands, part_stands, full_refused}
@@ -22,34 +24,48 @@ spared : (old before new : Cells) (result : Option ℕ) (slot rest : ℕ) (at : 
 spared old before new result slot rest at stands same is taken within vacant =
     rw (taken, is, same) (slot_stands old slot Listed at rest stands (rw same at within) (rw same at vacant))
 
-pub take_whole-requires : goal.take_whole-requires
-take_whole-requires c =
-    let old : Cells = c.args.store.now.cells in
-    let by = free_at old c.requires.stands c.args.slot c.requires.free in
-    (by.at, rw c.read-block.ensures.cells by.stands, sym c.if-block-asked.true ∙ size_is old c.args.slot by.at c.read-block.result by.stands c.read-block.ensures.value)
+-- the record of a free block is as it was read, once another was taken
+kept : (old before new : Cells) (result : Option ℕ) (slot rest : ℕ) (block : Record) → (record_at old.records slot).state ≡ Free → before ≡ old → result ≡ Some rest → new ≡ with_taken before result → record_at before.records rest ≡ blank → block ≡ record_at old.records slot
+    → block ≡ record_at new.records slot
+kept old before new result slot rest block free same is taken vacant read =
+    let blank_there : record_at old.records rest ≡ blank = rw same at vacant in
+    let apart : slot ≢ rest = λ e. let both : Free ≡ blank.state = sym free ∙ ap (λ q. (record_at old.records q).state) e ∙ ap (λ (r : Record). r.state) blank_there in absurd (cc both) in
+    read ∙ sym (ap (λ (c : Cells). record_at c.records slot) (taken ∙ ap (with_taken before) is ∙ ap (λ c. with_taken c (Some rest)) same) ∙ record_at-set_other old.records rest slot _ apart)
+
+pub read_used-block-requires-clause-within : goal.read_used-block-requires-clause-within
+read_used-block-requires-clause-within c =
+    let by = free_at c.args.store.now.cells c.requires.stands c.args.slot c.requires.free in (slot_used c.args.store.now.cells c.args.slot Listed by.at by.stands).0
+
+pub read_used-block-requires-clause-used : goal.read_used-block-requires-clause-used
+read_used-block-requires-clause-used c =
+    let by = free_at c.args.store.now.cells c.requires.stands c.args.slot c.requires.free in (slot_used c.args.store.now.cells c.args.slot Listed by.at by.stands).1
+
+pub take_whole-requires-clause-stands : goal.take_whole-requires-clause-stands
+take_whole-requires-clause-stands c =
+    let by = free_at c.args.store.now.cells c.requires.stands c.args.slot c.requires.free in (by.at, rw c.read_used-block.ensures.cells by.stands)
 
 -- what a whole block leaves
 whole : (c : goal.After-new) → Stands c.take_whole.new.store.cells × (malloc_picked c.args.slot c.args.asked (Some (record_at c.args.store.now.cells.records c.args.slot).place) (content_of c.args.store.now.cells) ≡ Ok ((record_at c.args.store.now.cells.records c.args.slot).place, content_of c.take_whole.new.store.cells))
 whole c =
     let old : Cells = c.args.store.now.cells in
     let by = free_at old c.requires.stands c.args.slot c.requires.free in
-    let size = sym c.if-block-asked.true ∙ size_is old c.args.slot by.at c.read-block.result by.stands c.read-block.ensures.value in
+    let size = sym c.if-block-asked.true ∙ size_is old c.args.slot by.at c.read_used-block.result by.stands c.read_used-block.ensures.value in
     whole_stands old c.requires.stands (record_at old.records c.args.slot).place c.args.slot c.args.asked by c.requires.some c.requires.whole c.requires.found c.take_whole.new.store.cells
-    (c.take_whole.ensures.leads by.at (rw c.read-block.ensures.cells by.stands) size) size
+    (c.take_whole.ensures.leads by.at (rw c.read_used-block.ensures.cells by.stands)) size
 
 pub returns-then-block-asked-clause-stands : goal.returns-then-block-asked-clause-stands
 returns-then-block-asked-clause-stands c = (whole c).0
 
 pub returns-then-block-asked-clause-ok : goal.returns-then-block-asked-clause-ok
-returns-then-block-asked-clause-ok c = rw (c.new.ensures, c.read-block.ensures.value, c.slot.view_is) (whole c).1
+returns-then-block-asked-clause-ok c = rw (c.new.ensures, c.read_used-block.ensures.value, c.slot.view_is) (whole c).1
 
 pub returns-in_default-clause-refused : goal.returns-in_default-clause-refused
 returns-in_default-clause-refused c =
     let old : Cells = c.args.store.now.cells in
     let by = free_at old c.requires.stands c.args.slot c.requires.free in
     let place : ℕ = (record_at old.records c.args.slot).place in
-    let none = rw c.read-block.ensures.cells at c.in_default.ensures.none in
-    let size = size_is old c.args.slot by.at c.read-block.result by.stands c.read-block.ensures.value in
+    let none = rw c.read_used-block.ensures.cells at c.in_default.ensures.none in
+    let size = size_is old c.args.slot by.at c.read_used-block.result by.stands c.read_used-block.ensures.value in
     let least = holds old c.requires.stands place c.args.slot c.args.asked by c.requires.some c.requires.whole c.requires.found in
     full_refused old c.requires.stands place c.args.slot c.args.asked by c.requires.some c.requires.whole c.requires.found none (omega (arith, least, size, c.if-block-asked.false))
 
@@ -58,15 +74,18 @@ take_part-requires-clause-stands c =
     let old : Cells = c.args.store.now.cells in
     let by = free_at old c.requires.stands c.args.slot c.requires.free in (
       by.at,
-      spared old c.read-block.new.self.cells c.take_vacant.new.self.cells c.take_vacant.result c.args.slot c.in-Some.rest by.at by.stands c.read-block.ensures.cells c.in-Some.is c.take_vacant.ensures.taken c.in-Some.ensures.within c.in-Some.ensures.vacant,
-      size_is old c.args.slot by.at c.read-block.result by.stands c.read-block.ensures.value,
+      spared old c.read_used-block.new.self.cells c.take_vacant.new.self.cells c.take_vacant.result c.args.slot c.in-Some.rest by.at by.stands c.read_used-block.ensures.cells c.in-Some.is c.take_vacant.ensures.taken c.in-Some.ensures.within c.in-Some.ensures.vacant,
     )
+
+pub take_part-requires-clause-read : goal.take_part-requires-clause-read
+take_part-requires-clause-read c =
+    kept c.args.store.now.cells c.read_used-block.new.self.cells c.take_vacant.new.self.cells c.take_vacant.result c.args.slot c.in-Some.rest c.read_used-block.result c.requires.free c.read_used-block.ensures.cells c.in-Some.is c.take_vacant.ensures.taken c.in-Some.ensures.vacant c.read_used-block.ensures.value
 
 pub take_part-requires-clause-less : goal.take_part-requires-clause-less
 take_part-requires-clause-less c =
     let old : Cells = c.args.store.now.cells in
     let by = free_at old c.requires.stands c.args.slot c.requires.free in
-    let size = size_is old c.args.slot by.at c.read-block.result by.stands c.read-block.ensures.value in
+    let size = size_is old c.args.slot by.at c.read_used-block.result by.stands c.read_used-block.ensures.value in
     let least = holds old c.requires.stands (record_at old.records c.args.slot).place c.args.slot c.args.asked by c.requires.some c.requires.whole c.requires.found in
     omega (arith, least, size, c.if-block-asked.false)
 
@@ -76,15 +95,15 @@ part c =
     let old : Cells = c.args.store.now.cells in
     let by = free_at old c.requires.stands c.args.slot c.requires.free in
     let place : ℕ = (record_at old.records c.args.slot).place in
-    let size = size_is old c.args.slot by.at c.read-block.result by.stands c.read-block.ensures.value in
+    let size = size_is old c.args.slot by.at c.read_used-block.result by.stands c.read_used-block.ensures.value in
     let least = holds old c.requires.stands place c.args.slot c.args.asked by c.requires.some c.requires.whole c.requires.found in
-    let stands = spared old c.read-block.new.self.cells c.take_vacant.new.self.cells c.take_vacant.result c.args.slot c.in-Some.rest by.at by.stands c.read-block.ensures.cells c.in-Some.is c.take_vacant.ensures.taken c.in-Some.ensures.within c.in-Some.ensures.vacant in
-    let room = room_left old c.requires.stands c.in-Some.rest (rw c.read-block.ensures.cells at c.in-Some.ensures.within) (rw c.read-block.ensures.cells at c.in-Some.ensures.vacant) in
+    let stands = spared old c.read_used-block.new.self.cells c.take_vacant.new.self.cells c.take_vacant.result c.args.slot c.in-Some.rest by.at by.stands c.read_used-block.ensures.cells c.in-Some.is c.take_vacant.ensures.taken c.in-Some.ensures.within c.in-Some.ensures.vacant in
+    let room = room_left old c.requires.stands c.in-Some.rest (rw c.read_used-block.ensures.cells at c.in-Some.ensures.within) (rw c.read_used-block.ensures.cells at c.in-Some.ensures.vacant) in
     part_stands old c.requires.stands place c.args.slot c.args.asked by c.requires.some c.requires.whole c.requires.found c.take_part.new.store.cells c.in-Some.rest
-    (c.take_part.ensures.leads by.at stands size) (omega (arith, least, size, c.if-block-asked.false)) room
+    (c.take_part.ensures.leads by.at stands) (omega (arith, least, size, c.if-block-asked.false)) room
 
 pub returns-clause-stands : goal.returns-clause-stands
 returns-clause-stands c = (part c).0
 
 pub returns-clause-ok : goal.returns-clause-ok
-returns-clause-ok c = rw (c.new-2.ensures, c.read-block.ensures.value, c.slot-2.view_is) (part c).1
+returns-clause-ok c = rw (c.new-2.ensures, c.read_used-block.ensures.value, c.slot-2.view_is) (part c).1

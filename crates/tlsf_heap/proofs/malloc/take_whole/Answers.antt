@@ -1,40 +1,59 @@
-use Rattle.std.proofs.Common.{◌≡◌, ℕ, ◌%◌, refl, ap, ◌∙◌, arith}
+use Rattle.std.proofs.Common.{◌≡◌, ℕ, ◌%◌, refl, sym, subst}
 use Rattle.tlsf_class.specs.Classes.{class, unit}
+use Rattle.tlsf_store.specs.declared.records.Record.{Record}
+use Rattle.tlsf_store.specs.Records.{record_at}
 use Rattle.tlsf_store.specs.Cells.{Cells}
-use Rattle.tlsf_heap.specs.Inner.Edits.{unlinked}
+use Rattle.tlsf_heap.specs.Inner.Edits.{IsUsed, unlinked_by}
 use Rattle.tlsf_heap.specs.Inner.Nodes.{InUse, Listed, Loose}
 use Rattle.tlsf_heap.specs.Inner.At.{At, StandsAt, at_unlisted}
-use Rattle.tlsf_heap.proofs.Inner.Steps.{slot_used, whole_at, turned_stands}
-use Rattle.tlsf_heap.proofs.Inner.Allotted.{prev_used, behind_used, unlinked_stands}
+use Rattle.tlsf_heap.specs.Inner.Spans.{span_of, IsRead}
+use Rattle.tlsf_heap.proofs.Inner.Steps.{slot_used, turned_stands}
+use Rattle.tlsf_heap.proofs.Inner.Spans.{listed_read, read_leaves, read_of, by_node, by_record, back_used}
 use Rattle.tlsf_heap.proofs.malloc.take_whole.Goals as goal
 
 pub class_of-requires-clause-whole : goal.class_of-requires-clause-whole
-class_of-requires-clause-whole c = ap (λ n. n % unit) c.requires.2 ∙ (whole_at c.args.store.now.cells c.args.slot Listed c.requires.0 c.requires.1).in_units
+class_of-requires-clause-whole c = (listed_read c.args.store.now.cells c.args.slot c.args.block.now c.requires.stands.0 c.requires.stands.1 c.requires.read).whole
 
 pub class_of-requires-clause-some : goal.class_of-requires-clause-some
-class_of-requires-clause-some c = let whole = whole_at c.args.store.now.cells c.args.slot Listed c.requires.0 c.requires.1 in omega (arith, whole.positive, whole.in_units, c.requires.2)
+class_of-requires-clause-some c = (listed_read c.args.store.now.cells c.args.slot c.args.block.now c.requires.stands.0 c.requires.stands.1 c.requires.read).some
 
 pub class_of-requires-clause-most : goal.class_of-requires-clause-most
-class_of-requires-clause-most c = omega (arith, (whole_at c.args.store.now.cells c.args.slot Listed c.requires.0 c.requires.1).at_most, c.requires.2)
-
-pub unlink-requires-clause-within : goal.unlink-requires-clause-within
-unlink-requires-clause-within c = (slot_used c.args.store.now.cells c.args.slot Listed c.requires.0 c.requires.1).0
+class_of-requires-clause-most c = (listed_read c.args.store.now.cells c.args.slot c.args.block.now c.requires.stands.0 c.requires.stands.1 c.requires.read).most
 
 pub unlink-requires-clause-prev_used : goal.unlink-requires-clause-prev_used
-unlink-requires-clause-prev_used c = prev_used c.args.store.now.cells c.args.slot c.requires.0 c.requires.1
+unlink-requires-clause-prev_used c = (listed_read c.args.store.now.cells c.args.slot c.args.block.now c.requires.stands.0 c.requires.stands.1 c.requires.read).prev_used
 
 pub unlink-requires-clause-next_used : goal.unlink-requires-clause-next_used
-unlink-requires-clause-next_used c = behind_used c.args.store.now.cells c.args.slot c.requires.0 c.requires.1
+unlink-requires-clause-next_used c = (listed_read c.args.store.now.cells c.args.slot c.args.block.now c.requires.stands.0 c.requires.stands.1 c.requires.read).next_used
 
--- once it left its list
-loose : (old new : Cells) (slot size number : ℕ) (at : At) → StandsAt slot Listed old at → size ≡ at.node.size → number ≡ class size → new ≡ unlinked number slot old → StandsAt slot Loose new (at_unlisted at)
-loose old new slot size number at stands size_is number_is left = rw (left, number_is, size_is) (unlinked_stands old slot at stands)
+-- the block as it is known once it left its list
+known : (old new : Cells) (slot number : ℕ) (block : Record) (at : At) → StandsAt slot Listed old at → block ≡ record_at old.records slot → block.place % unit ≡ 0 → number ≡ class block.size → new ≡ unlinked_by number block old → IsRead (span_of slot block) new.records
+known old new slot number block at stands read in_units number_is left =
+    let of = by_node old Listed at (span_of slot block) stands (read_of old.records slot block read in_units) in
+    by_record new Loose (at_unlisted at) (span_of slot block) (read_leaves old new slot number block at stands read number_is left)
+    (record { slot = of.slot; place = of.place; size = of.size; next = of.next; in_units = of.in_units })
 
-pub set_state-requires-clause-used : goal.set_state-requires-clause-used
-set_state-requires-clause-used c =
-    slot_used c.unlink.new.store.cells c.args.slot Loose (at_unlisted c.requires.0) (loose c.args.store.now.cells c.unlink.new.store.cells c.args.slot c.args.size c.class_of.result c.requires.0 c.requires.1 c.requires.2 c.class_of.ensures c.unlink.ensures.cells)
+pub turn-requires-clause-used : goal.turn-requires-clause-used
+turn-requires-clause-used c =
+    let at : At = c.requires.stands.0 in
+    rw c.of-whole.ensures (slot_used c.unlink.new.store.cells c.args.slot Loose (at_unlisted at) (read_leaves c.args.store.now.cells c.unlink.new.store.cells c.args.slot c.class_of.result c.args.block.now at c.requires.stands.1 c.requires.read c.class_of.ensures c.unlink.ensures.cells))
+
+pub turn-requires-clause-next_used : goal.turn-requires-clause-next_used
+turn-requires-clause-next_used c =
+    let at : At = c.requires.stands.0 in
+    let new : Cells = c.unlink.new.store.cells in
+    let left = read_leaves c.args.store.now.cells new c.args.slot c.class_of.result c.args.block.now at c.requires.stands.1 c.requires.read c.class_of.ensures c.unlink.ensures.cells in
+    let read = known c.args.store.now.cells new c.args.slot c.class_of.result c.args.block.now at c.requires.stands.1 c.requires.read c.requires.in_units c.class_of.ensures c.unlink.ensures.cells in
+    rw c.of-whole.ensures (subst (λ o. IsUsed new.records o) (sym read.next) (back_used new c.args.slot Loose (at_unlisted at) left))
+
+pub turn-requires-clause-read : goal.turn-requires-clause-read
+turn-requires-clause-read c =
+    rw c.of-whole.ensures (known c.args.store.now.cells c.unlink.new.store.cells c.args.slot c.class_of.result c.args.block.now c.requires.stands.0 c.requires.stands.1 c.requires.read c.requires.in_units c.class_of.ensures c.unlink.ensures.cells)
+
+pub turn-requires-clause-in_units : goal.turn-requires-clause-in_units
+turn-requires-clause-in_units c = rw c.of-whole.ensures (listed_read c.args.store.now.cells c.args.slot c.args.block.now c.requires.stands.0 c.requires.stands.1 c.requires.read).whole
 
 pub returns-clause-leads : goal.returns-clause-leads
-returns-clause-leads c at stands size_is =
-    rw c.set_state.ensures.cells
-    (turned_stands c.unlink.new.store.cells c.args.slot Loose (at_unlisted at) (loose c.args.store.now.cells c.unlink.new.store.cells c.args.slot c.args.size c.class_of.result at stands size_is c.class_of.ensures c.unlink.ensures.cells) InUse refl refl)
+returns-clause-leads c at stands =
+    rw (c.turn.ensures.cells, c.of-whole.ensures)
+    (turned_stands c.unlink.new.store.cells c.args.slot Loose (at_unlisted at) (read_leaves c.args.store.now.cells c.unlink.new.store.cells c.args.slot c.class_of.result c.args.block.now at stands c.requires.read c.class_of.ensures c.unlink.ensures.cells) InUse refl refl)

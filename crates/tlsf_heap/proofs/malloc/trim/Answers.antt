@@ -1,64 +1,54 @@
-use Rattle.std.proofs.Common.{◌≡◌, ℕ, ◌<◌, ◌≤◌, length, sym, ap, ◌∙◌, arith, Option, Some, inl, inr}
-use Rattle.tlsf_store.specs.declared.records.Record.{Record}
-use Rattle.tlsf_store.specs.Records.{blank, record_at, vacant_count}
+use Rattle.std.proofs.Common.{◌≡◌, ℕ, ◌<◌, length, refl, sym, ap, ◌∙◌, subst, arith, Option, Some}
+use Rattle.tlsf_store.specs.Records.{blank, record_at}
 use Rattle.tlsf_store.specs.Cells.{Cells, with_taken}
-use Rattle.tlsf_heap.specs.Inner.Nodes.{InUse}
-use Rattle.tlsf_heap.specs.Inner.At.{At, StandsAt, with_slot}
+use Rattle.tlsf_heap.specs.declared.span.Span.{Span}
+use Rattle.tlsf_heap.specs.Inner.Nodes.{InUse, Listed}
+use Rattle.tlsf_heap.specs.Inner.At.{At, StandsAt, with_slot, at_turned, at_cut}
+use Rattle.tlsf_heap.specs.Inner.Spans.{IsRead}
 use Rattle.tlsf_heap.proofs.Inner.Steps.{size_read}
 use Rattle.tlsf_heap.proofs.Inner.Allotted.{slot_stands, trimmed_none, trimmed_stands}
+use Rattle.tlsf_heap.proofs.Inner.Spans.{by_node, by_record}
 use Rattle.tlsf_heap.proofs.malloc.trim.Goals as goal
-use Rattle.std.proofs.lemmas.Bool.{cases_lt}
 
 -- the size that was read is the node's
-size_is : (old : Cells) (slot : ℕ) (at : At) (block : Record) → StandsAt slot InUse old at → block ≡ record_at old.records slot → block.size ≡ at.node.size
-size_is old slot at block stands read = rw read (size_read old slot InUse at stands)
+size_is : (old : Cells) (span : Span) (at : At) → StandsAt span.slot InUse old at → IsRead span old.records → span.size ≡ at.node.size
+size_is old span at stands read = read.size ∙ size_read old span.slot InUse at stands
 
--- once it was read, and a record was taken
-spared : (old before new : Cells) (result : Option ℕ) (slot rest : ℕ) (at : At) → StandsAt slot InUse old at → before ≡ old → result ≡ Some rest → new ≡ with_taken before result → rest < length before.records → record_at before.records rest ≡ blank
+-- once a record was taken
+spared : (old new : Cells) (result : Option ℕ) (slot rest : ℕ) (at : At) → StandsAt slot InUse old at → result ≡ Some rest → new ≡ with_taken old result → rest < length old.records → record_at old.records rest ≡ blank
     → StandsAt slot InUse new (with_slot rest at)
-spared old before new result slot rest at stands same is taken within vacant =
-    rw (taken, is, same) (slot_stands old slot InUse at rest stands (rw same at within) (rw same at vacant))
+spared old new result slot rest at stands is taken within vacant =
+    rw (taken, is) (slot_stands old slot InUse at rest stands within vacant)
 
 pub returns-then-block-bytes-clause-leads : goal.returns-then-block-bytes-clause-leads
 returns-then-block-bytes-clause-leads c at stands =
     let old : Cells = c.args.store.now.cells in
-    let size = size_is old c.args.slot at c.read-block.result stands c.read-block.ensures.value in
-    (0, rw c.read-block.ensures.cells (trimmed_none old c.args.slot 0 c.args.bytes at stands (sym c.if-block-bytes.true ∙ size)))
-
--- the bytes are fewer than the block has
-less : (old : Cells) (slot bytes : ℕ) (at : At) (block : Record) → StandsAt slot InUse old at → bytes ≤ at.node.size → block ≡ record_at old.records slot → (block.size ≡ bytes → ⊥) → bytes < block.size
-less old slot bytes at block stands most read other =
-    let size = size_is old slot at block stands read in
-    elim (cases_lt bytes block.size) [
-      | inl fewer ↦ fewer
-      | inr all ↦ absurd (other (omega (arith, all, most, size)))
-    ]
+    (0, trimmed_none old c.args.block.now.slot 0 c.args.bytes at stands (sym c.if-block-bytes.true ∙ size_is old c.args.block.now at stands c.requires.read))
 
 pub unreachable-requires : goal.unreachable-requires
 unreachable-requires c =
-    let old : Cells = c.args.store.now.cells in
-    let fewer = less old c.args.slot c.args.bytes c.requires.stands.0 c.read-block.result c.requires.stands.1 c.requires.stands.2 c.read-block.ensures.value c.if-block-bytes.false in
-    let none : vacant_count old.records ≡ 0 = rw c.read-block.ensures.cells at c.in_default.ensures.none in
-    let sized = ap (λ (r : Record). r.size) c.read-block.ensures.value in
-    omega (arith, none, c.requires.room (omega (arith, fewer, sized)))
+    let none = c.in_default.ensures.none in
+    omega (arith, none, c.requires.room (omega (arith, c.requires.most, c.if-block-bytes.false)))
 
 pub cut-requires-clause-stands : goal.cut-requires-clause-stands
 cut-requires-clause-stands c =
-    let old : Cells = c.args.store.now.cells in
-    let at : At = c.requires.stands.0 in (
-      at,
-      spared old c.read-block.new.self.cells c.take_vacant.new.self.cells c.take_vacant.result c.args.slot c.in-Some.rest at c.requires.stands.1 c.read-block.ensures.cells c.in-Some.is c.take_vacant.ensures.taken c.in-Some.ensures.within c.in-Some.ensures.vacant,
-      size_is old c.args.slot at c.read-block.result c.requires.stands.1 c.read-block.ensures.value,
-    )
+    let at : At = c.requires.stands.0 in
+    (InUse, at, refl, spared c.args.store.now.cells c.take_vacant.new.self.cells c.take_vacant.result c.args.block.now.slot c.in-Some.rest at c.requires.stands.1 c.in-Some.is c.take_vacant.ensures.taken c.in-Some.ensures.within c.in-Some.ensures.vacant)
 
-pub cut-requires-clause-less : goal.cut-requires-clause-less
-cut-requires-clause-less c = less c.args.store.now.cells c.args.slot c.args.bytes c.requires.stands.0 c.read-block.result c.requires.stands.1 c.requires.stands.2 c.read-block.ensures.value c.if-block-bytes.false
+pub cut-requires-clause-read : goal.cut-requires-clause-read
+cut-requires-clause-read c =
+    let at : At = c.requires.stands.0 in
+    let known = by_node c.args.store.now.cells InUse at c.args.block.now c.requires.stands.1 c.requires.read in
+    by_record c.take_vacant.new.self.cells InUse (with_slot c.in-Some.rest at) c.args.block.now
+    (spared c.args.store.now.cells c.take_vacant.new.self.cells c.take_vacant.result c.args.block.now.slot c.in-Some.rest at c.requires.stands.1 c.in-Some.is c.take_vacant.ensures.taken c.in-Some.ensures.within c.in-Some.ensures.vacant)
+    (record { slot = known.slot; place = known.place; size = known.size; next = known.next; in_units = known.in_units })
 
 pub returns-clause-leads : goal.returns-clause-leads
 returns-clause-leads c at stands =
     let old : Cells = c.args.store.now.cells in
     let rest : ℕ = c.in-Some.rest in
-    let size = size_is old c.args.slot at c.read-block.result stands c.read-block.ensures.value in
-    let taken = spared old c.read-block.new.self.cells c.take_vacant.new.self.cells c.take_vacant.result c.args.slot rest at stands c.read-block.ensures.cells c.in-Some.is c.take_vacant.ensures.taken c.in-Some.ensures.within c.in-Some.ensures.vacant in
-    let fewer = less old c.args.slot c.args.bytes c.requires.stands.0 c.read-block.result c.requires.stands.1 c.requires.stands.2 c.read-block.ensures.value c.if-block-bytes.false in
-    (rest, trimmed_stands old c.cut.new.store.cells c.args.slot rest c.args.bytes at stands (omega (arith, fewer, size)) (c.cut.ensures.leads at taken size))
+    let size = size_is old c.args.block.now at stands c.requires.read in
+    let taken = spared old c.take_vacant.new.self.cells c.take_vacant.result c.args.block.now.slot rest at stands c.in-Some.is c.take_vacant.ensures.taken c.in-Some.ensures.within c.in-Some.ensures.vacant in
+    let P : At → Type 0 = λ a. StandsAt rest Listed c.cut.new.store.cells (at_cut rest c.args.bytes a) in
+    let same : at_turned InUse at ≡ at = ap (λ s. at_turned s at) (sym stands.1.status_is) in
+    (rest, trimmed_stands old c.cut.new.store.cells c.args.block.now.slot rest c.args.bytes at stands (omega (arith, c.requires.most, c.if-block-bytes.false, size)) (subst P same (c.cut.ensures.leads InUse at refl taken)))

@@ -1,88 +1,146 @@
-use Rattle.std.proofs.Common.{◌≡◌, ℕ, ◌+◌, ◌-◌, ◌<◌, ◌≤◌, ap, ◌∙◌, subst, arith, Some, Ok, inl, inr}
+use Rattle.std.proofs.Common.{◌≡◌, ℕ, ◌+◌, ◌-◌, ◌%◌, ◌<◌, ◌≤◌, refl, ap, ◌∙◌, subst, arith, Some, Ok, inl, inr}
 use Rattle.std.proofs.lemmas.Bool.{cases_lt}
 use Rattle.std.specs.Int.{next_multiple_of}
 use Rattle.tlsf_store.specs.Records.{record_at, vacant_count}
 use Rattle.tlsf_store.specs.Cells.{Cells}
 use Rattle.tlsf_heap.specs.Memalign.{gap_records, memalign_picked}
-use Rattle.tlsf_heap.specs.Inner.Nodes.{InUse}
+use Rattle.tlsf_class.specs.Classes.{unit}
+use Rattle.tlsf_store.specs.declared.records.Record.{Record}
+use Rattle.tlsf_heap.specs.declared.span.Span.{Span}
+use Rattle.tlsf_heap.specs.Inner.Nodes.{InUse, Listed}
+use Rattle.tlsf_heap.specs.Inner.Spans.{span_of, IsSpanOf}
 use Rattle.tlsf_heap.specs.Inner.Following.{Stands, content_of}
-use Rattle.tlsf_heap.specs.Inner.At.{StandsAt, at_taken, at_gapped, at_trimmed}
+use Rattle.tlsf_heap.specs.Inner.At.{At, StandsAt, at_taken, at_gapped, at_trimmed}
 use Rattle.tlsf_heap.proofs.Inner.Followed.{records_are}
-use Rattle.tlsf_heap.proofs.Inner.Steps.{size_read}
+use Rattle.tlsf_heap.proofs.Inner.Steps.{slot_used, size_read}
 use Rattle.tlsf_heap.proofs.Inner.Served.{slot_new}
+use Rattle.tlsf_heap.proofs.Inner.Live.{free_at}
+use Rattle.tlsf_heap.proofs.Inner.Spans.{read_of, by_node, by_record}
 use Rattle.tlsf_heap.proofs.Inner.Carving.{known, gap_of_some, carved_full, carved_stands, vacant_new, vacant_taken, vacant_after}
 use Rattle.tlsf_heap.proofs.memalign.carve.Goals as goal
 
 pub start_of-start-requires-clause-fits : goal.start_of-start-requires-clause-fits
-start_of-start-requires-clause-fits c = let k = known c.args.store.now.cells c.requires.stands c.args.slot c.args.align c.args.asked c.requires.is c.requires.some c.requires.whole c.requires.free c.requires.found c.read-block.result c.read-block.ensures.value in omega (arith, k.begins, k.fits, k.ends, c.requires.some)
+start_of-start-requires-clause-fits c = let k = known c.args.store.now.cells c.requires.stands c.args.slot c.args.align c.args.asked c.requires.is c.requires.some c.requires.whole c.requires.free c.requires.found c.read_used-block.result c.read_used-block.ensures.value in omega (arith, k.begins, k.fits, k.ends, c.requires.some)
 
 pub overflow_sub-left : goal.overflow_sub-left
-overflow_sub-left c = let k = known c.args.store.now.cells c.requires.stands c.args.slot c.args.align c.args.asked c.requires.is c.requires.some c.requires.whole c.requires.free c.requires.found c.read-block.result c.read-block.ensures.value in omega (arith, k.fits, c.start_of-start.ensures)
+overflow_sub-left c = let k = known c.args.store.now.cells c.requires.stands c.args.slot c.args.align c.args.asked c.requires.is c.requires.some c.requires.whole c.requires.free c.requires.found c.read_used-block.result c.read_used-block.ensures.value in omega (arith, k.fits, c.start_of-start.ensures)
 
 pub overflow_sub-left-2 : goal.overflow_sub-left-2
-overflow_sub-left-2 c = let k = known c.args.store.now.cells c.requires.stands c.args.slot c.args.align c.args.asked c.requires.is c.requires.some c.requires.whole c.requires.free c.requires.found c.read-block.result c.read-block.ensures.value in omega (arith, k.fits, c.start_of-start.ensures)
+overflow_sub-left-2 c = let k = known c.args.store.now.cells c.requires.stands c.args.slot c.args.align c.args.asked c.requires.is c.requires.some c.requires.whole c.requires.free c.requires.found c.read_used-block.result c.read_used-block.ensures.value in omega (arith, k.fits, c.start_of-start.ensures)
 
 pub returns-then-vacant-records_for-clause-refused : goal.returns-then-vacant-records_for-clause-refused
 returns-then-vacant-records_for-clause-refused c owner =
-    let k = known c.args.store.now.cells c.requires.stands c.args.slot c.args.align c.args.asked c.requires.is c.requires.some c.requires.whole c.requires.free c.requires.found c.read-block.result c.read-block.ensures.value in
-    let gap_is : c.start_of-start.result - c.read-block.result.place ≡ next_multiple_of (record_at c.args.store.now.cells.records c.args.slot).place c.args.align - (record_at c.args.store.now.cells.records c.args.slot).place =
-    ap (λ s. s - c.read-block.result.place) c.start_of-start.ensures ∙ ap (λ p. next_multiple_of p c.args.align - p) k.place_is in
-    let few : vacant_count c.args.store.now.cells.records < gap_records (c.start_of-start.result - c.read-block.result.place) + gap_records ((c.read-block.result.size - (c.start_of-start.result - c.read-block.result.place)) - c.args.asked) =
-    omega (arith, c.if-vacant-records_for.true, c.vacant.ensures.value, ap (λ (s : Cells). vacant_count s.records) c.read-block.ensures.cells, c.records_for.ensures, c.records_for-2.ensures) in
+    let k = known c.args.store.now.cells c.requires.stands c.args.slot c.args.align c.args.asked c.requires.is c.requires.some c.requires.whole c.requires.free c.requires.found c.read_used-block.result c.read_used-block.ensures.value in
+    let gap_is : c.start_of-start.result - c.read_used-block.result.place ≡ next_multiple_of (record_at c.args.store.now.cells.records c.args.slot).place c.args.align - (record_at c.args.store.now.cells.records c.args.slot).place =
+    ap (λ s. s - c.read_used-block.result.place) c.start_of-start.ensures ∙ ap (λ p. next_multiple_of p c.args.align - p) k.place_is in
+    let few : vacant_count c.args.store.now.cells.records < gap_records (c.start_of-start.result - c.read_used-block.result.place) + gap_records ((c.read_used-block.result.size - (c.start_of-start.result - c.read_used-block.result.place)) - c.args.asked) =
+    omega (arith, c.if-vacant-records_for.true, c.vacant.ensures.value, ap (λ (s : Cells). vacant_count s.records) c.read_used-block.ensures.cells, c.records_for.ensures, c.records_for-2.ensures) in
     let P : ℕ → ℕ → Type 0 = λ g n. vacant_count c.args.store.now.cells.records < gap_records g + gap_records ((n - g) - c.args.asked) in
-    carved_full c.args.store.now.cells c.requires.stands (record_at c.args.store.now.cells.records c.args.slot).place c.args.slot c.args.align c.args.asked k.by c.requires.is c.requires.some c.requires.whole c.requires.found (subst (λ n. P (next_multiple_of (record_at c.args.store.now.cells.records c.args.slot).place c.args.align - (record_at c.args.store.now.cells.records c.args.slot).place) n) k.size_is (subst (λ g. P g c.read-block.result.size) gap_is few)) owner
+    carved_full c.args.store.now.cells c.requires.stands (record_at c.args.store.now.cells.records c.args.slot).place c.args.slot c.args.align c.args.asked k.by c.requires.is c.requires.some c.requires.whole c.requires.found (subst (λ n. P (next_multiple_of (record_at c.args.store.now.cells.records c.args.slot).place c.args.align - (record_at c.args.store.now.cells.records c.args.slot).place) n) k.size_is (subst (λ g. P g c.read_used-block.result.size) gap_is few)) owner
 
-pub take_whole-requires : goal.take_whole-requires
-take_whole-requires c = let k = known c.args.store.now.cells c.requires.stands c.args.slot c.args.align c.args.asked c.requires.is c.requires.some c.requires.whole c.requires.free c.requires.found c.read-block.result c.read-block.ensures.value in (k.by.at, rw (c.vacant.ensures.cells, c.read-block.ensures.cells) k.by.stands, k.size_is)
+pub read_used-block-requires-clause-within : goal.read_used-block-requires-clause-within
+read_used-block-requires-clause-within c =
+    let by = free_at c.args.store.now.cells c.requires.stands c.args.slot c.requires.free in (slot_used c.args.store.now.cells c.args.slot Listed by.at by.stands).0
+
+pub read_used-block-requires-clause-used : goal.read_used-block-requires-clause-used
+read_used-block-requires-clause-used c =
+    let by = free_at c.args.store.now.cells c.requires.stands c.args.slot c.requires.free in (slot_used c.args.store.now.cells c.args.slot Listed by.at by.stands).1
+
+pub take_whole-requires-clause-stands : goal.take_whole-requires-clause-stands
+take_whole-requires-clause-stands c = let k = known c.args.store.now.cells c.requires.stands c.args.slot c.args.align c.args.asked c.requires.is c.requires.some c.requires.whole c.requires.free c.requires.found c.read_used-block.result c.read_used-block.ensures.value in (k.by.at, rw (c.vacant.ensures.cells, c.read_used-block.ensures.cells) k.by.stands)
+
+pub take_whole-requires-clause-read : goal.take_whole-requires-clause-read
+take_whole-requires-clause-read c = rw (c.vacant.ensures.cells, c.read_used-block.ensures.cells) c.read_used-block.ensures.value
+
+-- the block as it is known once it was taken
+taken_known : (old new : Cells) (slot : ℕ) (at : At) (block : Record) → StandsAt slot Listed old at → StandsAt slot InUse new (at_taken at) → block ≡ record_at old.records slot → block.place % unit ≡ 0 → IsSpanOf (span_of slot block) (at_taken at)
+taken_known old new slot at block was stands read in_units =
+    let known = by_node old Listed at (span_of slot block) was (read_of old.records slot block read in_units) in
+    record { slot = known.slot; place = known.place; size = known.size; next = known.next; in_units = known.in_units }
 
 pub leave_gap-live-requires-clause-stands : goal.leave_gap-live-requires-clause-stands
 leave_gap-live-requires-clause-stands c =
-    let k = known c.args.store.now.cells c.requires.stands c.args.slot c.args.align c.args.asked c.requires.is c.requires.some c.requires.whole c.requires.free c.requires.found c.read-block.result c.read-block.ensures.value in
-    let taken : StandsAt c.args.slot InUse c.take_whole.new.store.cells (at_taken k.by.at) = c.take_whole.ensures.leads k.by.at (rw (c.vacant.ensures.cells, c.read-block.ensures.cells) k.by.stands) k.size_is in
-    (at_taken k.by.at, taken, omega (arith, k.fits, k.size_is, c.requires.some, c.start_of-start.ensures))
+    let k = known c.args.store.now.cells c.requires.stands c.args.slot c.args.align c.args.asked c.requires.is c.requires.some c.requires.whole c.requires.free c.requires.found c.read_used-block.result c.read_used-block.ensures.value in
+    let taken : StandsAt c.args.slot InUse c.take_whole.new.store.cells (at_taken k.by.at) = c.take_whole.ensures.leads k.by.at (rw (c.vacant.ensures.cells, c.read_used-block.ensures.cells) k.by.stands) in
+    rw c.of-whole.ensures (at_taken k.by.at, taken)
+
+pub leave_gap-live-requires-clause-read : goal.leave_gap-live-requires-clause-read
+leave_gap-live-requires-clause-read c =
+    let k = known c.args.store.now.cells c.requires.stands c.args.slot c.args.align c.args.asked c.requires.is c.requires.some c.requires.whole c.requires.free c.requires.found c.read_used-block.result c.read_used-block.ensures.value in
+    let taken : StandsAt c.args.slot InUse c.take_whole.new.store.cells (at_taken k.by.at) = c.take_whole.ensures.leads k.by.at (rw (c.vacant.ensures.cells, c.read_used-block.ensures.cells) k.by.stands) in
+    rw c.of-whole.ensures (by_record c.take_whole.new.store.cells InUse (at_taken k.by.at) (span_of c.args.slot c.read_used-block.result) taken
+    (taken_known c.args.store.now.cells c.take_whole.new.store.cells c.args.slot k.by.at c.read_used-block.result k.by.stands taken c.read_used-block.ensures.value c.read_used-block.ensures.kept.place))
+
+pub leave_gap-live-requires-clause-less : goal.leave_gap-live-requires-clause-less
+leave_gap-live-requires-clause-less c =
+    let k = known c.args.store.now.cells c.requires.stands c.args.slot c.args.align c.args.asked c.requires.is c.requires.some c.requires.whole c.requires.free c.requires.found c.read_used-block.result c.read_used-block.ensures.value in
+    rw c.of-whole.ensures (omega (arith, k.fits, k.size_is, c.requires.some, c.start_of-start.ensures))
 
 pub leave_gap-live-requires-clause-room : goal.leave_gap-live-requires-clause-room
 leave_gap-live-requires-clause-room c some =
-    let k = known c.args.store.now.cells c.requires.stands c.args.slot c.args.align c.args.asked c.requires.is c.requires.some c.requires.whole c.requires.free c.requires.found c.read-block.result c.read-block.ensures.value in
-    let taken : StandsAt c.args.slot InUse c.take_whole.new.store.cells (at_taken k.by.at) = c.take_whole.ensures.leads k.by.at (rw (c.vacant.ensures.cells, c.read-block.ensures.cells) k.by.stands) k.size_is in
-    let enough : gap_records (c.start_of-start.result - c.read-block.result.place) + gap_records ((c.read-block.result.size - (c.start_of-start.result - c.read-block.result.place)) - c.args.asked) ≤ vacant_count c.args.store.now.cells.records =
-    omega (arith, c.if-vacant-records_for.false, c.vacant.ensures.value, ap (λ (s : Cells). vacant_count s.records) c.read-block.ensures.cells, c.records_for.ensures, c.records_for-2.ensures) in
-    omega (arith, enough, gap_of_some (c.start_of-start.result - c.read-block.result.place) some, vacant_taken c.args.store.now.cells c.requires.stands (record_at c.args.store.now.cells.records c.args.slot).place c.args.slot c.args.align c.args.asked k.by c.requires.is c.requires.some c.requires.whole c.requires.found c.take_whole.new.store.cells taken)
+    let k = known c.args.store.now.cells c.requires.stands c.args.slot c.args.align c.args.asked c.requires.is c.requires.some c.requires.whole c.requires.free c.requires.found c.read_used-block.result c.read_used-block.ensures.value in
+    let taken : StandsAt c.args.slot InUse c.take_whole.new.store.cells (at_taken k.by.at) = c.take_whole.ensures.leads k.by.at (rw (c.vacant.ensures.cells, c.read_used-block.ensures.cells) k.by.stands) in
+    let enough : gap_records (c.start_of-start.result - c.read_used-block.result.place) + gap_records ((c.read_used-block.result.size - (c.start_of-start.result - c.read_used-block.result.place)) - c.args.asked) ≤ vacant_count c.args.store.now.cells.records =
+    omega (arith, c.if-vacant-records_for.false, c.vacant.ensures.value, ap (λ (s : Cells). vacant_count s.records) c.read_used-block.ensures.cells, c.records_for.ensures, c.records_for-2.ensures) in
+    omega (arith, enough, gap_of_some (c.start_of-start.result - c.read_used-block.result.place) some, vacant_taken c.args.store.now.cells c.requires.stands (record_at c.args.store.now.cells.records c.args.slot).place c.args.slot c.args.align c.args.asked k.by c.requires.is c.requires.some c.requires.whole c.requires.found c.take_whole.new.store.cells taken)
 
 pub trim-requires-clause-stands : goal.trim-requires-clause-stands
 trim-requires-clause-stands c =
-    let k = known c.args.store.now.cells c.requires.stands c.args.slot c.args.align c.args.asked c.requires.is c.requires.some c.requires.whole c.requires.free c.requires.found c.read-block.result c.read-block.ensures.value in
-    let taken : StandsAt c.args.slot InUse c.take_whole.new.store.cells (at_taken k.by.at) = c.take_whole.ensures.leads k.by.at (rw (c.vacant.ensures.cells, c.read-block.ensures.cells) k.by.stands) k.size_is in
-    (at_gapped c.leave_gap-live.result (c.start_of-start.result - c.read-block.result.place) (at_taken k.by.at), c.leave_gap-live.ensures.leads (at_taken k.by.at) taken, omega (arith, k.fits, k.size_is, c.start_of-start.ensures))
+    let k = known c.args.store.now.cells c.requires.stands c.args.slot c.args.align c.args.asked c.requires.is c.requires.some c.requires.whole c.requires.free c.requires.found c.read_used-block.result c.read_used-block.ensures.value in
+    let taken : StandsAt c.args.slot InUse c.take_whole.new.store.cells (at_taken k.by.at) = c.take_whole.ensures.leads k.by.at (rw (c.vacant.ensures.cells, c.read_used-block.ensures.cells) k.by.stands) in
+    (at_gapped c.leave_gap-live.result (c.start_of-start.result - c.read_used-block.result.place) (at_taken k.by.at), c.leave_gap-live.ensures.leads (at_taken k.by.at) (rw c.of-whole.ensures taken))
+
+pub trim-requires-clause-read : goal.trim-requires-clause-read
+trim-requires-clause-read c =
+    let k = known c.args.store.now.cells c.requires.stands c.args.slot c.args.align c.args.asked c.requires.is c.requires.some c.requires.whole c.requires.free c.requires.found c.read_used-block.result c.read_used-block.ensures.value in
+    let taken : StandsAt c.args.slot InUse c.take_whole.new.store.cells (at_taken k.by.at) = c.take_whole.ensures.leads k.by.at (rw (c.vacant.ensures.cells, c.read_used-block.ensures.cells) k.by.stands) in
+    let known_there = taken_known c.args.store.now.cells c.take_whole.new.store.cells c.args.slot k.by.at c.read_used-block.result k.by.stands taken c.read_used-block.ensures.value c.read_used-block.ensures.kept.place in
+    let gap : ℕ = c.start_of-start.result - c.read_used-block.result.place in
+    let gapped = c.leave_gap-live.ensures.leads (at_taken k.by.at) (rw c.of-whole.ensures taken) in
+    let whole : (c.start_of-start.result - c.read_used-block.result.place) % unit ≡ 0 = ap (λ s. (s - c.read_used-block.result.place) % unit) c.start_of-start.ensures ∙ k.gap_whole in
+    by_record c.leave_gap-live.new.store.cells InUse (at_gapped c.leave_gap-live.result gap (at_taken k.by.at))
+    (record { slot = c.leave_gap-live.result; place = c.start_of-start.result; size = c.read_used-block.result.size - gap; next = c.read_used-block.result.next }) gapped
+    (record {
+      slot = refl;
+      place = omega (arith, known_there.place, k.begins, c.start_of-start.ensures);
+      size = ap (λ n. n - gap) k.size_is;
+      next = known_there.next;
+      in_units = omega (arith, whole, c.read_used-block.ensures.kept.place, k.begins, c.start_of-start.ensures);
+    })
+
+pub trim-requires-clause-most : goal.trim-requires-clause-most
+trim-requires-clause-most c =
+    let k = known c.args.store.now.cells c.requires.stands c.args.slot c.args.align c.args.asked c.requires.is c.requires.some c.requires.whole c.requires.free c.requires.found c.read_used-block.result c.read_used-block.ensures.value in
+    omega (arith, k.fits, k.size_is, c.start_of-start.ensures)
 
 pub trim-requires-clause-room : goal.trim-requires-clause-room
 trim-requires-clause-room c less =
-    let k = known c.args.store.now.cells c.requires.stands c.args.slot c.args.align c.args.asked c.requires.is c.requires.some c.requires.whole c.requires.free c.requires.found c.read-block.result c.read-block.ensures.value in
-    let gap_is : c.start_of-start.result - c.read-block.result.place ≡ next_multiple_of (record_at c.args.store.now.cells.records c.args.slot).place c.args.align - (record_at c.args.store.now.cells.records c.args.slot).place =
-    ap (λ s. s - c.read-block.result.place) c.start_of-start.ensures ∙ ap (λ p. next_multiple_of p c.args.align - p) k.place_is in
-    let taken : StandsAt c.args.slot InUse c.take_whole.new.store.cells (at_taken k.by.at) = c.take_whole.ensures.leads k.by.at (rw (c.vacant.ensures.cells, c.read-block.ensures.cells) k.by.stands) k.size_is in
-    let enough : gap_records (c.start_of-start.result - c.read-block.result.place) + gap_records ((c.read-block.result.size - (c.start_of-start.result - c.read-block.result.place)) - c.args.asked) ≤ vacant_count c.args.store.now.cells.records =
-    omega (arith, c.if-vacant-records_for.false, c.vacant.ensures.value, ap (λ (s : Cells). vacant_count s.records) c.read-block.ensures.cells, c.records_for.ensures, c.records_for-2.ensures) in
-    let gapped = c.leave_gap-live.ensures.leads (at_taken k.by.at) taken in
+    let k = known c.args.store.now.cells c.requires.stands c.args.slot c.args.align c.args.asked c.requires.is c.requires.some c.requires.whole c.requires.free c.requires.found c.read_used-block.result c.read_used-block.ensures.value in
+    let gap_is : c.start_of-start.result - c.read_used-block.result.place ≡ next_multiple_of (record_at c.args.store.now.cells.records c.args.slot).place c.args.align - (record_at c.args.store.now.cells.records c.args.slot).place =
+    ap (λ s. s - c.read_used-block.result.place) c.start_of-start.ensures ∙ ap (λ p. next_multiple_of p c.args.align - p) k.place_is in
+    let taken : StandsAt c.args.slot InUse c.take_whole.new.store.cells (at_taken k.by.at) = c.take_whole.ensures.leads k.by.at (rw (c.vacant.ensures.cells, c.read_used-block.ensures.cells) k.by.stands) in
+    let enough : gap_records (c.start_of-start.result - c.read_used-block.result.place) + gap_records ((c.read_used-block.result.size - (c.start_of-start.result - c.read_used-block.result.place)) - c.args.asked) ≤ vacant_count c.args.store.now.cells.records =
+    omega (arith, c.if-vacant-records_for.false, c.vacant.ensures.value, ap (λ (s : Cells). vacant_count s.records) c.read_used-block.ensures.cells, c.records_for.ensures, c.records_for-2.ensures) in
+    let gapped = c.leave_gap-live.ensures.leads (at_taken k.by.at) (rw c.of-whole.ensures taken) in
     let P : ℕ → Type 0 = λ g. StandsAt c.leave_gap-live.result InUse c.leave_gap-live.new.store.cells (at_gapped c.leave_gap-live.result g (at_taken k.by.at)) in
     let vacant = vacant_after c.args.store.now.cells c.requires.stands (record_at c.args.store.now.cells.records c.args.slot).place c.args.slot c.args.align c.args.asked k.by c.requires.is c.requires.some c.requires.whole c.requires.found c.leave_gap-live.new.store.cells c.leave_gap-live.result (subst P gap_is gapped) in
-    let size = size_read c.leave_gap-live.new.store.cells c.leave_gap-live.result InUse (at_gapped c.leave_gap-live.result (c.start_of-start.result - c.read-block.result.place) (at_taken k.by.at)) gapped in
-    let over : 0 < (c.read-block.result.size - (c.start_of-start.result - c.read-block.result.place)) - c.args.asked = omega (arith, less, size, k.size_is) in
-    omega (arith, enough, gap_of_some ((c.read-block.result.size - (c.start_of-start.result - c.read-block.result.place)) - c.args.asked) over, vacant, ap gap_records gap_is)
+    let size = size_read c.leave_gap-live.new.store.cells c.leave_gap-live.result InUse (at_gapped c.leave_gap-live.result (c.start_of-start.result - c.read_used-block.result.place) (at_taken k.by.at)) gapped in
+    let over : 0 < (c.read_used-block.result.size - (c.start_of-start.result - c.read_used-block.result.place)) - c.args.asked = omega (arith, less, size, k.size_is) in
+    omega (arith, enough, gap_of_some ((c.read_used-block.result.size - (c.start_of-start.result - c.read_used-block.result.place)) - c.args.asked) over, vacant, ap gap_records gap_is)
 
 left : (c : goal.After-new) → Stands c.trim.new.store.cells × (memalign_picked c.leave_gap-live.result c.args.align c.args.asked (Some (record_at c.args.store.now.cells.records c.args.slot).place) (content_of c.args.store.now.cells) ≡ Ok (next_multiple_of (record_at c.args.store.now.cells.records c.args.slot).place c.args.align, content_of c.trim.new.store.cells))
 left c =
-    let k = known c.args.store.now.cells c.requires.stands c.args.slot c.args.align c.args.asked c.requires.is c.requires.some c.requires.whole c.requires.free c.requires.found c.read-block.result c.read-block.ensures.value in
-    let gap_is : c.start_of-start.result - c.read-block.result.place ≡ next_multiple_of (record_at c.args.store.now.cells.records c.args.slot).place c.args.align - (record_at c.args.store.now.cells.records c.args.slot).place =
-    ap (λ s. s - c.read-block.result.place) c.start_of-start.ensures ∙ ap (λ p. next_multiple_of p c.args.align - p) k.place_is in
-    let taken : StandsAt c.args.slot InUse c.take_whole.new.store.cells (at_taken k.by.at) = c.take_whole.ensures.leads k.by.at (rw (c.vacant.ensures.cells, c.read-block.ensures.cells) k.by.stands) k.size_is in
-    let enough : gap_records (c.start_of-start.result - c.read-block.result.place) + gap_records ((c.read-block.result.size - (c.start_of-start.result - c.read-block.result.place)) - c.args.asked) ≤ vacant_count c.args.store.now.cells.records =
-    omega (arith, c.if-vacant-records_for.false, c.vacant.ensures.value, ap (λ (s : Cells). vacant_count s.records) c.read-block.ensures.cells, c.records_for.ensures, c.records_for-2.ensures) in
-    let end = c.trim.ensures.leads (at_gapped c.leave_gap-live.result (c.start_of-start.result - c.read-block.result.place) (at_taken k.by.at)) (c.leave_gap-live.ensures.leads (at_taken k.by.at) taken) in
+    let k = known c.args.store.now.cells c.requires.stands c.args.slot c.args.align c.args.asked c.requires.is c.requires.some c.requires.whole c.requires.free c.requires.found c.read_used-block.result c.read_used-block.ensures.value in
+    let gap_is : c.start_of-start.result - c.read_used-block.result.place ≡ next_multiple_of (record_at c.args.store.now.cells.records c.args.slot).place c.args.align - (record_at c.args.store.now.cells.records c.args.slot).place =
+    ap (λ s. s - c.read_used-block.result.place) c.start_of-start.ensures ∙ ap (λ p. next_multiple_of p c.args.align - p) k.place_is in
+    let taken : StandsAt c.args.slot InUse c.take_whole.new.store.cells (at_taken k.by.at) = c.take_whole.ensures.leads k.by.at (rw (c.vacant.ensures.cells, c.read_used-block.ensures.cells) k.by.stands) in
+    let enough : gap_records (c.start_of-start.result - c.read_used-block.result.place) + gap_records ((c.read_used-block.result.size - (c.start_of-start.result - c.read_used-block.result.place)) - c.args.asked) ≤ vacant_count c.args.store.now.cells.records =
+    omega (arith, c.if-vacant-records_for.false, c.vacant.ensures.value, ap (λ (s : Cells). vacant_count s.records) c.read_used-block.ensures.cells, c.records_for.ensures, c.records_for-2.ensures) in
+    let end = c.trim.ensures.leads (at_gapped c.leave_gap-live.result (c.start_of-start.result - c.read_used-block.result.place) (at_taken k.by.at)) (c.leave_gap-live.ensures.leads (at_taken k.by.at) (rw c.of-whole.ensures taken)) in
     let P : ℕ → ℕ → Type 0 = λ g n. gap_records g + gap_records ((n - g) - c.args.asked) ≤ vacant_count c.args.store.now.cells.records in
     let Q : ℕ → Type 0 = λ g. StandsAt c.leave_gap-live.result InUse c.trim.new.store.cells (at_trimmed end.0 c.args.asked (at_gapped c.leave_gap-live.result g (at_taken k.by.at))) in
     carved_stands c.args.store.now.cells c.requires.stands (record_at c.args.store.now.cells.records c.args.slot).place c.args.slot c.args.align c.args.asked k.by c.requires.is c.requires.some c.requires.whole c.requires.found c.trim.new.store.cells c.leave_gap-live.result end.0
-    (subst (λ n. P (next_multiple_of (record_at c.args.store.now.cells.records c.args.slot).place c.args.align - (record_at c.args.store.now.cells.records c.args.slot).place) n) k.size_is (subst (λ g. P g c.read-block.result.size) gap_is enough))
+    (subst (λ n. P (next_multiple_of (record_at c.args.store.now.cells.records c.args.slot).place c.args.align - (record_at c.args.store.now.cells.records c.args.slot).place) n) k.size_is (subst (λ g. P g c.read_used-block.result.size) gap_is enough))
     (subst Q gap_is end.1)
 
 pub returns-clause-stands : goal.returns-clause-stands
@@ -90,23 +148,23 @@ returns-clause-stands c = (left c).0
 
 pub returns-clause-ok : goal.returns-clause-ok
 returns-clause-ok c =
-    let k = known c.args.store.now.cells c.requires.stands c.args.slot c.args.align c.args.asked c.requires.is c.requires.some c.requires.whole c.requires.free c.requires.found c.read-block.result c.read-block.ensures.value in
+    let k = known c.args.store.now.cells c.requires.stands c.args.slot c.args.align c.args.asked c.requires.is c.requires.some c.requires.whole c.requires.free c.requires.found c.read_used-block.result c.read_used-block.ensures.value in
     let start = c.start_of-start.ensures ∙ ap (λ p. next_multiple_of p c.args.align) k.place_is in
     rw (c.new.ensures, c.live.view_is, start) (left c).1
 
 pub returns-clause-slot_below : goal.returns-clause-slot_below
 returns-clause-slot_below c =
-    let k = known c.args.store.now.cells c.requires.stands c.args.slot c.args.align c.args.asked c.requires.is c.requires.some c.requires.whole c.requires.free c.requires.found c.read-block.result c.read-block.ensures.value in
-    let taken : StandsAt c.args.slot InUse c.take_whole.new.store.cells (at_taken k.by.at) = c.take_whole.ensures.leads k.by.at (rw (c.vacant.ensures.cells, c.read-block.ensures.cells) k.by.stands) k.size_is in
+    let k = known c.args.store.now.cells c.requires.stands c.args.slot c.args.align c.args.asked c.requires.is c.requires.some c.requires.whole c.requires.free c.requires.found c.read_used-block.result c.read_used-block.ensures.value in
+    let taken : StandsAt c.args.slot InUse c.take_whole.new.store.cells (at_taken k.by.at) = c.take_whole.ensures.leads k.by.at (rw (c.vacant.ensures.cells, c.read_used-block.ensures.cells) k.by.stands) in
     rw (c.new.ensures, c.live.view_is) (omega (arith, c.leave_gap-live.ensures.below, taken.0.count, k.by.stands.0.count, records_are c.args.store.now.cells))
 
 pub returns-clause-slot_new : goal.returns-clause-slot_new
 returns-clause-slot_new c =
-    let k = known c.args.store.now.cells c.requires.stands c.args.slot c.args.align c.args.asked c.requires.is c.requires.some c.requires.whole c.requires.free c.requires.found c.read-block.result c.read-block.ensures.value in
-    let taken : StandsAt c.args.slot InUse c.take_whole.new.store.cells (at_taken k.by.at) = c.take_whole.ensures.leads k.by.at (rw (c.vacant.ensures.cells, c.read-block.ensures.cells) k.by.stands) k.size_is in
-    rw (c.new.ensures, c.live.view_is) (elim (cases_lt 0 (c.start_of-start.result - c.read-block.result.place)) [
+    let k = known c.args.store.now.cells c.requires.stands c.args.slot c.args.align c.args.asked c.requires.is c.requires.some c.requires.whole c.requires.free c.requires.found c.read_used-block.result c.read_used-block.ensures.value in
+    let taken : StandsAt c.args.slot InUse c.take_whole.new.store.cells (at_taken k.by.at) = c.take_whole.ensures.leads k.by.at (rw (c.vacant.ensures.cells, c.read_used-block.ensures.cells) k.by.stands) in
+    rw (c.new.ensures, c.live.view_is) (elim (cases_lt 0 (c.start_of-start.result - c.read_used-block.result.place)) [
       | inl some ↦ vacant_new c.args.store.now.cells c.requires.stands (record_at c.args.store.now.cells.records c.args.slot).place c.args.slot c.args.align c.args.asked k.by c.requires.is c.requires.some c.requires.whole c.requires.found c.take_whole.new.store.cells taken c.leave_gap-live.result (c.leave_gap-live.ensures.vacant some)
       | inr none ↦
-          let own : c.leave_gap-live.result ≡ c.args.slot = c.leave_gap-live.ensures.same (omega (arith, none)) in
+          let own : c.leave_gap-live.result ≡ c.args.slot = c.leave_gap-live.ensures.same (omega (arith, none)) ∙ ap (λ (s : Span). s.slot) c.of-whole.ensures in
           rw own (slot_new c.args.store.now.cells c.requires.stands (record_at c.args.store.now.cells.records c.args.slot).place c.args.slot k.by)
     ])

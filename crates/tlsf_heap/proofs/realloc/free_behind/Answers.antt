@@ -1,32 +1,39 @@
-use Rattle.std.proofs.Common.{◌≡◌, true, false, sym, ap, ◌∙◌, Some, option_map}
+use Rattle.std.proofs.Common.{◌≡◌, ℕ, true, false, sym, ap, ◌∙◌, subst, Some, option_map}
 use Rattle.tlsf_store.specs.declared.records.Record.{Record}
 use Rattle.tlsf_store.specs.Records.{record_at}
 use Rattle.tlsf_store.specs.Cells.{Cells}
+use Rattle.tlsf_heap.specs.declared.span.Span.{Span}
+use Rattle.tlsf_heap.specs.Inner.Edits.{IsUsed}
+use Rattle.tlsf_heap.specs.Inner.At.{At, StandsAt}
+use Rattle.tlsf_heap.specs.Inner.Spans.{IsRead}
 use Rattle.tlsf_heap.specs.Inner.States.{is_state_free}
 use Rattle.tlsf_heap.specs.Inner.Nodes.{InUse, Node}
 use Rattle.tlsf_heap.proofs.Inner.Joinable.{listed_none, listed_live, listed_free}
-use Rattle.tlsf_heap.proofs.Inner.Steps.{slot_used}
+use Rattle.tlsf_heap.proofs.Inner.Spans.{back_used}
 use Rattle.tlsf_heap.proofs.realloc.free_behind.Goals as goal
 
-pub read-requires : goal.read-requires
-read-requires c = (slot_used c.args.store.now.cells c.args.slot InUse c.requires.0 c.requires.1).0
+-- the slot behind is in use
+in_use : (cells : Cells) (span : Span) (n : ℕ) (at : At) → StandsAt span.slot InUse cells at → IsRead span cells.records → span.next ≡ Some n → IsUsed cells.records (Some n)
+in_use cells span n at stands read link = subst (λ o. IsUsed cells.records o) (sym read.next ∙ link) (back_used cells span.slot InUse at stands)
+
+pub read_used-next-requires-clause-within : goal.read_used-next-requires-clause-within
+read_used-next-requires-clause-within c = (in_use c.args.store.now.cells c.args.block.now c.in-Some.next_slot c.requires.stands.0 c.requires.stands.1 c.requires.read c.in-Some.is).0
+
+pub read_used-next-requires-clause-used : goal.read_used-next-requires-clause-used
+read_used-next-requires-clause-used c = (in_use c.args.store.now.cells c.args.block.now c.in-Some.next_slot c.requires.stands.0 c.requires.stands.1 c.requires.read c.in-Some.is).1
 
 pub returns-in_default-clause-value : goal.returns-in_default-clause-value
 returns-in_default-clause-value c at stands =
-    sym (ap (option_map (λ (node : Node). node.size)) (listed_none c.args.store.now.cells at c.args.slot InUse stands (ap (λ r. r.next) (sym c.read.ensures.value) ∙ c.in_default.is)))
+    sym (ap (option_map (λ (node : Node). node.size)) (listed_none c.args.store.now.cells at c.args.block.now.slot InUse stands (sym c.requires.read.next ∙ c.in_default.is)))
 
 pub returns-then-not-is_free-clause-value : goal.returns-then-not-is_free-clause-value
 returns-then-not-is_free-clause-value c at stands =
     let old : Cells = c.args.store.now.cells in
-    let link = ap (λ r. r.next) (sym c.read.ensures.value) ∙ c.in-Some.is in
-    let back_at : c.read-next.result ≡ record_at old.records c.in-Some.next_slot = c.read-next.ensures.value ∙ ap (λ (s : Cells). record_at s.records c.in-Some.next_slot) c.read.ensures.cells in
-    let live : is_state_free (record_at old.records c.in-Some.next_slot).state ≡ false = sym (ap (λ r. is_state_free r.state) back_at) ∙ sym c.is_free.ensures ∙ c.if-not-is_free.true in
-    sym (ap (option_map (λ (node : Node). node.size)) (listed_live old at c.args.slot InUse stands c.in-Some.next_slot link live))
+    let live : is_state_free (record_at old.records c.in-Some.next_slot).state ≡ false = sym (ap (λ (r : Record). is_state_free r.state) c.read_used-next.ensures.value) ∙ sym c.is_free.ensures ∙ c.if-not-is_free.true in
+    sym (ap (option_map (λ (node : Node). node.size)) (listed_live old at c.args.block.now.slot InUse stands c.in-Some.next_slot (sym c.requires.read.next ∙ c.in-Some.is) live))
 
 pub returns-clause-value : goal.returns-clause-value
 returns-clause-value c at stands =
     let old : Cells = c.args.store.now.cells in
-    let link = ap (λ r. r.next) (sym c.read.ensures.value) ∙ c.in-Some.is in
-    let back_at : c.read-next.result ≡ record_at old.records c.in-Some.next_slot = c.read-next.ensures.value ∙ ap (λ (s : Cells). record_at s.records c.in-Some.next_slot) c.read.ensures.cells in
-    let free : is_state_free (record_at old.records c.in-Some.next_slot).state ≡ true = sym (ap (λ r. is_state_free r.state) back_at) ∙ sym c.is_free.ensures ∙ c.if-not-is_free.false in
-    ap (λ (r : Record). Some r.size) back_at ∙ sym (listed_free old at c.args.slot InUse stands c.in-Some.next_slot link free)
+    let free : is_state_free (record_at old.records c.in-Some.next_slot).state ≡ true = sym (ap (λ (r : Record). is_state_free r.state) c.read_used-next.ensures.value) ∙ sym c.is_free.ensures ∙ c.if-not-is_free.false in
+    ap (λ (r : Record). Some r.size) c.read_used-next.ensures.value ∙ sym (listed_free old at c.args.block.now.slot InUse stands c.in-Some.next_slot (sym c.requires.read.next ∙ c.in-Some.is) free)

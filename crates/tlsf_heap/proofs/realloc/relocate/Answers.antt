@@ -9,6 +9,8 @@ use Rattle.tlsf_heap.specs.Good.{IsGood}
 use Rattle.tlsf_heap.specs.Inner.Following.{Stands, content_of}
 use Rattle.tlsf_heap.proofs.Good.Realloc.{live_after}
 use Rattle.tlsf_heap.proofs.Inner.Followed.{stood_for}
+use Rattle.tlsf_heap.specs.Inner.Nodes.{InUse}
+use Rattle.tlsf_heap.proofs.Inner.Steps.{slot_used}
 use Rattle.tlsf_heap.proofs.Inner.Live.{live_at, freed_stands}
 use Rattle.tlsf_heap.proofs.realloc.relocate.Goals as goal
 
@@ -19,19 +21,33 @@ still old mid owner place slot asked at stands live served =
     let P : Content ℕ → Type 0 = λ x. IsGood x in
     live_after (λ o. o == slot) owner asked place (content_of old) (at, content_of mid) (subst P (sym (stood_for old stands)) stands.good) live served
 
-pub release-requires : goal.release-requires
-release-requires c =
+pub read_used-block-requires-clause-within : goal.read_used-block-requires-clause-within
+read_used-block-requires-clause-within c =
     let mid : Cells = c.allocate.new.store.cells in
     let live = still c.args.store.now.cells mid c.in-Ok.given.slot c.args.ptr.place c.args.ptr.slot c.args.asked c.in-Ok.given.place c.requires.stands c.requires.live c.in-Ok.ensures.ok in
     let by = live_at mid c.in-Ok.ensures.stands c.args.ptr.place c.args.ptr.slot live in
-    (by.at, rw c.slot.ensures by.stands)
+    rw c.slot.ensures (slot_used mid c.args.ptr.slot InUse by.at by.stands).0
+
+pub read_used-block-requires-clause-used : goal.read_used-block-requires-clause-used
+read_used-block-requires-clause-used c =
+    let mid : Cells = c.allocate.new.store.cells in
+    let live = still c.args.store.now.cells mid c.in-Ok.given.slot c.args.ptr.place c.args.ptr.slot c.args.asked c.in-Ok.given.place c.requires.stands c.requires.live c.in-Ok.ensures.ok in
+    let by = live_at mid c.in-Ok.ensures.stands c.args.ptr.place c.args.ptr.slot live in
+    rw c.slot.ensures (slot_used mid c.args.ptr.slot InUse by.at by.stands).1
+
+pub release-requires-clause-stands : goal.release-requires-clause-stands
+release-requires-clause-stands c =
+    let mid : Cells = c.allocate.new.store.cells in
+    let live = still c.args.store.now.cells mid c.in-Ok.given.slot c.args.ptr.place c.args.ptr.slot c.args.asked c.in-Ok.given.place c.requires.stands c.requires.live c.in-Ok.ensures.ok in
+    let by = live_at mid c.in-Ok.ensures.stands c.args.ptr.place c.args.ptr.slot live in
+    (by.at, rw (c.read_used-block.ensures.cells, c.slot.ensures) by.stands)
 
 left : (c : goal.After-release) → Stands c.release.new.store.cells × (content_of c.release.new.store.cells ≡ after_free c.args.ptr.place (content_of c.allocate.new.store.cells))
 left c =
     let mid : Cells = c.allocate.new.store.cells in
     let live = still c.args.store.now.cells mid c.in-Ok.given.slot c.args.ptr.place c.args.ptr.slot c.args.asked c.in-Ok.given.place c.requires.stands c.requires.live c.in-Ok.ensures.ok in
     let by = live_at mid c.in-Ok.ensures.stands c.args.ptr.place c.args.ptr.slot live in
-    freed_stands mid c.in-Ok.ensures.stands c.args.ptr.place c.args.ptr.slot c.release.new.store.cells by live (c.release.ensures.leads by.at (rw c.slot.ensures by.stands))
+    freed_stands mid c.in-Ok.ensures.stands c.args.ptr.place c.args.ptr.slot c.release.new.store.cells by live (c.release.ensures.leads by.at (rw (c.read_used-block.ensures.cells, c.slot.ensures) by.stands))
 
 pub returns-in-Ok-clause-stands : goal.returns-in-Ok-clause-stands
 returns-in-Ok-clause-stands c = (left c).0

@@ -8,17 +8,17 @@ use Rattle.tlsf_heap.proofs.remove_pool.drop_pool.Goals as goal
 
 pub give_vacant-requires-clause-within : goal.give_vacant-requires-clause-within
 give_vacant-requires-clause-within c =
-    (slot_used c.take_whole.new.store.cells c.args.slot InUse (at_taken c.requires.stands.0) (c.take_whole.ensures.leads c.requires.stands.0 c.requires.stands.1 c.requires.stands.2)).0
+    (slot_used c.take_whole.new.store.cells c.args.slot InUse (at_taken c.requires.stands.0) (c.take_whole.ensures.leads c.requires.stands.0 c.requires.stands.1)).0
 
 pub give_vacant-requires-clause-used : goal.give_vacant-requires-clause-used
 give_vacant-requires-clause-used c =
-    (slot_used c.take_whole.new.store.cells c.args.slot InUse (at_taken c.requires.stands.0) (c.take_whole.ensures.leads c.requires.stands.0 c.requires.stands.1 c.requires.stands.2)).1
+    (slot_used c.take_whole.new.store.cells c.args.slot InUse (at_taken c.requires.stands.0) (c.take_whole.ensures.leads c.requires.stands.0 c.requires.stands.1)).1
 
 pub set_entries-requires-clause-count : goal.set_entries-requires-clause-count
 set_entries-requires-clause-count c =
-    let taken = c.take_whole.ensures.leads c.requires.stands.0 c.requires.stands.1 c.requires.stands.2 in
+    let taken = c.take_whole.ensures.leads c.requires.stands.0 c.requires.stands.1 in
     ap (λ (s : Cells). length s.pools) c.give_vacant.ensures.written ∙ ap length (pools_stay c.args.store.now.cells c.take_whole.new.store.cells c.args.slot c.requires.stands.0 c.requires.stands.1 taken).0 ∙ c.requires.count
 
 pub returns-clause-leads : goal.returns-clause-leads
-returns-clause-leads c at stands size_is none_before none_behind entries_are =
-    rw (c.set_entries.ensures.cells, c.give_vacant.ensures.written, entries_are) (area_leaves c.take_whole.new.store.cells c.args.slot at (c.take_whole.ensures.leads at stands size_is) none_before none_behind)
+returns-clause-leads c at stands none_before none_behind entries_are =
+    rw (c.set_entries.ensures.cells, c.give_vacant.ensures.written, entries_are) (area_leaves c.take_whole.new.store.cells c.args.slot at (c.take_whole.ensures.leads at stands) none_before none_behind)

@@ -12,7 +12,6 @@ use Rattle.tlsf_heap.specs.Inner.Nodes.{Listed}
 use Rattle.tlsf_heap.specs.Inner.At.{At, StandsAt}
 use Rattle.tlsf_heap.specs.Inner.Following.{Stands, content_of}
 use Rattle.tlsf_heap.proofs.Inner.Removed.{at, entry_at, node_there, stands_there, alone_there, refused_none, refused_used, removed_stands}
-use Rattle.tlsf_heap.proofs.Inner.Steps.{size_read}
 use Rattle.tlsf_heap.proofs.remove_pool.remove_pool.Goals as goal
 
 -- the number found, of an entry that begins at the base
@@ -60,7 +59,7 @@ drop_pool-requires-clause-stands c =
     let here = stands_there old c.requires c.args.base c.in-Some.number t.is.0 t.is.1 slot t.slot_is unused in
     let node : At = node_there old c.requires c.args.base c.in-Some.number t.is.0 t.is.1 slot t.slot_is unused in
     let P : Cells → Type 0 = λ cells. StandsAt slot Listed cells node in
-    (node, subst P (sym (c.read-block.ensures.cells ∙ c.entries-entries.ensures.cells)) here, ap (λ (r : Record). r.size) t.block_is ∙ size_read old slot Listed node here)
+    (node, subst P (sym (c.read-block.ensures.cells ∙ c.entries-entries.ensures.cells)) here)
 
 pub drop_pool-requires-clause-below : goal.drop_pool-requires-clause-below
 drop_pool-requires-clause-below c =
@@ -80,11 +79,10 @@ left c =
     let here = stands_there old c.requires c.args.base c.in-Some.number t.is.0 t.is.1 slot t.slot_is unused in
     let alone = alone_there old c.requires c.args.base c.in-Some.number t.is.0 t.is.1 slot t.slot_is unused in
     let node : At = node_there old c.requires c.args.base c.in-Some.number t.is.0 t.is.1 slot t.slot_is unused in
-    let size = ap (λ (r : Record). r.size) t.block_is ∙ size_read old slot Listed node here in
     let entries = c.as_slice-2.ensures.value ∙ c.remove-entry.ensures.items ∙ ap (λ items. remove items c.in-Some.number) c.entries-entries.ensures.value ∙ alone.2 in
     let P : Cells → Type 0 = λ cells. StandsAt slot Listed cells node in
     let now : StandsAt slot Listed c.read-block.new.self.cells node = subst P (sym (c.read-block.ensures.cells ∙ c.entries-entries.ensures.cells)) here in
-    removed_stands old c.requires c.args.base c.in-Some.number t.is.0 t.is.1 slot t.slot_is unused c.drop_pool.new.store.cells (c.drop_pool.ensures.leads node now size alone.0 alone.1 entries)
+    removed_stands old c.requires c.args.base c.in-Some.number t.is.0 t.is.1 slot t.slot_is unused c.drop_pool.new.store.cells (c.drop_pool.ensures.leads node now alone.0 alone.1 entries)
 
 pub returns-clause-stands : goal.returns-clause-stands
 returns-clause-stands c = (left c).0

@@ -84,7 +84,7 @@ bytes_mut_spec 𝓤 𝓛 𝓜 𝓡 wired =
     (and_then ! (get ! refl) (and_then ! (get ! refl) (no_more !))) (λ v.
     use1 𝓛 (later (some (λ (n : ℕ). ((‵ (flft (α ∷ []) full_share) ⊛ ‵ ftrue) ⊛ ‵ (u32.own_val n (v ∷ []))) ⊛ some (λ (ws : Lasts g.ended z.0.0 z.0.3). ‵ (lasts g.ended z.0.0 z.0.3 ws)
     ⊛ raw (fact 𝓤 (0 < n → block_size (λ slot. slot == p.slot) p.place s.now.content ≡ Ok n)) ⊛ raw (fact 𝓤 (0 < n → p.place + n ≤ length s.now.bytes))
-    ⊛ raw (fact 𝓤 (n ≡ 0 → is_live (λ slot. slot == p.slot) p.place (blocks_of s.now.content.pools) ≡ false)) ⊛ raw (fact 𝓤 (WasRead 2 s.now ws.0)) ⊛ raw (fact 𝓤 (ws.0.bytes ≡ s.now.bytes)))))) (id⊢ 𝓤 _) $
+    ⊛ raw (fact 𝓤 (n ≡ 0 → is_live (λ slot. slot == p.slot) p.place (blocks_of s.now.content.pools) ≡ false)) ⊛ raw (fact 𝓤 (WasRead 1 s.now ws.0)) ⊛ raw (fact 𝓤 (ws.0.bytes ≡ s.now.bytes)))))) (id⊢ 𝓤 _) $
     await ! tt $ pick ! (λ n. split ! $ split ! $ split ! $ lft_end ! tt $ move ! (2 ∷ []) $ fsplit ! $ feq_l ! (λ is_n. flt_l ! (λ fits.
     lands_as ! (ap only is_n) refl (tt, record { fits = fits }) $
     move ! (2 ∷ []) $ pick ! (λ ws. split ! $ move ! (1 ∷ []) $ split ! $ heard ! _ (λ told. split ! $ heard ! _ (λ within. split ! $ heard ! _ (λ stale. split ! $ heard ! _ (λ read. heard ! _ (λ same.

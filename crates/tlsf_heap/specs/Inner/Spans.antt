@@ -1,0 +1,66 @@
+-- What is known of a block on its way, by its record and by its node; and the edits of a store's cells by what is known.
+use Rattle.std.specs.Prelude.{◌≡◌, ℕ, ◌+◌, ◌-◌, ◌%◌, ◌<◌, ◌≤◌, List, Option, Some, None}
+use Rattle.tlsf_class.specs.Classes.{unit, class, greatest_size}
+use Rattle.tlsf_store.specs.declared.records.State.{State}
+use Rattle.tlsf_store.specs.declared.records.State.TheVariants.{Free, Live}
+use Rattle.tlsf_store.specs.declared.records.Record.{Record}
+use Rattle.tlsf_store.specs.Records.{blank, record_at}
+use Rattle.tlsf_store.specs.Cells.{Cells, with_record}
+use Rattle.tlsf_heap.specs.declared.span.Span.{Span}
+use Rattle.tlsf_heap.specs.Inner.Edits.{edited, IsUsed, unlinked_by}
+use Rattle.tlsf_heap.specs.Inner.Chains.{with_prev}
+use Rattle.tlsf_heap.specs.Inner.Represents.{first_slot}
+use Rattle.tlsf_heap.specs.Inner.At.{At}
+
+-- the block of a slot, by its record
+abbrev pub span_of : ℕ → Record → Span
+span_of slot block = record { slot = slot; place = block.place; size = block.size; next = block.next }
+
+-- what is known of the block is what its record says, and it begins at a multiple of the unit
+pub record IsRead (span : Span) (records : List Record) : Type 0 where
+  pub place : span.place ≡ (record_at records span.slot).place
+  pub size : span.size ≡ (record_at records span.slot).size
+  pub next : span.next ≡ (record_at records span.slot).next
+  pub in_units : span.place % unit ≡ 0
+
+-- the same by the node
+pub record IsSpanOf (span : Span) (at : At) : Type 0 where
+  pub slot : span.slot ≡ at.node.slot
+  pub place : span.place ≡ at.node.place
+  pub size : span.size ≡ at.node.size
+  pub next : span.next ≡ first_slot at.nodes
+  pub in_units : span.place % unit ≡ 0
+
+-- the slot's block has this size and state, and this one behind it
+abbrev pub with_block : ℕ → ℕ → State → Option ℕ → Cells → Cells
+with_block slot size state next cells = edited (λ r. record r { size = size; state = state; next = next }) (Some slot) cells
+
+-- what is left of the block behind its first bytes: a free block
+abbrev pub rest_of : Span → ℕ → Record
+rest_of span bytes = record { place = span.place + bytes; size = span.size - bytes; state = Free; prev = Some span.slot; next = span.next; prev_free = None; next_free = None }
+
+-- the block keeps its first bytes, and is live; the rest is a free block of the other slot, behind it
+abbrev pub split_by : Span → ℕ → ℕ → Cells → Cells
+split_by span rest bytes cells =
+    with_prev span.next (Some rest) (with_block span.slot bytes Live (Some rest) (with_record cells rest (rest_of span bytes)))
+
+-- the block, which is in this state, takes in the one behind it, whose slot becomes vacant; the span says what it is then
+abbrev pub absorbed_by : Span → State → ℕ → Cells → Cells
+absorbed_by span state behind cells = with_record (with_prev span.next (Some span.slot) (with_block span.slot span.size state span.next cells)) behind blank
+
+-- one of two neighbours, of this record, left its list, and the first took in the other
+abbrev pub joined_by : Span → State → ℕ → Record → Cells → Cells
+joined_by span state behind listed cells = absorbed_by span state behind (unlinked_by (class listed.size) listed cells)
+
+-- one of two neighbours, of this record, can leave its list, and the first can then take in the other;
+-- out: the records once it left
+pub record CanJoin (span : Span) (behind : ℕ) (listed : Record) (records out : List Record) : Type 0 where
+  pub some : 0 < listed.size
+  pub whole : listed.size % unit ≡ 0
+  pub most : listed.size ≤ greatest_size
+  pub prev_used : IsUsed records listed.prev_free
+  pub next_used : IsUsed records listed.next_free
+  pub front_used : IsUsed out (Some span.slot)
+  pub behind_used : IsUsed out (Some behind)
+  pub last_used : IsUsed out span.next
+  pub in_units : span.size % unit ≡ 0
