@@ -1,7 +1,7 @@
 //! Blocks are asked for and given back.
 
 ghost use Rattle.std.specs.Prelude.{◌≡◌, ◌≢◌, ◌%◌, ◌<◌, ◌==◌, ◌⊎◌, Ok, Some};
-ghost use Rattle.tlsf_heap.specs.Touches.{AtMost};
+ghost use Rattle.tlsf_heap.specs.Touches.{AtMost, malloc_touches, memalign_touches, free_touches, realloc_touches, block_size_touches};
 ghost use Rattle.tlsf_heap.specs.Counted.{IsUnchanged};
 ghost use Rattle.tlsf_heap.specs.GoodSlots.{slot_times};
 ghost use Rattle.tlsf_heap.specs.Content.{blocks_of};
@@ -28,7 +28,7 @@ pub extern "C" fn tlsf_heap_malloc(handle: &mut Handle, bytes: u64, out: &mut Bl
     ensures slot_new { result ≡ 0 → slot_times out.new.slot (blocks_of handle.old.value.content.pools) ≡ 0 }
     ensures unchanged { result ≢ 0 → IsUnchanged handle.old.value handle.new.value }
     ensures out { result ≢ 0 → out.new ≡ out.old }
-    ensures bound { AtMost 23 handle.old.value.touches handle.new.value.touches }
+    ensures bound { AtMost malloc_touches handle.old.value.touches handle.new.value.touches }
 {
     match handle.heap().malloc(bytes) {
         Ok(ptr) => {
@@ -56,7 +56,7 @@ pub extern "C" fn tlsf_heap_memalign(
     ensures slot_new { result ≡ 0 → slot_times out.new.slot (blocks_of handle.old.value.content.pools) ≡ 0 }
     ensures unchanged { result ≢ 0 → IsUnchanged handle.old.value handle.new.value }
     ensures out { result ≢ 0 → out.new ≡ out.old }
-    ensures bound { AtMost 42 handle.old.value.touches handle.new.value.touches }
+    ensures bound { AtMost memalign_touches handle.old.value.touches handle.new.value.touches }
 {
     match handle.heap().memalign(align, bytes) {
         Ok(ptr) => {
@@ -75,7 +75,7 @@ pub extern "C" fn tlsf_heap_free(handle: &mut Handle, block: Block) -> u32
     ensures status { status_of (freed (λ slot. slot == block.slot) block.place handle.old.value.content) ≡ result }
     ensures ok { result ≡ 0 → freed (λ slot. slot == block.slot) block.place handle.old.value.content ≡ Ok handle.new.value.content }
     ensures unchanged { result ≢ 0 → IsUnchanged handle.old.value handle.new.value }
-    ensures bound { AtMost 32 handle.old.value.touches handle.new.value.touches }
+    ensures bound { AtMost free_touches handle.old.value.touches handle.new.value.touches }
 {
     match handle.heap().free(block.ptr()) {
         Ok(()) => SERVED,
@@ -99,7 +99,7 @@ pub extern "C" fn tlsf_heap_realloc(
     ensures slot_below { result ≡ 0 → bytes ≢ 0 → out.new.slot < handle.old.value.content.records }
     ensures unchanged { result ≢ 0 → IsUnchanged handle.old.value handle.new.value }
     ensures out { (result ≢ 0) ⊎ (bytes ≡ 0) → out.new ≡ out.old }
-    ensures bound { AtMost 58 handle.old.value.touches handle.new.value.touches }
+    ensures bound { AtMost realloc_touches handle.old.value.touches handle.new.value.touches }
 {
     match handle.heap().realloc(Some(block.ptr()), bytes) {
         Ok(Some(ptr)) => {
@@ -120,7 +120,7 @@ pub extern "C" fn tlsf_heap_block_size(handle: &mut Handle, block: Block, out: &
     ensures ok { result ≡ 0 → sized (λ slot. slot == block.slot) block.place handle.old.value.content ≡ Ok out.new }
     ensures unchanged { IsUnchanged handle.old.value handle.new.value }
     ensures out { result ≢ 0 → out.new ≡ out.old }
-    ensures bound { AtMost 1 handle.old.value.touches handle.new.value.touches }
+    ensures bound { AtMost block_size_touches handle.old.value.touches handle.new.value.touches }
 {
     match handle.heap().block_size(block.ptr()) {
         Ok(bytes) => {

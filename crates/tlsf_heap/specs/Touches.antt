@@ -5,3 +5,25 @@ use Rattle.std.specs.Prelude.{ℕ, ◌+◌, ◌≤◌}
 pub record AtMost (n old new : ℕ) : Type 0 where
   pub floor : old ≤ new
   pub bound : new ≤ old + n
+
+-- the bounds of the calls of a heap
+abbrev pub add_pool_touches : ℕ
+add_pool_touches = 27
+
+abbrev pub remove_pool_touches : ℕ
+remove_pool_touches = 26
+
+abbrev pub malloc_touches : ℕ
+malloc_touches = 23
+
+abbrev pub memalign_touches : ℕ
+memalign_touches = 42
+
+abbrev pub free_touches : ℕ
+free_touches = 32
+
+abbrev pub realloc_touches : ℕ
+realloc_touches = 58
+
+abbrev pub block_size_touches : ℕ
+block_size_touches = 1

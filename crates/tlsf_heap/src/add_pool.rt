@@ -4,7 +4,7 @@ ghost use Rattle.std.specs.Prelude.{◌≡◌, ◌<◌, ◌&&◌, true, ◌∷�
 ghost use Rattle.std.specs.List.{list_all};
 ghost use Rattle.arrayvec.specs.ArrayVec.{array_vec_len};
 ghost use Rattle.tlsf_store.specs.Cells.{most_pools};
-ghost use Rattle.tlsf_heap.specs.Touches.{AtMost};
+ghost use Rattle.tlsf_heap.specs.Touches.{AtMost, add_pool_touches};
 ghost use Rattle.tlsf_heap.specs.Inner.Entries.{entries_of};
 ghost use Rattle.tlsf_heap.specs.Inner.Edits.{IsUsed};
 ghost use Rattle.tlsf_heap.specs.Pools.{can_be_pool as can_be, add_pool as added};
@@ -35,7 +35,7 @@ pub(crate) fn add_pool(store: &mut Store, base: u64, bytes: u64) -> Result<(), R
     ensures ok { OnOk result (added base bytes (content_of store.old.cells) ≡ Ok (content_of store.new.cells)) }
     ensures refused { IfErr result (λ refusal. added base bytes (content_of store.old.cells) ≡ Err refusal) }
     ensures cells { OnErr result (store.new.cells ≡ store.old.cells) }
-    ensures touches { AtMost 27 store.old.touches store.new.touches }
+    ensures touches { AtMost add_pool_touches store.old.touches store.new.touches }
 {
     let entries = entries(store);
     if !can_enter(entries.as_slice(), base, bytes) {

@@ -4,7 +4,7 @@ ghost use Rattle.std.specs.Prelude.{◌≡◌, ◌≢◌, false, ◌==◌, ◌&&
 ghost use Rattle.tlsf_class.specs.Classes.{unit, class};
 ghost use Rattle.tlsf_store.specs.declared.records.State.TheVariants.{Vacant};
 ghost use Rattle.tlsf_store.specs.Records.{record_at};
-ghost use Rattle.tlsf_heap.specs.Touches.{AtMost};
+ghost use Rattle.tlsf_heap.specs.Touches.{AtMost, free_touches};
 ghost use Rattle.tlsf_heap.specs.Content.{blocks_of};
 ghost use Rattle.tlsf_heap.specs.Free.{is_live as is_live_in};
 ghost use Rattle.tlsf_heap.specs.Free.{free as freed};
@@ -34,7 +34,7 @@ pub(crate) fn free(store: &mut Store, ptr: Ptr) -> Result<(), Refusal>
     ensures ok { OnOk result (freed (λ slot. slot == ptr.slot) ptr.place (content_of store.old.cells) ≡ Ok (content_of store.new.cells)) }
     ensures refused { IfErr result (λ refusal. freed (λ slot. slot == ptr.slot) ptr.place (content_of store.old.cells) ≡ Err refusal) }
     ensures cells { OnErr result (store.new.cells ≡ store.old.cells) }
-    ensures touches { AtMost 32 store.old.touches store.new.touches }
+    ensures touches { AtMost free_touches store.old.touches store.new.touches }
 {
     let Some(block) = live(store, ptr) else {
         return Err(Refusal::BadPointer);

@@ -44,7 +44,7 @@ impl Heap {
     ghost use Rattle.std.specs.Prelude.{◌≡◌, ◌≢◌, true, ℕ, ◌+◌, ◌*◌, ◌%◌, ◌<◌, ◌≤◌, ◌==◌, ◌⊎◌, ◌↔◌, [], ◌∷◌, map, Some, None, Ok, Err, IfOk, IfErr, IfSome, IfNone, OnOk, OnErr};
     ghost use Rattle.tlsf_store.specs.declared.errors.StoreError.TheVariants.{BadCount};
     ghost use Rattle.tlsf_store.specs.Records.{most_records};
-    ghost use Rattle.tlsf_heap.specs.Touches.{AtMost};
+    ghost use Rattle.tlsf_heap.specs.Touches.{AtMost, add_pool_touches, remove_pool_touches, malloc_touches, memalign_touches, free_touches, realloc_touches, block_size_touches};
     ghost use Rattle.tlsf_heap.specs.Good.{IsGood};
     ghost use Rattle.tlsf_heap.specs.GoodSlots.{HasGoodSlots, slot_times};
     ghost use Rattle.tlsf_heap.specs.Content.{blocks_of};
@@ -149,7 +149,7 @@ impl Heap {
         ensures table_full { result ≡ Err TableFull → HasFewRecords self.old.content }
         ensures never_memory { result ≢ Err Refusal.OutOfMemory }
         ensures unchanged { OnErr result (IsUnchanged self.old self.new) }
-        ensures bound { AtMost 27 self.old.touches self.new.touches }
+        ensures bound { AtMost add_pool_touches self.old.touches self.new.touches }
     {
         add_pool(&mut self.store, base, bytes)
     }
@@ -164,7 +164,7 @@ impl Heap {
         ensures refused { IfErr result (λ refusal. removed base self.old.content ≡ Err refusal) }
         ensures never_memory { result ≢ Err Refusal.OutOfMemory }
         ensures unchanged { OnErr result (IsUnchanged self.old self.new) }
-        ensures bound { AtMost 26 self.old.touches self.new.touches }
+        ensures bound { AtMost remove_pool_touches self.old.touches self.new.touches }
     {
         remove_pool(&mut self.store, base)
     }
@@ -187,7 +187,7 @@ impl Heap {
         ensures table_full { result ≡ Err TableFull → HasFewRecords self.old.content }
         ensures never_memory { result ≢ Err Refusal.OutOfMemory }
         ensures unchanged { OnErr result (IsUnchanged self.old self.new) }
-        ensures bound { AtMost 23 self.old.touches self.new.touches }
+        ensures bound { AtMost malloc_touches self.old.touches self.new.touches }
     {
         malloc(&mut self.store, n)
     }
@@ -214,7 +214,7 @@ impl Heap {
         ensures table_full { result ≡ Err TableFull → HasFewRecordsAndOne self.old.content }
         ensures never_memory { result ≢ Err Refusal.OutOfMemory }
         ensures unchanged { OnErr result (IsUnchanged self.old self.new) }
-        ensures bound { AtMost 42 self.old.touches self.new.touches }
+        ensures bound { AtMost memalign_touches self.old.touches self.new.touches }
     {
         memalign(&mut self.store, align, n)
     }
@@ -230,7 +230,7 @@ impl Heap {
         ensures refused { IfErr result (λ refusal. freed (λ slot. slot == ptr.slot) ptr.place self.old.content ≡ Err refusal) }
         ensures never_memory { result ≢ Err Refusal.OutOfMemory }
         ensures unchanged { OnErr result (IsUnchanged self.old self.new) }
-        ensures bound { AtMost 32 self.old.touches self.new.touches }
+        ensures bound { AtMost free_touches self.old.touches self.new.touches }
     {
         free(&mut self.store, ptr)
     }
@@ -253,7 +253,7 @@ impl Heap {
         ensures table_full { result ≡ Err TableFull → HasFewRecords self.old.content }
         ensures never_memory { result ≢ Err Refusal.OutOfMemory }
         ensures unchanged { OnErr result (IsUnchanged self.old self.new) }
-        ensures bound { AtMost 58 self.old.touches self.new.touches }
+        ensures bound { AtMost realloc_touches self.old.touches self.new.touches }
     {
         realloc(&mut self.store, ptr, n)
     }
@@ -268,7 +268,7 @@ impl Heap {
         ensures refused { IfErr result (λ refusal. sized (λ slot. slot == ptr.slot) ptr.place self.old.content ≡ Err refusal) }
         ensures never_memory { result ≢ Err Refusal.OutOfMemory }
         ensures unchanged { IsUnchanged self.old self.new }
-        ensures bound { AtMost 1 self.old.touches self.new.touches }
+        ensures bound { AtMost block_size_touches self.old.touches self.new.touches }
     {
         block_size(&mut self.store, ptr)
     }

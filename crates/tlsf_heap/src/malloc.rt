@@ -4,7 +4,7 @@ ghost use Rattle.std.specs.Prelude.{◌≡◌, ℕ, false, ◌%◌, ◌<◌, ◌
 ghost use Rattle.tlsf_class.specs.Classes.{unit};
 ghost use Rattle.tlsf_store.specs.declared.records.State.TheVariants.{Free};
 ghost use Rattle.tlsf_store.specs.Records.{record_at, vacant_count};
-ghost use Rattle.tlsf_heap.specs.Touches.{AtMost};
+ghost use Rattle.tlsf_heap.specs.Touches.{AtMost, malloc_touches};
 ghost use Rattle.tlsf_heap.specs.Content.{blocks_of};
 ghost use Rattle.tlsf_heap.specs.Lists.{pick as picked};
 ghost use Rattle.tlsf_heap.specs.Malloc.{malloc as served, malloc_rounded, malloc_picked};
@@ -35,7 +35,7 @@ pub(crate) fn malloc(store: &mut Store, n: u64) -> Result<Ptr, Refusal>
     ensures slot_new { IfOk result (λ ptr. slot_times ptr.slot (blocks_of (content_of store.old.cells).pools) ≡ 0) }
     ensures refused { IfErr result (λ refusal. (slot : ℕ) → served slot n (content_of store.old.cells) ≡ Err refusal) }
     ensures cells { OnErr result (store.new.cells ≡ store.old.cells) }
-    ensures touches { AtMost 23 store.old.touches store.new.touches }
+    ensures touches { AtMost malloc_touches store.old.touches store.new.touches }
 {
     if n == 0 {
         return Err(Refusal::ZeroSize);
@@ -61,7 +61,7 @@ pub(crate) fn allocate(store: &mut Store, asked: u32) -> Result<Ptr, Refusal>
     ensures slot_new { IfOk result (λ ptr. slot_times ptr.slot (blocks_of (content_of store.old.cells).pools) ≡ 0) }
     ensures refused { IfErr result (λ refusal. (slot : ℕ) → malloc_rounded slot (Some asked) (content_of store.old.cells) ≡ Err refusal) }
     ensures cells { OnErr result (store.new.cells ≡ store.old.cells) }
-    ensures touches { AtMost 23 store.old.touches store.new.touches }
+    ensures touches { AtMost malloc_touches store.old.touches store.new.touches }
 {
     let Some(slot) = pick(store, asked) else {
         return Err(Refusal::NoFit);

@@ -5,7 +5,7 @@ ghost use Rattle.std.specs.Int.{next_multiple_of};
 ghost use Rattle.tlsf_class.specs.Classes.{unit, greatest_size};
 ghost use Rattle.tlsf_store.specs.declared.records.State.TheVariants.{Free};
 ghost use Rattle.tlsf_store.specs.Records.{blank, record_at, vacant_count};
-ghost use Rattle.tlsf_heap.specs.Touches.{AtMost};
+ghost use Rattle.tlsf_heap.specs.Touches.{AtMost, memalign_touches};
 ghost use Rattle.tlsf_heap.specs.Content.{blocks_of};
 ghost use Rattle.tlsf_heap.specs.Lists.{pick as picked};
 ghost use Rattle.tlsf_heap.specs.Memalign.{is_alignment as is_one, size_asked as asked_size, gap_records, memalign as served, memalign_picked};
@@ -40,7 +40,7 @@ pub(crate) fn memalign(store: &mut Store, align: u64, n: u64) -> Result<Ptr, Ref
     ensures slot_new { IfOk result (λ ptr. slot_times ptr.slot (blocks_of (content_of store.old.cells).pools) ≡ 0) }
     ensures refused { IfErr result (λ refusal. (slot : ℕ) → served slot align n (content_of store.old.cells) ≡ Err refusal) }
     ensures cells { OnErr result (store.new.cells ≡ store.old.cells) }
-    ensures touches { AtMost 42 store.old.touches store.new.touches }
+    ensures touches { AtMost memalign_touches store.old.touches store.new.touches }
 {
     if !is_alignment(align) {
         return Err(Refusal::BadAlign);

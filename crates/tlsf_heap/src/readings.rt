@@ -2,7 +2,7 @@
 
 ghost use Rattle.std.specs.Prelude.{◌≡◌, ◌==◌, ◌+◌, ◌-◌, ◌<◌, ◌≤◌, [], ◌∷◌, Ok, Err, IfOk, IfErr, IfSome, IfNone};
 ghost use Rattle.tlsf_store.specs.Cells.{most_pools};
-ghost use Rattle.tlsf_heap.specs.Touches.{AtMost};
+ghost use Rattle.tlsf_heap.specs.Touches.{AtMost, block_size_touches};
 ghost use Rattle.tlsf_heap.specs.Inner.Following.{Stands, content_of};
 ghost use Rattle.tlsf_heap.specs.Inner.Entries.{entries_of};
 ghost use Rattle.tlsf_heap.specs.Rows.{rows_from};
@@ -155,7 +155,7 @@ pub(crate) fn block_size(store: &mut Store, ptr: Ptr) -> Result<u32, Refusal>
     ensures ok { IfOk result (λ bytes. sized (λ slot. slot == ptr.slot) ptr.place (content_of store.old.cells) ≡ Ok bytes) }
     ensures refused { IfErr result (λ refusal. sized (λ slot. slot == ptr.slot) ptr.place (content_of store.old.cells) ≡ Err refusal) }
     ensures cells { store.new.cells ≡ store.old.cells }
-    ensures touches { AtMost 1 store.old.touches store.new.touches }
+    ensures touches { AtMost block_size_touches store.old.touches store.new.touches }
 {
     let Some(block) = live(store, ptr) else {
         return Err(Refusal::BadPointer);

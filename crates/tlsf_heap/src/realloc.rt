@@ -2,7 +2,7 @@
 
 ghost use Rattle.std.specs.Prelude.{◌≡◌, ◌≢◌, ℕ, true, false, ◌+◌, ◌%◌, ◌<◌, ◌≤◌, ◌==◌, Some, None, Ok, Err, IfOk, IfErr, IfSome, OnErr, option_map};
 ghost use Rattle.tlsf_class.specs.Classes.{unit, greatest_size};
-ghost use Rattle.tlsf_heap.specs.Touches.{AtMost};
+ghost use Rattle.tlsf_heap.specs.Touches.{AtMost, realloc_touches};
 ghost use Rattle.tlsf_heap.specs.Content.{blocks_of, size_at};
 ghost use Rattle.tlsf_heap.specs.Free.{is_live as is_live_in};
 ghost use Rattle.tlsf_heap.specs.Realloc.{fits_in_place as fits, resized, moved, realloc as reallocated, realloc_sized};
@@ -35,7 +35,7 @@ pub(crate) fn realloc(store: &mut Store, ptr: Option<Ptr>, n: u64) -> Result<Opt
     ensures slot_new { IfOk result (λ given. IfSome given (λ p. ptr ≢ Some p → slot_times p.slot (blocks_of (content_of store.old.cells).pools) ≡ 0)) }
     ensures refused { IfErr result (λ refusal. (owner : ℕ) → reallocated (λ a b. a == b) owner (place_and_slot ptr) n (content_of store.old.cells) ≡ Err refusal) }
     ensures cells { OnErr result (store.new.cells ≡ store.old.cells) }
-    ensures touches { AtMost 58 store.old.touches store.new.touches }
+    ensures touches { AtMost realloc_touches store.old.touches store.new.touches }
 {
     match ptr {
         Some(ptr) => reallocate(store, ptr, n),
@@ -60,7 +60,7 @@ fn reallocate(store: &mut Store, ptr: Ptr, n: u64) -> Result<Option<Ptr>, Refusa
     ensures slot_new { IfOk result (λ given. IfSome given (λ p. ptr ≢ p → slot_times p.slot (blocks_of (content_of store.old.cells).pools) ≡ 0)) }
     ensures refused { IfErr result (λ refusal. (owner : ℕ) → reallocated (λ a b. a == b) owner (Some (ptr.place, ptr.slot)) n (content_of store.old.cells) ≡ Err refusal) }
     ensures cells { OnErr result (store.new.cells ≡ store.old.cells) }
-    ensures touches { AtMost 58 store.old.touches store.new.touches }
+    ensures touches { AtMost realloc_touches store.old.touches store.new.touches }
 {
     if n == 0 {
         return match free(store, ptr) {

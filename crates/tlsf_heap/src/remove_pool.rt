@@ -4,7 +4,7 @@ ghost use Rattle.std.specs.Prelude.{◌≡◌, ◌%◌, ◌<◌, ◌≤◌, ◌&
 ghost use Rattle.tlsf_class.specs.Classes.{unit};
 ghost use Rattle.tlsf_store.specs.Cells.{most_pools};
 ghost use Rattle.tlsf_store.specs.Records.{record_at};
-ghost use Rattle.tlsf_heap.specs.Touches.{AtMost};
+ghost use Rattle.tlsf_heap.specs.Touches.{AtMost, remove_pool_touches};
 ghost use Rattle.tlsf_heap.specs.Pools.{remove_pool as removed};
 ghost use Rattle.tlsf_heap.specs.Inner.States.{is_state_free};
 ghost use Rattle.tlsf_heap.specs.Inner.Nodes.{Listed};
@@ -32,7 +32,7 @@ pub(crate) fn remove_pool(store: &mut Store, base: u64) -> Result<(), Refusal>
     ensures ok { OnOk result (removed base (content_of store.old.cells) ≡ Ok (content_of store.new.cells)) }
     ensures refused { IfErr result (λ refusal. removed base (content_of store.old.cells) ≡ Err refusal) }
     ensures cells { OnErr result (store.new.cells ≡ store.old.cells) }
-    ensures touches { AtMost 26 store.old.touches store.new.touches }
+    ensures touches { AtMost remove_pool_touches store.old.touches store.new.touches }
 {
     let mut entries = entries(store);
     let Some(number) = number_of(entries.as_slice(), base) else {

@@ -50,7 +50,7 @@ impl Region {
     ghost use Rattle.tlsf_heap.specs.declared.refusal.Refusal.TheVariants.{NoFit, TableFull};
     ghost use Rattle.tlsf_region.specs.Pools.{add_pool_within};
     ghost use Rattle.tlsf_region.specs.Realloc.{bytes_after_realloc};
-    ghost use Rattle.tlsf_heap.specs.Touches.{AtMost};
+    ghost use Rattle.tlsf_heap.specs.Touches.{AtMost, add_pool_touches, remove_pool_touches, malloc_touches, memalign_touches, free_touches, realloc_touches, block_size_touches};
     ghost use Rattle.tlsf_region.specs.Region.{IsWithin, IsUnchanged, WasRead};
     ghost use Rattle.tlsf_region.specs.Bytes.{block_bytes, live_bytes};
     ghost use Rattle.tlsf_region.specs.Lends.{ends_read, lends_from, lends_block};
@@ -102,7 +102,7 @@ impl Region {
         ensures never_memory { result ≢ Err Refusal.OutOfMemory }
         ensures unchanged { OnErr result (IsUnchanged self.old self.new) }
         ensures bytes { self.new.bytes ≡ self.old.bytes }
-        ensures bound { AtMost 27 self.old.touches self.new.touches }
+        ensures bound { AtMost add_pool_touches self.old.touches self.new.touches }
     {
         let len = self.bytes.len() as u64;
         if base > len || bytes > len - base {
@@ -122,7 +122,7 @@ impl Region {
         ensures never_memory { result ≢ Err Refusal.OutOfMemory }
         ensures unchanged { OnErr result (IsUnchanged self.old self.new) }
         ensures bytes { self.new.bytes ≡ self.old.bytes }
-        ensures bound { AtMost 26 self.old.touches self.new.touches }
+        ensures bound { AtMost remove_pool_touches self.old.touches self.new.touches }
     {
         self.heap.remove_pool(base)
     }
@@ -144,7 +144,7 @@ impl Region {
         ensures never_memory { result ≢ Err Refusal.OutOfMemory }
         ensures unchanged { OnErr result (IsUnchanged self.old self.new) }
         ensures bytes { self.new.bytes ≡ self.old.bytes }
-        ensures bound { AtMost 23 self.old.touches self.new.touches }
+        ensures bound { AtMost malloc_touches self.old.touches self.new.touches }
     {
         self.heap.malloc(n)
     }
@@ -168,7 +168,7 @@ impl Region {
         ensures never_memory { result ≢ Err Refusal.OutOfMemory }
         ensures unchanged { OnErr result (IsUnchanged self.old self.new) }
         ensures bytes { self.new.bytes ≡ self.old.bytes }
-        ensures bound { AtMost 42 self.old.touches self.new.touches }
+        ensures bound { AtMost memalign_touches self.old.touches self.new.touches }
     {
         self.heap.memalign(align, n)
     }
@@ -184,7 +184,7 @@ impl Region {
         ensures never_memory { result ≢ Err Refusal.OutOfMemory }
         ensures unchanged { OnErr result (IsUnchanged self.old self.new) }
         ensures bytes { self.new.bytes ≡ self.old.bytes }
-        ensures bound { AtMost 32 self.old.touches self.new.touches }
+        ensures bound { AtMost free_touches self.old.touches self.new.touches }
     {
         self.heap.free(ptr)
     }
@@ -206,7 +206,7 @@ impl Region {
         ensures unchanged { OnErr result (IsUnchanged self.old self.new) }
         ensures bytes { IfOk result (λ given. self.new.bytes ≡ bytes_after_realloc ptr given self.old.content self.old.bytes) }
         ensures bytes_unchanged { OnErr result (self.new.bytes ≡ self.old.bytes) }
-        ensures bound { AtMost 59 self.old.touches self.new.touches }
+        ensures bound { AtMost (realloc_touches + block_size_touches) self.old.touches self.new.touches }
     {
         let Some(old) = ptr else {
             return self.heap.realloc(None, n);
@@ -231,7 +231,7 @@ impl Region {
         ensures refused { IfErr result (λ refusal. sized (λ slot. slot == ptr.slot) ptr.place self.old.content ≡ Err refusal) }
         ensures unchanged { IsUnchanged self.old self.new }
         ensures bytes { self.new.bytes ≡ self.old.bytes }
-        ensures bound { AtMost 1 self.old.touches self.new.touches }
+        ensures bound { AtMost block_size_touches self.old.touches self.new.touches }
     {
         self.heap.block_size(ptr)
     }
