@@ -113,7 +113,19 @@ fn memory_taken_once(rt: HostRuntime) {
     give(&rt, &mut store, slot);
     assert_eq!(rt; store.vacant(), 3);
     assert!(rt; store.has_whole_vacant_chain());
+    restart(&rt, &mut store);
     assert!(rt; Store::create(rt.alloc(), 1).is_ok(), "no second store");
+}
+
+/// Makes it a store of two records, with nothing in it.
+fn restart(rt: &impl Abort, store: &mut Store) {
+    if store.records() >= 2 {
+        store.restart(2);
+    }
+    assert_eq!(rt; (store.records(), store.vacant()), (2, 2));
+    assert_eq!(rt; store.pool(7), None);
+    assert_eq!(rt; store.level_word(), 0);
+    assert!(rt; store.has_whole_vacant_chain());
 }
 
 #[test]
