@@ -120,8 +120,14 @@ one_tried records whole step first number count verdicts verdict place are size 
 -- one pool of a whole number of units, and enough records, are no bad settings
 pub one_pool-good : (size records : ℕ) → size % unit ≡ 0 → unit ≤ size → size ≤ greatest_size → 0 < records → records ≤ most_records → are_bad (one_pool size records) ≡ false
 one_pool-good size records in_units some within few most =
-    rw (eq-eqb _ _ in_units, le-ltb size unit some, le-ltb greatest_size size within, le-ltb records 1 (omega (arith, few)), le-ltb most_records records most,
-    le-ltb end_of_places (size * 1) (omega (arith, within))) refl
+    rw (
+      eq-eqb _ _ in_units,
+      le-ltb size unit some,
+      le-ltb greatest_size size within,
+      le-ltb records 1 (omega (arith, few)),
+      le-ltb most_records records most,
+      le-ltb end_of_places (size * 1) (omega (arith, within)),
+    ) refl
 
 -- a multiple of a step of whole units is one
 pub units_times : (number step : ℕ) → step % unit ≡ 0 → (number * step) % unit ≡ 0

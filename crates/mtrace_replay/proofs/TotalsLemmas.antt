@@ -112,9 +112,11 @@ most_goes_on moment past most now is count_now = record {
         let same : most ≡ max most now = omega (arith, within) in
         (reached.0, subst (λ n. IsCount (first_moments reached.0 (moment ∷ past)) n) same reached.1)
     | inr more ↦
-        let same : now ≡ max most now = omega (arith, more) in
-        (length (moment ∷ past), subst (λ n. IsCount (first_moments (length (moment ∷ past)) (moment ∷ past)) n) same
-        (subst (λ (first : List Moment). IsCount first now) (sym (first_moments_all (moment ∷ past))) count_now))
+        let same : now ≡ max most now = omega (arith, more) in (
+          length (moment ∷ past),
+          subst (λ n. IsCount (first_moments (length (moment ∷ past)) (moment ∷ past)) n) same
+              (subst (λ (first : List Moment). IsCount first now) (sym (first_moments_all (moment ∷ past))) count_now),
+        )
   ];
   greatest = λ k count held. first_or_all k moment past
       (λ within same. omega (arith, is.greatest k count (subst (λ (first : List Moment). IsCount first count) same held)))
@@ -125,9 +127,11 @@ most_goes_on moment past most now is count_now = record {
     reached : (k : ℕ) × IsCount (first_moments k (moment ∷ past)) most
     reached = elim (le_or_more is.reached.0 (length past)) [
       | inl within ↦ (is.reached.0, subst (λ (first : List Moment). IsCount first most) (sym (first_moments_before is.reached.0 moment past within)) is.reached.1)
-      | inr beyond ↦
-          (length past, subst (λ (first : List Moment). IsCount first most)
-          (first_moments_most is.reached.0 past (omega (arith, beyond)) ∙ sym (first_moments_before (length past) moment past (omega arith) ∙ first_moments_all past)) is.reached.1)
+      | inr beyond ↦ (
+        length past,
+        subst (λ (first : List Moment). IsCount first most)
+            (first_moments_most is.reached.0 past (omega (arith, beyond)) ∙ sym (first_moments_before (length past) moment past (omega arith) ∙ first_moments_all past)) is.reached.1,
+      )
     ]
 
 -- a block is live in the heap

@@ -111,7 +111,9 @@ fn step_option<'a>(alloc: Global) -> Arg<'a>
         .long("step")
         .value_name("BYTES")
         .value_parser(parser)
-        .help("Bytes between two sizes that are tried, a multiple of 16 from 16 to 1073741808; else a 64th of the peak, rounded up")
+        .help(
+            "Bytes between two sizes that are tried, a multiple of 16 from 16 to 1073741808; else a 64th of the peak, rounded up",
+        )
 }
 
 /// The log's name.

@@ -68,7 +68,8 @@ const ROWS: [Row; 6] = [
 ];
 
 /// A log that is served on 1,536 bytes, and refused on some sizes above.
-const LOG: &[u8] = b"+ 0x10 0x12c\n- 0x10\n+ 0x30 0x1f4\n+ 0x40 0xc8\n- 0x30\n+ 0x60 0x30\n+ 0x70 0x258\n- 0x60\n+ 0x90 0xc8\n- 0x40\n+ 0xb0 0x2bc\n";
+const LOG: &[u8] =
+    b"+ 0x10 0x12c\n- 0x10\n+ 0x30 0x1f4\n+ 0x40 0xc8\n- 0x30\n+ 0x60 0x30\n+ 0x70 0x258\n- 0x60\n+ 0x90 0xc8\n- 0x40\n+ 0xb0 0x2bc\n";
 
 /// Runs a row, its log given in pieces.
 fn expect_row(rt: &impl Abort, alloc: Global, row: &Row, piece: usize) {
@@ -93,7 +94,8 @@ fn rows_of_fit(rt: HostRuntime) {
 /// A log with a diagnostic, whose two sizes are tried.
 const SHORT: &[u8] = b"x\n+ 0x10 0x10\n- 0x10\n";
 
-const TEXT: &[u8] = b"line 1: not a line\npeak: 16 bytes at line 2\nheld at most: 1 blocks\nrecords: 5\nleast pool: 16 bytes\nsafe pool: 16 bytes\nsizes tried: 2, 0 refused\n";
+const TEXT: &[u8] =
+    b"line 1: not a line\npeak: 16 bytes at line 2\nheld at most: 1 blocks\nrecords: 5\nleast pool: 16 bytes\nsafe pool: 16 bytes\nsizes tried: 2, 0 refused\n";
 
 /// The diagnostic of that log.
 const NOTES: &[u8] = b"line 1: not a line\n";
@@ -151,7 +153,12 @@ fn bad_steps(rt: HostRuntime) {
         let status = serve_fit(alloc, Some(step), &mut reader, &mut writer, &mut errors);
         expect_eq_at(&rt, step, status, 2);
         expect_eq_at(&rt, step, writer.bytes(), b"".as_slice());
-        expect_eq_at(&rt, step, errors.bytes(), b"tlsf: bad settings\n".as_slice());
+        expect_eq_at(
+            &rt,
+            step,
+            errors.bytes(),
+            b"tlsf: bad settings\n".as_slice(),
+        );
     }
 }
 

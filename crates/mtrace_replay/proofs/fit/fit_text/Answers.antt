@@ -13,8 +13,8 @@ returns-then-totals-gt0-clause-tells g c = λ lines stands.
     let T : List ℕ → Type 0 = λ text. TellsFit c.args.step lines (g.R.Source.whole c.args.reader.now) text in
     let some : 0 < c.totals-totals.result.refused = c.if-totals-gt0.true in
     let same = c.untried_text.ensures
-        ∙ ap (λ (totals : Totals). greatest_line totals ++ most_line c.most-most.result ++ untried_lines) c.totals-totals.ensures.totals
-        ∙ ap (λ most. greatest_line replay.totals ++ most_line most ++ untried_lines) c.most-most.ensures in
+    ∙ ap (λ (totals : Totals). greatest_line totals ++ most_line c.most-most.result ++ untried_lines) c.totals-totals.ensures.totals
+    ∙ ap (λ most. greatest_line replay.totals ++ most_line most ++ untried_lines) c.most-most.ensures in
     subst T (sym same)
     (tells_untried c.args.step lines (g.R.Source.whole c.args.reader.now) replay stands (omega (arith, some, ap (λ (totals : Totals). totals.refused) c.totals-totals.ensures.totals)))
 
@@ -33,9 +33,9 @@ returns-clause-tells g c = λ lines stands.
     (subst (λ step. A c.enough_records-records.result step replay.totals.peak_bytes) step_is
     (subst (λ peak. A c.enough_records-records.result c.step_of.result peak) peak_is tried.1)) in
     let same = c.fitted_text.ensures
-        ∙ ap (λ (totals : Totals). greatest_line totals ++ most_line c.most-most.result ++ fitted_lines c.enough_records-records.result c.in_ok-fitted.fitted) c.totals-totals.ensures.totals
-        ∙ ap (λ most. greatest_line replay.totals ++ most_line most ++ fitted_lines c.enough_records-records.result c.in_ok-fitted.fitted) c.most-most.ensures
-        ∙ ap (λ records. greatest_line replay.totals ++ most_line replay.most ++ fitted_lines records c.in_ok-fitted.fitted) records_are
-        ∙ ap (λ (all : Fitted). greatest_line replay.totals ++ most_line replay.most ++ fitted_lines (enough_records replay.most) all) tried.2 in
+    ∙ ap (λ (totals : Totals). greatest_line totals ++ most_line c.most-most.result ++ fitted_lines c.enough_records-records.result c.in_ok-fitted.fitted) c.totals-totals.ensures.totals
+    ∙ ap (λ most. greatest_line replay.totals ++ most_line most ++ fitted_lines c.enough_records-records.result c.in_ok-fitted.fitted) c.most-most.ensures
+    ∙ ap (λ records. greatest_line replay.totals ++ most_line replay.most ++ fitted_lines records c.in_ok-fitted.fitted) records_are
+    ∙ ap (λ (all : Fitted). greatest_line replay.totals ++ most_line replay.most ++ fitted_lines (enough_records replay.most) all) tried.2 in
     subst T (sym same)
     (tells_fitted c.args.step lines whole replay stands (omega (arith, c.if-totals-gt0.false, ap (λ (totals : Totals). totals.refused) c.totals-totals.ensures.totals)) tried.0 are)

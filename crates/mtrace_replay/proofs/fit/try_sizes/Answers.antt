@@ -72,8 +72,9 @@ returns-clause-tried g c =
     let last = c.min-last.result in
     let fresh = few_steps c.args.step (omega (arith, c.requires.some)) in
     let first_is : first ≡ first_number c.args.step c.args.peak = c.max-first.ensures ∙ ap (λ n. max n 1) c.div_ceil.ensures in
-    let last_is : last ≡ last_number c.args.step c.args.peak = omega (arith, c.min-last.ensures, c.saturating_mul.ensures, fresh, first_is) in
-    (so_far.0,
-     all_tried c.args.records (g.R.Source.whole c.args.reader.now) c.args.step c.args.peak first last (c.loop-number.number - first) so_far.0 first_is last_is
-     (omega (arith, c.loop-number.invariant.within, c.loop-number-test.false, c.loop-number.auto.number)) so_far.1,
-     so_far.2)
+    let last_is : last ≡ last_number c.args.step c.args.peak = omega (arith, c.min-last.ensures, c.saturating_mul.ensures, fresh, first_is) in (
+      so_far.0,
+      all_tried c.args.records (g.R.Source.whole c.args.reader.now) c.args.step c.args.peak first last (c.loop-number.number - first) so_far.0 first_is last_is
+          (omega (arith, c.loop-number.invariant.within, c.loop-number-test.false, c.loop-number.auto.number)) so_far.1,
+      so_far.2,
+    )
