@@ -1,6 +1,8 @@
 mod AgainLemmas
 mod ArrangeLemmas
 mod AskedBlock
+mod EnoughBlocks
+mod EnoughRecords
 mod Flat
 mod FitLemmas
 mod FoundLemmas
@@ -39,3 +41,4 @@ mod ToldLemmas
 mod TotalsLemmas
 mod TotalsStep
 mod TriedLemmas
+mod VerdictLemmas

@@ -1,8 +1,8 @@
 -- A text that the reader tells reads the same each time.
-use Rattle.std.proofs.Common.{◌≡◌, ℕ, suc, ◌≤◌, List, [], ◌∷◌, ◌++◌, length, take, Some, None, refl, sym, ap, ap₂, ◌∙◌, subst, append-nil, arith, inl, inr}
+use Rattle.std.proofs.Common.{◌≡◌, ℕ, suc, ◌≤◌, List, [], ◌∷◌, ◌++◌, length, length-append, take, Some, None, refl, sym, ap, ap₂, ◌∙◌, subst, append-nil, arith, inl, inr}
 use Rattle.std.specs.Io.KnownBytes.{prepend_known, IsAtEnd}
 use Rattle.mtrace_log.specs.Lines.{lines_of, ReadAs}
-use Rattle.mtrace_log.specs.HasRead.{whole_lines, HasReadAll}
+use Rattle.mtrace_log.specs.HasRead.{whole_lines, HasRead, HasReadAll}
 use Rattle.mtrace_log.proofs.LineLemmas.{lines_of-whole_lines}
 use Rattle.mtrace_log.proofs.SpellingLemmas.{Reads-same}
 use Rattle.mtrace_replay.specs.Moment.{Reading}
@@ -55,3 +55,20 @@ told_first text middle after most lines first all again within = elim again.read
   where
     same : text ≡ all.text
     same = told_whole text all.text middle all.taken all.at_end
+
+-- all lines of a told text are as many, each time
+pub told_many : (text : List ℕ) (middle after : Bytes) (lines others : List Reading) → HasReadAll (Some text) middle lines → HasReadAll (Some text) after others → length lines ≡ length others
+told_many text middle after lines others one other =
+    let R : List Reading → List (List ℕ) → Type 0 = λ answers ls. ReadAs ls answers in
+    let read : ReadAs (lines_of text) lines = subst (R lines) (ap lines_of (sym (told_whole text one.text middle one.taken one.at_end))) one.read in
+    let read_too : ReadAs (lines_of text) others = subst (R others) (ap lines_of (sym (told_whole text other.text after other.taken other.at_end))) other.read in
+    sym (as_many (lines_of text) lines read) ∙ as_many (lines_of text) others read_too
+
+-- whole lines of it are no more than all
+pub told_few : (text : List ℕ) (middle after : Bytes) (lines first : List Reading) → HasReadAll (Some text) middle lines → HasRead (Some text) after first → length first ≤ length lines
+told_few text middle after lines first all some =
+    let R : List Reading → List (List ℕ) → Type 0 = λ answers ls. ReadAs ls answers in
+    let read : ReadAs (lines_of text) lines = subst (R lines) (ap lines_of (sym (told_whole text all.text middle all.taken all.at_end))) all.read in
+    let front = told_front text (whole_lines some.pieces) after some.taken in
+    let cut : lines_of text ≡ some.pieces ++ lines_of front.0 = ap lines_of front.1 ∙ lines_of-whole_lines some.pieces front.0 some.no_newlines in
+    omega (arith, as_many (lines_of text) lines read, as_many some.pieces first some.read, ap (length {A = List ℕ}) cut, length-append some.pieces (lines_of front.0))

@@ -34,7 +34,7 @@ first_moments_most k past beyond =
 pub first_moments_all : (past : List Moment) → first_moments (length past) past ≡ past
 first_moments_all past = first_moments_most (length past) past (omega arith)
 
-le_or_more : (k least : ℕ) → (k ≤ least) ⊎ (suc least ≤ k)
+pub le_or_more : (k least : ℕ) → (k ≤ least) ⊎ (suc least ≤ k)
 le_or_more k least = elim (cases_Bool (nat_le k least)) [
   | inl within ↦ inl (leb-true k least within)
   | inr beyond ↦ inr (omega (arith, leb-false k least beyond))

@@ -18,6 +18,7 @@ pub mod Gather
 pub mod Texts
 pub mod Rows
 pub mod Totals
+pub mod Enough
 pub mod Run
 pub mod Again
 pub mod Saving

@@ -1,6 +1,6 @@
 //! Laws of the definitions, each the contract of a function that does nothing.
 
-ghost use Rattle.std.specs.Prelude.{◌≡◌, ◌↔◌, ◌≤◌, ℕ, false, List, length, take, Some};
+ghost use Rattle.std.specs.Prelude.{◌≡◌, ◌==◌, ◌↔◌, ◌+◌, ◌*◌, ◌≤◌, ℕ, Bool, false, List, length, take, Some};
 ghost use Rattle.tlsf_heap.specs.Run.{MayLack};
 ghost use Rattle.mtrace_replay.specs.declared.settings.Settings.{Settings};
 ghost use Rattle.mtrace_replay.specs.Started.{Bare, started};
@@ -9,7 +9,11 @@ ghost use Rattle.mtrace_replay.specs.History.{AreHeld, held, moments};
 ghost use Rattle.mtrace_log.specs.HasRead.{HasReadAll};
 ghost use Rattle.mtrace_replay.specs.Run.{Bytes};
 ghost use Rattle.mtrace_replay.specs.Again.{HasReadFirst};
+ghost use Rattle.std.specs.List.{AllByRecursion};
 ghost use Rattle.mtrace_replay.specs.Settings.{are_bad};
+ghost use Rattle.mtrace_replay.specs.Fit.{one_pool};
+ghost use Rattle.mtrace_replay.specs.RunFit.{refusals, IsTried};
+ghost use Rattle.mtrace_replay.specs.Enough.{HoldsAtMost, IsNeverFull};
 ghost use Rattle.mtrace_replay.specs.Held.{IsHeldUnder};
 ghost use Rattle.mtrace_replay.specs.Entry.{Entry};
 ghost use Rattle.mtrace_replay.specs.Sites.{Site, AreSites};
@@ -38,6 +42,19 @@ pub fn one_list_of_sites()
 pub fn first_lines_again()
     ensures { (text : List ℕ) (middle after : Bytes) (most : ℕ) (lines first : List Reading)
         → HasReadAll (Some text) middle lines → HasReadFirst most (Some text) after first → most ≤ length lines → first ≡ take most lines }
+{}
+
+/// A size that a text was tried on which is told serves exactly where none of all its lines is refused there.
+pub fn verdict_of_all_lines()
+    ensures { (settings : Settings) (text : List ℕ) (middle left : Bytes) (lines : List Reading) (serves : Bool)
+        → HasReadAll (Some text) middle lines → IsTried settings serves (Some text) left → serves ≡ (refusals settings lines == 0) }
+{}
+
+/// On one pool a log is never refused for want of a record where there are two records, and three more, for the most
+/// addresses that are held after any number of its lines.
+pub fn records_are_enough()
+    ensures { (pool records most : ℕ) (past : List Reading) → are_bad (one_pool pool records) ≡ false → 2 * most + 3 ≤ records
+        → HoldsAtMost most (moments (started (one_pool pool records)) past) → AllByRecursion IsNeverFull (moments (started (one_pool pool records)) past) }
 {}
 
 /// Where settings are not bad, no pool of theirs is refused: the heap starts with all of them.

@@ -1,0 +1,5 @@
+use Rattle.mtrace_replay.proofs.VerdictLemmas.{told_verdict}
+use Rattle.mtrace_replay.proofs.laws.verdict_of_all_lines.Goals as goal
+
+pub returns : goal.returns
+returns c = λ settings text middle left lines serves all tried. told_verdict settings text middle left lines all serves tried
