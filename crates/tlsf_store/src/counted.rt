@@ -167,21 +167,6 @@ impl Store {
         self.table.set_state(slot, state);
     }
 
-    /// Writes the size and the link `next` of a record that isn't vacant. Two touches, as
-    /// `set_state`.
-    pub fn set_size_and_next(&mut self, slot: Slot, size: u32, next: Option<Slot>)
-        requires within { slot < length self.old.cells.records }
-        requires used { (record_at self.old.cells.records slot).state ≢ Vacant }
-        requires in_units { size % unit ≡ 0 }
-        requires below { IsBelow (length self.old.cells.records) next }
-        ensures written { self.new.cells ≡ with_record self.old.cells slot (record (record_at self.old.cells.records slot) { size = size; next = next }) }
-        ensures touch { self.new.touches ≡ self.old.touches + 2 }
-    {
-        self.touches.tick();
-        self.touches.tick();
-        self.table.set_size_and_next(slot, size, next);
-    }
-
     /// Writes the size, the state and the link `next` of a record that isn't vacant. One touch: nothing
     /// is read.
     pub fn set_block(&mut self, slot: Slot, size: u32, state: State, next: Option<Slot>)

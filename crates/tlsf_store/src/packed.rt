@@ -148,16 +148,6 @@ impl Packed {
         self.size_word = self.size_word - self.size_word % UNIT + state as u32;
     }
 
-    /// Writes the size, a multiple of the unit, and the link `next` alone.
-    pub(crate) fn set_size_and_next(&mut self, size: u32, next: Option<Slot>)
-        requires in_units { size % unit ≡ 0 }
-        requires below { IsBelow most_records next }
-        ensures { self.new ≡ record self.old { size = size; next = next } }
-    {
-        self.size_word = size + self.size_word % UNIT;
-        self.next = link_word(next);
-    }
-
     /// Writes the size, a multiple of the unit, the state and the link `next` alone.
     pub(crate) fn set_block(&mut self, size: u32, state: State, next: Option<Slot>)
         requires in_units { size % unit ≡ 0 }

@@ -130,17 +130,6 @@ impl Table {
         self.items[slot.index()].set_state(state);
     }
 
-    /// Writes the size and the link `next` of a record that isn't vacant.
-    pub(crate) fn set_size_and_next(&mut self, slot: Slot, size: u32, next: Option<Slot>)
-        requires within { slot < length self.old }
-        requires used { (record_at self.old slot).state ≢ Vacant }
-        requires in_units { size % unit ≡ 0 }
-        requires below { IsBelow (length self.old) next }
-        ensures { self.new ≡ slice_set self.old slot (record (record_at self.old slot) { size = size; next = next }) }
-    {
-        self.items[slot.index()].set_size_and_next(size, next);
-    }
-
     /// Writes the size, the state and the link `next` of a record that isn't vacant.
     pub(crate) fn set_block(&mut self, slot: Slot, size: u32, state: State, next: Option<Slot>)
         requires within { slot < length self.old }

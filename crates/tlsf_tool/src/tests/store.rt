@@ -47,7 +47,7 @@ fn write_parts(rt: &impl Abort, store: &mut Store, slot: Slot, other: Slot) {
     assert!(rt; store.read(slot).state != State::Vacant);
     store.set_state(slot, State::Live);
     assert!(rt; store.read(slot).state != State::Vacant);
-    store.set_size_and_next(slot, 48, Some(other));
+    store.set_block(slot, 48, State::Live, Some(other));
     assert!(rt; store.read(slot).state != State::Vacant);
     store.set_prev(slot, None);
     assert!(rt; store.read(slot).state != State::Vacant);
