@@ -123,7 +123,7 @@ fn log_word<'a>(alloc: Global) -> Arg<'a>
 {
     Arg::new(alloc, "LOG")
         .required(true)
-        .help("File of the log, or - for standard input")
+        .help("File of the log; leaks, peak, walk and save take - for standard input")
 }
 
 /// The image's name.
