@@ -121,9 +121,9 @@ fn log_word<'a>(alloc: Global) -> Arg<'a>
     ensures rule { rule_of result ≡ log_rule }
     ensures own { result.global ≡ false }
 {
-    Arg::new(alloc, "LOG")
-        .required(true)
-        .help("File of the log; leaks, peak, walk and save take - for standard input")
+    Arg::new(alloc, "LOG").required(true).help(
+        "File of the log; leaks, peak, walk and save take - for standard input",
+    )
 }
 
 /// The image's name.
