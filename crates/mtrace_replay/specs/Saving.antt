@@ -5,7 +5,7 @@ use Rattle.mtrace_log.specs.Output.{Wrote, Begins}
 use Rattle.mtrace_log.specs.Trace.{HasTakenAndFlushed, HasFailedToWrite}
 use Rattle.tlsf_heap.specs.Content.{Content}
 use Rattle.tlsf_heap.specs.Bare.{bare}
-use Rattle.tlsf_heap.specs.Images.{IsImageOf, Saves}
+use Rattle.tlsf_heap.specs.Images.Described.{IsImageOf, Saves}
 use Rattle.mtrace_replay.specs.declared.report.Report.TheVariants.{Notes}
 use Rattle.mtrace_replay.specs.declared.settings.Settings.{Settings}
 use Rattle.mtrace_replay.specs.declared.status.Status.{Status}

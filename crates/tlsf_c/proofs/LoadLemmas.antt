@@ -1,6 +1,6 @@
 -- What a loaded image tells of the rules, and why one isn't loaded.
 use Rattle.std.proofs.Common.{◌≡◌, Option, Some, Result, Ok, Err, ap}
-use Rattle.tlsf_image.specs.declared.rule.Rule.{Rule}
+use Rattle.tlsf_heap.specs.declared.image.rule.Rule.{Rule}
 use Rattle.tlsf_heap.specs.declared.image_fault.ImageFault.{ImageFault}
 use Rattle.tlsf_heap.specs.declared.image_fault.ImageFault.TheVariants.{Broken}
 use Rattle.tlsf_c.specs.Saving.{broken_number, fault_number}

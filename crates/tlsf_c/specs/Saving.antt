@@ -1,13 +1,13 @@
 -- What saving and loading a heap leave in a C program's memory.
 use Rattle.std.specs.Prelude.{◌≡◌, ℕ, ◌+◌, ◌*◌, ◌≤◌, min, nat_le, if◌then◌else◌, List, length, Option, Some}
 use Rattle.tlsf_class.specs.Classes.{classes}
-use Rattle.tlsf_image.specs.declared.rule.Rule.{Rule}
-use Rattle.tlsf_image.specs.declared.rule.Rule.TheVariants.{Magic, Length, Pools, UnusedPools, States, Links, Chains, Cover, OnChains, Merged, Lists, OnLists}
+use Rattle.tlsf_heap.specs.declared.image.rule.Rule.{Rule}
+use Rattle.tlsf_heap.specs.declared.image.rule.Rule.TheVariants.{Magic, Length, Pools, UnusedPools, States, Links, Chains, Cover, OnChains, Merged, Lists, OnLists}
 use Rattle.tlsf_heap.specs.Content.{Content}
 use Rattle.tlsf_heap.specs.declared.image_fault.ImageFault.{ImageFault}
 use Rattle.tlsf_heap.specs.declared.image_fault.ImageFault.TheVariants.{Broken, OutOfMemory, Write}
 use Rattle.tlsf_heap.specs.Counted.{Counted}
-use Rattle.tlsf_heap.specs.Images.{described, IsImageOf}
+use Rattle.tlsf_heap.specs.Images.Described.{described, IsImageOf}
 use Rattle.tlsf_c.specs.Placed.{placed}
 
 -- the image isn't whole: there is no room for its end

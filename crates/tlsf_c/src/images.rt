@@ -1,8 +1,8 @@
 //! A heap is saved and loaded.
 
 ghost use Rattle.std.specs.Prelude.{◌≡◌, ◌≢◌, ◌⊎◌, Some, None};
-ghost use Rattle.tlsf_image.specs.declared.rule.Rule.{Rule as BrokenRule};
-ghost use Rattle.tlsf_image.specs.Rules.{first_broken};
+ghost use Rattle.tlsf_heap.specs.declared.image.rule.Rule.{Rule as BrokenRule};
+ghost use Rattle.tlsf_heap.specs.Images.Rules.{first_broken};
 ghost use Rattle.tlsf_heap.specs.declared.refusal.Refusal.TheVariants.{OutOfMemory};
 ghost use Rattle.tlsf_heap.specs.Counted.{IsUnchanged};
 ghost use Rattle.tlsf_c.specs.Saving.{SavesInto, IsLoaded, broken_number};

@@ -2,7 +2,7 @@
 use Rattle.std.proofs.Common.{◌≡◌, ◌+◌, ◌≤◌, Bool, true, false, not, ◌&&◌, ◌||◌, List, [], ◌∷◌, refl, ap, ◌∙◌, arith, count_by, filter, length, map, inl, inr}
 use Rattle.std.proofs.lemmas.Bool.{cases_Bool}
 use Rattle.std.specs.List.{list_any}
-pub use Rattle.tlsf_image.proofs.Counting.{one_if, count-cons, count-append, any_counts, counts_any}
+pub use Rattle.tlsf_heap.proofs.Images.Counting.{one_if, count-cons, count-append, any_counts, counts_any}
 use Rattle.tlsf_heap.specs.Inner.Positions.{plug}
 
 module _ {X : Type 0} where

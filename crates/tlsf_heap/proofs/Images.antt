@@ -12,3 +12,24 @@ pub mod Written
 pub mod Loaded
 pub mod FilledHeads
 pub mod Storable
+pub mod Appending
+pub mod ChainLemmas
+pub mod Counting
+pub mod Distinct
+pub mod ImageBack
+pub mod ImageLemmas
+pub mod LinkLemmas
+pub mod ListLemmas
+pub mod Once
+pub mod PoolLemmas
+pub mod RangeLemmas
+pub mod ReadBack
+pub mod RecordLemmas
+pub mod RuleLemmas
+pub mod RulesBack
+pub mod SizeLemmas
+pub mod Totals
+pub mod UnbrokenRules
+pub mod Writable
+pub mod WritingLemmas
+mod Vectors

@@ -1,29 +1,10 @@
--- What an image of a heap describes, the parts that cells have for one, and what saving a heap writes.
-use Rattle.std.specs.Prelude.{◌≡◌, ℕ, List, Option, None, Result}
-use Rattle.mtrace_log.specs.declared.call.Call.{Call}
-use Rattle.mtrace_log.specs.Output.{Puts}
-use Rattle.tlsf_store.specs.Cells.{Cells}
-use Rattle.tlsf_image.specs.Image.{Parts, parts_in}
-use Rattle.tlsf_image.specs.Rules.{first_broken}
-use Rattle.tlsf_heap.specs.Content.{Content}
-use Rattle.tlsf_heap.specs.Inner.Entries.{entries_of}
-use Rattle.tlsf_heap.specs.Inner.Following.{content_from}
-
--- the content that the parts of an image stand for
-abbrev pub described : List ℕ → Content ℕ
-described bytes = content_from (parts_in bytes).records (entries_of (parts_in bytes).pools) (parts_in bytes).heads
-
--- the parts of an image that a store's cells have
-abbrev pub parts_of : Cells → Parts
-parts_of cells = record { pools = cells.pools; heads = cells.heads; records = cells.records }
-
--- an image of a content: it breaks no rule, and describes it
-pub record IsImageOf (content : Content ℕ) (image : List ℕ) : Type 0 where
-  pub unbroken : first_broken image ≡ None
-  pub describes : described image ≡ content
-
--- what a call leaves that saves a heap of this content: an image of it is put, all of it, or, where the call fails, a beginning
-pub record Saves {W T E : Type 0} (taken : W → Option (List ℕ)) (trace : W → List Call) (result : Result T E) (content : Content ℕ) (old new : W) : Type 0 where
-  pub image : List ℕ
-  pub is_image : IsImageOf content image
-  pub put : Puts taken trace result image old new
+-- Images: what stands where, the links of its records, and the rules.
+pub mod Image
+pub mod Links
+pub mod Rules
+pub mod Writing
+pub mod Findings
+pub mod Told
+pub mod Bitmaps
+pub mod Whole
+pub mod Described

@@ -6,7 +6,7 @@ use Rattle.tlsf_heap.specs.declared.refusal.Refusal.TheVariants.{BadPool, PoolsF
 use Rattle.tlsf_class.specs.Classes.{classes}
 pub use Rattle.tlsf_store.specs.Records.{most_records}
 pub use Rattle.tlsf_store.specs.Cells.{most_pools}
-pub use Rattle.tlsf_image.specs.Ranges.{end_of_places, can_be_pool}
+pub use Rattle.tlsf_store.specs.Ranges.{end_of_places, can_be_pool}
 use Rattle.tlsf_heap.specs.Content.{Pool, Content, is_free, used_records}
 use Rattle.tlsf_heap.specs.Lists.{link, unlink}
 use Rattle.tlsf_heap.specs.Malloc.{gap}

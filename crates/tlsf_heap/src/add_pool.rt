@@ -20,8 +20,7 @@ use crate::free_lists::link;
 use crate::pool_entry::PoolEntry;
 use arrayvec::ArrayVec;
 use tlsf_class::class_of;
-use tlsf_image::can_be_pool;
-use tlsf_store::{MOST_POOLS, Record, Slot, State, Store};
+use tlsf_store::{MOST_POOLS, Record, Slot, State, Store, can_be_pool};
 
 /// A pool of `bytes` bytes from the place `base` on enters the store, as one free block. At most 27
 /// touches.

@@ -3,7 +3,7 @@
 ghost use Rattle.std.specs.Prelude.{◌≡◌, ◌+◌, ◌<◌, true};
 ghost use Rattle.tlsf_heap.specs.Inner.Following.{Stands, content_of};
 
-use tlsf_image::is_whole;
+use crate::image::is_whole;
 use tlsf_store::Store;
 
 /// Whether a store is that of a heap: those that stand are.

@@ -4,6 +4,7 @@ use crate::add_pool::add_pool;
 use crate::check::check;
 use crate::entries::{entries, pool_ranges};
 use crate::free::free;
+use crate::image::{Image, put_image};
 use crate::load::stored;
 use crate::malloc::malloc;
 use crate::memalign::memalign;
@@ -16,7 +17,6 @@ use arrayvec::ArrayVec;
 use mtrace_log::{Failed, Sink};
 use std::alloc::Global;
 use std::marker::Model;
-use tlsf_image::{Image, put_image};
 use tlsf_store::{MOST_POOLS, Store, StoreError};
 
 /// A heap over a table of records: pools of blocks, and a free list for each size class, found by
@@ -62,10 +62,10 @@ impl Heap {
     ghost use Rattle.tlsf_heap.specs.Implied.{NoneFits, NoneFitsAligned, HasFewRecords, HasFewRecordsAndOne, HasAlignedBlocks, HasDisjointBlocks, ListsFreeBlocks, ListsNothingElse};
     ghost use Rattle.tlsf_heap.specs.declared.refusal.Refusal.TheVariants.{NoFit, TableFull};
     ghost use Rattle.tlsf_class.specs.Classes.{classes};
-    ghost use Rattle.tlsf_image.specs.declared.rule.Rule.{Rule};
-    ghost use Rattle.tlsf_image.specs.Rules.{first_broken};
+    ghost use Rattle.tlsf_heap.specs.declared.image.rule.Rule.{Rule};
+    ghost use Rattle.tlsf_heap.specs.Images.Rules.{first_broken};
     ghost use Rattle.tlsf_heap.specs.declared.image_fault.ImageFault.TheVariants.{Broken, Write};
-    ghost use Rattle.tlsf_heap.specs.Images.{described, Saves};
+    ghost use Rattle.tlsf_heap.specs.Images.Described.{described, Saves};
 
     /// A heap of this many records, from 1 to 65,535, with no pool. It takes memory once, for its
     /// table.

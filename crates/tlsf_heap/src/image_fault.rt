@@ -1,6 +1,6 @@
 //! Why an image isn't loaded or saved.
 
-use tlsf_image::Rule;
+use crate::image::Rule;
 
 /// Why an image isn't loaded or saved.
 #[derive(Clone, Copy, Debug, PartialEq, Eq)]

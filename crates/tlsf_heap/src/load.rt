@@ -5,14 +5,14 @@ ghost use Rattle.tlsf_class.specs.Classes.{classes, levels};
 ghost use Rattle.tlsf_store.specs.declared.errors.StoreError.TheVariants.{OutOfMemory};
 ghost use Rattle.tlsf_store.specs.Records.{vacant_count, most_records};
 ghost use Rattle.tlsf_store.specs.Cells.{head_at, empty_cells, most_pools};
-ghost use Rattle.tlsf_heap.specs.Images.{parts_of};
-ghost use Rattle.tlsf_image.specs.Bitmaps.{AreBitmapsOf};
+ghost use Rattle.tlsf_heap.specs.Images.Described.{parts_of};
+ghost use Rattle.tlsf_heap.specs.Images.Bitmaps.{AreBitmapsOf};
 ghost use Rattle.tlsf_heap.specs.Inner.Loading.{CanBeStored, with_records, with_pools, HasNoHeads};
 
 use crate::bitmaps::set_class_bit;
+use crate::image::Table;
 use std::alloc::Global;
 use tlsf_class::{CLASSES, Class};
-use tlsf_image::Table;
 use tlsf_store::{MOST_POOLS, Slot, State, Store, StoreError};
 
 /// Takes each vacant record for a free block to come. Two touches each, and two more.

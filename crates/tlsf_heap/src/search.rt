@@ -3,7 +3,7 @@
 ghost use Rattle.std.specs.Prelude.{◌≡◌, ◌+◌, ◌*◌, ◌≤◌, length, drop, IfSome, IfNone};
 ghost use Rattle.tlsf_class.specs.Classes.{steps, levels, classes};
 ghost use Rattle.tlsf_heap.specs.Touches.{AtMost};
-ghost use Rattle.tlsf_image.specs.Bitmaps.{AreBitmapsOf};
+ghost use Rattle.tlsf_heap.specs.Images.Bitmaps.{AreBitmapsOf};
 ghost use Rattle.tlsf_heap.specs.Inner.Bitmaps.{HasNoBit, IsLowestFrom, first_head};
 
 use tlsf_class::{Class, STEPS};

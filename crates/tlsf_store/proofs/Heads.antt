@@ -3,7 +3,7 @@ use Rattle.std.proofs.Common.{◌≡◌, ℕ, ◌<◌, List, length, set, map, s
 use Rattle.std.proofs.lemmas.List.{length-map, map-set, get_or-map}
 use Rattle.std.proofs.lemmas.List.Elements.{All-set}
 use Rattle.tlsf_store.specs.Records.{IsBelow}
-use Rattle.tlsf_store.specs.Packed.{link_of}
+use Rattle.tlsf_store.specs.Slots.{link_of}
 
 -- the link of each word is below the count
 pub head_below : (count : ℕ) (words : List ℕ) → All (IsBelow count) (map link_of words) → (k d : ℕ) → k < length words →

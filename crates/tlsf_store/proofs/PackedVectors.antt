@@ -2,7 +2,8 @@
 use Rattle.std.proofs.Common.{◌≡◌, refl, Some, None}
 use Rattle.tlsf_store.specs.declared.records.State.TheVariants.{Free, Live}
 use Rattle.tlsf_store.specs.Records.{blank}
-use Rattle.tlsf_store.specs.Packed.{unpacked, link_of}
+use Rattle.tlsf_store.specs.Packed.{unpacked}
+use Rattle.tlsf_store.specs.Slots.{link_of}
 
 no_link : link_of 65535 ≡ None
 no_link = refl

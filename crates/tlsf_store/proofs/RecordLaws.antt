@@ -7,7 +7,7 @@ use Rattle.tlsf_store.specs.declared.records.State.{State}
 use Rattle.tlsf_store.specs.declared.records.State.TheVariants.{Vacant, Free, Live}
 use Rattle.tlsf_store.specs.declared.records.Record.{Record}
 use Rattle.tlsf_store.specs.Records.{blank, record_at, is_vacant, vacant_count, IsBelow, IsKept}
-use Rattle.tlsf_store.specs.Packed.{missing, link_of}
+use Rattle.tlsf_store.specs.Slots.{missing, link_of}
 
 -- a word that isn't that of a missing link is that of a slot
 pub link_of-slot : (word : ℕ) → word ≢ missing → link_of word ≡ Some word

@@ -4,3 +4,5 @@ pub mod Packed
 pub mod Records
 pub mod Table
 pub mod VacantChain
+pub mod Ranges
+pub mod Slots

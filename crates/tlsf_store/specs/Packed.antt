@@ -1,18 +1,11 @@
 -- A record in sixteen bytes: its words, and the record that they stand for.
-use Rattle.std.specs.Prelude.{ℕ, ◌-◌, ◌<◌, ◌%◌, ◌==◌, if◌then◌else◌, Option, Some, None}
+use Rattle.std.specs.Prelude.{ℕ, ◌-◌, ◌<◌, ◌%◌, ◌==◌, if◌then◌else◌}
 use Rattle.tlsf_class.specs.Classes.{unit}
 use Rattle.tlsf_store.specs.declared.records.State.{State}
 use Rattle.tlsf_store.specs.declared.records.State.TheVariants.{Vacant, Free, Live}
 use Rattle.tlsf_store.specs.declared.records.Record.{Record}
 use Rattle.tlsf_store.specs.declared.packed.Packed.TheInside.{Inside}
-
--- the word of a missing link
-abbrev pub missing : ℕ
-missing = 65535
-
--- the link of a word
-abbrev pub link_of : ℕ → Option ℕ
-link_of word = if word == missing then None else Some word
+use Rattle.tlsf_store.specs.Slots.{link_of}
 
 -- the state of a code
 abbrev pub state_of : ℕ → State

@@ -8,7 +8,7 @@ ghost use Rattle.tlsf_store.specs.Records.{most_records, blank, record_at, vacan
 ghost use Rattle.tlsf_store.specs.Cells.{with_record, with_head, with_level_word, with_step_word, with_pool, with_taken, head_at, pool_at, most_pools, empty_cells, IsPoolBelow};
 
 use super::ghost_count::GhostCount;
-use super::packed::{MISSING, link, link_word};
+use super::slots::{MISSING, link_of, link_word};
 use super::table::Table;
 use super::{Pool, Record, Slot, State, StoreError};
 use std::alloc::Global;
@@ -43,7 +43,7 @@ const _: () = prove!(size_of::<Store>() == 1_664);
 impl Model for Store {
     ghost use Rattle.tlsf_store.specs.Cells.{AreCells};
     ghost use Rattle.tlsf_store.specs.CountedCells.{CountedCells};
-    ghost use Rattle.tlsf_store.specs.Packed.{link_of};
+    ghost use Rattle.tlsf_store.specs.Slots.{link_of};
     ghost use Rattle.std.specs.Prelude.{length, map};
 
     ghost Value = { CountedCells };
@@ -228,7 +228,7 @@ impl Store {
         ensures touch { self.new.touches ≡ self.old.touches + 1 }
     {
         self.touches.tick();
-        link(self.heads[class.number() as usize])
+        link_of(self.heads[class.number() as usize])
     }
 
     /// Makes this the first block of a class's list. One touch.

@@ -4,14 +4,12 @@ ghost use Rattle.std.specs.Prelude.{◌≡◌, ◌≢◌, ◌%◌};
 ghost use Rattle.tlsf_class.specs.Classes.{unit};
 ghost use Rattle.tlsf_store.specs.declared.records.State.TheVariants.{Vacant, Free};
 ghost use Rattle.tlsf_store.specs.Records.{most_records, blank, blank_in, is_vacant, IsBelow, IsKept};
-ghost use Rattle.tlsf_store.specs.Packed.{link_of};
+ghost use Rattle.tlsf_store.specs.Slots.{link_of};
 
+use super::slots::{MISSING, link_of, link_word};
 use super::{Record, Slot, State};
 use std::marker::Model;
 use tlsf_class::UNIT;
-
-/// The word of a missing link. Every slot is below it.
-pub(crate) const MISSING: u16 = 65_535;
 
 /// A record in sixteen bytes. The size word is the size, a multiple of the unit, and below the unit the
 /// state: 0 for vacant, 1 for free, 2 for live.
@@ -68,10 +66,10 @@ impl Packed {
                 1 => State::Free,
                 _ => State::Live,
             },
-            prev: link(self.prev),
-            next: link(self.next),
-            prev_free: link(self.prev_free),
-            next_free: link(self.next_free),
+            prev: link_of(self.prev),
+            next: link_of(self.next),
+            prev_free: link_of(self.prev_free),
+            next_free: link_of(self.next_free),
         }
     }
 
@@ -85,10 +83,10 @@ impl Packed {
             place: self.place,
             size: self.size_word - code,
             state: if code == 1 { State::Free } else { State::Live },
-            prev: link(self.prev),
-            next: link(self.next),
-            prev_free: link(self.prev_free),
-            next_free: link(self.next_free),
+            prev: link_of(self.prev),
+            next: link_of(self.next),
+            prev_free: link_of(self.prev_free),
+            next_free: link_of(self.next_free),
         }
     }
 
@@ -131,7 +129,7 @@ impl Packed {
     pub(crate) fn next(&self) -> Option<Slot>
         ensures { result ≡ self.now.next }
     {
-        link(self.next)
+        link_of(self.next)
     }
 
     /// The word of the record's link `next`.
@@ -181,19 +179,4 @@ impl Packed {
     {
         self.next_free = link_word(next);
     }
-}
-
-/// The word of a link.
-pub(crate) fn link_word(link: Option<Slot>) -> u16
-    requires { IsBelow most_records link }
-    ensures { link_of result ≡ link }
-{
-    link.map_or(MISSING, |slot| slot.0)
-}
-
-/// The link of a word.
-pub(crate) fn link(word: u16) -> Option<Slot>
-    ensures { result ≡ link_of word }
-{
-    (word != MISSING).then_some(Slot(word))
 }

@@ -1,6 +1,8 @@
-//! The number of a record.
+//! The number of a record, and the word of a link.
 
 ghost use Rattle.std.specs.Prelude.{◌≡◌};
+ghost use Rattle.tlsf_store.specs.Records.{most_records, IsBelow};
+ghost use Rattle.tlsf_store.specs.Slots.{link_of};
 
 use std::marker::Model;
 
@@ -25,4 +27,22 @@ impl Slot {
     {
         usize::from(self.0)
     }
+}
+
+/// The word of a missing link. Every slot is below it.
+pub const MISSING: u16 = 65_535;
+
+/// The word of a link.
+pub(crate) fn link_word(link: Option<Slot>) -> u16
+    requires { IsBelow most_records link }
+    ensures { link_of result ≡ link }
+{
+    link.map_or(MISSING, |slot| slot.0)
+}
+
+/// The link of a word: none where it is the word of a missing one.
+pub fn link_of(word: u16) -> Option<Slot>
+    ensures { result ≡ link_of word }
+{
+    (word != MISSING).then_some(Slot(word))
 }

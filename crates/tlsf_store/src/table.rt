@@ -3,12 +3,13 @@
 ghost use Rattle.std.specs.Prelude.{◌≡◌, ◌+◌, ◌<◌, ◌≤◌, ◌≢◌, ◌%◌, true, IfOk, MatchOption, length, map, replicate, slice_set, vec_capacity, [], Some};
 ghost use Rattle.tlsf_class.specs.Classes.{unit};
 ghost use Rattle.tlsf_store.specs.declared.records.State.TheVariants.{Vacant, Free};
-ghost use Rattle.tlsf_store.specs.Packed.{link_of};
+ghost use Rattle.tlsf_store.specs.Slots.{link_of};
 ghost use Rattle.tlsf_store.specs.Table.{seen, IsTable};
 ghost use Rattle.tlsf_store.specs.Records.{most_records, blank, blank_in, record_at, vacant_count, IsBelow, IsKept};
 
 use super::ghost_count::GhostCount;
-use super::packed::{MISSING, Packed, link};
+use super::packed::Packed;
+use super::slots::{MISSING, link_of};
 use super::vacant_chain::is_whole_chain;
 use super::{Record, Slot, State};
 use std::alloc::{AllocError, Global};
@@ -44,7 +45,7 @@ fn fill(items: &mut Vec<Packed>, count: u32) -> u16
 impl Model for Table {
     ghost use Rattle.std.specs.Prelude.{List, map, vec_capacity};
     ghost use Rattle.tlsf_store.specs.declared.records.Record.{Record};
-    ghost use Rattle.tlsf_store.specs.Packed.{link_of};
+    ghost use Rattle.tlsf_store.specs.Slots.{link_of};
     ghost use Rattle.tlsf_store.specs.Table.{seen, IsStored};
 
     ghost Value = { List Record };
@@ -185,7 +186,7 @@ impl Table {
         ensures whole { result ≡ true }
         ensures touched { touches.new.count ≡ touches.old.count + length self.now + vacant_count self.now }
     {
-        is_whole_chain(&self.items, link(self.first), self.vacant, touches)
+        is_whole_chain(&self.items, link_of(self.first), self.vacant, touches)
     }
 
     /// Takes a vacant record, if there is one, for a block to come: free, with no place, size or links.

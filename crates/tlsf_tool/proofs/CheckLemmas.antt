@@ -2,7 +2,7 @@
 use Rattle.std.proofs.Common.{◌≡◌, false, sym, ◌∙◌, refl, Option, Some, None}
 use Rattle.std.specs.Prelude.{Result, Ok, Err, if◌then◌else◌}
 use Rattle.std.specs.Result.{is_ok, is_err}
-use Rattle.tlsf_image.specs.declared.rule.Rule.{Rule}
+use Rattle.tlsf_heap.specs.declared.image.rule.Rule.{Rule}
 use Rattle.tlsf_heap.specs.declared.image_fault.ImageFault.{ImageFault}
 use Rattle.tlsf_heap.specs.declared.image_fault.ImageFault.TheVariants.{Broken, OutOfMemory}
 

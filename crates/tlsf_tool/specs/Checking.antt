@@ -3,10 +3,10 @@ use Rattle.std.specs.Prelude.{◌≡◌, ◌≤◌, ◌⊎◌, ℕ, ◌+◌, Lis
 use Rattle.std.specs.Io.KnownBytes.{prepend_known, IsAtEnd}
 use Rattle.mtrace_log.specs.Output.{Wrote}
 use Rattle.tlsf_store.specs.Records.{most_records}
-use Rattle.tlsf_image.specs.declared.rule.Rule.{Rule}
-use Rattle.tlsf_image.specs.declared.rule.Rule.TheVariants.{Magic, Length, Pools, UnusedPools, States, Links, Chains, Cover, OnChains, Merged, Lists, OnLists}
-use Rattle.tlsf_image.specs.Image.{record_at}
-use Rattle.tlsf_image.specs.Rules.{first_broken}
+use Rattle.tlsf_heap.specs.declared.image.rule.Rule.{Rule}
+use Rattle.tlsf_heap.specs.declared.image.rule.Rule.TheVariants.{Magic, Length, Pools, UnusedPools, States, Links, Chains, Cover, OnChains, Merged, Lists, OnLists}
+use Rattle.tlsf_heap.specs.Images.Image.{record_at}
+use Rattle.tlsf_heap.specs.Images.Rules.{first_broken}
 
 abbrev pub Bytes : Type 0
 Bytes = Option (List ℕ)

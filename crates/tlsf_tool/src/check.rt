@@ -3,7 +3,7 @@
 ghost use Rattle.std.specs.Prelude.{◌≡◌, ◌≢◌, ◌⊎◌, ◌<◌, ◌≤◌, ◌∷◌, length, take, Ok, Err, Some, None, IfOk, IfErr, OnOk, OnErr, IsErrOf};
 ghost use Rattle.std.specs.Io.KnownBytes.{prepend_known, IsAtEnd};
 ghost use Rattle.mtrace_log.specs.Trace.{pulled, HasGiven, HasGivenAll, HasGivenAndFailed, HasNotFailed, HasTakenAndFlushed, HasFailedToWrite};
-ghost use Rattle.tlsf_image.specs.Rules.{first_broken};
+ghost use Rattle.tlsf_heap.specs.Images.Rules.{first_broken};
 ghost use Rattle.mtrace_replay.specs.Saving.{PutsAndFlushes};
 ghost use Rattle.tlsf_tool.specs.Checking.{HasReadImage, Checks, check_text, check_status};
 

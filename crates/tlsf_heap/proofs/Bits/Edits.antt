@@ -9,7 +9,7 @@ use Rattle.std.proofs.lemmas.Nat.Bits.{bit_at_or, bit_at-pow_same, bit_at-pow_ot
 use Rattle.tlsf_class.specs.Classes.{steps, levels, classes}
 use Rattle.tlsf_store.specs.Cells.{head_at}
 use Rattle.tlsf_heap.specs.Inner.Edits.{with_bit, without_bit}
-use Rattle.tlsf_image.specs.Bitmaps.{head_bit, word_bit, AreBitmapsOf}
+use Rattle.tlsf_heap.specs.Images.Bitmaps.{head_bit, word_bit, AreBitmapsOf}
 
 bit_set_same : (word bit : ℕ) → bit_at (with_bit word bit) bit ≡ 1
 bit_set_same word bit = bit_at_or word (2 ^ bit) bit ∙ omega (arith, bit_at-pow_same bit, bit_at-lt word bit)

@@ -5,7 +5,7 @@ use Rattle.tlsf_store.specs.declared.records.State.TheVariants.{Vacant, Free, Li
 use Rattle.tlsf_store.specs.declared.records.Record.{Record}
 use Rattle.tlsf_store.specs.Records.{record_at}
 use Rattle.tlsf_store.specs.Cells.{Cells}
-use Rattle.tlsf_image.specs.Rules.{is_used, is_free}
+use Rattle.tlsf_heap.specs.Images.Rules.{is_used, is_free}
 use Rattle.tlsf_heap.specs.Inner.Represents.{pool_views, list_views, uses_in, Represents}
 use Rattle.tlsf_heap.specs.Inner.Following.{content_of, Stands}
 use Rattle.tlsf_heap.specs.Inner.Imaged.{AreAlike}

@@ -10,11 +10,11 @@ use Rattle.tlsf_store.specs.declared.records.Record.{Record}
 use Rattle.tlsf_store.specs.declared.pools.Pool.{Pool as StoredPool}
 use Rattle.tlsf_store.specs.Records.{blank, record_at}
 use Rattle.tlsf_store.specs.Cells.{Cells, most_pools}
-use Rattle.tlsf_image.specs.declared.rule.Rule.TheVariants.{Magic, Length, Pools, UnusedPools, States}
-use Rattle.tlsf_image.specs.Image.{two_at, count_at, pools_at, size_word, pool_in as pool_of_bytes, head_in, record_in, parts_in}
-use Rattle.tlsf_image.specs.Rules.{has_magic, has_length, has_pools, has_unused_pools, has_states, present, are_pools, first_of, rules_of_parts, first_broken}
-use Rattle.tlsf_image.proofs.Unbroken.{holds_first}
-use Rattle.tlsf_heap.specs.Images.{described, parts_of}
+use Rattle.tlsf_heap.specs.declared.image.rule.Rule.TheVariants.{Magic, Length, Pools, UnusedPools, States}
+use Rattle.tlsf_heap.specs.Images.Image.{two_at, count_at, pools_at, size_word, pool_in as pool_of_bytes, head_in, record_in, parts_in}
+use Rattle.tlsf_heap.specs.Images.Rules.{has_magic, has_length, has_pools, has_unused_pools, has_states, present, are_pools, first_of, rules_of_parts, first_broken}
+use Rattle.tlsf_heap.proofs.Images.UnbrokenRules.{holds_first}
+use Rattle.tlsf_heap.specs.Images.Described.{described, parts_of}
 use Rattle.tlsf_heap.specs.Inner.Entries.{pool_in, entries_of, padded}
 use Rattle.tlsf_heap.specs.Inner.Following.{content_from, content_of, Stands}
 use Rattle.tlsf_heap.specs.Inner.Imaged.{AreImaged, AreLoaded}

@@ -10,13 +10,13 @@ use Rattle.tlsf_store.specs.declared.records.Record.{Record}
 use Rattle.tlsf_store.specs.declared.pools.Pool.{Pool as StoredPool}
 use Rattle.tlsf_store.specs.Records.{record_at}
 use Rattle.tlsf_store.specs.Cells.{Cells}
-use Rattle.tlsf_image.specs.Image.{Parts}
-use Rattle.tlsf_image.specs.Links.{follow, ends_within, is_linked}
-use Rattle.tlsf_image.specs.Rules.{present, at, is_used, is_free as is_free_state, is_chain, chain_of, list_of as listed_of}
-use Rattle.tlsf_image.proofs.Counting.{times}
-use Rattle.tlsf_image.proofs.Totals.{all_first, all_rest}
-use Rattle.tlsf_image.proofs.Once.{linked_step, linked_ends}
-use Rattle.tlsf_heap.specs.Images.{parts_of}
+use Rattle.tlsf_heap.specs.Images.Image.{Parts}
+use Rattle.tlsf_heap.specs.Images.Links.{follow, ends_within, is_linked}
+use Rattle.tlsf_heap.specs.Images.Rules.{present, at, is_used, is_free as is_free_state, is_chain, chain_of, list_of as listed_of}
+use Rattle.tlsf_heap.proofs.Images.Counting.{times}
+use Rattle.tlsf_heap.proofs.Images.Totals.{all_first, all_rest}
+use Rattle.tlsf_heap.proofs.Images.Once.{linked_step, linked_ends}
+use Rattle.tlsf_heap.specs.Images.Described.{parts_of}
 use Rattle.tlsf_heap.specs.Inner.Entries.{entry_in, entries_of}
 use Rattle.tlsf_heap.specs.Inner.Nodes.{Status, InUse, Listed, Node, Area, Layout, nodes_of, has_slot, is_listed, owner_of}
 use Rattle.tlsf_heap.specs.Inner.Represents.{in_pool, pool_views, state_of, first_slot, AreLinked, IsChain}

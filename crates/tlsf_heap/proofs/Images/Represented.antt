@@ -8,14 +8,14 @@ use Rattle.tlsf_class.specs.Classes.{class}
 use Rattle.tlsf_store.specs.declared.records.State.{State}
 use Rattle.tlsf_store.specs.declared.records.State.TheVariants.{Vacant, Free, Live}
 use Rattle.tlsf_store.specs.Cells.{Cells, head_at}
-use Rattle.tlsf_image.specs.Image.{Parts}
-use Rattle.tlsf_image.specs.Rules.{present, at, is_used, is_free, chain_of, are_lists, list_of as listed_of}
-use Rattle.tlsf_image.proofs.LinkLemmas.{follow_none}
-use Rattle.tlsf_image.proofs.Counting.{one_if, times, times-filter, same_length}
-use Rattle.tlsf_image.proofs.Totals.{is_block, used_below, is_listed as is_listed_slot, first_list, other_lists}
-use Rattle.tlsf_image.proofs.Once.{linked_ends, free_used, on_chain_once, list_of_class, in_list_once}
-use Rattle.tlsf_image.proofs.Unbroken.{IsUnbroken, unbroken}
-use Rattle.tlsf_heap.specs.Images.{parts_of}
+use Rattle.tlsf_heap.specs.Images.Image.{Parts}
+use Rattle.tlsf_heap.specs.Images.Rules.{present, at, is_used, is_free, chain_of, are_lists, list_of as listed_of}
+use Rattle.tlsf_heap.proofs.Images.LinkLemmas.{follow_none}
+use Rattle.tlsf_heap.proofs.Images.Counting.{one_if, times, times-filter, same_length}
+use Rattle.tlsf_heap.proofs.Images.Totals.{is_block, used_below, is_listed as is_listed_slot, first_list, other_lists}
+use Rattle.tlsf_heap.proofs.Images.Once.{linked_ends, free_used, on_chain_once, list_of_class, in_list_once}
+use Rattle.tlsf_heap.proofs.Images.UnbrokenRules.{IsUnbroken, unbroken}
+use Rattle.tlsf_heap.specs.Images.Described.{parts_of}
 use Rattle.tlsf_heap.specs.Inner.Entries.{padded}
 use Rattle.tlsf_heap.specs.Inner.Nodes.{Node, nodes_of, list_of, has_slot, is_listed_in}
 use Rattle.tlsf_heap.specs.Inner.Represents.{in_list, list_views, first_slot, AreLinked, uses_in, Represents}

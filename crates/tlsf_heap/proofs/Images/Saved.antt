@@ -2,10 +2,10 @@
 use Rattle.std.proofs.Common.{◌≡◌, true, List, length, map, refl, ◌∙◌, None}
 use Rattle.tlsf_store.specs.declared.records.Record.{Record}
 use Rattle.tlsf_store.specs.Cells.{Cells}
-use Rattle.tlsf_image.specs.Rules.{present, are_pools, first_of, rules_of_parts}
-use Rattle.tlsf_image.proofs.Unbroken.{none_broken}
-use Rattle.tlsf_image.specs.Told.{told, told_parts}
-use Rattle.tlsf_heap.specs.Images.{parts_of}
+use Rattle.tlsf_heap.specs.Images.Rules.{present, are_pools, first_of, rules_of_parts}
+use Rattle.tlsf_heap.proofs.Images.UnbrokenRules.{none_broken}
+use Rattle.tlsf_heap.specs.Images.Told.{told, told_parts}
+use Rattle.tlsf_heap.specs.Images.Described.{parts_of}
 use Rattle.tlsf_heap.specs.Inner.Entries.{entries_of}
 use Rattle.tlsf_heap.specs.Inner.Following.{content_from, content_of, Stands}
 use Rattle.tlsf_heap.specs.Inner.Imaged.{AreAlike, LiveAlone}

@@ -9,12 +9,12 @@ use Rattle.tlsf_store.specs.declared.records.State.{State}
 use Rattle.tlsf_store.specs.declared.records.State.TheVariants.{Vacant, Free, Live}
 use Rattle.tlsf_store.specs.declared.pools.Pool.{Pool as StoredPool}
 use Rattle.tlsf_store.specs.Cells.{Cells, most_pools}
-use Rattle.tlsf_image.specs.Image.{Parts}
-use Rattle.tlsf_image.specs.Ranges.{end_of_places, can_be_pool}
-use Rattle.tlsf_image.specs.Rules.{present, at, is_free as is_state_free, is_pool, are_pools, is_chain, chain_of, covers, are_merged, list_of as listed_of}
-use Rattle.tlsf_image.proofs.Totals.{all_first, all_rest, is_block, has_bytes, chain_used, begins_at, covered_rest, covers_pool}
-use Rattle.tlsf_image.proofs.Unbroken.{IsUnbroken, unbroken}
-use Rattle.tlsf_heap.specs.Images.{parts_of}
+use Rattle.tlsf_heap.specs.Images.Image.{Parts}
+use Rattle.tlsf_store.specs.Ranges.{end_of_places, can_be_pool}
+use Rattle.tlsf_heap.specs.Images.Rules.{present, at, is_free as is_state_free, is_pool, are_pools, is_chain, chain_of, covers, are_merged, list_of as listed_of}
+use Rattle.tlsf_heap.proofs.Images.Totals.{all_first, all_rest, is_block, has_bytes, chain_used, begins_at, covered_rest, covers_pool}
+use Rattle.tlsf_heap.proofs.Images.UnbrokenRules.{IsUnbroken, unbroken}
+use Rattle.tlsf_heap.specs.Images.Described.{parts_of}
 use Rattle.tlsf_heap.specs.declared.pool_entry.PoolEntry.{PoolEntry}
 use Rattle.tlsf_heap.specs.Content.{blocks_of}
 use Rattle.tlsf_heap.specs.Good.{Covers, NoFreeNeighbours, AreGoodPools, times, is_listed, AreLists, IsGood}

@@ -11,14 +11,14 @@ use Rattle.tlsf_store.specs.declared.records.State.TheVariants.{Vacant, Free, Li
 use Rattle.tlsf_store.specs.declared.records.Record.{Record}
 use Rattle.tlsf_store.specs.declared.pools.Pool.{Pool as StoredPool}
 use Rattle.tlsf_store.specs.Records.{blank, IsBelow}
-use Rattle.tlsf_image.specs.Ranges.{can_be_pool}
-use Rattle.tlsf_image.specs.Image.{Parts, parts_in, record_in, size_word}
-use Rattle.tlsf_image.specs.Rules.{present, is_pool, are_pools, at, is_used, is_below, has_links_in, covers, is_among, chain_of, has_links, has_cover, has_all_on_chains, first_broken}
-use Rattle.tlsf_image.proofs.ChainLemmas.{below, record_links}
-use Rattle.tlsf_image.proofs.RecordLemmas.{head_below}
-use Rattle.tlsf_image.proofs.SizeLemmas.{of_range}
-use Rattle.tlsf_image.proofs.ImageLemmas.{record_read, records_count, heads_count}
-use Rattle.tlsf_image.proofs.Unbroken.{unbroken}
+use Rattle.tlsf_store.specs.Ranges.{can_be_pool}
+use Rattle.tlsf_heap.specs.Images.Image.{Parts, parts_in, record_in, size_word}
+use Rattle.tlsf_heap.specs.Images.Rules.{present, is_pool, are_pools, at, is_used, is_below, has_links_in, covers, is_among, chain_of, has_links, has_cover, has_all_on_chains, first_broken}
+use Rattle.tlsf_heap.proofs.Images.ChainLemmas.{below, record_links}
+use Rattle.tlsf_heap.proofs.Images.RecordLemmas.{head_below}
+use Rattle.tlsf_heap.proofs.Images.SizeLemmas.{of_range}
+use Rattle.tlsf_heap.proofs.Images.ImageLemmas.{record_read, records_count, heads_count}
+use Rattle.tlsf_heap.proofs.Images.UnbrokenRules.{unbroken}
 use Rattle.tlsf_heap.specs.Inner.Loading.{CanBeStored}
 use Rattle.tlsf_heap.proofs.Images.Loaded.{in_units, parts_hold, ordered}
 

@@ -6,8 +6,8 @@ use Rattle.tlsf_store.specs.declared.records.State.{State}
 use Rattle.tlsf_store.specs.declared.records.State.TheVariants.{Vacant, Free, Live}
 use Rattle.tlsf_store.specs.declared.records.Record.{Record}
 use Rattle.tlsf_store.specs.Records.{blank, record_at}
-use Rattle.tlsf_image.specs.Rules.{is_used, is_free}
-use Rattle.tlsf_image.specs.Told.{told_in, told}
+use Rattle.tlsf_heap.specs.Images.Rules.{is_used, is_free}
+use Rattle.tlsf_heap.specs.Images.Told.{told_in, told}
 use Rattle.tlsf_heap.specs.Inner.Represents.{pool_view, list_view, pool_views, list_views}
 use Rattle.tlsf_heap.specs.Inner.Imaged.{AreAlike, LiveAlone}
 

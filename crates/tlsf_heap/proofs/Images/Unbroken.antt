@@ -14,15 +14,15 @@ use Rattle.tlsf_store.specs.declared.records.State.TheVariants.{Vacant, Free, Li
 use Rattle.tlsf_store.specs.declared.pools.Pool.{Pool as StoredPool}
 use Rattle.tlsf_store.specs.Records.{blank, IsBelow}
 use Rattle.tlsf_store.specs.Cells.{Cells, most_pools}
-use Rattle.tlsf_image.specs.Image.{Parts}
-use Rattle.tlsf_image.specs.Ranges.{end_of_places, can_be_pool}
-use Rattle.tlsf_image.specs.Links.{follow, is_linked}
-use Rattle.tlsf_image.specs.Rules.{present, at, is_below, is_used, is_free as is_state_free, has_links_in, has_record_links, is_pool, are_pools, is_chain, chain_of, covers, is_among, are_merged, is_list, are_lists, list_of as listed_of}
-use Rattle.tlsf_image.proofs.LinkLemmas.{linked_on, linked_end}
-use Rattle.tlsf_image.proofs.Counting.{counts_any}
-use Rattle.tlsf_image.proofs.Totals.{from_all_below, among_any}
-use Rattle.tlsf_image.proofs.Unbroken.{IsUnbroken}
-use Rattle.tlsf_heap.specs.Images.{parts_of}
+use Rattle.tlsf_heap.specs.Images.Image.{Parts}
+use Rattle.tlsf_store.specs.Ranges.{end_of_places, can_be_pool}
+use Rattle.tlsf_heap.specs.Images.Links.{follow, is_linked}
+use Rattle.tlsf_heap.specs.Images.Rules.{present, at, is_below, is_used, is_free as is_state_free, has_links_in, has_record_links, is_pool, are_pools, is_chain, chain_of, covers, is_among, are_merged, is_list, are_lists, list_of as listed_of}
+use Rattle.tlsf_heap.proofs.Images.LinkLemmas.{linked_on, linked_end}
+use Rattle.tlsf_heap.proofs.Images.Counting.{counts_any}
+use Rattle.tlsf_heap.proofs.Images.Totals.{from_all_below, among_any}
+use Rattle.tlsf_heap.proofs.Images.UnbrokenRules.{IsUnbroken}
+use Rattle.tlsf_heap.specs.Images.Described.{parts_of}
 use Rattle.tlsf_heap.specs.declared.pool_entry.PoolEntry.{PoolEntry}
 use Rattle.tlsf_heap.specs.Content.{is_free}
 use Rattle.tlsf_heap.specs.Good.{Covers, NoFreeNeighbours, AreGoodPools}

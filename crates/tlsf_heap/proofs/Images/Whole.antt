@@ -2,10 +2,10 @@
 use Rattle.std.proofs.Common.{◌∙◌, ap, Bool, Some}
 use Rattle.std.specs.Prelude.{if◌then◌else◌}
 use Rattle.tlsf_store.specs.Cells.{Cells}
-use Rattle.tlsf_image.specs.declared.rule.Rule.TheVariants.{Pools}
-use Rattle.tlsf_image.specs.Rules.{first_of, rules_of_parts}
-use Rattle.tlsf_image.specs.Told.{told_parts}
-use Rattle.tlsf_image.specs.Whole.{IsWhole}
+use Rattle.tlsf_heap.specs.declared.image.rule.Rule.TheVariants.{Pools}
+use Rattle.tlsf_heap.specs.Images.Rules.{first_of, rules_of_parts}
+use Rattle.tlsf_heap.specs.Images.Told.{told_parts}
+use Rattle.tlsf_heap.specs.Images.Whole.{IsWhole}
 use Rattle.tlsf_heap.specs.Inner.Following.{Stands}
 use Rattle.tlsf_heap.proofs.Images.Saved.{told_unbroken, told_ordered}
 

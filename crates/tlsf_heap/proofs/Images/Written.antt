@@ -10,17 +10,17 @@ use Rattle.tlsf_store.specs.declared.records.State.TheVariants.{Vacant, Free, Li
 use Rattle.tlsf_store.specs.declared.records.Record.{Record}
 use Rattle.tlsf_store.specs.Records.{blank, record_at, most_records}
 use Rattle.tlsf_store.specs.Cells.{Cells, pool_at, head_at, most_pools}
-use Rattle.tlsf_image.specs.Image.{Parts}
-use Rattle.tlsf_image.specs.Rules.{present, is_used, is_below, has_record_links, first_broken}
-use Rattle.tlsf_image.specs.Told.{told, told_in, told_parts}
-use Rattle.tlsf_image.specs.Writing.{image_of}
-use Rattle.tlsf_image.proofs.Unbroken.{IsUnbroken, unbroken}
-use Rattle.tlsf_image.proofs.ReadBack.{IsWritten}
-use Rattle.tlsf_image.proofs.Writable.{below_written, block_written}
-use Rattle.tlsf_image.proofs.ImageBack.{AreWritable, parts_back}
-use Rattle.tlsf_image.proofs.RulesBack.{written_first}
+use Rattle.tlsf_heap.specs.Images.Image.{Parts}
+use Rattle.tlsf_heap.specs.Images.Rules.{present, is_used, is_below, has_record_links, first_broken}
+use Rattle.tlsf_heap.specs.Images.Told.{told, told_in, told_parts}
+use Rattle.tlsf_heap.specs.Images.Writing.{image_of}
+use Rattle.tlsf_heap.proofs.Images.UnbrokenRules.{IsUnbroken, unbroken}
+use Rattle.tlsf_heap.proofs.Images.ReadBack.{IsWritten}
+use Rattle.tlsf_heap.proofs.Images.Writable.{below_written, block_written}
+use Rattle.tlsf_heap.proofs.Images.ImageBack.{AreWritable, parts_back}
+use Rattle.tlsf_heap.proofs.Images.RulesBack.{written_first}
 use Rattle.tlsf_heap.specs.declared.pool_entry.PoolEntry.{PoolEntry}
-use Rattle.tlsf_heap.specs.Images.{described}
+use Rattle.tlsf_heap.specs.Images.Described.{described}
 use Rattle.tlsf_heap.specs.Inner.Entries.{pool_in, entries_of}
 use Rattle.tlsf_heap.specs.Inner.Nodes.{has_slot}
 use Rattle.tlsf_heap.specs.Inner.Represents.{InPool, pool_views, first_slot}

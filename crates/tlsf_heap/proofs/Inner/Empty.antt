@@ -11,7 +11,7 @@ use Rattle.tlsf_store.specs.Cells.{empty_cells}
 use Rattle.tlsf_heap.specs.Content.{Content}
 use Rattle.tlsf_heap.specs.Pools.{created}
 use Rattle.tlsf_heap.specs.Good.{IsGood}
-use Rattle.tlsf_image.specs.Bitmaps.{head_bit, word_bit}
+use Rattle.tlsf_heap.specs.Images.Bitmaps.{head_bit, word_bit}
 use Rattle.tlsf_heap.specs.Inner.Nodes.{Node, Layout, content_by, list_of}
 use Rattle.tlsf_heap.specs.Inner.Represents.{list_views, in_list, first_slot, uses_in, AreLinked, Represents}
 use Rattle.tlsf_heap.specs.Inner.Following.{content_of, Stands}

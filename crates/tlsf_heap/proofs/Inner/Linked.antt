@@ -6,7 +6,7 @@ use Rattle.tlsf_class.proofs.ClassLaws.{class-lt}
 use Rattle.tlsf_store.specs.declared.records.Record.{Record}
 use Rattle.tlsf_store.specs.Records.{record_at}
 use Rattle.tlsf_store.specs.Cells.{Cells, with_head, head_at}
-use Rattle.tlsf_image.specs.Bitmaps.{head_bit, AreBitmapsOf}
+use Rattle.tlsf_heap.specs.Images.Bitmaps.{head_bit, AreBitmapsOf}
 use Rattle.tlsf_heap.specs.Inner.Entries.{padded}
 use Rattle.tlsf_heap.specs.Inner.Edits.{edited_in, with_prev_free, with_free_links, with_bit_before, linked}
 use Rattle.tlsf_heap.specs.Inner.Nodes.{Status, Node, Area, Listed, Loose, turned, nodes_of, has_slot, list_of, is_listed_in, entered}

@@ -10,7 +10,7 @@ use Rattle.tlsf_store.proofs.RecordLaws.{mark}
 use Rattle.tlsf_heap.specs.Good.{times}
 use Rattle.tlsf_heap.specs.Inner.Nodes.{Node, Layout, nodes_of, has_slot}
 use Rattle.tlsf_heap.specs.Inner.Represents.{uses_in, Represents}
-use Rattle.tlsf_image.proofs.Counting.{sum_below-same, sum_below-add, sum_below-one, items_sum, places_sum}
+use Rattle.tlsf_heap.proofs.Images.Counting.{sum_below-same, sum_below-add, sum_below-one, items_sum, places_sum}
 
 marked_or_used : (r : Record) (s : State) → r.state ≡ s → mark r + uses_in r.state ≡ 1
 marked_or_used r Vacant is = rw is refl

@@ -7,7 +7,7 @@ use Rattle.tlsf_class.proofs.ClassLaws.{class-lt}
 use Rattle.tlsf_store.specs.declared.records.Record.{Record}
 use Rattle.tlsf_store.specs.Records.{record_at}
 use Rattle.tlsf_store.specs.Cells.{Cells, with_head, with_level_word, with_step_word, head_at}
-use Rattle.tlsf_image.specs.Bitmaps.{AreBitmapsOf, head_bit}
+use Rattle.tlsf_heap.specs.Images.Bitmaps.{AreBitmapsOf, head_bit}
 use Rattle.tlsf_heap.specs.Inner.Entries.{padded}
 use Rattle.tlsf_heap.specs.Inner.Edits.{edited_in, without_bit, IsUsed, with_prev_free, with_behind, with_level_cleared, unlinked}
 use Rattle.tlsf_heap.specs.Inner.Nodes.{Node, Area, Listed, Loose, turned, nodes_of, has_slot, list_of, is_listed_in, without_slot, left}

@@ -5,7 +5,7 @@ use Rattle.tlsf_store.specs.declared.records.State.TheVariants.{Vacant, Free, Li
 use Rattle.tlsf_store.specs.declared.records.Record.{Record}
 use Rattle.tlsf_store.specs.Records.{record_at}
 use Rattle.tlsf_store.specs.Cells.{Cells}
-pub use Rattle.tlsf_image.specs.Links.{follow, chain_from, list_from}
+pub use Rattle.tlsf_heap.specs.Images.Links.{follow, chain_from, list_from}
 use Rattle.tlsf_heap.specs.declared.pool_entry.PoolEntry.{PoolEntry}
 use Rattle.tlsf_heap.specs.Content.{Block, Pool, Content}
 use Rattle.tlsf_heap.specs.Good.{IsGood}

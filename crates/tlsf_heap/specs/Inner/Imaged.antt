@@ -5,10 +5,10 @@ use Rattle.tlsf_store.specs.declared.records.State.TheVariants.{Live}
 use Rattle.tlsf_store.specs.declared.records.Record.{Record}
 use Rattle.tlsf_store.specs.Records.{record_at}
 use Rattle.tlsf_store.specs.Cells.{Cells, most_pools}
-use Rattle.tlsf_image.specs.Image.{parts_in}
-use Rattle.tlsf_image.specs.Rules.{present, is_used, is_free, are_pools, first_of, rules_of_parts}
-use Rattle.tlsf_heap.specs.Images.{parts_of}
-use Rattle.tlsf_image.specs.Bitmaps.{AreBitmapsOf}
+use Rattle.tlsf_heap.specs.Images.Image.{parts_in}
+use Rattle.tlsf_heap.specs.Images.Rules.{present, is_used, is_free, are_pools, first_of, rules_of_parts}
+use Rattle.tlsf_heap.specs.Images.Described.{parts_of}
+use Rattle.tlsf_heap.specs.Images.Bitmaps.{AreBitmapsOf}
 use Rattle.tlsf_heap.specs.Inner.Entries.{entries_of, padded}
 use Rattle.tlsf_heap.specs.Inner.Represents.{pool_views, list_views}
 

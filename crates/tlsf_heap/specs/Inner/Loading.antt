@@ -5,9 +5,9 @@ use Rattle.tlsf_store.specs.declared.records.Record.{Record}
 use Rattle.tlsf_store.specs.declared.pools.Pool.{Pool as StoredPool}
 use Rattle.tlsf_store.specs.Records.{blank, IsBelow, IsKept}
 use Rattle.tlsf_store.specs.Cells.{Cells, head_at}
-use Rattle.tlsf_image.specs.Image.{Parts}
-use Rattle.tlsf_image.specs.Rules.{at, is_used}
-use Rattle.tlsf_image.specs.Bitmaps.{AreBitmapsOf}
+use Rattle.tlsf_heap.specs.Images.Image.{Parts}
+use Rattle.tlsf_heap.specs.Images.Rules.{at, is_used}
+use Rattle.tlsf_heap.specs.Images.Bitmaps.{AreBitmapsOf}
 
 -- the cells with these records, and with these pools
 abbrev pub with_records : List Record → Cells → Cells

@@ -10,7 +10,7 @@ use Rattle.tlsf_store.specs.declared.pools.Pool.{Pool as StoredPool}
 use Rattle.tlsf_store.specs.Records.{record_at}
 use Rattle.tlsf_store.specs.Cells.{Cells}
 use Rattle.tlsf_heap.specs.Good.{times}
-use Rattle.tlsf_image.specs.Bitmaps.{AreBitmapsOf}
+use Rattle.tlsf_heap.specs.Images.Bitmaps.{AreBitmapsOf}
 use Rattle.tlsf_heap.specs.Inner.Entries.{padded}
 use Rattle.tlsf_heap.specs.Inner.Nodes.{Status, InUse, Listed, Loose, Node, Area, Layout, nodes_of, list_of, has_slot, is_listed_in}
 

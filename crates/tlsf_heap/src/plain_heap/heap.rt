@@ -9,8 +9,7 @@ use arrayvec::ArrayVec;
 use std::alloc::Global;
 use std::marker::Model;
 use tlsf_class::round;
-use tlsf_image::can_be_pool;
-use tlsf_store::{MOST_POOLS, MOST_RECORDS, StoreError};
+use tlsf_store::{MOST_POOLS, MOST_RECORDS, StoreError, can_be_pool};
 
 /// A heap of plain lists: its pools in order of base, each with its blocks, and the free list of each
 /// class.

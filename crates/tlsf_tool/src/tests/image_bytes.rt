@@ -1,6 +1,6 @@
 //! Images of a few records, byte by byte.
 
-use tlsf_image::{Image, Rule};
+use tlsf_heap::{Image, Rule};
 
 /// Where the heads begin, and the records.
 pub(super) const HEADS_AT: usize = 112;

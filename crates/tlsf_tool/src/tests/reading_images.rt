@@ -4,7 +4,8 @@ use crate::tests::image_bytes::vector;
 use crate::tests::{expect_eq, expect_eq_at};
 use std::process::Abort;
 use tlsf_class::Class;
-use tlsf_image::{Image, Rule, Table, can_be_pool};
+use tlsf_heap::{Image, Rule, Table};
+use tlsf_store::can_be_pool;
 use tlsf_store::{Slot, State};
 
 #[test]

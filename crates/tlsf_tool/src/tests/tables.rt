@@ -8,7 +8,7 @@ use crate::tests::expect_eq;
 use std::alloc::Global;
 use std::process::Abort;
 use tlsf_class::{UNIT, class_of};
-use tlsf_image::is_whole;
+use tlsf_heap::is_whole;
 use tlsf_store::{Pool, Record, Slot, State, Store};
 
 /// The slots of the four blocks of a filled store.

@@ -2,7 +2,7 @@ use Rattle.std.proofs.Common.{◌≡◌, ◌+◌, ◌∙◌, ℕ, length, sym, a
 use Rattle.tlsf_class.specs.Classes.{classes}
 use Rattle.tlsf_store.specs.CountedCells.{CountedCells}
 use Rattle.tlsf_store.specs.Cells.{Cells, head_at, with_head}
-use Rattle.tlsf_image.specs.Image.{Parts}
+use Rattle.tlsf_heap.specs.Images.Image.{Parts}
 use Rattle.tlsf_heap.specs.Inner.Edits.{with_class_bit}
 use Rattle.tlsf_heap.specs.Inner.Loading.{HasHeadsBelow}
 use Rattle.tlsf_heap.proofs.Images.FilledHeads.{heads_none, heads_on, heads_off, heads_all}

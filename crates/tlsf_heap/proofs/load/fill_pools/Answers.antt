@@ -1,6 +1,6 @@
 use Rattle.std.proofs.Common.{◌≡◌, ◌∙◌, ap, arith, None}
 use Rattle.std.proofs.lemmas.List.{ext_get_or}
-use Rattle.tlsf_image.specs.Image.{Parts}
+use Rattle.tlsf_heap.specs.Images.Image.{Parts}
 use Rattle.tlsf_heap.specs.Inner.Loading.{with_pools}
 use Rattle.tlsf_heap.proofs.load.fill_pools.Goals as goal
 

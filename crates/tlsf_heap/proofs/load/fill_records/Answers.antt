@@ -1,7 +1,7 @@
 use Rattle.std.proofs.Common.{◌≡◌, ◌∙◌, ap, arith}
 use Rattle.std.proofs.lemmas.List.{ext_get_or}
 use Rattle.tlsf_store.specs.Records.{blank}
-use Rattle.tlsf_image.specs.Image.{Parts}
+use Rattle.tlsf_heap.specs.Images.Image.{Parts}
 use Rattle.tlsf_heap.specs.Inner.Loading.{with_records}
 use Rattle.tlsf_heap.proofs.load.fill_records.Goals as goal
 

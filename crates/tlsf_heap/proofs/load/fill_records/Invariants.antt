@@ -1,7 +1,7 @@
 use Rattle.std.proofs.Common.{◌≡◌, ◌≢◌, ℕ, ◌+◌, ◌*◌, ◌<◌, ◌≤◌, length}
 use Rattle.tlsf_store.specs.declared.records.State.TheVariants.{Vacant}
 use Rattle.tlsf_store.specs.Records.{record_at}
-use Rattle.tlsf_image.specs.Rules.{at}
+use Rattle.tlsf_heap.specs.Images.Rules.{at}
 use Rattle.tlsf_heap.specs.Inner.Loading.{with_records}
 use Rattle.tlsf_heap.proofs.load.fill_records.Given as goal
 

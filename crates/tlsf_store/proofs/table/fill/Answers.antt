@@ -1,5 +1,5 @@
 use Rattle.std.proofs.Common.{◌≡◌, ◌∙◌, ◌<◌, Some, subst, arith}
-use Rattle.tlsf_store.specs.Packed.{link_of}
+use Rattle.tlsf_store.specs.Slots.{link_of}
 use Rattle.tlsf_store.proofs.RecordLaws.{link_of-slot}
 use Rattle.tlsf_store.proofs.TableMaking.{IsBegun, begun_vacant, begun_all}
 use Rattle.tlsf_store.proofs.table.fill.Goals as goal

@@ -1,5 +1,5 @@
 use Rattle.std.proofs.Common.{◌≡◌, vec_capacity}
-use Rattle.tlsf_store.specs.Packed.{link_of}
+use Rattle.tlsf_store.specs.Slots.{link_of}
 use Rattle.tlsf_store.proofs.TableMaking.{IsBegun}
 use Rattle.tlsf_store.proofs.table.fill.Given as goal
 

@@ -1,6 +1,6 @@
 use Rattle.std.proofs.Common.{sym, ap, ◌∙◌, Option, Err}
-use Rattle.tlsf_image.specs.declared.rule.Rule.{Rule}
-use Rattle.tlsf_image.specs.Rules.{first_broken}
+use Rattle.tlsf_heap.specs.declared.image.rule.Rule.{Rule}
+use Rattle.tlsf_heap.specs.Images.Rules.{first_broken}
 use Rattle.tlsf_tool.proofs.CheckLemmas.{none_where_loaded, some_where_broken}
 use Rattle.tlsf_tool.proofs.check.broken.Goals as goal
 use Rattle.tlsf_tool.proofs.check.broken.Goals.{in-Ok, in-Err-Broken, in-Err}

@@ -1,6 +1,6 @@
 use Rattle.std.proofs.Common.{ℕ, List, ap, ◌∙◌, subst}
 use Rattle.mtrace_log.specs.Output.{Wrote}
-use Rattle.tlsf_image.specs.Rules.{first_broken}
+use Rattle.tlsf_heap.specs.Images.Rules.{first_broken}
 use Rattle.tlsf_tool.specs.Checking.{check_text, check_status}
 use Rattle.tlsf_tool.proofs.check.checked.Goals as goal
 

@@ -1,10 +1,10 @@
 use Rattle.std.proofs.Common.{◌≡◌, ℕ, ◌∙◌, List, length, sym, ap, subst, arith, Some, None}
-use Rattle.tlsf_image.specs.declared.rule.Rule.{Rule}
-use Rattle.tlsf_image.specs.Image.{Parts, parts_in}
+use Rattle.tlsf_heap.specs.declared.image.rule.Rule.{Rule}
+use Rattle.tlsf_heap.specs.Images.Image.{Parts, parts_in}
 use Rattle.tlsf_heap.specs.Inner.Imaged.{AreLoaded}
 use Rattle.std.specs.Prelude.{Err}
 use Rattle.tlsf_heap.specs.declared.image_fault.ImageFault.TheVariants.{Broken}
-use Rattle.tlsf_heap.specs.Images.{parts_of}
+use Rattle.tlsf_heap.specs.Images.Described.{parts_of}
 use Rattle.tlsf_heap.specs.Inner.Loading.{CanBeStored}
 use Rattle.tlsf_heap.proofs.Images.Told.{alike_same}
 use Rattle.tlsf_heap.proofs.Images.Storable.{image_storable}

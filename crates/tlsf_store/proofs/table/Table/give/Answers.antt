@@ -1,6 +1,6 @@
 use Rattle.std.proofs.Common.{◌≡◌, Some, arith}
 use Rattle.std.proofs.lemmas.List.{length-set}
-use Rattle.tlsf_store.specs.Packed.{link_of}
+use Rattle.tlsf_store.specs.Slots.{link_of}
 use Rattle.tlsf_store.proofs.RecordLaws.{link_of-slot}
 use Rattle.tlsf_store.proofs.TableViews.{give_changes, shown_length}
 use Rattle.tlsf_store.proofs.table.Table.give.Goals as goal

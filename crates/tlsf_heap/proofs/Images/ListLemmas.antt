@@ -1,0 +1,134 @@
+-- What is found in lists, block after block.
+use Rattle.std.proofs.Common.{◌≡◌, ℕ, zero, suc, ◌+◌, ◌-◌, ◌<◌, ◌≤◌, Bool, true, false, ◌&&◌, ◌∷◌, ◌++◌, length, drop, Option, Some, None, refl, sym, ◌∙◌, subst, arith}
+use Rattle.std.specs.Prelude.{if◌then◌else◌, ◌==◌}
+use Rattle.std.specs.List.{flat_map}
+use Rattle.std.proofs.lemmas.Bool.{and_parts}
+use Rattle.std.proofs.lemmas.List.{length-append, at_drop_more, at_drop_all}
+use Rattle.tlsf_class.specs.Classes.{class}
+use Rattle.tlsf_store.specs.Records.{IsBelow}
+use Rattle.tlsf_store.specs.Cells.{head_at}
+use Rattle.tlsf_store.specs.declared.records.State.{State}
+use Rattle.tlsf_store.specs.declared.records.State.TheVariants.{Vacant, Free, Live}
+use Rattle.tlsf_store.specs.declared.records.Record.{Record}
+use Rattle.tlsf_heap.specs.Images.Image.{Parts}
+use Rattle.tlsf_heap.specs.Images.Links.{follow, is_linked}
+use Rattle.tlsf_heap.specs.Images.Rules.{at, is_used, is_free, is_list, list_of, has_links, has_links_in, is_below}
+use Rattle.tlsf_heap.specs.Images.Findings.{list_found, lists_with, is_behind}
+use Rattle.tlsf_heap.proofs.Images.LinkLemmas.{linked_on, linked_not_on, linked_end, follow_none}
+use Rattle.tlsf_heap.proofs.Images.ChainLemmas.{record_links, below}
+
+free_is_used : (state : State) → is_free state ≡ true → is_used state ≡ true
+free_is_used Vacant e = absurd (cc)
+free_is_used Free e = refl
+free_is_used Live e = absurd (cc)
+
+free_links : (state : State) (count : ℕ) (r : Record) → is_free state ≡ true → has_links_in state count r ≡ true → is_below count r.next_free ≡ true
+free_links Vacant count r e linked = absurd (cc)
+free_links Free count r e linked = (and_parts _ _ linked).1
+free_links Live count r e linked = absurd (cc)
+
+module _ (parts : Parts) where
+  abbrev next_of : ℕ → Option ℕ
+  next_of slot = (at parts slot).next_free
+
+  abbrev is_list_from : ℕ → ℕ → (before first : Option ℕ) → Bool
+  is_list_from number n before first =
+      is_linked (λ slot. is_free (at parts slot).state && (class (at parts slot).size == number)) next_of (λ slot. (at parts slot).prev_free) n before first
+
+  -- what is found of a list of which so many blocks were seen, where at most so many are left
+  abbrev found_with : ℕ → ℕ → ℕ → (before next : Option ℕ) → Option ℕ
+  found_with number n blocks before next = if is_list_from number n before next then Some (blocks + length (follow n next_of next)) else None
+
+  abbrev pub rest_found : ℕ → ℕ → (before next : Option ℕ) → Option ℕ
+  rest_found number blocks before next = found_with number (length parts.records - blocks) blocks before next
+
+  module _ (number blocks : ℕ) (before : Option ℕ) (slot : ℕ) where
+    on_by : (n : ℕ) → is_behind before number (at parts slot) ≡ true → found_with number (suc n) blocks before (Some slot) ≡ found_with number n (blocks + 1) (Some slot) (next_of slot)
+    on_by n on =
+        let whole = linked_on (λ slot. is_free (at parts slot).state && (class (at parts slot).size == number)) next_of (λ slot. (at parts slot).prev_free) n before slot on in
+        let one : blocks + suc (length (follow n next_of (next_of slot))) ≡ blocks + 1 + length (follow n next_of (next_of slot)) = omega arith in
+        rw (whole, one) refl
+
+    stops_by : (n : ℕ) → is_behind before number (at parts slot) ≡ false → found_with number n blocks before (Some slot) ≡ None
+    stops_by zero off = refl
+    stops_by (suc n) off = rw (linked_not_on (λ slot. is_free (at parts slot).state && (class (at parts slot).size == number)) next_of (λ slot. (at parts slot).prev_free) n before slot off) refl
+
+    -- a block behind the one before
+    pub found_on : blocks < length parts.records → is_behind before number (at parts slot) ≡ true → rest_found number blocks before (Some slot) ≡ rest_found number (blocks + 1) (Some slot) (next_of slot)
+    found_on few on =
+        let P : ℕ → Type 0 = λ left. found_with number left blocks before (Some slot) ≡ found_with number (length parts.records - (blocks + 1)) (blocks + 1) (Some slot) (next_of slot) in
+        let one : suc (length parts.records - (blocks + 1)) ≡ length parts.records - blocks = omega (arith, few) in
+        subst P one (on_by (length parts.records - (blocks + 1)) on)
+
+    -- nothing that can stand behind it
+    pub found_off : is_behind before number (at parts slot) ≡ false → rest_found number blocks before (Some slot) ≡ None
+    found_off off = stops_by (length parts.records - blocks) off
+
+    -- more slots than records
+    pub found_more : length parts.records ≤ blocks → rest_found number blocks before (Some slot) ≡ None
+    found_more many =
+        let P : ℕ → Type 0 = λ left. found_with number left blocks before (Some slot) ≡ None in
+        let none : 0 ≡ length parts.records - blocks = omega (arith, many) in
+        subst P none refl
+
+    -- the block behind one of the list is of the table
+    pub next_below : has_links parts ≡ true → slot < length parts.records → is_behind before number (at parts slot) ≡ true → IsBelow (length parts.records) (next_of slot)
+    next_below linked within behind =
+        let free = (and_parts _ _ (and_parts _ _ behind).0).0 in
+        let links = record_links parts linked slot within (free_is_used (at parts slot).state free) in
+        below (length parts.records) (next_of slot) (free_links (at parts slot).state (length parts.records) (at parts slot) free (and_parts _ _ links).1)
+
+  -- no block is left
+  pub found_end : (number blocks : ℕ) (before next : Option ℕ) → next ≡ None → rest_found number blocks before next ≡ Some blocks
+  found_end number blocks before next is =
+      let n = length parts.records - blocks in
+      let P : Option ℕ → Type 0 = λ o. found_with number n blocks before o ≡ Some blocks in
+      let none : blocks + 0 ≡ blocks = omega arith in
+      subst P (sym is) (rw (linked_end (λ slot. is_free (at parts slot).state && (class (at parts slot).size == number)) next_of (λ slot. (at parts slot).prev_free) n before, follow_none n next_of, none) refl)
+
+  first_by : (number : ℕ) (first : Option ℕ) → found_with number (length parts.records) 0 None first ≡ list_found parts number first
+  first_by number first =
+      let slots = follow (length parts.records) next_of first in
+      let none : 0 + length slots ≡ length slots = omega arith in
+      rw none refl
+
+  -- all is left
+  pub found_first : (number : ℕ) (first : Option ℕ) → rest_found number 0 None first ≡ list_found parts number first
+  found_first number first =
+      let P : ℕ → Type 0 = λ left. found_with number left 0 None first ≡ list_found parts number first in
+      let all : length parts.records ≡ length parts.records - 0 = omega arith in
+      subst P all (first_by number first)
+
+  -- ---- the lists of all classes
+
+  module _ (blocks number : ℕ) where
+    left_at : number < length parts.heads → lists_with parts blocks number (drop number parts.heads) ≡ lists_with parts blocks number (head_at parts.heads number ∷ drop (number + 1) parts.heads)
+    left_at within = at_drop_more (lists_with parts blocks number) parts.heads number None within
+
+    was_found : (b : Bool) (one found : ℕ) → (if b then Some one else None) ≡ Some found → (b ≡ true) × (one ≡ found)
+    was_found true one found is = (refl, cc)
+    was_found false one found is = absurd (cc)
+
+    was_missed : (b : Bool) (one : ℕ) → (if b then Some one else None) ≡ None → b ≡ false
+    was_missed true one is = absurd (cc)
+    was_missed false one is = refl
+
+    -- one list more
+    pub list_on : (found : ℕ) → number < length parts.heads → list_found parts number (head_at parts.heads number) ≡ Some found → lists_with parts blocks number (drop number parts.heads) ≡ lists_with parts (blocks + found) (number + 1) (drop (number + 1) parts.heads)
+    list_on found within is =
+        let first = head_at parts.heads number in
+        let more = drop (number + 1) parts.heads in
+        let there = was_found (is_list parts number first) (length (list_of parts first)) found is in
+        let slots = flat_map (list_of parts) more in
+        let sum : blocks + length (list_of parts first ++ slots) ≡ blocks + found + length slots = omega (arith, length-append (list_of parts first) slots, there.1) in
+        left_at within ∙ (rw (there.0, sum) refl)
+
+    -- one that is no list
+    pub list_off : number < length parts.heads → list_found parts number (head_at parts.heads number) ≡ None → lists_with parts blocks number (drop number parts.heads) ≡ None
+    list_off within is = left_at within ∙ (rw (was_missed (is_list parts number (head_at parts.heads number)) (length (list_of parts (head_at parts.heads number))) is) refl)
+
+    -- no list is left
+    pub lists_end : length parts.heads ≤ number → lists_with parts blocks number (drop number parts.heads) ≡ Some blocks
+    lists_end all =
+        let none : blocks + 0 ≡ blocks = omega arith in
+        at_drop_all (lists_with parts blocks number) parts.heads number all ∙ (rw none refl)

@@ -1,0 +1,289 @@
+-- How many blocks stand on chains and in lists, and whether those are all that there are.
+use Rattle.std.proofs.Common.{◌≡◌, ℕ, ◌+◌, ◌<◌, ◌≤◌, Bool, true, false, not, ◌&&◌, ◌||◌, eqb, List, [], ◌∷◌, length, refl, sym, ap, ◌∙◌, subst, arith, count_by, Option, inl, inr}
+use Rattle.std.specs.Prelude.{◌==◌}
+use Rattle.std.specs.List.{list_all, list_any, flat_map, range_with_len}
+use Rattle.std.proofs.lemmas.Bool.{cases_Bool, cases_lt, and_parts, or_right, eqb-true, eq-eqb, leb-true, ltb-true, both_ways}
+use Rattle.std.proofs.lemmas.List.{get_or_past}
+use Rattle.std.proofs.lemmas.List.Folds.{list_any-append}
+use Rattle.std.proofs.lemmas.List.FromFn.{length-range_with_len, get_or-range_with_len}
+use Rattle.std.proofs.lemmas.List.Sums.{AllPass-from_list_all, list_all-from_AllPass}
+use Rattle.tlsf_class.specs.Classes.{class}
+use Rattle.tlsf_store.specs.declared.pools.Pool.{Pool}
+use Rattle.tlsf_store.specs.declared.records.Record.{Record}
+use Rattle.tlsf_store.specs.Records.{blank, record_at}
+use Rattle.tlsf_heap.specs.Images.Image.{Parts}
+use Rattle.tlsf_heap.specs.Images.Rules.{present, at, is_used, is_free, is_pool, are_pools, is_chain, chain_of, has_record_links, has_links, has_chains, covers, has_cover, is_among, has_all_on_chains, list_of, is_list, are_lists, has_lists, has_all_on_lists}
+use Rattle.tlsf_heap.proofs.Images.Counting.{one_if, times, times-cons, times-append, any_counts, counts_any, sum_below-same, sum_below-apart, items_sum, places_sum}
+use Rattle.tlsf_heap.proofs.Images.Distinct.{stands_once}
+
+-- a test of all numbers below one
+pub all_below : (test : ℕ → Bool) (n : ℕ) → list_all test (range_with_len 0 n) ≡ true → (k : ℕ) → k < n → test k ≡ true
+all_below test n all k below =
+    let P : ℕ → Type 0 = λ m. test m ≡ true in
+    let is : 0 + k ≡ k = omega arith in
+    subst P (get_or-range_with_len 0 n k 0 below ∙ is) (AllPass-from_list_all test (range_with_len 0 n) all k 0 (omega (arith, below, length-range_with_len 0 n)))
+
+pub from_all_below : (test : ℕ → Bool) (n : ℕ) → ((k : ℕ) → k < n → test k ≡ true) → list_all test (range_with_len 0 n) ≡ true
+from_all_below test n all =
+    list_all-from_AllPass test (range_with_len 0 n) (λ k d within.
+    let below : k < n = omega (arith, within, length-range_with_len 0 n) in
+    let P : ℕ → Type 0 = λ m. test m ≡ true in
+    let is : 0 + k ≡ k = omega arith in
+    subst P (sym (get_or-range_with_len 0 n k d below ∙ is)) (all k below))
+
+pub not_or : (a b : Bool) → (not a || b) ≡ true → a ≡ true → b ≡ true
+not_or true b e is = e
+not_or false b e is = absurd (both_ways false refl is)
+
+-- two answers that are yes together
+same_answer : (a b : Bool) → (a ≡ true → b ≡ true) → (b ≡ true → a ≡ true) → a ≡ b
+same_answer true true f g = refl
+same_answer true false f g = sym (f refl)
+same_answer false true f g = g refl
+same_answer false false f g = refl
+
+-- distinct slots of records that pass a test are as many as those records exactly where each of these is among them
+module _ (records : List Record) (test : Record → Bool) (slots : List ℕ) where
+  counted : test blank ≡ false → ((slot : ℕ) → times slot slots ≤ 1) → ((slot : ℕ) → 1 ≤ times slot slots → test (record_at records slot) ≡ true)
+      → (length slots == count_by test records) ≡ list_all (λ slot. not (test (record_at records slot)) || is_among slot slots) (range_with_len 0 (length records))
+  counted blank_fails once passes =
+      let n = length records in
+      let passed : ℕ → ℕ = λ slot. one_if (test (record_at records slot)) in
+      let none_past : (slot : ℕ) → n ≤ slot → times slot slots ≡ 0 = λ slot past. (elim (cases_lt 0 (times slot slots)) [
+        | inr none ↦ omega (arith, none)
+        | inl some ↦ absurd (both_ways (test blank) blank_fails (let P : Record → Type 0 = λ r. test r ≡ true in subst P (get_or_past records slot blank past) (passes slot (omega (arith, some)))))
+      ]) in
+      let most : (slot : ℕ) → slot < n → times slot slots ≤ passed slot = λ slot below. (elim (cases_lt 0 (times slot slots)) [
+        | inr none ↦ omega (arith, none)
+        | inl some ↦ omega (arith, once slot, ap one_if (passes slot (omega (arith, some))))
+      ]) in
+      let sum = items_sum (λ (slot : ℕ). slot) n slots none_past in
+      let all = places_sum (λ r. one_if (test r)) records blank in
+      same_answer _ _
+      (λ same. from_all_below _ n (λ slot below.
+      let here = sum_below-apart (λ s. times s slots) passed n most (sum ∙ eqb-true _ _ same ∙ sym all) slot below in
+      (elim (cases_Bool (test (record_at records slot))) [
+        | inl passed_here ↦ or_right _ _ (counts_any (λ other. eqb other slot) slots (omega (arith, here, ap one_if passed_here)))
+        | inr failed ↦ ap (λ b. not b || is_among slot slots) failed
+      ])))
+      (λ among. eq-eqb _ _ (sym sum ∙ sum_below-same (λ s. times s slots) passed n (λ slot below.
+      let here = all_below (λ slot. not (test (record_at records slot)) || is_among slot slots) n among slot below in
+      let P : Bool → Type 0 = λ b. (not b || is_among slot slots) ≡ true in
+      (elim (cases_Bool (test (record_at records slot))) [
+        | inl passed_here ↦ omega (arith, most slot below, ap one_if passed_here, any_counts (λ other. eqb other slot) slots (subst P passed_here here))
+        | inr failed ↦ omega (arith, most slot below, ap one_if failed)
+      ])) ∙ all))
+
+pub among_any : {X : Type 0} (slots : X → List ℕ) (xs : List X) (slot : ℕ) → is_among slot (flat_map slots xs) ≡ list_any (λ x. is_among slot (slots x)) xs
+among_any slots [] slot = refl
+among_any slots (x ∷ xs) slot = list_any-append (λ other. eqb other slot) (slots x) (flat_map slots xs) ∙ ap (λ b. is_among slot (slots x) || b) (among_any slots xs slot)
+
+-- a test of all of some items
+pub all_first : {X : Type 0} (test : X → Bool) (x : X) (xs : List X) → list_all test (x ∷ xs) ≡ true → test x ≡ true
+all_first test x xs all = (and_parts (test x) (list_all test xs) all).0
+
+pub all_rest : {X : Type 0} (test : X → Bool) (x : X) (xs : List X) → list_all test (x ∷ xs) ≡ true → list_all test xs ≡ true
+all_rest test x xs all = (and_parts (test x) (list_all test xs) all).1
+
+pub all_among : (test : ℕ → Bool) (slots : List ℕ) → list_all test slots ≡ true → (slot : ℕ) → 1 ≤ times slot slots → test slot ≡ true
+all_among test [] all slot some = absurd (omega (arith, some))
+all_among test (other ∷ slots) all slot some = elim (cases_Bool (eqb other slot)) [
+  | inl same ↦ let P : ℕ → Type 0 = λ s. test s ≡ true in subst P (eqb-true other slot same) (all_first test other slots all)
+  | inr apart ↦ all_among test slots (all_rest test other slots all) slot (omega (arith, some, times-cons slot other slots, ap one_if apart))
+]
+
+module _ (parts : Parts) where
+  abbrev pub is_block : ℕ → Bool
+  is_block slot = is_used (at parts slot).state
+
+  pub used_below : (slot : ℕ) → is_block slot ≡ true → slot < length parts.records
+  used_below slot used = elim (cases_lt slot (length parts.records)) [
+    | inl below ↦ below
+    | inr past ↦ let P : Record → Type 0 = λ r. is_used r.state ≡ true in absurd (both_ways false refl (subst P (get_or_past parts.records slot blank past) used))
+  ]
+
+  -- a block has bytes
+  pub has_bytes : has_links parts ≡ true → (slot : ℕ) → is_block slot ≡ true → 0 < (at parts slot).size
+  has_bytes linked slot used =
+      let all = AllPass-from_list_all (has_record_links (length parts.records)) parts.records (and_parts _ _ linked).1 slot blank (used_below slot used) in
+      ltb-true 0 (at parts slot).size (and_parts _ _ (not_or (is_block slot) _ all used)).0
+
+  pub chain_used : (pool : Pool) → is_chain parts pool ≡ true → list_all is_block (chain_of parts pool) ≡ true
+  chain_used pool chain = (and_parts _ _ (and_parts _ _ chain).1).0
+
+  module _ (from to slot : ℕ) (slots : List ℕ) (covered : covers parts from to (slot ∷ slots) ≡ true) where
+    pub begins_at : (at parts slot).place ≡ from
+    begins_at = eqb-true (at parts slot).place from (and_parts (eqb (at parts slot).place from) (covers parts (from + (at parts slot).size) to slots) covered).0
+
+    pub covered_rest : covers parts (from + (at parts slot).size) to slots ≡ true
+    covered_rest = (and_parts (eqb (at parts slot).place from) (covers parts (from + (at parts slot).size) to slots) covered).1
+
+  covered_up : (slots : List ℕ) (from to : ℕ) → covers parts from to slots ≡ true → from ≤ to
+  covered_up [] from to covered = omega (arith, eqb-true from to covered)
+  covered_up (slot ∷ slots) from to covered = omega (arith, covered_up slots (from + (at parts slot).size) to (covered_rest from to slot slots covered))
+
+  abbrev pub covers_pool : Pool → Bool
+  covers_pool pool = covers parts pool.base (pool.base + pool.bytes) (chain_of parts pool)
+
+  abbrev slots_of : List Pool → List ℕ
+  slots_of pools = flat_map (chain_of parts) pools
+
+  begins_above : (count from : ℕ) (pool : Pool) (pools : List Pool) → are_pools count from (pool ∷ pools) ≡ true → from ≤ pool.base
+  begins_above count from pool pools ordered = leb-true from pool.base (and_parts _ _ (and_parts _ _ (and_parts (is_pool count from pool) (are_pools count (pool.base + pool.bytes) pools) ordered).0).1).0
+
+  module _ (linked : has_links parts ≡ true) where
+    -- the blocks that cover a range stand in it
+    pub stands_within : (slots : List ℕ) (from to : ℕ) → list_all is_block slots ≡ true → covers parts from to slots ≡ true → (slot : ℕ) → 1 ≤ times slot slots → (from ≤ (at parts slot).place) × ((at parts slot).place < to)
+    stands_within [] from to used covered slot some = absurd (omega (arith, some))
+    stands_within (first ∷ slots) from to used covered slot some =
+        let r = at parts first in
+        let begins = begins_at from to first slots covered in
+        let rest = covered_rest from to first slots covered in
+        let bytes = has_bytes linked first (all_first is_block first slots used) in
+        elim (cases_Bool (eqb first slot)) [
+          | inl same ↦
+              let P : ℕ → Type 0 = λ s. (from ≤ (at parts s).place) × ((at parts s).place < to) in
+              subst P (eqb-true first slot same) (
+                let e : from ≤ r.place = omega (arith, begins) in e,
+                let e : r.place < to = omega (arith, begins, bytes, covered_up slots (from + r.size) to rest) in e,
+              )
+          | inr apart ↦
+              let behind = stands_within slots (from + r.size) to (all_rest is_block first slots used) rest slot (omega (arith, some, times-cons slot first slots, ap one_if apart)) in
+              (let e : from ≤ (at parts slot).place = omega (arith, behind.0) in e, behind.1)
+        ]
+
+    -- each of them once
+    covers_once : (slots : List ℕ) (from to : ℕ) → list_all is_block slots ≡ true → covers parts from to slots ≡ true → (slot : ℕ) → times slot slots ≤ 1
+    covers_once [] from to used covered slot = omega arith
+    covers_once (first ∷ slots) from to used covered slot =
+        let r = at parts first in
+        let rest = covered_rest from to first slots covered in
+        let used_rest = all_rest is_block first slots used in
+        let once = covers_once slots (from + r.size) to used_rest rest slot in
+        elim (cases_Bool (eqb first slot)) [
+          | inr apart ↦ omega (arith, once, times-cons slot first slots, ap one_if apart)
+          | inl same ↦ elim (cases_lt 0 (times slot slots)) [
+            | inr none ↦ omega (arith, none, times-cons slot first slots, ap one_if same)
+            | inl some ↦
+                let behind = (stands_within slots (from + r.size) to used_rest rest slot (omega (arith, some))).0 in
+                let place : r.place ≡ (at parts slot).place = ap (λ s. (at parts s).place) (eqb-true first slot same) in
+                absurd (omega (arith, behind, place, begins_at from to first slots covered, has_bytes linked first (all_first is_block first slots used)))
+          ]
+        ]
+
+    -- the blocks on the chains of pools in order stand above where these begin
+    pub stands_above : (count from : ℕ) (pools : List Pool) → are_pools count from pools ≡ true → list_all (is_chain parts) pools ≡ true → list_all covers_pool pools ≡ true → (slot : ℕ) → 1 ≤ times slot (slots_of pools) → from ≤ (at parts slot).place
+    stands_above count from [] ordered chains covered slot some = absurd (omega (arith, some))
+    stands_above count from (pool ∷ pools) ordered chains covered slot some =
+        let begins = begins_above count from pool pools ordered in
+        elim (cases_lt 0 (times slot (chain_of parts pool))) [
+          | inl here ↦
+              let used = chain_used pool (all_first (is_chain parts) pool pools chains) in
+              omega (arith, begins, (stands_within (chain_of parts pool) pool.base (pool.base + pool.bytes) used (all_first covers_pool pool pools covered) slot (omega (arith, here))).0)
+          | inr none ↦
+              let ordered_rest = (and_parts (is_pool count from pool) (are_pools count (pool.base + pool.bytes) pools) ordered).1 in
+              omega (
+                arith,
+                begins,
+                stands_above count (pool.base + pool.bytes) pools ordered_rest (all_rest (is_chain parts) pool pools chains) (all_rest covers_pool pool pools covered) slot
+                    (omega (arith, some, none, times-append slot (chain_of parts pool) (slots_of pools))),
+              )
+        ]
+
+    -- each of them once
+    pub chains_once : (count from : ℕ) (pools : List Pool) → are_pools count from pools ≡ true → list_all (is_chain parts) pools ≡ true → list_all covers_pool pools ≡ true → (slot : ℕ) → times slot (slots_of pools) ≤ 1
+    chains_once count from [] ordered chains covered slot = omega arith
+    chains_once count from (pool ∷ pools) ordered chains covered slot =
+        let used = chain_used pool (all_first (is_chain parts) pool pools chains) in
+        let covered_here = all_first covers_pool pool pools covered in
+        let ordered_rest = (and_parts (is_pool count from pool) (are_pools count (pool.base + pool.bytes) pools) ordered).1 in
+        let chains_rest = all_rest (is_chain parts) pool pools chains in
+        let covered_behind = all_rest covers_pool pool pools covered in
+        let here = covers_once (chain_of parts pool) pool.base (pool.base + pool.bytes) used covered_here slot in
+        let rest = chains_once count (pool.base + pool.bytes) pools ordered_rest chains_rest covered_behind slot in
+        let both = times-append slot (chain_of parts pool) (slots_of pools) in
+        elim (cases_lt 0 (times slot (chain_of parts pool))) [
+          | inr none ↦ omega (arith, none, rest, both)
+          | inl some ↦ elim (cases_lt 0 (times slot (slots_of pools))) [
+            | inr none ↦ omega (arith, none, here, both)
+            | inl more ↦
+                absurd (omega (
+                  arith,
+                  (stands_within (chain_of parts pool) pool.base (pool.base + pool.bytes) used covered_here slot (omega (arith, some))).1,
+                  stands_above count (pool.base + pool.bytes) pools ordered_rest chains_rest covered_behind slot (omega (arith, more)),
+                ))
+          ]
+        ]
+
+  pub on_chain_used : (pools : List Pool) → list_all (is_chain parts) pools ≡ true → (slot : ℕ) → 1 ≤ times slot (flat_map (chain_of parts) pools) → is_block slot ≡ true
+  on_chain_used [] chains slot some = absurd (omega (arith, some))
+  on_chain_used (pool ∷ pools) chains slot some = elim (cases_lt 0 (times slot (chain_of parts pool))) [
+    | inl here ↦ all_among is_block (chain_of parts pool) (chain_used pool (all_first (is_chain parts) pool pools chains)) slot (omega (arith, here))
+    | inr none ↦ on_chain_used pools (all_rest (is_chain parts) pool pools chains) slot (omega (arith, some, none, times-append slot (chain_of parts pool) (flat_map (chain_of parts) pools)))
+  ]
+
+  -- as many blocks stand on the chains as there are exactly where each is on a chain
+  pub chains_counted : has_links parts ≡ true → has_chains parts ≡ true → has_cover parts ≡ true → are_pools (length parts.records) 0 (present parts.pools) ≡ true
+      → (length (flat_map (chain_of parts) (present parts.pools)) == count_by (λ r. is_used r.state) parts.records) ≡ has_all_on_chains parts
+  chains_counted linked chains covered ordered =
+      let pools = present parts.pools in
+      counted parts.records (λ r. is_used r.state) (flat_map (chain_of parts) pools) refl (chains_once linked (length parts.records) 0 pools ordered chains covered) (on_chain_used pools chains)
+      ∙ ap (λ test. list_all test (range_with_len 0 (length parts.records))) (λ i slot. not (is_block slot) || among_any (chain_of parts) pools slot i)
+
+  -- ---- lists
+
+  abbrev pub is_listed : ℕ → ℕ → Bool
+  is_listed number slot = is_free (at parts slot).state && (class (at parts slot).size == number)
+
+  pub list_free : (number : ℕ) (first : Option ℕ) → is_list parts number first ≡ true → list_all (is_listed number) (list_of parts first) ≡ true
+  list_free number first list = (and_parts _ _ (and_parts _ _ list).1).0
+
+  pub list_once : (number : ℕ) (first : Option ℕ) → is_list parts number first ≡ true → (slot : ℕ) → times slot (list_of parts first) ≤ 1
+  list_once number first list slot = stands_once (λ slot. (at parts slot).prev_free) (list_of parts first) (and_parts _ _ (and_parts _ _ list).1).1 slot
+
+  -- a block in a list is free, and of its class
+  pub listed_here : (number : ℕ) (first : Option ℕ) → is_list parts number first ≡ true → (slot : ℕ) → 1 ≤ times slot (list_of parts first) → (is_free (at parts slot).state ≡ true) × (class (at parts slot).size ≡ number)
+  listed_here number first list slot some =
+      let both = and_parts (is_free (at parts slot).state) (eqb (class (at parts slot).size) number) (all_among (is_listed number) (list_of parts first) (list_free number first list) slot some) in
+      (both.0, eqb-true (class (at parts slot).size) number both.1)
+
+  module _ (number : ℕ) (first : Option ℕ) (heads : List (Option ℕ)) (lists : are_lists parts number (first ∷ heads) ≡ true) where
+    pub first_list : is_list parts number first ≡ true
+    first_list = (and_parts (is_list parts number first) (are_lists parts (number + 1) heads) lists).0
+
+    pub other_lists : are_lists parts (number + 1) heads ≡ true
+    other_lists = (and_parts (is_list parts number first) (are_lists parts (number + 1) heads) lists).1
+
+  -- one in the lists from a class on is free, and of such a class
+  pub listed_from : (number : ℕ) (heads : List (Option ℕ)) → are_lists parts number heads ≡ true → (slot : ℕ) → 1 ≤ times slot (flat_map (list_of parts) heads) → (is_free (at parts slot).state ≡ true) × (number ≤ class (at parts slot).size)
+  listed_from number [] lists slot some = absurd (omega (arith, some))
+  listed_from number (first ∷ heads) lists slot some = elim (cases_lt 0 (times slot (list_of parts first))) [
+    | inl here ↦
+        let free = listed_here number first (first_list number first heads lists) slot (omega (arith, here)) in
+        (free.0, let e : number ≤ class (at parts slot).size = omega (arith, free.1) in e)
+    | inr none ↦
+        let free = listed_from (number + 1) heads (other_lists number first heads lists) slot (omega (arith, some, none, times-append slot (list_of parts first) (flat_map (list_of parts) heads))) in
+        (free.0, let e : number ≤ class (at parts slot).size = omega (arith, free.1) in e)
+  ]
+
+  pub lists_once : (number : ℕ) (heads : List (Option ℕ)) → are_lists parts number heads ≡ true → (slot : ℕ) → times slot (flat_map (list_of parts) heads) ≤ 1
+  lists_once number [] lists slot = omega arith
+  lists_once number (first ∷ heads) lists slot =
+      let list = first_list number first heads lists in
+      let others = other_lists number first heads lists in
+      let here = list_once number first list slot in
+      let rest = lists_once (number + 1) heads others slot in
+      let both = times-append slot (list_of parts first) (flat_map (list_of parts) heads) in
+      elim (cases_lt 0 (times slot (list_of parts first))) [
+        | inr none ↦ omega (arith, none, rest, both)
+        | inl some ↦ elim (cases_lt 0 (times slot (flat_map (list_of parts) heads))) [
+          | inr none ↦ omega (arith, none, here, both)
+          | inl more ↦ absurd (omega (arith, (listed_here number first list slot (omega (arith, some))).1, (listed_from (number + 1) heads others slot (omega (arith, more))).1))
+        ]
+      ]
+
+  -- as many blocks stand in the lists as are free exactly where each of these is in a list
+  pub lists_counted : has_lists parts ≡ true → (length (flat_map (list_of parts) parts.heads) == count_by (λ r. is_free r.state) parts.records) ≡ has_all_on_lists parts
+  lists_counted lists =
+      counted parts.records (λ r. is_free r.state) (flat_map (list_of parts) parts.heads) refl (lists_once 0 parts.heads lists) (λ slot some. (listed_from 0 parts.heads lists slot some).0)
+      ∙ ap (λ test. list_all test (range_with_len 0 (length parts.records))) (λ i slot. not (is_free (at parts slot).state) || among_any (list_of parts) parts.heads slot i)

@@ -1,0 +1,116 @@
+-- What stands where in the bytes of an image of parts.
+use Rattle.std.proofs.Common.{◌≡◌, ℕ, zero, suc, ◌+◌, ◌*◌, ◌/◌, ◌%◌, ◌<◌, List, [], ◌∷◌, ◌++◌, length, refl, sym, ap, ◌∙◌, arith, get_or, Option, Some, None}
+use Rattle.std.specs.Prelude.{slice_index}
+use Rattle.std.specs.List.{flat_map}
+use Rattle.std.proofs.lemmas.List.{get_or_append_left, get_or-append-add, append_assoc, length-append, append-nil}
+use Rattle.tlsf_class.specs.Classes.{classes}
+use Rattle.tlsf_store.specs.declared.records.State.{State}
+use Rattle.tlsf_store.specs.declared.records.State.TheVariants.{Vacant, Free, Live}
+use Rattle.tlsf_store.specs.declared.records.Record.{Record}
+use Rattle.tlsf_store.specs.declared.pools.Pool.{Pool}
+use Rattle.tlsf_store.specs.Records.{blank, record_at as record_of}
+use Rattle.tlsf_store.specs.Cells.{head_at as head_of, pool_at, most_pools}
+use Rattle.tlsf_heap.specs.Images.Image.{two_at, entry_at, head_at, record_at, Parts}
+use Rattle.tlsf_heap.specs.Images.Writing.{entry_bytes, head_bytes, bytes_in, record_bytes, header_bytes, image_of}
+
+-- pieces of one length
+module _ {X : Type 0} (f : X → List ℕ) (size : ℕ) (sized : (x : X) → length (f x) ≡ size) where
+  pub pieces_length : (xs : List X) → length (flat_map f xs) ≡ length xs * size
+  pieces_length [] = omega arith
+  pieces_length (x ∷ xs) = grind (arith, length-append (f x) (flat_map f xs), sized x, pieces_length xs)
+
+  -- a byte of a piece, whatever stands behind the pieces
+  pub piece_at : (xs : List X) (d : X) (rest : List ℕ) (k j : ℕ) → k < length xs → j < size → slice_index (flat_map f xs ++ rest) (k * size + j) ≡ slice_index (f (get_or xs k d)) j
+  piece_at [] d rest k j within below = absurd (omega (arith, within))
+  piece_at (x ∷ xs) d rest zero j within below =
+      let first : zero * size + j ≡ j = omega arith in
+      ap (slice_index (flat_map f (x ∷ xs) ++ rest)) first
+      ∙ ap (λ bytes. slice_index bytes j) (append_assoc (f x) (flat_map f xs) rest)
+      ∙ get_or_append_left (f x) (flat_map f xs ++ rest) 0 j (omega (arith, below, sized x))
+  piece_at (x ∷ xs) d rest (suc k) j within below =
+      let later : suc k * size + j ≡ length (f x) + (k * size + j) = grind (arith, sized x) in
+      ap (slice_index (flat_map f (x ∷ xs) ++ rest)) later
+      ∙ ap (λ bytes. slice_index bytes (length (f x) + (k * size + j))) (append_assoc (f x) (flat_map f xs) rest)
+      ∙ get_or-append-add (f x) (flat_map f xs ++ rest) (k * size + j) 0
+      ∙ piece_at xs d rest k j (omega (arith, within)) below
+
+-- the number of two bytes, and of four
+pub two_back : (n : ℕ) → n % 256 + 256 * (n / 256) ≡ n
+two_back n = omega arith
+
+pub four_back : (n : ℕ) → (n % 65536) % 256 + 256 * ((n % 65536) / 256) + 65536 * ((n / 65536) % 256 + 256 * ((n / 65536) / 256)) ≡ n
+four_back n = omega arith
+
+entry_size : (entry : Option Pool) → length (entry_bytes entry) ≡ 12
+entry_size None = refl
+entry_size (Some pool) = refl
+
+head_size : (head : Option ℕ) → length (head_bytes head) ≡ 2
+head_size head = refl
+
+size_in : (state : State) (r : Record) → length (bytes_in state r) ≡ 16
+size_in Vacant r = refl
+size_in Free r = refl
+size_in Live r = refl
+
+record_size : (r : Record) → length (record_bytes r) ≡ 16
+record_size r = size_in r.state r
+
+-- what stands behind a beginning of so many bytes
+behind : (front rest : List ℕ) (size at i : ℕ) → length front ≡ size → size + i ≡ at → slice_index (front ++ rest) at ≡ slice_index rest i
+behind front rest size at i long is =
+    let there : at ≡ length front + i = omega (arith, long, is) in
+    ap (slice_index (front ++ rest)) there ∙ get_or-append-add front rest i 0
+
+-- where two and four bytes of a list stand for those of another
+two_same : (xs ys : List ℕ) (i j : ℕ) → slice_index xs i ≡ slice_index ys j → slice_index xs (i + 1) ≡ slice_index ys (j + 1) → two_at i xs ≡ two_at j ys
+two_same xs ys i j first second = omega (arith, first, second)
+
+module _ (parts : Parts) (pools_count : length parts.pools ≡ most_pools) (heads_count : length parts.heads ≡ classes) where
+  abbrev image : List ℕ
+  image = image_of parts
+
+  abbrev records_part : List ℕ
+  records_part = flat_map record_bytes parts.records
+
+  abbrev heads_part : List ℕ
+  heads_part = flat_map head_bytes parts.heads
+
+  abbrev entries_part : List ℕ
+  entries_part = flat_map entry_bytes parts.pools
+
+  entries_long : length entries_part ≡ 96
+  entries_long = omega (arith, pieces_length entry_bytes 12 entry_size parts.pools, pools_count)
+
+  heads_long : length heads_part ≡ 1408
+  heads_long = omega (arith, pieces_length head_bytes 2 head_size parts.heads, heads_count)
+
+  pub image_long : length image ≡ record_at (length parts.records)
+  image_long = omega (
+    arith,
+    length-append entries_part (heads_part ++ records_part),
+    length-append heads_part records_part,
+    entries_long,
+    heads_long,
+    pieces_length record_bytes 16 record_size parts.records,
+  )
+
+  -- a byte of an entry, a head, a record
+  pub entry_byte : (number j : ℕ) → number < most_pools → j < 12 → slice_index image (entry_at number + j) ≡ slice_index (entry_bytes (pool_at parts.pools number)) j
+  entry_byte number j within below =
+      behind (header_bytes parts) (entries_part ++ (heads_part ++ records_part)) 16 (entry_at number + j) (number * 12 + j) refl (omega arith)
+      ∙ piece_at entry_bytes 12 entry_size parts.pools None (heads_part ++ records_part) number j (omega (arith, within, pools_count)) below
+
+  pub head_byte : (class j : ℕ) → class < classes → j < 2 → slice_index image (head_at class + j) ≡ slice_index (head_bytes (head_of parts.heads class)) j
+  head_byte class j within below =
+      behind (header_bytes parts) (entries_part ++ (heads_part ++ records_part)) 16 (head_at class + j) (96 + (class * 2 + j)) refl (omega arith)
+      ∙ behind entries_part (heads_part ++ records_part) 96 (96 + (class * 2 + j)) (class * 2 + j) entries_long refl
+      ∙ piece_at head_bytes 2 head_size parts.heads None records_part class j (omega (arith, within, heads_count)) below
+
+  pub record_byte : (slot j : ℕ) → slot < length parts.records → j < 16 → slice_index image (record_at slot + j) ≡ slice_index (record_bytes (record_of parts.records slot)) j
+  record_byte slot j within below =
+      behind (header_bytes parts) (entries_part ++ (heads_part ++ records_part)) 16 (record_at slot + j) (96 + (1408 + (slot * 16 + j))) refl (omega arith)
+      ∙ behind entries_part (heads_part ++ records_part) 96 (96 + (1408 + (slot * 16 + j))) (1408 + (slot * 16 + j)) entries_long refl
+      ∙ behind heads_part records_part 1408 (1408 + (slot * 16 + j)) (slot * 16 + j) heads_long refl
+      ∙ ap (λ bytes. slice_index bytes (slot * 16 + j)) (sym (append-nil records_part))
+      ∙ piece_at record_bytes 16 record_size parts.records blank [] slot j within below

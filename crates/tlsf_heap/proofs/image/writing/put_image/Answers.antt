@@ -1,0 +1,85 @@
+use Rattle.std.proofs.Common.{◌≡◌, ℕ, ◌+◌, ◌<◌, List, ◌++◌, length, drop, refl, sym, ap, ◌∙◌, subst, arith}
+use Rattle.std.specs.List.{flat_map}
+use Rattle.std.proofs.lemmas.Bool.{eqb-false}
+use Rattle.tlsf_store.specs.Records.{blank, record_at}
+use Rattle.mtrace_log.specs.Output.{PutsAll, PutsPart, Puts}
+use Rattle.mtrace_log.proofs.Writing.{IsPutting, putting_more, putting_fails, putting_last, puts_exit}
+use Rattle.tlsf_heap.specs.Images.Image.{Parts}
+use Rattle.tlsf_heap.specs.Images.Writing.{record_bytes, image_of}
+use Rattle.tlsf_heap.proofs.Images.Appending.{pushed, appended_all}
+use Rattle.tlsf_heap.proofs.image.writing.put_image.Goals as goal
+use Rattle.tlsf_heap.proofs.image.writing.put_image.Goals.{then-is_full+in_ok-put_all, else-is_full}
+
+-- the piece with one record more, and those that are left
+pub loop-number-preserved : goal.loop-number-preserved
+loop-number-preserved g c =
+    let parts : Parts = g.T.Table.parts c.args.table.now in
+    let taken = g.W.Sink.taken in
+    let trace = g.W.Sink.trace in
+    let number : ℕ = c.loop-number.number in
+    let items : List ℕ = c.loop-number.piece.items in
+    let counted : c.count-number-end.result ≡ length parts.records =
+    c.count-number-end.ensures.value ∙ ap (λ (p : Parts). length p.records) (c.push_heads.ensures.same ∙ c.push_entries.ensures.same ∙ c.push_header.ensures.same) in
+    let within : number < length parts.records = omega (arith, c.loop-number-test.true, counted) in
+    let rest : List ℕ = items ++ flat_map record_bytes (drop number parts.records) in
+    let later : List ℕ = flat_map record_bytes (drop (number + 1) parts.records) in
+    let read : c.record.result ≡ record_at parts.records number = c.record.ensures.value ∙ ap (λ (p : Parts). record_at p.records number) c.loop-number.invariant.same in
+    let whole : c.push_record.new.piece.items ++ later ≡ rest =
+    pushed record_bytes parts.records blank number items c.push_record.new.piece.items rest c.record.result within read c.push_record.ensures.bytes refl in
+    let I : List ℕ → g.row.W.Denot → Type 0 = λ text writer. IsPutting taken trace (image_of parts) text c.args.writer.now writer in
+    elim c.if-is_full.branch [
+      | then-is_full+in_ok-put_all w ↦
+          let P : List ℕ → Type 0 = λ text. PutsAll taken trace text c.loop-number.writer w.put_all.new.writer in
+          let put = subst P w.deref.ensures.0 w.in_ok-put_all.ensures in
+          let more = putting_more taken trace c.args.writer.now c.loop-number.writer w.put_all.new.writer (image_of parts) rest c.push_record.new.piece.items later c.loop-number.invariant.put (sym whole) put in
+          rw (w.writer-is, w.piece-is) (record {
+            same = c.record.ensures.same ∙ c.loop-number.invariant.same;
+            kept = c.record.ensures.kept ∙ c.loop-number.invariant.kept;
+            floor = omega arith;
+            room = omega (arith, ap length w.clear.ensures);
+            whole = omega (arith, ap length w.clear.ensures);
+            put = subst (λ text. I text w.put_all.new.writer) (ap (λ text. text ++ later) (sym w.clear.ensures)) more;
+          })
+      | else-is_full w ↦
+          rw (w.writer-is, w.piece-is) (record {
+            same = c.record.ensures.same ∙ c.loop-number.invariant.same;
+            kept = c.record.ensures.kept ∙ c.loop-number.invariant.kept;
+            floor = omega arith;
+            room = omega (arith, eqb-false (length c.push_record.new.piece.items) 4096 (sym w.if-is_full.ensures.value), w.if-is_full.ensures.fits);
+            whole = omega (arith, c.push_record.ensures.len, c.loop-number.invariant.whole);
+            put = subst (λ text. I text c.loop-number.writer) (sym whole) c.loop-number.invariant.put;
+          })
+    ]
+
+pub returns-in_err-put_all-clause-put : goal.returns-in_err-put_all-clause-put
+returns-in_err-put_all-clause-put g c =
+    let parts : Parts = g.T.Table.parts c.args.table.now in
+    let taken = g.W.Sink.taken in
+    let trace = g.W.Sink.trace in
+    let number : ℕ = c.loop-number.number in
+    let items : List ℕ = c.loop-number.piece.items in
+    let counted : c.count-number-end.result ≡ length parts.records =
+    c.count-number-end.ensures.value ∙ ap (λ (p : Parts). length p.records) (c.push_heads.ensures.same ∙ c.push_entries.ensures.same ∙ c.push_header.ensures.same) in
+    let within : number < length parts.records = omega (arith, c.loop-number-test.true, counted) in
+    let rest : List ℕ = items ++ flat_map record_bytes (drop number parts.records) in
+    let later : List ℕ = flat_map record_bytes (drop (number + 1) parts.records) in
+    let read : c.record.result ≡ record_at parts.records number = c.record.ensures.value ∙ ap (λ (p : Parts). record_at p.records number) c.loop-number.invariant.same in
+    let whole : c.push_record.new.piece.items ++ later ≡ rest =
+    pushed record_bytes parts.records blank number items c.push_record.new.piece.items rest c.record.result within read c.push_record.ensures.bytes refl in
+    let P : List ℕ → Type 0 = λ text. PutsPart taken trace text c.loop-number.writer c.put_all.new.writer in
+    puts_exit taken trace c.from_residual.result _ c.from_residual.ensures.1 (image_of parts) c.args.writer.now c.put_all.new.writer
+    (putting_fails taken trace c.args.writer.now c.loop-number.writer c.put_all.new.writer (image_of parts) rest c.push_record.new.piece.items later c.loop-number.invariant.put (sym whole) (subst P c.deref.ensures.0 c.in_err-put_all.ensures))
+
+pub returns-clause-put : goal.returns-clause-put
+returns-clause-put g c =
+    let parts : Parts = g.T.Table.parts c.args.table.now in
+    let taken = g.W.Sink.taken in
+    let trace = g.W.Sink.trace in
+    let number : ℕ = c.loop-number.number in
+    let items : List ℕ = c.loop-number.piece.items in
+    let counted : c.count-number-end.result ≡ length parts.records =
+    c.count-number-end.ensures.value ∙ ap (λ (p : Parts). length p.records) (c.push_heads.ensures.same ∙ c.push_entries.ensures.same ∙ c.push_header.ensures.same) in
+    let rest : List ℕ = items ++ flat_map record_bytes (drop number parts.records) in
+    let none : items ≡ rest = appended_all record_bytes parts.records number items rest (omega (arith, c.loop-number-test.false, counted)) refl in
+    let P : List ℕ → Type 0 = λ text. Puts taken trace c.put_all-2.result text c.loop-number.writer c.put_all-2.new.writer in
+    putting_last taken trace c.put_all-2.result c.args.writer.now c.loop-number.writer c.put_all-2.new.writer (image_of parts) rest c.loop-number.invariant.put (subst P (c.deref-2.ensures.0 ∙ none) c.put_all-2.ensures)

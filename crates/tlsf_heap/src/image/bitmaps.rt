@@ -1,0 +1,60 @@
+//! Whether the bitmaps agree with the heads of the lists.
+
+ghost use Rattle.std.specs.Prelude.{◌≡◌, ℕ, ◌<◌, ◌≤◌, ◌/◌, ◌%◌, ◌==◌, ◌↔◌, IsTrue, slice_index};
+ghost use Rattle.tlsf_class.specs.Classes.{steps, levels, classes};
+ghost use Rattle.tlsf_store.specs.Cells.{head_at};
+ghost use Rattle.std.specs.Int.{bit_at};
+ghost use Rattle.tlsf_heap.specs.Images.Bitmaps.{AreBitmapsOf, head_bit, word_bit};
+
+use tlsf_class::{CLASSES, Class, LEVELS, STEPS};
+use tlsf_store::Store;
+
+/// Whether the bit of the word is set.
+fn has_bit(word: u32, bit: u32) -> bool
+    requires { bit < 32 }
+    ensures { result ≡ (bit_at word bit == 1) }
+{
+    (word >> bit) % 2 == 1
+}
+
+/// Whether the bit of each class tells whether its list has a block, and the bit of each first level whether
+/// one of its classes has its bit set.
+pub(crate) fn has_true_bitmaps(store: &mut Store) -> bool
+    ensures value { IsTrue result ↔ AreBitmapsOf store.old.cells.heads store.old.cells.step_words store.old.cells.level_word }
+    ensures cells { store.new.cells ≡ store.old.cells }
+    ensures read { store.old.touches < store.new.touches }
+{
+    has_class_bits(store) && has_level_bits(store)
+}
+
+/// Whether the bit of each class is set exactly where its list has a first block.
+fn has_class_bits(store: &mut Store) -> bool
+    ensures value { IsTrue result ↔ ((class : ℕ) → class < classes → bit_at (slice_index store.old.cells.step_words (class / steps)) (class % steps) ≡ head_bit (head_at store.old.cells.heads class)) }
+    ensures cells { store.new.cells ≡ store.old.cells }
+    ensures read { store.old.touches < store.new.touches }
+{
+    for number in 0..CLASSES {
+        let first = store.head(Class::new(number));
+        let word = store.step_word(number / STEPS);
+        if has_bit(word, number % STEPS) != first.is_some() {
+            return false;
+        }
+    }
+    true
+}
+
+/// Whether the bit of each first level is set exactly where one of its classes has its bit set.
+fn has_level_bits(store: &mut Store) -> bool
+    ensures value { IsTrue result ↔ ((level : ℕ) → level < levels → bit_at store.old.cells.level_word level ≡ word_bit (slice_index store.old.cells.step_words level)) }
+    ensures cells { store.new.cells ≡ store.old.cells }
+    ensures floor { store.old.touches ≤ store.new.touches }
+{
+    for level in 0..LEVELS {
+        let steps = store.step_word(level);
+        let levels = store.level_word();
+        if has_bit(levels, level) != (steps != 0) {
+            return false;
+        }
+    }
+    true
+}

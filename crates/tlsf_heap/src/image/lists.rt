@@ -1,0 +1,69 @@
+//! The lists of the classes.
+
+ghost use Rattle.std.specs.Prelude.{◌≡◌, ◌%◌, ◌<◌, ◌≤◌, IsTrue, true, length, IfSome};
+ghost use Rattle.tlsf_class.specs.Classes.{unit, classes, greatest_size};
+ghost use Rattle.tlsf_store.specs.Records.{most_records};
+ghost use Rattle.tlsf_store.specs.Cells.{head_at};
+ghost use Rattle.tlsf_heap.specs.Images.Rules.{has_links, is_free};
+ghost use Rattle.tlsf_heap.specs.Images.Findings.{list_found, lists_found, is_behind, HasSizes};
+
+use super::Table;
+use tlsf_class::{CLASSES, Class, class_of};
+use tlsf_store::{Record, Slot, State};
+
+/// Whether the record is of a free block of the class, behind the one before it in its list, if there is one.
+fn is_behind(before: Option<Slot>, block: &Record, class: Class) -> bool
+    requires whole { block.now.size % unit ≡ 0 }
+    requires least { is_free block.now.state ≡ true → unit ≤ block.now.size }
+    requires most { is_free block.now.state ≡ true → block.now.size ≤ greatest_size }
+    ensures { result ≡ is_behind before class block.now }
+{
+    match block.state {
+        State::Vacant | State::Live => false,
+        State::Free => class_of(block.size) == class && block.prev_free == before,
+    }
+}
+
+/// How many blocks the list of a class has, if it ends, has free blocks of the class alone, and is linked back.
+fn look_at_list<T: Table>(table: &mut T, class: Class) -> Option<u32>
+    requires links { IsTrue (has_links (T.parts table.old)) }
+    requires sizes { HasSizes (T.parts table.old) }
+    ensures value { result ≡ list_found (T.parts table.old) class (head_at (T.parts table.old).heads class) }
+    ensures few { IfSome result (λ blocks. blocks ≤ most_records) }
+    ensures whole { length (T.parts table.old).heads ≡ classes }
+    ensures same { T.parts table.new ≡ T.parts table.old }
+    ensures kept { T.cells table.new ≡ T.cells table.old }
+    ensures floor { T.touches table.old ≤ T.touches table.new }
+{
+    let count = table.count();
+    let mut blocks = 0;
+    let mut before = None;
+    let mut next = table.head(class);
+    while let Some(slot) = next {
+        let block = table.record(slot);
+        if blocks >= count || !is_behind(before, &block, class) {
+            return None;
+        }
+        blocks += 1;
+        before = next;
+        next = block.next_free;
+    }
+    Some(blocks)
+}
+
+/// How many blocks the lists of all classes have, if each ends, has free blocks of its class alone, and is linked
+/// back.
+pub(crate) fn look_at_lists<T: Table>(table: &mut T) -> Option<u32>
+    requires links { IsTrue (has_links (T.parts table.old)) }
+    requires sizes { HasSizes (T.parts table.old) }
+    ensures value { result ≡ lists_found (T.parts table.old) }
+    ensures same { T.parts table.new ≡ T.parts table.old }
+    ensures kept { T.cells table.new ≡ T.cells table.old }
+    ensures floor { T.touches table.old ≤ T.touches table.new }
+{
+    let mut blocks = 0;
+    for number in 0..CLASSES {
+        blocks += look_at_list(table, Class::new(number))?;
+    }
+    Some(blocks)
+}

@@ -1,0 +1,35 @@
+//! The pools of a table.
+
+ghost use Rattle.std.specs.Prelude.{◌≡◌, ◌≤◌, length};
+ghost use Rattle.tlsf_heap.specs.Images.Rules.{present, is_pool as can_be_pool_from, are_pools, has_ordered_pools};
+
+use super::Table;
+use tlsf_store::{MOST_POOLS, Pool, can_be_pool};
+
+/// Whether the pool can be at its range, from a place on, and its first record is one of so many.
+pub(crate) fn is_pool(count: u32, from: u64, pool: &Pool) -> bool
+    ensures { result ≡ can_be_pool_from count from pool.now }
+{
+    let base = u64::from(pool.base);
+    can_be_pool(base, u64::from(pool.bytes)) && from <= base && u32::from(pool.first.0) < count
+}
+
+/// Whether each pool is such, at or above the end of the one before.
+pub(crate) fn has_ordered_pools<T: Table>(table: &mut T) -> bool
+    ensures value { result ≡ has_ordered_pools (T.parts table.old) }
+    ensures same { T.parts table.new ≡ T.parts table.old }
+    ensures kept { T.cells table.new ≡ T.cells table.old }
+    ensures floor { T.touches table.old ≤ T.touches table.new }
+{
+    let count = table.count();
+    let mut from = 0;
+    for number in 0..MOST_POOLS as u32 {
+        if let Some(pool) = table.pool(number) {
+            if !is_pool(count, from, &pool) {
+                return false;
+            }
+            from = u64::from(pool.base) + u64::from(pool.bytes);
+        }
+    }
+    true
+}

@@ -1,0 +1,55 @@
+//! What the rules look at: records, heads and pools, in memory or in the bytes of an image.
+
+ghost use Rattle.std.specs.Prelude.{◌≡◌, ℕ, ◌%◌, ◌<◌, ◌≤◌, length};
+ghost use Rattle.tlsf_class.specs.Classes.{unit, classes};
+ghost use Rattle.tlsf_store.specs.Records.{record_at, most_records};
+ghost use Rattle.tlsf_store.specs.Cells.{Cells, head_at, pool_at, most_pools, IsPoolBelow};
+ghost use Rattle.tlsf_heap.specs.Images.Image.{Parts};
+
+use tlsf_class::Class;
+use tlsf_store::{Pool, Record, Slot};
+
+/// Records by slot, the first of the list of each class, and the pools by number.
+pub trait Table {
+    // What stands in it.
+    ghost parts: { Self → Parts };
+
+    // The cells behind it, where it is a store, bitmaps and all.
+    ghost cells: { Self → Cells };
+
+    // How often it was touched, where touches are counted.
+    ghost touches: { Self → ℕ };
+
+    /// How many records there are.
+    fn count(&self) -> u32
+        ensures value { result ≡ length (parts self.now).records }
+        ensures some { 0 < result }
+        ensures few { result ≤ most_records };
+
+    /// The record of a slot.
+    fn record(&mut self, slot: Slot) -> Record
+        requires { slot < length (parts self.old).records }
+        ensures value { result ≡ record_at (parts self.old).records slot }
+        ensures whole { result.size % unit ≡ 0 }
+        ensures same { parts self.new ≡ parts self.old }
+        ensures kept { cells self.new ≡ cells self.old }
+        ensures floor { touches self.old ≤ touches self.new };
+
+    /// The first block of a class's list.
+    fn head(&mut self, class: Class) -> Option<Slot>
+        ensures value { result ≡ head_at (parts self.old).heads class }
+        ensures whole { length (parts self.old).heads ≡ classes }
+        ensures same { parts self.new ≡ parts self.old }
+        ensures kept { cells self.new ≡ cells self.old }
+        ensures floor { touches self.old ≤ touches self.new };
+
+    /// The pool of a number below `MOST_POOLS`.
+    fn pool(&mut self, number: u32) -> Option<Pool>
+        requires { number < most_pools }
+        ensures value { result ≡ pool_at (parts self.old).pools number }
+        ensures below { IsPoolBelow (length (parts self.old).records) result }
+        ensures whole { length (parts self.old).pools ≡ most_pools }
+        ensures same { parts self.new ≡ parts self.old }
+        ensures kept { cells self.new ≡ cells self.old }
+        ensures floor { touches self.old ≤ touches self.new };
+}

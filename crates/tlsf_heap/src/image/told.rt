@@ -1,0 +1,49 @@
+//! A store as its image tells it.
+
+ghost use Rattle.std.specs.Prelude.{◌≡◌};
+ghost use Rattle.tlsf_heap.specs.Images.Told.{told as what_is_told};
+
+use super::{Table, VACANT};
+use tlsf_class::Class;
+use tlsf_store::{Pool, Record, Slot, State, Store};
+
+/// What an image tells of a record: nothing of a vacant one, and of a live one no neighbours in a list.
+fn told(block: Record) -> Record
+    ensures { result ≡ what_is_told block }
+{
+    match block.state {
+        State::Vacant => VACANT,
+        State::Free => block,
+        State::Live => Record {
+            prev_free: None,
+            next_free: None,
+            ..block
+        },
+    }
+}
+
+impl Table for Store {
+    ghost use Rattle.tlsf_heap.specs.Images.Told.{told_parts};
+
+    ghost parts = { λ store. told_parts store.cells };
+
+    ghost cells = { λ store. store.cells };
+
+    ghost touches = { λ store. store.touches };
+
+    fn count(&self) -> u32 {
+        self.records()
+    }
+
+    fn record(&mut self, slot: Slot) -> Record {
+        told(self.read(slot))
+    }
+
+    fn head(&mut self, class: Class) -> Option<Slot> {
+        Store::head(self, class)
+    }
+
+    fn pool(&mut self, number: u32) -> Option<Pool> {
+        Store::pool(self, number)
+    }
+}

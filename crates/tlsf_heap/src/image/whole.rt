@@ -1,0 +1,20 @@
+//! Whether a store is that of a heap.
+
+ghost use Rattle.std.specs.Prelude.{◌≡◌, ◌+◌, ◌<◌, ◌↔◌, IsTrue, length};
+ghost use Rattle.tlsf_heap.specs.Images.Whole.{IsWhole};
+
+use super::bitmaps::has_true_bitmaps;
+use super::first_broken;
+use tlsf_store::Store;
+
+/// Whether a store is that of a heap: the bitmaps agree with the heads of the lists, each vacant record stands once on the chain
+/// of vacant records, and the cells break no rule that an image of them is tested by. Each record is read. Its time is linear
+/// in the records.
+pub fn is_whole(store: &mut Store) -> bool
+    ensures exact { IsTrue result ↔ IsWhole store.old.cells }
+    ensures cells { store.new.cells ≡ store.old.cells }
+    ensures read { store.old.touches < store.new.touches }
+    ensures each_read { IsTrue result → store.old.touches + length store.old.cells.records < store.new.touches }
+{
+    has_true_bitmaps(store) && store.has_whole_vacant_chain() && first_broken(store).is_none()
+}

@@ -1,9 +1,0 @@
-use Rattle.std.proofs.Common.{◌≡◌}
-use Rattle.tlsf_image.specs.Image.{two_at, pools_at}
-use Rattle.tlsf_image.specs.Rules.{has_pools}
-use Rattle.tlsf_image.proofs.PoolLemmas.{are_pools_from}
-use Rattle.tlsf_image.proofs.header.has_pools.Given as goal
-
--- the pools that are left tell whether all are such
-abbrev pub invariant-loop-number : goal.invariant-loop-number
-invariant-loop-number l = are_pools_from l.fn.bytes l.from l.number (two_at pools_at l.fn.bytes) ≡ has_pools l.fn.bytes

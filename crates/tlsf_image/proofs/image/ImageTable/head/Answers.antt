@@ -1,8 +1,0 @@
-use Rattle.std.proofs.Common.{sym, ◌∙◌, ap, List, ℕ}
-use Rattle.tlsf_image.specs.Image.{head_in}
-use Rattle.tlsf_image.proofs.ImageLemmas.{head_read}
-use Rattle.tlsf_image.proofs.image.ImageTable.head.Goals as goal
-
-pub returns-clause-value : goal.returns-clause-value
-returns-clause-value c =
-    c.head_in.ensures.value ∙ ap (λ (bytes : List ℕ). head_in bytes c.args.class) c.self.view_is ∙ sym (head_read c.args.self.now c.args.class c.head_in.ensures.within)
