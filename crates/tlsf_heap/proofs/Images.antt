@@ -14,6 +14,7 @@ pub mod FilledHeads
 pub mod Storable
 pub mod Appending
 pub mod ChainLemmas
+pub mod TableLemmas
 pub mod Counting
 pub mod Distinct
 pub mod ImageBack

@@ -4,6 +4,7 @@ ghost use Rattle.std.specs.Prelude.{◌≡◌, ◌<◌, ◌≤◌, IsTrue, lengt
 ghost use Rattle.tlsf_store.specs.Records.{most_records};
 ghost use Rattle.tlsf_heap.specs.Images.Rules.{has_links};
 ghost use Rattle.tlsf_heap.specs.Images.Findings.{chain_found, chains_found, no_tally, both, front_of, is_before, with_block};
+ghost use Rattle.tlsf_heap.specs.Images.Table.{OnlyReads};
 
 use super::Table;
 use tlsf_store::{MOST_POOLS, Pool, Record, Slot, State};
@@ -91,9 +92,7 @@ fn look_at_chain<T: Table>(table: &mut T, pool: Pool) -> Option<Tally>
     requires within { pool.first < length (T.parts table.old).records }
     ensures value { result ≡ chain_found (T.parts table.old) pool }
     ensures few { IfSome result (λ tally. tally.blocks ≤ most_records) }
-    ensures same { T.parts table.new ≡ T.parts table.old }
-    ensures kept { T.cells table.new ≡ T.cells table.old }
-    ensures floor { T.touches table.old ≤ T.touches table.new }
+    ensures read { OnlyReads T.parts T.cells T.touches table.old table.new }
 {
     let count = table.count();
     let start = u64::from(pool.base);
@@ -121,9 +120,7 @@ fn look_at_chain<T: Table>(table: &mut T, pool: Pool) -> Option<Tally>
 pub(crate) fn look_at_chains<T: Table>(table: &mut T) -> Option<Tally>
     requires links { IsTrue (has_links (T.parts table.old)) }
     ensures value { result ≡ chains_found (T.parts table.old) }
-    ensures same { T.parts table.new ≡ T.parts table.old }
-    ensures kept { T.cells table.new ≡ T.cells table.old }
-    ensures floor { T.touches table.old ≤ T.touches table.new }
+    ensures read { OnlyReads T.parts T.cells T.touches table.old table.new }
 {
     let mut tally = Tally::new();
     for number in 0..MOST_POOLS as u32 {

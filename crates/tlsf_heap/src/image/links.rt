@@ -5,6 +5,7 @@ ghost use Rattle.std.specs.List.{list_all};
 ghost use Rattle.tlsf_store.specs.Records.{most_records};
 ghost use Rattle.tlsf_heap.specs.Images.Rules.{is_below, has_record_links};
 ghost use Rattle.tlsf_heap.specs.Images.Findings.{blocks_and, blocks_with, links_found};
+ghost use Rattle.tlsf_heap.specs.Images.Table.{OnlyReads};
 
 use super::Table;
 use tlsf_class::{CLASSES, Class};
@@ -63,9 +64,7 @@ fn has_links(block: &Record, count: u32) -> bool
 /// Whether each head is none, or one of the records.
 fn has_head_links<T: Table>(table: &mut T) -> bool
     ensures value { result ≡ list_all (is_below (length (T.parts table.old).records)) (T.parts table.old).heads }
-    ensures same { T.parts table.new ≡ T.parts table.old }
-    ensures kept { T.cells table.new ≡ T.cells table.old }
-    ensures floor { T.touches table.old ≤ T.touches table.new }
+    ensures read { OnlyReads T.parts T.cells T.touches table.old table.new }
 {
     let count = table.count();
     for number in 0..CLASSES {
@@ -79,9 +78,7 @@ fn has_head_links<T: Table>(table: &mut T) -> bool
 /// How many blocks the records are of, if each has such links.
 fn look_at_records<T: Table>(table: &mut T) -> Option<Blocks>
     ensures value { result ≡ blocks_with (length (T.parts table.old).records) (record { all = 0; free = 0 }) (T.parts table.old).records }
-    ensures same { T.parts table.new ≡ T.parts table.old }
-    ensures kept { T.cells table.new ≡ T.cells table.old }
-    ensures floor { T.touches table.old ≤ T.touches table.new }
+    ensures read { OnlyReads T.parts T.cells T.touches table.old table.new }
 {
     let count = table.count();
     let mut blocks = Blocks { all: 0, free: 0 };
@@ -98,9 +95,7 @@ fn look_at_records<T: Table>(table: &mut T) -> Option<Blocks>
 /// How many blocks the records are of, if heads and records have such links.
 pub(crate) fn look_at_links<T: Table>(table: &mut T) -> Option<Blocks>
     ensures value { result ≡ links_found (T.parts table.old) }
-    ensures same { T.parts table.new ≡ T.parts table.old }
-    ensures kept { T.cells table.new ≡ T.cells table.old }
-    ensures floor { T.touches table.old ≤ T.touches table.new }
+    ensures read { OnlyReads T.parts T.cells T.touches table.old table.new }
 {
     if !has_head_links(table) {
         return None;

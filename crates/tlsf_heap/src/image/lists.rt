@@ -6,6 +6,7 @@ ghost use Rattle.tlsf_store.specs.Records.{most_records};
 ghost use Rattle.tlsf_store.specs.Cells.{head_at};
 ghost use Rattle.tlsf_heap.specs.Images.Rules.{has_links, is_free};
 ghost use Rattle.tlsf_heap.specs.Images.Findings.{list_found, lists_found, is_behind, HasSizes};
+ghost use Rattle.tlsf_heap.specs.Images.Table.{OnlyReads};
 
 use super::Table;
 use tlsf_class::{CLASSES, Class, class_of};
@@ -31,9 +32,7 @@ fn look_at_list<T: Table>(table: &mut T, class: Class) -> Option<u32>
     ensures value { result ≡ list_found (T.parts table.old) class (head_at (T.parts table.old).heads class) }
     ensures few { IfSome result (λ blocks. blocks ≤ most_records) }
     ensures whole { length (T.parts table.old).heads ≡ classes }
-    ensures same { T.parts table.new ≡ T.parts table.old }
-    ensures kept { T.cells table.new ≡ T.cells table.old }
-    ensures floor { T.touches table.old ≤ T.touches table.new }
+    ensures read { OnlyReads T.parts T.cells T.touches table.old table.new }
 {
     let count = table.count();
     let mut blocks = 0;
@@ -57,9 +56,7 @@ pub(crate) fn look_at_lists<T: Table>(table: &mut T) -> Option<u32>
     requires links { IsTrue (has_links (T.parts table.old)) }
     requires sizes { HasSizes (T.parts table.old) }
     ensures value { result ≡ lists_found (T.parts table.old) }
-    ensures same { T.parts table.new ≡ T.parts table.old }
-    ensures kept { T.cells table.new ≡ T.cells table.old }
-    ensures floor { T.touches table.old ≤ T.touches table.new }
+    ensures read { OnlyReads T.parts T.cells T.touches table.old table.new }
 {
     let mut blocks = 0;
     for number in 0..CLASSES {

@@ -2,6 +2,7 @@
 
 ghost use Rattle.std.specs.Prelude.{◌≡◌, ◌≤◌, length};
 ghost use Rattle.tlsf_heap.specs.Images.Rules.{present, is_pool as can_be_pool_from, are_pools, has_ordered_pools};
+ghost use Rattle.tlsf_heap.specs.Images.Table.{OnlyReads};
 
 use super::Table;
 use tlsf_store::{MOST_POOLS, Pool, can_be_pool};
@@ -17,9 +18,7 @@ pub(crate) fn is_pool(count: u32, from: u64, pool: &Pool) -> bool
 /// Whether each pool is such, at or above the end of the one before.
 pub(crate) fn has_ordered_pools<T: Table>(table: &mut T) -> bool
     ensures value { result ≡ has_ordered_pools (T.parts table.old) }
-    ensures same { T.parts table.new ≡ T.parts table.old }
-    ensures kept { T.cells table.new ≡ T.cells table.old }
-    ensures floor { T.touches table.old ≤ T.touches table.new }
+    ensures read { OnlyReads T.parts T.cells T.touches table.old table.new }
 {
     let count = table.count();
     let mut from = 0;

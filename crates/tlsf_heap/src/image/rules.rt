@@ -2,6 +2,7 @@
 
 ghost use Rattle.std.specs.Prelude.{◌≡◌, ◌≤◌, true};
 ghost use Rattle.tlsf_heap.specs.Images.Rules.{first_of, has_ordered_pools, rules_of_parts, rules_of_table};
+ghost use Rattle.tlsf_heap.specs.Images.Table.{OnlyReads};
 
 use super::chains::look_at_chains;
 use super::links::look_at_links;
@@ -13,9 +14,7 @@ use super::{Rule, Table};
 /// Its time is linear in the records.
 pub fn first_broken<T: Table>(table: &mut T) -> Option<Rule>
     ensures value { result ≡ first_of (rules_of_table (T.parts table.old)) }
-    ensures same { T.parts table.new ≡ T.parts table.old }
-    ensures kept { T.cells table.new ≡ T.cells table.old }
-    ensures floor { T.touches table.old ≤ T.touches table.new }
+    ensures read { OnlyReads T.parts T.cells T.touches table.old table.new }
 {
     if has_ordered_pools(table) {
         first_behind_pools(table)
@@ -28,9 +27,7 @@ pub fn first_broken<T: Table>(table: &mut T) -> Option<Rule>
 pub(crate) fn first_behind_pools<T: Table>(table: &mut T) -> Option<Rule>
     requires { has_ordered_pools (T.parts table.old) ≡ true }
     ensures value { result ≡ first_of (rules_of_parts (T.parts table.old)) }
-    ensures same { T.parts table.new ≡ T.parts table.old }
-    ensures kept { T.cells table.new ≡ T.cells table.old }
-    ensures floor { T.touches table.old ≤ T.touches table.new }
+    ensures read { OnlyReads T.parts T.cells T.touches table.old table.new }
 {
     let Some(blocks) = look_at_links(table) else {
         return Some(Rule::Links);

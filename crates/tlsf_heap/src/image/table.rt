@@ -5,6 +5,7 @@ ghost use Rattle.tlsf_class.specs.Classes.{unit, classes};
 ghost use Rattle.tlsf_store.specs.Records.{record_at, most_records};
 ghost use Rattle.tlsf_store.specs.Cells.{Cells, head_at, pool_at, most_pools, IsPoolBelow};
 ghost use Rattle.tlsf_heap.specs.Images.Image.{Parts};
+ghost use Rattle.tlsf_heap.specs.Images.Table.{OnlyReads};
 
 use tlsf_class::Class;
 use tlsf_store::{Pool, Record, Slot};
@@ -31,17 +32,13 @@ pub trait Table {
         requires { slot < length (parts self.old).records }
         ensures value { result ≡ record_at (parts self.old).records slot }
         ensures whole { result.size % unit ≡ 0 }
-        ensures same { parts self.new ≡ parts self.old }
-        ensures kept { cells self.new ≡ cells self.old }
-        ensures floor { touches self.old ≤ touches self.new };
+        ensures read { OnlyReads parts cells touches self.old self.new };
 
     /// The first block of a class's list.
     fn head(&mut self, class: Class) -> Option<Slot>
         ensures value { result ≡ head_at (parts self.old).heads class }
         ensures whole { length (parts self.old).heads ≡ classes }
-        ensures same { parts self.new ≡ parts self.old }
-        ensures kept { cells self.new ≡ cells self.old }
-        ensures floor { touches self.old ≤ touches self.new };
+        ensures read { OnlyReads parts cells touches self.old self.new };
 
     /// The pool of a number below `MOST_POOLS`.
     fn pool(&mut self, number: u32) -> Option<Pool>
@@ -49,7 +46,5 @@ pub trait Table {
         ensures value { result ≡ pool_at (parts self.old).pools number }
         ensures below { IsPoolBelow (length (parts self.old).records) result }
         ensures whole { length (parts self.old).pools ≡ most_pools }
-        ensures same { parts self.new ≡ parts self.old }
-        ensures kept { cells self.new ≡ cells self.old }
-        ensures floor { touches self.old ≤ touches self.new };
+        ensures read { OnlyReads parts cells touches self.old self.new };
 }

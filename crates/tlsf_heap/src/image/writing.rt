@@ -9,6 +9,7 @@ ghost use Rattle.tlsf_store.specs.Cells.{most_pools};
 ghost use Rattle.mtrace_log.specs.Output.{Puts};
 ghost use Rattle.tlsf_heap.specs.Images.Rules.{present};
 ghost use Rattle.tlsf_heap.specs.Images.Writing.{two, four, word_of, block_bytes, record_bytes, entry_bytes, head_bytes, header_bytes, image_of};
+ghost use Rattle.tlsf_heap.specs.Images.Table.{OnlyReads};
 
 use super::Table;
 use super::header::MAGIC;
@@ -113,9 +114,7 @@ fn push_record(piece: &mut Piece, block: &Record)
 /// How many pools there are.
 fn count_pools<T: Table>(table: &mut T) -> u16
     ensures value { result ≡ length (present (T.parts table.old).pools) }
-    ensures same { T.parts table.new ≡ T.parts table.old }
-    ensures kept { T.cells table.new ≡ T.cells table.old }
-    ensures floor { T.touches table.old ≤ T.touches table.new }
+    ensures read { OnlyReads T.parts T.cells T.touches table.old table.new }
 {
     let mut pools = 0;
     for number in 0..MOST_POOLS as u32 {
@@ -131,9 +130,7 @@ fn push_header<T: Table>(piece: &mut Piece, table: &mut T)
     requires { array_vec_len piece.old + 16 ≤ PIECE }
     ensures bytes { piece.new.items ≡ piece.old.items ++ header_bytes (T.parts table.old) }
     ensures len { array_vec_len piece.new ≡ array_vec_len piece.old + 16 }
-    ensures same { T.parts table.new ≡ T.parts table.old }
-    ensures kept { T.cells table.new ≡ T.cells table.old }
-    ensures floor { T.touches table.old ≤ T.touches table.new }
+    ensures read { OnlyReads T.parts T.cells T.touches table.old table.new }
 {
     let pools = count_pools(table);
     push_bytes(piece, MAGIC);
@@ -147,9 +144,7 @@ fn push_entries<T: Table>(piece: &mut Piece, table: &mut T)
     requires { array_vec_len piece.old + 12 * most_pools ≤ PIECE }
     ensures bytes { piece.new.items ≡ piece.old.items ++ flat_map entry_bytes (T.parts table.old).pools }
     ensures len { array_vec_len piece.new ≡ array_vec_len piece.old + 12 * most_pools }
-    ensures same { T.parts table.new ≡ T.parts table.old }
-    ensures kept { T.cells table.new ≡ T.cells table.old }
-    ensures floor { T.touches table.old ≤ T.touches table.new }
+    ensures read { OnlyReads T.parts T.cells T.touches table.old table.new }
 {
     for number in 0..MOST_POOLS as u32 {
         push_entry(piece, table.pool(number));
@@ -161,9 +156,7 @@ fn push_heads<T: Table>(piece: &mut Piece, table: &mut T)
     requires { array_vec_len piece.old + 2 * classes ≤ PIECE }
     ensures bytes { piece.new.items ≡ piece.old.items ++ flat_map head_bytes (T.parts table.old).heads }
     ensures len { array_vec_len piece.new ≡ array_vec_len piece.old + 2 * classes }
-    ensures same { T.parts table.new ≡ T.parts table.old }
-    ensures kept { T.cells table.new ≡ T.cells table.old }
-    ensures floor { T.touches table.old ≤ T.touches table.new }
+    ensures read { OnlyReads T.parts T.cells T.touches table.old table.new }
 {
     for number in 0..CLASSES {
         push_link(piece, table.head(Class::new(number)));
@@ -179,9 +172,7 @@ pub fn put_image<T: Table, W: Sink>(table: &mut T, writer: &mut W) -> Result<(),
     ensures put { Puts W.taken W.trace result (image_of (T.parts table.old)) writer.old writer.new }
     ensures some { 0 < length (T.parts table.old).records }
     ensures few { length (T.parts table.old).records ≤ most_records }
-    ensures same { T.parts table.new ≡ T.parts table.old }
-    ensures kept { T.cells table.new ≡ T.cells table.old }
-    ensures floor { T.touches table.old ≤ T.touches table.new }
+    ensures read { OnlyReads T.parts T.cells T.touches table.old table.new }
 {
     let mut piece = Piece::new();
     push_header(&mut piece, table);

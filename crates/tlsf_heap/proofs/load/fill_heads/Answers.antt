@@ -31,14 +31,14 @@ loop-number-preserved g c =
           let new : c.match-head.store.cells ≡ with_class_bit number (with_head was number (Some w.in-Some.first)) =
           subst (λ (n : ℕ). c.match-head.store.cells ≡ with_class_bit n (with_head was n (Some w.in-Some.first))) c.new-class.ensures (ap (λ (s : CountedCells). s.cells) w.store-is ∙ w.set_class_bit.ensures.cells ∙ ap (with_class_bit c.new-class.result) w.set_head.ensures.written) in
           record {
-            same = c.head.ensures.same ∙ all.same;
+            same = c.head.ensures.read.same ∙ all.same;
             whole = λ some. whole;
             so_far = subst (HasHeadsBelow parts.heads c.args.store.now.cells (number + 1)) (sym new) (heads_on parts.heads c.args.store.now.cells number was c.loop-number-test.true all.so_far w.in-Some.first (sym read ∙ w.in-Some.is));
             touches = rw w.store-is (omega (arith, all.touches, w.set_class_bit.ensures.touches, w.set_head.ensures.touch));
           }
       | in_default w ↦
           record {
-            same = c.head.ensures.same ∙ all.same;
+            same = c.head.ensures.read.same ∙ all.same;
             whole = λ some. whole;
             so_far = subst (HasHeadsBelow parts.heads c.args.store.now.cells (number + 1)) (sym (ap (λ (s : CountedCells). s.cells) w.store-is)) (heads_off parts.heads c.args.store.now.cells number was c.loop-number-test.true all.so_far (sym read ∙ w.in_default.is));
             touches = rw w.store-is (omega (arith, all.touches));

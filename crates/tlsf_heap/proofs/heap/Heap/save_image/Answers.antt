@@ -13,7 +13,7 @@ use Rattle.tlsf_heap.proofs.heap.Heap.save_image.Goals as goal
 use Rattle.tlsf_heap.proofs.heap.Heap.save_image.Goals.{in-Ok, in-Err}
 
 pub invariant_of-self : goal.invariant_of-self
-invariant_of-self g c = subst Stands (sym c.put_image.ensures.kept) c.self.invariant
+invariant_of-self g c = subst Stands (sym c.put_image.ensures.read.kept) c.self.invariant
 
 pub returns-clause-saved : goal.returns-clause-saved
 returns-clause-saved g c =
@@ -33,6 +33,6 @@ returns-clause-saved g c =
 
 pub returns-clause-unchanged : goal.returns-clause-unchanged
 returns-clause-unchanged g c = record {
-  content = ap content_of c.put_image.ensures.kept ∙ ap (λ (v : Counted). v.content) c.self.view_is;
-  rows = ap (λ (cells : Cells). rows_by cells.records) c.put_image.ensures.kept ∙ ap (λ (v : Counted). v.rows) c.self.view_is;
+  content = ap content_of c.put_image.ensures.read.kept ∙ ap (λ (v : Counted). v.content) c.self.view_is;
+  rows = ap (λ (cells : Cells). rows_by cells.records) c.put_image.ensures.read.kept ∙ ap (λ (v : Counted). v.rows) c.self.view_is;
 }

@@ -4,14 +4,13 @@ use Rattle.tlsf_heap.specs.Images.Image.{Parts}
 use Rattle.tlsf_heap.specs.Images.Findings.{is_before}
 use Rattle.tlsf_heap.specs.Images.Rules.{at}
 use Rattle.tlsf_heap.proofs.Images.ChainLemmas.{found_first, found_on, found_off, found_more, found_covered, found_uncovered, next_below}
+use Rattle.tlsf_heap.proofs.Images.TableLemmas.{and_reads, not_read}
 use Rattle.tlsf_heap.proofs.image.chains.look_at_chain.Goals as goal
 use Rattle.tlsf_heap.proofs.image.chains.look_at_chain.Goals.{then-tally-count-via-then-tally-count, then-tally-count-via-else-tally-count+then-not-is_before}
 
 pub loop-next-init : goal.loop-next-init
 loop-next-init g c = record {
-  same = λ i. g.T.Table.parts c.args.table.now;
-  kept = λ i. g.T.Table.cells c.args.table.now;
-  floor = omega arith;
+  read = not_read c.args.table.now;
   below = c.requires.within;
   few = rw c.new-tally.ensures (omega arith);
   told = rw (c.from-start.ensures, c.new-tally.ensures) (found_first (g.T.Table.parts c.args.table.now) c.args.pool);
@@ -21,7 +20,7 @@ pub returns-then-tally-count-clause-value : goal.returns-then-tally-count-clause
 returns-then-tally-count-clause-value g c =
     let parts : Parts = g.T.Table.parts c.args.table.now in
     let read : c.record-block.result ≡ at parts c.in-Some.slot =
-    c.record-block.ensures.value ∙ ap (λ (p : Parts). at p c.in-Some.slot) c.loop-next.invariant.same in
+    c.record-block.ensures.value ∙ ap (λ (p : Parts). at p c.in-Some.slot) c.loop-next.invariant.read.same in
     let told = rw c.in-Some.is at c.loop-next.invariant.told in
     elim c.then-tally-count.branch [
       | then-tally-count-via-then-tally-count w ↦
@@ -34,14 +33,12 @@ pub loop-next-preserved : goal.loop-next-preserved
 loop-next-preserved g c =
     let parts : Parts = g.T.Table.parts c.args.table.now in
     let read : c.record-block.result ≡ at parts c.in-Some.slot =
-    c.record-block.ensures.value ∙ ap (λ (p : Parts). at p c.in-Some.slot) c.loop-next.invariant.same in
+    c.record-block.ensures.value ∙ ap (λ (p : Parts). at p c.in-Some.slot) c.loop-next.invariant.read.same in
     let before : is_before c.loop-next.front (at parts c.in-Some.slot) ≡ true = rw (c.is_before.ensures, read) at c.if-not-is_before.false in
     let within : c.in-Some.slot < length parts.records = rw c.in-Some.is at c.loop-next.invariant.below in
     let told = rw c.in-Some.is at c.loop-next.invariant.told in
     record {
-      same = c.record-block.ensures.same ∙ c.loop-next.invariant.same;
-      kept = c.record-block.ensures.kept ∙ c.loop-next.invariant.kept;
-      floor = omega (arith, c.loop-next.invariant.floor, c.record-block.ensures.floor);
+      read = and_reads c.loop-next.invariant.read c.record-block.ensures.read;
       below = rw read (next_below parts c.requires.links c.in-Some.slot within (and_parts _ _ before).0);
       few = rw c.with-tally.ensures (omega (arith, c.if-tally-count.false, c.count-count.ensures.value));
       told = rw (c.with-tally.ensures, c.of-front.ensures, read) (sym (found_on parts _ c.loop-next.tally c.loop-next.front c.in-Some.slot (omega (arith, c.if-tally-count.false, c.count-count.ensures.value)) before) ∙ told);

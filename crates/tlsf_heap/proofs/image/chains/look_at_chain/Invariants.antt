@@ -2,6 +2,7 @@ use Rattle.std.proofs.Common.{◌≡◌, ◌+◌, ◌-◌, ◌≤◌, length}
 use Rattle.tlsf_store.specs.Records.{IsBelow}
 use Rattle.tlsf_heap.specs.Images.Findings.{chain_found}
 use Rattle.tlsf_heap.proofs.Images.ChainLemmas.{rest_found}
+use Rattle.tlsf_heap.specs.Images.Table.{OnlyReads}
 use Rattle.tlsf_heap.proofs.image.chains.look_at_chain.Given as goal
 
 -- what is found of the blocks up to here and those that are left is what is found of the chain
@@ -9,9 +10,7 @@ abbrev pub invariant-loop-next : goal.invariant-loop-next
 invariant-loop-next g l =
     let parts = g.T.Table.parts l.fn.table in
     record {
-      same : g.T.Table.parts l.table ≡ parts;
-      kept : g.T.Table.cells l.table ≡ g.T.Table.cells l.fn.table;
-      floor : g.T.Table.touches l.fn.table ≤ g.T.Table.touches l.table;
+      read : OnlyReads g.T.Table.parts g.T.Table.cells g.T.Table.touches l.fn.table l.table;
       below : IsBelow (length parts.records) l.next;
       few : l.tally.blocks ≤ length parts.records;
       told : rest_found parts (l.fn.pool.base + l.fn.pool.bytes) l.tally l.front l.next ≡ chain_found parts l.fn.pool;

@@ -3,6 +3,7 @@ use Rattle.tlsf_store.specs.Cells.{pool_at, most_pools}
 use Rattle.tlsf_heap.specs.Images.Image.{Parts}
 use Rattle.tlsf_heap.specs.Images.Findings.{chain_found}
 use Rattle.tlsf_heap.proofs.Images.ChainLemmas.{pool_on, pool_none, pools_end}
+use Rattle.tlsf_heap.proofs.Images.TableLemmas.{and_reads}
 use Rattle.tlsf_heap.proofs.image.chains.look_at_chains.Goals as goal
 use Rattle.tlsf_heap.proofs.image.chains.look_at_chains.Goals.{in-Some+in_ok-look_at_chain, in_default}
 
@@ -10,27 +11,23 @@ pub loop-number-preserved : goal.loop-number-preserved
 loop-number-preserved g c =
     let parts : Parts = g.T.Table.parts c.args.table.now in
     let read : c.pool.result ≡ pool_at parts.pools c.loop-number.number =
-    c.pool.ensures.value ∙ ap (λ (p : Parts). pool_at p.pools c.loop-number.number) c.loop-number.invariant.same in
-    let whole : length parts.pools ≡ most_pools = rw (ap (λ (p : Parts). length p.pools) (sym c.loop-number.invariant.same)) c.pool.ensures.whole in
+    c.pool.ensures.value ∙ ap (λ (p : Parts). pool_at p.pools c.loop-number.number) c.loop-number.invariant.read.same in
+    let whole : length parts.pools ≡ most_pools = rw (ap (λ (p : Parts). length p.pools) (sym c.loop-number.invariant.read.same)) c.pool.ensures.whole in
     let within : c.loop-number.number < length parts.pools = omega (arith, c.loop-number-test.true, whole) in
     elim c.match-pool.branch [
       | in-Some+in_ok-look_at_chain w ↦
-          let same = c.pool.ensures.same ∙ c.loop-number.invariant.same in
+          let same = c.pool.ensures.read.same ∙ c.loop-number.invariant.read.same in
           let chain : chain_found parts w.in-Some.pool ≡ Some w.in_ok-look_at_chain.field-0 =
           sym (w.in_ok-look_at_chain.ensures.value ∙ ap (λ (p : Parts). chain_found p w.in-Some.pool) same) in
           rw (w.table-is, w.tally-is, w.and-tally.ensures) (record {
-            same = w.look_at_chain.ensures.same ∙ same;
-            kept = w.look_at_chain.ensures.kept ∙ c.pool.ensures.kept ∙ c.loop-number.invariant.kept;
-            floor = omega arith;
+            read = and_reads c.loop-number.invariant.read (and_reads c.pool.ensures.read w.look_at_chain.ensures.read);
             whole = λ some. whole;
             few = omega (arith, c.loop-number.invariant.few, w.in_ok-look_at_chain.ensures.few);
             told = sym (pool_on parts c.loop-number.tally c.loop-number.number w.in-Some.pool w.in_ok-look_at_chain.field-0 within (sym read ∙ w.in-Some.is) chain) ∙ c.loop-number.invariant.told;
           })
       | in_default w ↦
           rw (w.table-is, w.tally-is) (record {
-            same = c.pool.ensures.same ∙ c.loop-number.invariant.same;
-            kept = c.pool.ensures.kept ∙ c.loop-number.invariant.kept;
-            floor = omega arith;
+            read = and_reads c.loop-number.invariant.read c.pool.ensures.read;
             whole = λ some. whole;
             few = omega (arith, c.loop-number.invariant.few);
             told = sym (pool_none parts c.loop-number.tally c.loop-number.number within (sym read ∙ w.in_default.is)) ∙ c.loop-number.invariant.told;

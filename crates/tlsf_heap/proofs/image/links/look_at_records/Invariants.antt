@@ -1,5 +1,6 @@
 use Rattle.std.proofs.Common.{◌≡◌, ◌≤◌, length, drop}
 use Rattle.tlsf_heap.specs.Images.Findings.{blocks_with}
+use Rattle.tlsf_heap.specs.Images.Table.{OnlyReads}
 use Rattle.tlsf_heap.proofs.image.links.look_at_records.Given as goal
 
 -- what is found of the records up to here and those that are left is what is found of all
@@ -7,9 +8,7 @@ abbrev pub invariant-loop-slot : goal.invariant-loop-slot
 invariant-loop-slot g l =
     let parts = g.T.Table.parts l.fn.table in
     record {
-      same : g.T.Table.parts l.table ≡ parts;
-      kept : g.T.Table.cells l.table ≡ g.T.Table.cells l.fn.table;
-      floor : g.T.Table.touches l.fn.table ≤ g.T.Table.touches l.table;
+      read : OnlyReads g.T.Table.parts g.T.Table.cells g.T.Table.touches l.fn.table l.table;
       few : l.blocks.all ≤ l.slot;
       few_free : l.blocks.free ≤ l.slot;
       told : blocks_with (length parts.records) l.blocks (drop l.slot parts.records) ≡ blocks_with (length parts.records) (record { all = 0; free = 0 }) parts.records;

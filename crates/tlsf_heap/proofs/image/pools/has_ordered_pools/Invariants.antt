@@ -1,6 +1,7 @@
 use Rattle.std.proofs.Common.{◌≡◌, ◌<◌, ◌≤◌, length, drop}
 use Rattle.tlsf_store.specs.Cells.{most_pools}
 use Rattle.tlsf_heap.specs.Images.Rules.{present, are_pools, has_ordered_pools}
+use Rattle.tlsf_heap.specs.Images.Table.{OnlyReads}
 use Rattle.tlsf_heap.proofs.image.pools.has_ordered_pools.Given as goal
 
 -- the pools that are left tell whether all are such
@@ -8,9 +9,7 @@ abbrev pub invariant-loop-number : goal.invariant-loop-number
 invariant-loop-number g l =
     let parts = g.T.Table.parts l.fn.table in
     record {
-      same : g.T.Table.parts l.table ≡ parts;
-      kept : g.T.Table.cells l.table ≡ g.T.Table.cells l.fn.table;
-      floor : g.T.Table.touches l.fn.table ≤ g.T.Table.touches l.table;
+      read : OnlyReads g.T.Table.parts g.T.Table.cells g.T.Table.touches l.fn.table l.table;
       whole : 0 < l.number → length parts.pools ≡ most_pools;
       told : are_pools (length parts.records) l.from (present (drop l.number parts.pools)) ≡ has_ordered_pools parts;
     }

@@ -12,7 +12,7 @@ returns-clause-bytes g c =
     let records : List ℕ = two (length parts.records) in
     let pools : List ℕ = two (length (present parts.pools)) in
     let first = c.push_bytes.ensures.bytes in
-    let second = c.push_two.ensures.bytes ∙ ap (λ (n : ℕ). c.push_bytes.new.piece.items ++ two n) (c.count.ensures.value ∙ ap (λ (p : Parts). length p.records) c.count_pools-pools.ensures.same) in
+    let second = c.push_two.ensures.bytes ∙ ap (λ (n : ℕ). c.push_bytes.new.piece.items ++ two n) (c.count.ensures.value ∙ ap (λ (p : Parts). length p.records) c.count_pools-pools.ensures.read.same) in
     let third = c.push_two-2.ensures.bytes ∙ ap (λ (n : ℕ). c.push_two.new.piece.items ++ two n) c.count_pools-pools.ensures.value in
     then_text old c.push_two-2.new.piece.items c.push_bytes-2.new.piece.items (magic ++ (records ++ pools)) (replicate 4 0)
     (then_text old c.push_two.new.piece.items c.push_two-2.new.piece.items (magic ++ records) pools

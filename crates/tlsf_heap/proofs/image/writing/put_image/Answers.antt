@@ -7,6 +7,7 @@ use Rattle.mtrace_log.proofs.Writing.{IsPutting, putting_more, putting_fails, pu
 use Rattle.tlsf_heap.specs.Images.Image.{Parts}
 use Rattle.tlsf_heap.specs.Images.Writing.{record_bytes, image_of}
 use Rattle.tlsf_heap.proofs.Images.Appending.{pushed, appended_all}
+use Rattle.tlsf_heap.proofs.Images.TableLemmas.{and_reads}
 use Rattle.tlsf_heap.proofs.image.writing.put_image.Goals as goal
 use Rattle.tlsf_heap.proofs.image.writing.put_image.Goals.{then-is_full+in_ok-put_all, else-is_full}
 
@@ -19,11 +20,11 @@ loop-number-preserved g c =
     let number : ℕ = c.loop-number.number in
     let items : List ℕ = c.loop-number.piece.items in
     let counted : c.count-number-end.result ≡ length parts.records =
-    c.count-number-end.ensures.value ∙ ap (λ (p : Parts). length p.records) (c.push_heads.ensures.same ∙ c.push_entries.ensures.same ∙ c.push_header.ensures.same) in
+    c.count-number-end.ensures.value ∙ ap (λ (p : Parts). length p.records) (c.push_heads.ensures.read.same ∙ c.push_entries.ensures.read.same ∙ c.push_header.ensures.read.same) in
     let within : number < length parts.records = omega (arith, c.loop-number-test.true, counted) in
     let rest : List ℕ = items ++ flat_map record_bytes (drop number parts.records) in
     let later : List ℕ = flat_map record_bytes (drop (number + 1) parts.records) in
-    let read : c.record.result ≡ record_at parts.records number = c.record.ensures.value ∙ ap (λ (p : Parts). record_at p.records number) c.loop-number.invariant.same in
+    let read : c.record.result ≡ record_at parts.records number = c.record.ensures.value ∙ ap (λ (p : Parts). record_at p.records number) c.loop-number.invariant.read.same in
     let whole : c.push_record.new.piece.items ++ later ≡ rest =
     pushed record_bytes parts.records blank number items c.push_record.new.piece.items rest c.record.result within read c.push_record.ensures.bytes refl in
     let I : List ℕ → g.row.W.Denot → Type 0 = λ text writer. IsPutting taken trace (image_of parts) text c.args.writer.now writer in
@@ -33,18 +34,14 @@ loop-number-preserved g c =
           let put = subst P w.deref.ensures.0 w.in_ok-put_all.ensures in
           let more = putting_more taken trace c.args.writer.now c.loop-number.writer w.put_all.new.writer (image_of parts) rest c.push_record.new.piece.items later c.loop-number.invariant.put (sym whole) put in
           rw (w.writer-is, w.piece-is) (record {
-            same = c.record.ensures.same ∙ c.loop-number.invariant.same;
-            kept = c.record.ensures.kept ∙ c.loop-number.invariant.kept;
-            floor = omega arith;
+            read = and_reads c.loop-number.invariant.read c.record.ensures.read;
             room = omega (arith, ap length w.clear.ensures);
             whole = omega (arith, ap length w.clear.ensures);
             put = subst (λ text. I text w.put_all.new.writer) (ap (λ text. text ++ later) (sym w.clear.ensures)) more;
           })
       | else-is_full w ↦
           rw (w.writer-is, w.piece-is) (record {
-            same = c.record.ensures.same ∙ c.loop-number.invariant.same;
-            kept = c.record.ensures.kept ∙ c.loop-number.invariant.kept;
-            floor = omega arith;
+            read = and_reads c.loop-number.invariant.read c.record.ensures.read;
             room = omega (arith, eqb-false (length c.push_record.new.piece.items) 4096 (sym w.if-is_full.ensures.value), w.if-is_full.ensures.fits);
             whole = omega (arith, c.push_record.ensures.len, c.loop-number.invariant.whole);
             put = subst (λ text. I text c.loop-number.writer) (sym whole) c.loop-number.invariant.put;
@@ -59,11 +56,11 @@ returns-in_err-put_all-clause-put g c =
     let number : ℕ = c.loop-number.number in
     let items : List ℕ = c.loop-number.piece.items in
     let counted : c.count-number-end.result ≡ length parts.records =
-    c.count-number-end.ensures.value ∙ ap (λ (p : Parts). length p.records) (c.push_heads.ensures.same ∙ c.push_entries.ensures.same ∙ c.push_header.ensures.same) in
+    c.count-number-end.ensures.value ∙ ap (λ (p : Parts). length p.records) (c.push_heads.ensures.read.same ∙ c.push_entries.ensures.read.same ∙ c.push_header.ensures.read.same) in
     let within : number < length parts.records = omega (arith, c.loop-number-test.true, counted) in
     let rest : List ℕ = items ++ flat_map record_bytes (drop number parts.records) in
     let later : List ℕ = flat_map record_bytes (drop (number + 1) parts.records) in
-    let read : c.record.result ≡ record_at parts.records number = c.record.ensures.value ∙ ap (λ (p : Parts). record_at p.records number) c.loop-number.invariant.same in
+    let read : c.record.result ≡ record_at parts.records number = c.record.ensures.value ∙ ap (λ (p : Parts). record_at p.records number) c.loop-number.invariant.read.same in
     let whole : c.push_record.new.piece.items ++ later ≡ rest =
     pushed record_bytes parts.records blank number items c.push_record.new.piece.items rest c.record.result within read c.push_record.ensures.bytes refl in
     let P : List ℕ → Type 0 = λ text. PutsPart taken trace text c.loop-number.writer c.put_all.new.writer in
@@ -78,7 +75,7 @@ returns-clause-put g c =
     let number : ℕ = c.loop-number.number in
     let items : List ℕ = c.loop-number.piece.items in
     let counted : c.count-number-end.result ≡ length parts.records =
-    c.count-number-end.ensures.value ∙ ap (λ (p : Parts). length p.records) (c.push_heads.ensures.same ∙ c.push_entries.ensures.same ∙ c.push_header.ensures.same) in
+    c.count-number-end.ensures.value ∙ ap (λ (p : Parts). length p.records) (c.push_heads.ensures.read.same ∙ c.push_entries.ensures.read.same ∙ c.push_header.ensures.read.same) in
     let rest : List ℕ = items ++ flat_map record_bytes (drop number parts.records) in
     let none : items ≡ rest = appended_all record_bytes parts.records number items rest (omega (arith, c.loop-number-test.false, counted)) refl in
     let P : List ℕ → Type 0 = λ text. Puts taken trace c.put_all-2.result text c.loop-number.writer c.put_all-2.new.writer in

@@ -1,0 +1,12 @@
+-- Readings of a table, one after the other.
+use Rattle.std.proofs.Common.{ℕ, ◌≤◌, ◌∙◌, refl, arith}
+use Rattle.tlsf_store.specs.Cells.{Cells}
+use Rattle.tlsf_heap.specs.Images.Image.{Parts}
+use Rattle.tlsf_heap.specs.Images.Table.{OnlyReads}
+
+module _ {T : Type 0} {parts : T → Parts} {cells : T → Cells} {touches : T → ℕ} where
+  pub not_read : (table : T) → OnlyReads parts cells touches table table
+  not_read table = record { same = refl; kept = refl; floor = omega arith }
+
+  pub and_reads : {first then last : T} → OnlyReads parts cells touches first then → OnlyReads parts cells touches then last → OnlyReads parts cells touches first last
+  and_reads a b = record { same = b.same ∙ a.same; kept = b.kept ∙ a.kept; floor = omega (arith, a.floor, b.floor) }
