@@ -1,5 +1,5 @@
 -- The bytes of an image of parts.
-use Rattle.std.specs.Prelude.{ℕ, ◌+◌, ◌/◌, ◌%◌, List, [], ◌∷◌, ◌++◌, length, replicate, Option, Some, None}
+use Rattle.std.specs.Prelude.{◌≡◌, ℕ, ◌+◌, ◌/◌, ◌%◌, List, [], ◌∷◌, ◌++◌, length, replicate, Option, Some, None}
 use Rattle.std.specs.List.{flat_map}
 use Rattle.tlsf_store.specs.declared.records.State.{State}
 use Rattle.tlsf_store.specs.declared.records.State.TheVariants.{Vacant, Free, Live}
@@ -8,6 +8,11 @@ use Rattle.tlsf_store.specs.declared.pools.Pool.{Pool}
 use Rattle.tlsf_store.specs.Slots.{missing}
 use Rattle.tlsf_heap.specs.Images.Image.{magic, Parts}
 use Rattle.tlsf_heap.specs.Images.Rules.{present}
+
+-- a text of a known length is appended
+pub record Appends (old new text : List ℕ) (count : ℕ) : Type 0 where
+  pub bytes : new ≡ old ++ text
+  pub len : length new ≡ length old + count
 
 -- a number in two bytes, the lowest first, and in four
 abbrev pub two : ℕ → List ℕ

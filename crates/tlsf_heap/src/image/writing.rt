@@ -8,7 +8,7 @@ ghost use Rattle.tlsf_store.specs.Records.{most_records};
 ghost use Rattle.tlsf_store.specs.Cells.{most_pools};
 ghost use Rattle.mtrace_log.specs.Output.{Puts};
 ghost use Rattle.tlsf_heap.specs.Images.Rules.{present};
-ghost use Rattle.tlsf_heap.specs.Images.Writing.{two, four, word_of, block_bytes, record_bytes, entry_bytes, head_bytes, header_bytes, image_of};
+ghost use Rattle.tlsf_heap.specs.Images.Writing.{Appends, two, four, word_of, block_bytes, record_bytes, entry_bytes, head_bytes, header_bytes, image_of};
 ghost use Rattle.tlsf_heap.specs.Images.Table.{OnlyReads};
 
 use super::Table;
@@ -26,8 +26,7 @@ type Piece = ArrayVec<u8, PIECE>;
 /// Appends bytes, for which there is room.
 fn push_bytes(piece: &mut Piece, bytes: &[u8])
     requires { array_vec_len piece.old + length bytes.now ≤ PIECE }
-    ensures bytes { piece.new.items ≡ piece.old.items ++ bytes.now }
-    ensures len { array_vec_len piece.new ≡ array_vec_len piece.old + length bytes.now }
+    ensures appended { Appends piece.old.items piece.new.items bytes.now (length bytes.now) }
 {
     let _fits = piece.try_extend_from_slice(bytes);
 }
@@ -35,8 +34,7 @@ fn push_bytes(piece: &mut Piece, bytes: &[u8])
 /// Appends a number in two bytes, the lowest first.
 fn push_two(piece: &mut Piece, number: u16)
     requires { array_vec_len piece.old + 2 ≤ PIECE }
-    ensures bytes { piece.new.items ≡ piece.old.items ++ two number }
-    ensures len { array_vec_len piece.new ≡ array_vec_len piece.old + 2 }
+    ensures appended { Appends piece.old.items piece.new.items (two number) 2 }
 {
     push_bytes(piece, &number.to_le_bytes());
 }
@@ -44,8 +42,7 @@ fn push_two(piece: &mut Piece, number: u16)
 /// Appends a number in four bytes, the lowest first.
 fn push_four(piece: &mut Piece, number: u32)
     requires { array_vec_len piece.old + 4 ≤ PIECE }
-    ensures bytes { piece.new.items ≡ piece.old.items ++ four number }
-    ensures len { array_vec_len piece.new ≡ array_vec_len piece.old + 4 }
+    ensures appended { Appends piece.old.items piece.new.items (four number) 4 }
 {
     push_two(piece, (number % 65_536) as u16);
     push_two(piece, (number / 65_536) as u16);
@@ -54,8 +51,7 @@ fn push_four(piece: &mut Piece, number: u32)
 /// Appends the word of a link.
 fn push_link(piece: &mut Piece, link: Option<Slot>)
     requires { array_vec_len piece.old + 2 ≤ PIECE }
-    ensures bytes { piece.new.items ≡ piece.old.items ++ head_bytes link }
-    ensures len { array_vec_len piece.new ≡ array_vec_len piece.old + 2 }
+    ensures appended { Appends piece.old.items piece.new.items (head_bytes link) 2 }
 {
     push_two(
         piece,
@@ -69,8 +65,7 @@ fn push_link(piece: &mut Piece, link: Option<Slot>)
 /// Appends the entry of a pool, or zeros.
 fn push_entry(piece: &mut Piece, entry: Option<Pool>)
     requires { array_vec_len piece.old + 12 ≤ PIECE }
-    ensures bytes { piece.new.items ≡ piece.old.items ++ entry_bytes entry }
-    ensures len { array_vec_len piece.new ≡ array_vec_len piece.old + 12 }
+    ensures appended { Appends piece.old.items piece.new.items (entry_bytes entry) 12 }
 {
     let Some(pool) = entry else {
         return push_bytes(piece, &[0; 12]);
@@ -86,8 +81,7 @@ fn push_block(piece: &mut Piece, code: u32, block: &Record)
     requires room { array_vec_len piece.old + 16 ≤ PIECE }
     requires below { code < unit }
     requires whole { block.now.size % unit ≡ 0 }
-    ensures bytes { piece.new.items ≡ piece.old.items ++ block_bytes code block.now }
-    ensures len { array_vec_len piece.new ≡ array_vec_len piece.old + 16 }
+    ensures appended { Appends piece.old.items piece.new.items (block_bytes code block.now) 16 }
 {
     push_four(piece, block.place);
     push_four(piece, block.size + code);
@@ -101,8 +95,7 @@ fn push_block(piece: &mut Piece, code: u32, block: &Record)
 fn push_record(piece: &mut Piece, block: &Record)
     requires room { array_vec_len piece.old + 16 ≤ PIECE }
     requires whole { block.now.size % unit ≡ 0 }
-    ensures bytes { piece.new.items ≡ piece.old.items ++ record_bytes block.now }
-    ensures len { array_vec_len piece.new ≡ array_vec_len piece.old + 16 }
+    ensures appended { Appends piece.old.items piece.new.items (record_bytes block.now) 16 }
 {
     match block.state {
         State::Vacant => push_bytes(piece, &[0; 16]),
@@ -128,8 +121,7 @@ fn count_pools<T: Table>(table: &mut T) -> u16
 /// Appends the magic, how many records and pools there are, and zeros.
 fn push_header<T: Table>(piece: &mut Piece, table: &mut T)
     requires { array_vec_len piece.old + 16 ≤ PIECE }
-    ensures bytes { piece.new.items ≡ piece.old.items ++ header_bytes (T.parts table.old) }
-    ensures len { array_vec_len piece.new ≡ array_vec_len piece.old + 16 }
+    ensures appended { Appends piece.old.items piece.new.items (header_bytes (T.parts table.old)) 16 }
     ensures read { OnlyReads T.parts T.cells T.touches table.old table.new }
 {
     let pools = count_pools(table);
@@ -142,8 +134,7 @@ fn push_header<T: Table>(piece: &mut Piece, table: &mut T)
 /// Appends the entries of all pools.
 fn push_entries<T: Table>(piece: &mut Piece, table: &mut T)
     requires { array_vec_len piece.old + 12 * most_pools ≤ PIECE }
-    ensures bytes { piece.new.items ≡ piece.old.items ++ flat_map entry_bytes (T.parts table.old).pools }
-    ensures len { array_vec_len piece.new ≡ array_vec_len piece.old + 12 * most_pools }
+    ensures appended { Appends piece.old.items piece.new.items (flat_map entry_bytes (T.parts table.old).pools) (12 * most_pools) }
     ensures read { OnlyReads T.parts T.cells T.touches table.old table.new }
 {
     for number in 0..MOST_POOLS as u32 {
@@ -154,8 +145,7 @@ fn push_entries<T: Table>(piece: &mut Piece, table: &mut T)
 /// Appends the heads of all classes.
 fn push_heads<T: Table>(piece: &mut Piece, table: &mut T)
     requires { array_vec_len piece.old + 2 * classes ≤ PIECE }
-    ensures bytes { piece.new.items ≡ piece.old.items ++ flat_map head_bytes (T.parts table.old).heads }
-    ensures len { array_vec_len piece.new ≡ array_vec_len piece.old + 2 * classes }
+    ensures appended { Appends piece.old.items piece.new.items (flat_map head_bytes (T.parts table.old).heads) (2 * classes) }
     ensures read { OnlyReads T.parts T.cells T.touches table.old table.new }
 {
     for number in 0..CLASSES {

@@ -5,8 +5,7 @@ use crate::tests::{expect_eq, expect_eq_at};
 use std::process::Abort;
 use tlsf_class::Class;
 use tlsf_heap::{Image, Rule, Table};
-use tlsf_store::can_be_pool;
-use tlsf_store::{Slot, State};
+use tlsf_store::{Slot, State, can_be_pool};
 
 #[test]
 fn vector_and_what_it_says(rt: HostRuntime) {

@@ -26,7 +26,7 @@ loop-number-preserved g c =
     let later : List ℕ = flat_map record_bytes (drop (number + 1) parts.records) in
     let read : c.record.result ≡ record_at parts.records number = c.record.ensures.value ∙ ap (λ (p : Parts). record_at p.records number) c.loop-number.invariant.read.same in
     let whole : c.push_record.new.piece.items ++ later ≡ rest =
-    pushed record_bytes parts.records blank number items c.push_record.new.piece.items rest c.record.result within read c.push_record.ensures.bytes refl in
+    pushed record_bytes parts.records blank number items c.push_record.new.piece.items rest c.record.result within read c.push_record.ensures.appended.bytes refl in
     let I : List ℕ → g.row.W.Denot → Type 0 = λ text writer. IsPutting taken trace (image_of parts) text c.args.writer.now writer in
     elim c.if-is_full.branch [
       | then-is_full+in_ok-put_all w ↦
@@ -43,7 +43,7 @@ loop-number-preserved g c =
           rw (w.writer-is, w.piece-is) (record {
             read = and_reads c.loop-number.invariant.read c.record.ensures.read;
             room = omega (arith, eqb-false (length c.push_record.new.piece.items) 4096 (sym w.if-is_full.ensures.value), w.if-is_full.ensures.fits);
-            whole = omega (arith, c.push_record.ensures.len, c.loop-number.invariant.whole);
+            whole = omega (arith, c.push_record.ensures.appended.len, c.loop-number.invariant.whole);
             put = subst (λ text. I text c.loop-number.writer) (sym whole) c.loop-number.invariant.put;
           })
     ]
@@ -62,7 +62,7 @@ returns-in_err-put_all-clause-put g c =
     let later : List ℕ = flat_map record_bytes (drop (number + 1) parts.records) in
     let read : c.record.result ≡ record_at parts.records number = c.record.ensures.value ∙ ap (λ (p : Parts). record_at p.records number) c.loop-number.invariant.read.same in
     let whole : c.push_record.new.piece.items ++ later ≡ rest =
-    pushed record_bytes parts.records blank number items c.push_record.new.piece.items rest c.record.result within read c.push_record.ensures.bytes refl in
+    pushed record_bytes parts.records blank number items c.push_record.new.piece.items rest c.record.result within read c.push_record.ensures.appended.bytes refl in
     let P : List ℕ → Type 0 = λ text. PutsPart taken trace text c.loop-number.writer c.put_all.new.writer in
     puts_exit taken trace c.from_residual.result _ c.from_residual.ensures.1 (image_of parts) c.args.writer.now c.put_all.new.writer
     (putting_fails taken trace c.args.writer.now c.loop-number.writer c.put_all.new.writer (image_of parts) rest c.push_record.new.piece.items later c.loop-number.invariant.put (sym whole) (subst P c.deref.ensures.0 c.in_err-put_all.ensures))
