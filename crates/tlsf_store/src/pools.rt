@@ -3,7 +3,7 @@
 use super::Slot;
 
 /// One pool: where it begins and how long it is, in bytes, and the record of its first block.
-#[derive(Clone, Copy, Debug, PartialEq, Eq)]
+#[derive(Clone, Copy, Debug, Default, PartialEq, Eq)]
 pub struct Pool {
     /// Where the pool begins, in bytes.
     pub base: u32,

@@ -7,7 +7,7 @@ ghost use Rattle.tlsf_store.specs.Slots.{link_of};
 use std::marker::Model;
 
 /// The number of a record in its store's table.
-#[derive(Clone, Copy, Debug, PartialEq, Eq)]
+#[derive(Clone, Copy, Debug, Default, PartialEq, Eq)]
 pub struct Slot(pub u16);
 
 impl Model for Slot {
