@@ -6,6 +6,7 @@ pub mod FreeLists
 pub mod MallocCases
 pub mod ReallocCases
 pub mod Results
+pub mod ServedCalls
 pub mod MemalignCases
 pub mod BareSteps
 pub mod BareFree

@@ -5,6 +5,7 @@ use Rattle.tlsf_store.specs.CountedCells.{CountedCells}
 use Rattle.tlsf_heap.specs.Content.{Pool, Content}
 use Rattle.tlsf_heap.specs.Inner.Following.{content_of}
 use Rattle.tlsf_heap.specs.Cursors.{rows_by}
+use Rattle.tlsf_heap.specs.Touches.{AtMost}
 
 pub record Counted : Type 0 where
   pub content : Content ℕ
@@ -23,3 +24,8 @@ range_of pool = (pool.base, pool.bytes)
 pub record IsUnchanged (old new : Counted) : Type 0 where
   pub content : new.content ≡ old.content
   pub rows : new.rows ≡ old.rows
+
+-- a reading: nothing changes, and there are at most n touches
+pub record Reads (n : ℕ) (old new : Counted) : Type 0 where
+  pub unchanged : IsUnchanged old new
+  pub bound : AtMost n old.touches new.touches

@@ -54,3 +54,10 @@ HasFewRecords content = content.records ≤ 2 * live_blocks content + length con
 -- the same, and one more
 abbrev pub HasFewRecordsAndOne : {A : Type 0} → Content A → Type 0
 HasFewRecordsAndOne content = content.records ≤ 2 * live_blocks content + length content.pools + 1
+
+-- blocks are aligned and apart, and the lists have each free one once and nothing else
+pub record IsLaidOut {A : Type 0} (content : Content A) : Type 0 where
+  pub aligned : HasAlignedBlocks content
+  pub disjoint : HasDisjointBlocks content
+  pub listed_once : ListsFreeBlocks content
+  pub listed_alone : ListsNothingElse content

@@ -15,3 +15,4 @@ pub mod States
 pub mod Loading
 pub mod Imaged
 pub mod Spans
+pub mod Answers

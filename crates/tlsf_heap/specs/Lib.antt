@@ -14,6 +14,8 @@ pub mod Touches
 pub mod Counted
 pub mod GoodSlots
 pub mod Rows
+pub mod Served
+pub mod Readings
 pub mod Heaped
 pub mod Walk
 pub mod Run

@@ -6,27 +6,12 @@ use Rattle.tlsf_heap.specs.declared.answer.Answer.{Answer}
 use Rattle.tlsf_heap.specs.declared.answer.Answer.TheVariants.{Done, Given, Moved, Size, Refused}
 use Rattle.tlsf_heap.specs.declared.refusal.Refusal.{Refusal}
 use Rattle.tlsf_heap.specs.declared.refusal.Refusal.TheVariants.{OutOfMemory}
-use Rattle.tlsf_heap.specs.Pointer.{Pointer, place_and_slot, slot_of}
-use Rattle.tlsf_heap.specs.Content.{Content, blocks_of}
-use Rattle.tlsf_heap.specs.GoodSlots.{slot_times}
+use Rattle.tlsf_heap.specs.Pointer.{Pointer, free_ptr, realloc_ptr, block_size_ptr}
+use Rattle.tlsf_heap.specs.Content.{Content}
+use Rattle.tlsf_heap.specs.Served.{IsServed, IsMoved}
 use Rattle.tlsf_heap.specs.Malloc.{malloc}
 use Rattle.tlsf_heap.specs.Memalign.{memalign}
-use Rattle.tlsf_heap.specs.Free.{free}
-use Rattle.tlsf_heap.specs.Realloc.{realloc}
-use Rattle.tlsf_heap.specs.BlockSize.{block_size}
 use Rattle.tlsf_heap.specs.Pools.{add_pool, remove_pool}
-
--- the pointer of a new live block, known by its slot, as the call gives it: the slot was of no live block
-pub record IsServed (call : ℕ → Content ℕ → Result (ℕ × Content ℕ) Refusal) (pointer : Pointer) (old new : Content ℕ) : Type 0 where
-  pub served : call pointer.slot old ≡ Ok (pointer.place, new)
-  pub slot_below : pointer.slot < old.records
-  pub slot_new : slot_times pointer.slot (blocks_of old.pools) ≡ 0
-
--- the pointer after realloc, none where the block was freed: the same, or with a slot that was of no live block
-pub record IsMoved (pointer : Option Pointer) (n : ℕ) (given : Option Pointer) (old new : Content ℕ) : Type 0 where
-  pub moved : realloc (λ a b. a == b) (slot_of given) (place_and_slot pointer) n old ≡ Ok (place_and_slot given, new)
-  pub slot_below : IfSome given (λ p. p.slot < old.records)
-  pub slot_new : IfSome given (λ p. pointer ≢ Some p → slot_times p.slot (blocks_of old.pools) ≡ 0)
 
 -- the request is done, and answers nothing more
 abbrev pub Does : Request → Content ℕ → Content ℕ → Type 0
@@ -34,7 +19,7 @@ Does (AddPool base bytes) old new = add_pool base bytes old ≡ Ok new
 Does (RemovePool base) old new = remove_pool base old ≡ Ok new
 Does (Malloc n) old new = ⊥
 Does (Memalign align n) old new = ⊥
-Does (Free pointer) old new = free (λ slot. slot == pointer.slot) pointer.place old ≡ Ok new
+Does (Free pointer) old new = free_ptr pointer old ≡ Ok new
 Does (Realloc pointer n) old new = ⊥
 Does (BlockSize pointer) old new = ⊥
 
@@ -55,7 +40,7 @@ Moves (RemovePool base) given old new = ⊥
 Moves (Malloc n) given old new = ⊥
 Moves (Memalign align n) given old new = ⊥
 Moves (Free pointer) given old new = ⊥
-Moves (Realloc pointer n) given old new = IsMoved pointer n given old new
+Moves (Realloc pointer n) given old new = IsMoved (realloc_ptr pointer n) pointer given old new
 Moves (BlockSize pointer) given old new = ⊥
 
 -- the request is told a size
@@ -66,7 +51,7 @@ Tells (Malloc n) size old new = ⊥
 Tells (Memalign align n) size old new = ⊥
 Tells (Free pointer) size old new = ⊥
 Tells (Realloc pointer n) size old new = ⊥
-Tells (BlockSize pointer) size old new = (block_size (λ slot. slot == pointer.slot) pointer.place old ≡ Ok size) × (new ≡ old)
+Tells (BlockSize pointer) size old new = (block_size_ptr pointer old ≡ Ok size) × (new ≡ old)
 
 -- the request is to be refused, whatever slot a block were given
 abbrev pub IsRefused : Request → Refusal → Content ℕ → Type 0
@@ -74,9 +59,9 @@ IsRefused (AddPool base bytes) refusal content = add_pool base bytes content ≡
 IsRefused (RemovePool base) refusal content = remove_pool base content ≡ Err refusal
 IsRefused (Malloc n) refusal content = (slot : ℕ) → malloc slot n content ≡ Err refusal
 IsRefused (Memalign align n) refusal content = (slot : ℕ) → memalign slot align n content ≡ Err refusal
-IsRefused (Free pointer) refusal content = free (λ slot. slot == pointer.slot) pointer.place content ≡ Err refusal
-IsRefused (Realloc pointer n) refusal content = (slot : ℕ) → realloc (λ a b. a == b) slot (place_and_slot pointer) n content ≡ Err refusal
-IsRefused (BlockSize pointer) refusal content = block_size (λ slot. slot == pointer.slot) pointer.place content ≡ Err refusal
+IsRefused (Free pointer) refusal content = free_ptr pointer content ≡ Err refusal
+IsRefused (Realloc pointer n) refusal content = (slot : ℕ) → realloc_ptr pointer n slot content ≡ Err refusal
+IsRefused (BlockSize pointer) refusal content = block_size_ptr pointer content ≡ Err refusal
 
 -- whether the request changes nothing, and so needs no memory
 abbrev pub is_reading : Request → Bool

@@ -1,6 +1,6 @@
 //! add_pool: a pool enters, as one free block.
 
-ghost use Rattle.std.specs.Prelude.{◌≡◌, ◌<◌, ◌&&◌, true, ◌∷◌, length, All, Some, Ok, Err, OnOk, OnErr, IfErr};
+ghost use Rattle.std.specs.Prelude.{◌≡◌, ◌<◌, ◌&&◌, true, ◌∷◌, length, All, Some, Ok, Err};
 ghost use Rattle.std.specs.List.{list_all};
 ghost use Rattle.arrayvec.specs.ArrayVec.{array_vec_len};
 ghost use Rattle.tlsf_store.specs.Cells.{most_pools};
@@ -11,7 +11,8 @@ ghost use Rattle.tlsf_heap.specs.Pools.{can_be_pool as can_be, add_pool as added
 ghost use Rattle.tlsf_heap.specs.Inner.Entries.{is_entry_apart, free_record};
 ghost use Rattle.tlsf_heap.specs.Inner.Nodes.{Layout};
 ghost use Rattle.tlsf_heap.specs.Inner.Represents.{Represents};
-ghost use Rattle.tlsf_heap.specs.Inner.Following.{Stands, content_of};
+ghost use Rattle.tlsf_heap.specs.Inner.Following.{Stands};
+ghost use Rattle.tlsf_heap.specs.Inner.Answers.{Answers};
 ghost use Rattle.tlsf_heap.specs.Inner.Entering.{pool_laid};
 
 use crate::Refusal;
@@ -30,11 +31,7 @@ use tlsf_store::{MOST_POOLS, Record, Slot, State, Store, can_be_pool};
 /// As `Heap::add_pool`.
 pub(crate) fn add_pool(store: &mut Store, base: u64, bytes: u64) -> Result<(), Refusal>
     requires { Stands store.old.cells }
-    ensures stands { Stands store.new.cells }
-    ensures ok { OnOk result (added base bytes (content_of store.old.cells) ≡ Ok (content_of store.new.cells)) }
-    ensures refused { IfErr result (λ refusal. added base bytes (content_of store.old.cells) ≡ Err refusal) }
-    ensures cells { OnErr result (store.new.cells ≡ store.old.cells) }
-    ensures touches { AtMost add_pool_touches store.old.touches store.new.touches }
+    ensures { Answers result (λ done old new. added base bytes old ≡ Ok new) (λ refusal old. added base bytes old ≡ Err refusal) add_pool_touches store.old store.new }
 {
     let entries = entries(store);
     if !can_enter(entries.as_slice(), base, bytes) {

@@ -3,8 +3,8 @@
 
 ghost use Rattle.std.specs.Prelude.{◌≡◌, ◌+◌, ◌<◌, ◌≤◌, ◌^◌};
 ghost use Rattle.tlsf_class.specs.Classes.{levels};
-ghost use Rattle.tlsf_heap.specs.Touches.{AtMost};
 ghost use Rattle.tlsf_heap.specs.Inner.Edits.{with_bit, without_bit, with_class_bit, without_class_bit, with_level_cleared};
+ghost use Rattle.tlsf_heap.specs.Inner.Answers.{Leaves, LeavesAfter};
 
 use tlsf_class::{Class, STEPS};
 use tlsf_store::Store;
@@ -29,8 +29,7 @@ pub(crate) fn clear_bit(word: u32, bit: u32) -> u32
 
 /// Sets the bit of a class, and that of its first level. Four touches.
 pub(crate) fn set_class_bit(store: &mut Store, class: Class)
-    ensures cells { store.new.cells ≡ with_class_bit class store.old.cells }
-    ensures touches { store.new.touches ≡ store.old.touches + 4 }
+    ensures { LeavesAfter (with_class_bit class store.old.cells) 4 store.old store.new }
 {
     let level = class.number() / STEPS;
     let word = store.step_word(level);
@@ -42,8 +41,7 @@ pub(crate) fn set_class_bit(store: &mut Store, class: Class)
 /// Clears the bit of a class, and that of its first level where no other class of it has one. At most
 /// four touches.
 pub(crate) fn clear_class_bit(store: &mut Store, class: Class)
-    ensures cells { store.new.cells ≡ without_class_bit class store.old.cells }
-    ensures touches { AtMost 4 store.old.touches store.new.touches }
+    ensures { Leaves (without_class_bit class store.old.cells) 4 store.old store.new }
 {
     let level = class.number() / STEPS;
     let word = clear_bit(store.step_word(level), class.number() % STEPS);
@@ -54,8 +52,7 @@ pub(crate) fn clear_class_bit(store: &mut Store, class: Class)
 /// Clears the bit of a first level where its step word is 0. At most two touches.
 fn clear_level(store: &mut Store, level: u32, word: u32)
     requires { level < levels }
-    ensures cells { store.new.cells ≡ with_level_cleared level word store.old.cells }
-    ensures touches { AtMost 2 store.old.touches store.new.touches }
+    ensures { Leaves (with_level_cleared level word store.old.cells) 2 store.old store.new }
 {
     if word == 0 {
         let levels = store.level_word();

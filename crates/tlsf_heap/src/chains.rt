@@ -3,11 +3,11 @@
 ghost use Rattle.std.specs.Prelude.{◌≡◌, ◌≢◌, ◌+◌, ◌%◌, ◌<◌, ◌≤◌, length, Some, None};
 ghost use Rattle.tlsf_class.specs.Classes.{unit};
 ghost use Rattle.tlsf_store.specs.declared.records.State.TheVariants.{Vacant};
-ghost use Rattle.tlsf_heap.specs.Touches.{AtMost};
 ghost use Rattle.tlsf_heap.specs.Pools.{end_of_places};
 ghost use Rattle.tlsf_heap.specs.Inner.Edits.{IsUsed};
 ghost use Rattle.tlsf_heap.specs.Inner.Chains.{with_prev, with_state};
 ghost use Rattle.tlsf_heap.specs.Inner.Spans.{IsRead, split_by, absorbed_by};
+ghost use Rattle.tlsf_heap.specs.Inner.Answers.{Leaves, LeavesAfter};
 
 use crate::span::Span;
 use tlsf_store::{Record, Slot, State, Store};
@@ -16,8 +16,7 @@ use tlsf_store::{Record, Slot, State, Store};
 pub(crate) fn set_state(store: &mut Store, slot: Slot, state: State)
     requires used { IsUsed store.old.cells.records (Some slot) }
     requires new_used { state ≢ Vacant }
-    ensures cells { store.new.cells ≡ with_state slot state store.old.cells }
-    ensures touches { store.new.touches ≡ store.old.touches + 2 }
+    ensures { LeavesAfter (with_state slot state store.old.cells) 2 store.old store.new }
 {
     store.set_state(slot, state);
 }
@@ -29,8 +28,7 @@ pub(crate) fn turn(store: &mut Store, block: &Span, state: State)
     requires next_used { IsUsed store.old.cells.records block.now.next }
     requires read { IsRead block.now store.old.cells.records }
     requires in_units { block.now.size % unit ≡ 0 }
-    ensures cells { store.new.cells ≡ with_state block.now.slot state store.old.cells }
-    ensures touches { store.new.touches ≡ store.old.touches + 1 }
+    ensures { LeavesAfter (with_state block.now.slot state store.old.cells) 1 store.old store.new }
 {
     store.set_block(block.slot, block.size, state, block.next);
 }
@@ -39,8 +37,7 @@ pub(crate) fn turn(store: &mut Store, block: &Span, state: State)
 fn set_prev(store: &mut Store, slot: Option<Slot>, prev: Slot)
     requires used { IsUsed store.old.cells.records slot }
     requires below { prev < length store.old.cells.records }
-    ensures cells { store.new.cells ≡ with_prev slot (Some prev) store.old.cells }
-    ensures touches { AtMost 1 store.old.touches store.new.touches }
+    ensures { Leaves (with_prev slot (Some prev) store.old.cells) 1 store.old store.new }
 {
     if let Some(slot) = slot {
         store.set_prev(slot, Some(prev));
@@ -58,8 +55,7 @@ pub(crate) fn split(store: &mut Store, block: &Span, rest: Slot, bytes: u32)
     requires place_in_units { block.now.place % unit ≡ 0 }
     requires size_in_units { block.now.size % unit ≡ 0 }
     requires ends { block.now.place + block.now.size ≤ end_of_places }
-    ensures cells { store.new.cells ≡ split_by block.now rest bytes store.old.cells }
-    ensures touches { AtMost 3 store.old.touches store.new.touches }
+    ensures { Leaves (split_by block.now rest bytes store.old.cells) 3 store.old store.new }
 {
     let left = Record {
         place: block.place + bytes,
@@ -83,8 +79,7 @@ pub(crate) fn absorb(store: &mut Store, merged: &Span, state: State, behind: Slo
     requires next_used { IsUsed store.old.cells.records merged.now.next }
     requires new_used { state ≢ Vacant }
     requires in_units { merged.now.size % unit ≡ 0 }
-    ensures cells { store.new.cells ≡ absorbed_by merged.now state behind store.old.cells }
-    ensures touches { AtMost 5 store.old.touches store.new.touches }
+    ensures { Leaves (absorbed_by merged.now state behind store.old.cells) 5 store.old store.new }
 {
     store.set_block(merged.slot, merged.size, state, merged.next);
     set_prev(store, merged.next, merged.slot);

@@ -7,6 +7,7 @@ ghost use Rattle.tlsf_store.specs.Cells.{most_pools};
 ghost use Rattle.tlsf_heap.specs.Inner.Entries.{entries_of, padded_at};
 ghost use Rattle.tlsf_heap.specs.Pools.{end_of_places};
 ghost use Rattle.tlsf_heap.specs.Inner.Entries.{entry_place, with_entries, is_entry_apart, entry_range};
+ghost use Rattle.tlsf_heap.specs.Inner.Answers.{LeavesAfter};
 
 use crate::pool_entry::PoolEntry;
 use arrayvec::ArrayVec;
@@ -17,8 +18,7 @@ pub(crate) fn entries(store: &mut Store) -> ArrayVec<PoolEntry, MOST_POOLS>
     requires { length store.old.cells.pools ≡ most_pools }
     ensures value { result.items ≡ entries_of store.old.cells.pools }
     ensures below { All (λ entry. entry.first < length store.old.cells.records) result.items }
-    ensures cells { store.new.cells ≡ store.old.cells }
-    ensures touches { store.new.touches ≡ store.old.touches + most_pools }
+    ensures left { LeavesAfter store.old.cells most_pools store.old store.new }
 {
     let mut entries = ArrayVec::new();
     for number in 0..MOST_POOLS as u32 {
@@ -52,8 +52,7 @@ pub(crate) fn set_entries(store: &mut Store, entries: &[PoolEntry])
     requires count { length store.old.cells.pools ≡ most_pools }
     requires few { length entries.now ≤ most_pools }
     requires below { All (λ entry. entry.first < length store.old.cells.records) entries.now }
-    ensures cells { store.new.cells ≡ with_entries entries.now store.old.cells }
-    ensures touches { store.new.touches ≡ store.old.touches + most_pools }
+    ensures { LeavesAfter (with_entries entries.now store.old.cells) most_pools store.old store.new }
 {
     for number in 0..MOST_POOLS {
         store.set_pool(number as u32, pool_at(entries, number));

@@ -1,19 +1,20 @@
 //! free: the block becomes free, takes in its free neighbours, and enters its class's list.
 
-ghost use Rattle.std.specs.Prelude.{◌≡◌, ◌≢◌, false, ◌==◌, ◌&&◌, ◌%◌, is_some, Ok, Err, OnOk, IfErr, IfSome, OnErr};
+ghost use Rattle.std.specs.Prelude.{◌≡◌, ◌≢◌, false, ◌==◌, ◌&&◌, ◌%◌, is_some, Ok, Err, IfSome};
 ghost use Rattle.tlsf_class.specs.Classes.{unit, class};
 ghost use Rattle.tlsf_store.specs.declared.records.State.TheVariants.{Vacant};
 ghost use Rattle.tlsf_store.specs.Records.{record_at};
 ghost use Rattle.tlsf_heap.specs.Touches.{AtMost, free_touches};
 ghost use Rattle.tlsf_heap.specs.Content.{blocks_of};
 ghost use Rattle.tlsf_heap.specs.Free.{is_live as is_live_in};
-ghost use Rattle.tlsf_heap.specs.Free.{free as freed};
+ghost use Rattle.tlsf_heap.specs.Pointer.{free_ptr};
 ghost use Rattle.tlsf_heap.specs.Inner.Edits.{unlinked_by};
 ghost use Rattle.tlsf_heap.specs.Inner.States.{is_state_free, is_state_live};
 ghost use Rattle.tlsf_heap.specs.Inner.Nodes.{Status, InUse, Listed, Loose, is_listed};
 ghost use Rattle.tlsf_heap.specs.Inner.Following.{Stands, content_of};
 ghost use Rattle.tlsf_heap.specs.Inner.At.{At, StandsAt, previous_joined, next_joined, at_listed, at_freed};
-ghost use Rattle.tlsf_heap.specs.Inner.Spans.{IsRead, CanJoin, joined_by};
+ghost use Rattle.tlsf_heap.specs.Inner.Spans.{IsRead, IsRecordOf, CanJoin, joined_by};
+ghost use Rattle.tlsf_heap.specs.Inner.Answers.{Answers, Leaves};
 
 use crate::chains::{absorb, turn};
 use crate::free_lists::{link, unlink};
@@ -30,11 +31,7 @@ use tlsf_store::{Record, Slot, State, Store};
 #[inline(always)]
 pub(crate) fn free(store: &mut Store, ptr: Ptr) -> Result<(), Refusal>
     requires { Stands store.old.cells }
-    ensures stands { Stands store.new.cells }
-    ensures ok { OnOk result (freed (λ slot. slot == ptr.slot) ptr.place (content_of store.old.cells) ≡ Ok (content_of store.new.cells)) }
-    ensures refused { IfErr result (λ refusal. freed (λ slot. slot == ptr.slot) ptr.place (content_of store.old.cells) ≡ Err refusal) }
-    ensures cells { OnErr result (store.new.cells ≡ store.old.cells) }
-    ensures touches { AtMost free_touches store.old.touches store.new.touches }
+    ensures { Answers result (λ done old new. free_ptr ptr old ≡ Ok new) (λ refusal old. free_ptr ptr old ≡ Err refusal) free_touches store.old store.new }
 {
     let Some(block) = live(store, ptr) else {
         return Err(Refusal::BadPointer);
@@ -48,11 +45,8 @@ pub(crate) fn free(store: &mut Store, ptr: Ptr) -> Result<(), Refusal>
 pub(crate) fn live(store: &mut Store, ptr: Ptr) -> Option<Record>
     requires { Stands store.old.cells }
     ensures value { is_some result ≡ is_live_in (λ slot. slot == ptr.slot) ptr.place (blocks_of (content_of store.old.cells).pools) }
-    ensures read { IfSome result (λ block. block ≡ record_at store.old.cells.records ptr.slot) }
-    ensures place { IfSome result (λ block. block.place ≡ ptr.place) }
-    ensures in_units { IfSome result (λ block. block.place % unit ≡ 0) }
-    ensures cells { store.new.cells ≡ store.old.cells }
-    ensures touches { AtMost 1 store.old.touches store.new.touches }
+    ensures read { IfSome result (λ block. IsRecordOf block ptr store.old.cells.records) }
+    ensures left { Leaves store.old.cells 1 store.old store.new }
 {
     if u32::from(ptr.slot()) >= store.records() {
         return None;
@@ -163,8 +157,7 @@ pub(crate) fn join_next(store: &mut Store, block: Span, state: State) -> Span
 fn join(store: &mut Store, merged: &Span, state: State, behind: Slot, listed: &Record)
     requires can { CanJoin merged.now behind listed.now store.old.cells.records (unlinked_by (class listed.now.size) listed.now store.old.cells).records }
     requires new_used { state ≢ Vacant }
-    ensures cells { store.new.cells ≡ joined_by merged.now state behind listed.now store.old.cells }
-    ensures touches { AtMost 10 store.old.touches store.new.touches }
+    ensures { Leaves (joined_by merged.now state behind listed.now store.old.cells) 10 store.old store.new }
 {
     unlink(store, class_of(listed.size), listed);
     absorb(store, merged, state, behind);

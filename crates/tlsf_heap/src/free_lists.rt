@@ -5,6 +5,7 @@ ghost use Rattle.tlsf_store.specs.Records.{IsBelow};
 ghost use Rattle.tlsf_store.specs.Cells.{with_head, head_at};
 ghost use Rattle.tlsf_heap.specs.Touches.{AtMost};
 ghost use Rattle.tlsf_heap.specs.Inner.Edits.{IsUsed, with_prev_free, with_next_free, with_free_links, with_class_bit, with_first, with_behind, linked, unlinked_by};
+ghost use Rattle.tlsf_heap.specs.Inner.Answers.{Leaves, LeavesAfter};
 
 use crate::bitmaps::{clear_class_bit, set_class_bit};
 use tlsf_class::Class;
@@ -14,8 +15,7 @@ use tlsf_store::{Record, Slot, Store};
 pub(crate) fn link(store: &mut Store, class: Class, slot: Slot)
     requires slot_used { IsUsed store.old.cells.records (Some slot) }
     requires first_used { IsUsed store.old.cells.records (head_at store.old.cells.heads class) }
-    ensures cells { store.new.cells ≡ linked class slot store.old.cells }
-    ensures touches { AtMost 8 store.old.touches store.new.touches }
+    ensures { Leaves (linked class slot store.old.cells) 8 store.old store.new }
 {
     match store.head(class) {
         Some(first) => link_before(store, class, slot, first),
@@ -27,8 +27,7 @@ pub(crate) fn link(store: &mut Store, class: Class, slot: Slot)
 fn link_before(store: &mut Store, class: Class, slot: Slot, first: Slot)
     requires slot_used { IsUsed store.old.cells.records (Some slot) }
     requires first_used { IsUsed store.old.cells.records (Some first) }
-    ensures cells { store.new.cells ≡ with_head (with_prev_free (Some first) (Some slot) (with_free_links slot None (Some first) store.old.cells)) class (Some slot) }
-    ensures touches { store.new.touches ≡ store.old.touches + 4 }
+    ensures { LeavesAfter (with_head (with_prev_free (Some first) (Some slot) (with_free_links slot None (Some first) store.old.cells)) class (Some slot)) 4 store.old store.new }
 {
     set_free_links(store, slot, None, Some(first));
     set_prev_free(store, first, Some(slot));
@@ -38,8 +37,7 @@ fn link_before(store: &mut Store, class: Class, slot: Slot, first: Slot)
 /// Makes a free block the only one of its class's list. Seven touches.
 fn link_alone(store: &mut Store, class: Class, slot: Slot)
     requires { IsUsed store.old.cells.records (Some slot) }
-    ensures cells { store.new.cells ≡ with_class_bit class (with_head (with_free_links slot None None store.old.cells) class (Some slot)) }
-    ensures touches { store.new.touches ≡ store.old.touches + 7 }
+    ensures { LeavesAfter (with_class_bit class (with_head (with_free_links slot None None store.old.cells) class (Some slot))) 7 store.old store.new }
 {
     set_free_links(store, slot, None, None);
     store.set_head(class, Some(slot));
@@ -51,8 +49,7 @@ fn link_alone(store: &mut Store, class: Class, slot: Slot)
 pub(crate) fn unlink(store: &mut Store, class: Class, block: &Record)
     requires prev_used { IsUsed store.old.cells.records block.now.prev_free }
     requires next_used { IsUsed store.old.cells.records block.now.next_free }
-    ensures cells { store.new.cells ≡ unlinked_by class block.now store.old.cells }
-    ensures touches { AtMost 5 store.old.touches store.new.touches }
+    ensures { Leaves (unlinked_by class block.now store.old.cells) 5 store.old store.new }
 {
     set_in_back(store, block.next_free, block.prev_free);
     set_behind(store, class, block.prev_free, block.next_free);
@@ -63,8 +60,7 @@ fn set_free_links(store: &mut Store, slot: Slot, prev: Option<Slot>, next: Optio
     requires used { IsUsed store.old.cells.records (Some slot) }
     requires prev_below { IsBelow (length store.old.cells.records) prev }
     requires next_below { IsBelow (length store.old.cells.records) next }
-    ensures cells { store.new.cells ≡ with_free_links slot prev next store.old.cells }
-    ensures touches { store.new.touches ≡ store.old.touches + 2 }
+    ensures { LeavesAfter (with_free_links slot prev next store.old.cells) 2 store.old store.new }
 {
     store.set_prev_free(slot, prev);
     store.set_next_free(slot, next);
@@ -74,8 +70,7 @@ fn set_free_links(store: &mut Store, slot: Slot, prev: Option<Slot>, next: Optio
 fn set_prev_free(store: &mut Store, slot: Slot, prev: Option<Slot>)
     requires used { IsUsed store.old.cells.records (Some slot) }
     requires prev_below { IsBelow (length store.old.cells.records) prev }
-    ensures cells { store.new.cells ≡ with_prev_free (Some slot) prev store.old.cells }
-    ensures touches { store.new.touches ≡ store.old.touches + 1 }
+    ensures { LeavesAfter (with_prev_free (Some slot) prev store.old.cells) 1 store.old store.new }
 {
     store.set_prev_free(slot, prev);
 }
@@ -84,8 +79,7 @@ fn set_prev_free(store: &mut Store, slot: Slot, prev: Option<Slot>)
 fn set_in_back(store: &mut Store, next: Option<Slot>, prev: Option<Slot>)
     requires used { IsUsed store.old.cells.records next }
     requires prev_below { IsBelow (length store.old.cells.records) prev }
-    ensures cells { store.new.cells ≡ with_prev_free next prev store.old.cells }
-    ensures touches { AtMost 1 store.old.touches store.new.touches }
+    ensures left { Leaves (with_prev_free next prev store.old.cells) 1 store.old store.new }
     ensures idle { IfNone next (store.new.touches ≡ store.old.touches) }
 {
     if let Some(slot) = next {
@@ -97,8 +91,7 @@ fn set_in_back(store: &mut Store, next: Option<Slot>, prev: Option<Slot>)
 fn set_next_free(store: &mut Store, slot: Slot, next: Option<Slot>)
     requires used { IsUsed store.old.cells.records (Some slot) }
     requires next_below { IsBelow (length store.old.cells.records) next }
-    ensures cells { store.new.cells ≡ with_next_free (Some slot) next store.old.cells }
-    ensures touches { store.new.touches ≡ store.old.touches + 1 }
+    ensures { LeavesAfter (with_next_free (Some slot) next store.old.cells) 1 store.old store.new }
 {
     store.set_next_free(slot, next);
 }
@@ -106,8 +99,7 @@ fn set_next_free(store: &mut Store, slot: Slot, next: Option<Slot>)
 /// Makes a block, or none, the first of a class's list. At most five touches, and for a block one.
 fn set_first(store: &mut Store, class: Class, first: Option<Slot>)
     requires { IsBelow (length store.old.cells.records) first }
-    ensures cells { store.new.cells ≡ with_first class first store.old.cells }
-    ensures touches { AtMost 5 store.old.touches store.new.touches }
+    ensures left { Leaves (with_first class first store.old.cells) 5 store.old store.new }
     ensures few { IfSome first (λ slot. AtMost 1 store.old.touches store.new.touches) }
 {
     match first {
@@ -124,8 +116,7 @@ fn set_first(store: &mut Store, class: Class, first: Option<Slot>)
 fn set_behind(store: &mut Store, class: Class, prev: Option<Slot>, next: Option<Slot>)
     requires used { IsUsed store.old.cells.records prev }
     requires next_below { IsBelow (length store.old.cells.records) next }
-    ensures cells { store.new.cells ≡ with_behind class prev next store.old.cells }
-    ensures touches { AtMost 5 store.old.touches store.new.touches }
+    ensures left { Leaves (with_behind class prev next store.old.cells) 5 store.old store.new }
     ensures few { IfSome next (λ slot. AtMost 1 store.old.touches store.new.touches) }
 {
     match prev {

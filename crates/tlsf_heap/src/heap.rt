@@ -41,25 +41,23 @@ impl Model for Heap {
 }
 
 impl Heap {
-    ghost use Rattle.std.specs.Prelude.{◌≡◌, ◌≢◌, true, ℕ, ◌+◌, ◌*◌, ◌%◌, ◌<◌, ◌≤◌, ◌==◌, ◌⊎◌, ◌↔◌, [], ◌∷◌, map, Some, None, Ok, Err, IfOk, IfErr, IfSome, IfNone, OnOk, OnErr};
+    ghost use Rattle.std.specs.Prelude.{◌≡◌, true, ℕ, ◌+◌, ◌*◌, ◌%◌, ◌<◌, ◌≤◌, ◌⊎◌, ◌↔◌, map, Some, None, Ok, Err, IfOk, IfErr, OnOk, OnErr};
     ghost use Rattle.tlsf_store.specs.declared.errors.StoreError.TheVariants.{BadCount};
     ghost use Rattle.tlsf_store.specs.Records.{most_records};
     ghost use Rattle.tlsf_heap.specs.Touches.{AtMost, add_pool_touches, remove_pool_touches, malloc_touches, memalign_touches, free_touches, realloc_touches, block_size_touches};
     ghost use Rattle.tlsf_heap.specs.Good.{IsGood};
-    ghost use Rattle.tlsf_heap.specs.GoodSlots.{HasGoodSlots, slot_times};
-    ghost use Rattle.tlsf_heap.specs.Content.{blocks_of};
+    ghost use Rattle.tlsf_heap.specs.GoodSlots.{HasGoodSlots};
+    ghost use Rattle.tlsf_heap.specs.Served.{IsServed, IsMoved, Refuses};
+    ghost use Rattle.tlsf_heap.specs.Readings.{FindsRows, GivesRow, TouchesForRow};
     ghost use Rattle.tlsf_heap.specs.Malloc.{malloc as served};
     ghost use Rattle.tlsf_heap.specs.Memalign.{memalign as aligned};
-    ghost use Rattle.tlsf_heap.specs.Free.{free as freed};
-    ghost use Rattle.tlsf_heap.specs.Realloc.{realloc as reallocated};
-    ghost use Rattle.tlsf_heap.specs.BlockSize.{block_size as sized};
-    ghost use Rattle.tlsf_heap.specs.Pointer.{place_and_slot, slot_of};
+    ghost use Rattle.tlsf_heap.specs.Pointer.{free_ptr, realloc_ptr, block_size_ptr};
     ghost use Rattle.tlsf_heap.specs.Rows.{rows_from};
     ghost use Rattle.tlsf_heap.specs.Cursors.{rows_behind, is_at_row};
     ghost use Rattle.tlsf_heap.specs.Walk.{IsWalk, walk_touches};
     ghost use Rattle.tlsf_heap.specs.Pools.{created, add_pool as added, remove_pool as removed};
-    ghost use Rattle.tlsf_heap.specs.Counted.{range_of, IsUnchanged};
-    ghost use Rattle.tlsf_heap.specs.Implied.{NoneFits, NoneFitsAligned, HasFewRecords, HasFewRecordsAndOne, HasAlignedBlocks, HasDisjointBlocks, ListsFreeBlocks, ListsNothingElse};
+    ghost use Rattle.tlsf_heap.specs.Counted.{range_of, IsUnchanged, Reads};
+    ghost use Rattle.tlsf_heap.specs.Implied.{NoneFits, NoneFitsAligned, HasFewRecords, HasFewRecordsAndOne, IsLaidOut};
     ghost use Rattle.tlsf_heap.specs.declared.refusal.Refusal.TheVariants.{NoFit, TableFull};
     ghost use Rattle.tlsf_class.specs.Classes.{classes};
     ghost use Rattle.tlsf_heap.specs.declared.image.rule.Rule.{Rule};
@@ -145,10 +143,8 @@ impl Heap {
     /// records a live block and one a pool then.
     pub fn add_pool(&mut self, base: u64, bytes: u64) -> Result<(), Refusal>
         ensures ok { OnOk result (added base bytes self.old.content ≡ Ok self.new.content) }
-        ensures refused { IfErr result (λ refusal. added base bytes self.old.content ≡ Err refusal) }
+        ensures refused { Refuses result (λ refusal. added base bytes self.old.content ≡ Err refusal) (IsUnchanged self.old self.new) }
         ensures table_full { result ≡ Err TableFull → HasFewRecords self.old.content }
-        ensures never_memory { result ≢ Err Refusal.OutOfMemory }
-        ensures unchanged { OnErr result (IsUnchanged self.old self.new) }
         ensures bound { AtMost add_pool_touches self.old.touches self.new.touches }
     {
         add_pool(&mut self.store, base, bytes)
@@ -161,9 +157,7 @@ impl Heap {
     /// `NoPool` where no pool begins there; `PoolInUse` unless the pool is one free block.
     pub fn remove_pool(&mut self, base: u64) -> Result<(), Refusal>
         ensures ok { OnOk result (removed base self.old.content ≡ Ok self.new.content) }
-        ensures refused { IfErr result (λ refusal. removed base self.old.content ≡ Err refusal) }
-        ensures never_memory { result ≢ Err Refusal.OutOfMemory }
-        ensures unchanged { OnErr result (IsUnchanged self.old self.new) }
+        ensures refused { Refuses result (λ refusal. removed base self.old.content ≡ Err refusal) (IsUnchanged self.old self.new) }
         ensures bound { AtMost remove_pool_touches self.old.touches self.new.touches }
     {
         remove_pool(&mut self.store, base)
@@ -179,14 +173,10 @@ impl Heap {
     /// free block is smaller than that class then, if there is one; `TableFull` where a rest would be left
     /// and each record is in use: there are at most two records a live block and one a pool then.
     pub fn malloc(&mut self, n: u64) -> Result<Ptr, Refusal>
-        ensures ok { IfOk result (λ ptr. served ptr.slot n self.old.content ≡ Ok (ptr.place, self.new.content)) }
-        ensures slot_below { IfOk result (λ ptr. ptr.slot < self.old.content.records) }
-        ensures slot_new { IfOk result (λ ptr. slot_times ptr.slot (blocks_of self.old.content.pools) ≡ 0) }
-        ensures refused { IfErr result (λ refusal. (slot : ℕ) → served slot n self.old.content ≡ Err refusal) }
+        ensures ok { IfOk result (λ ptr. IsServed (λ slot. served slot n) ptr self.old.content self.new.content) }
+        ensures refused { Refuses result (λ refusal. (slot : ℕ) → served slot n self.old.content ≡ Err refusal) (IsUnchanged self.old self.new) }
         ensures no_fit { result ≡ Err NoFit → NoneFits n self.old.content }
         ensures table_full { result ≡ Err TableFull → HasFewRecords self.old.content }
-        ensures never_memory { result ≢ Err Refusal.OutOfMemory }
-        ensures unchanged { OnErr result (IsUnchanged self.old self.new) }
         ensures bound { AtMost malloc_touches self.old.touches self.new.touches }
     {
         malloc(&mut self.store, n)
@@ -205,15 +195,11 @@ impl Heap {
     /// if there is one; `TableFull` where the blocks in front and behind need more records than are left: there
     /// are at most two records a live block, one a pool and one more then.
     pub fn memalign(&mut self, align: u64, n: u64) -> Result<Ptr, Refusal>
-        ensures ok { IfOk result (λ ptr. aligned ptr.slot align n self.old.content ≡ Ok (ptr.place, self.new.content)) }
+        ensures ok { IfOk result (λ ptr. IsServed (λ slot. aligned slot align n) ptr self.old.content self.new.content) }
         ensures multiple { IfOk result (λ ptr. ptr.place % align ≡ 0) }
-        ensures slot_below { IfOk result (λ ptr. ptr.slot < self.old.content.records) }
-        ensures slot_new { IfOk result (λ ptr. slot_times ptr.slot (blocks_of self.old.content.pools) ≡ 0) }
-        ensures refused { IfErr result (λ refusal. (slot : ℕ) → aligned slot align n self.old.content ≡ Err refusal) }
+        ensures refused { Refuses result (λ refusal. (slot : ℕ) → aligned slot align n self.old.content ≡ Err refusal) (IsUnchanged self.old self.new) }
         ensures no_fit { result ≡ Err NoFit → NoneFitsAligned align n self.old.content }
         ensures table_full { result ≡ Err TableFull → HasFewRecordsAndOne self.old.content }
-        ensures never_memory { result ≢ Err Refusal.OutOfMemory }
-        ensures unchanged { OnErr result (IsUnchanged self.old self.new) }
         ensures bound { AtMost memalign_touches self.old.touches self.new.touches }
     {
         memalign(&mut self.store, align, n)
@@ -226,10 +212,8 @@ impl Heap {
     ///
     /// `BadPointer` unless a live block has both the pointer's place and its slot.
     pub fn free(&mut self, ptr: Ptr) -> Result<(), Refusal>
-        ensures ok { OnOk result (freed (λ slot. slot == ptr.slot) ptr.place self.old.content ≡ Ok self.new.content) }
-        ensures refused { IfErr result (λ refusal. freed (λ slot. slot == ptr.slot) ptr.place self.old.content ≡ Err refusal) }
-        ensures never_memory { result ≢ Err Refusal.OutOfMemory }
-        ensures unchanged { OnErr result (IsUnchanged self.old self.new) }
+        ensures ok { OnOk result (free_ptr ptr self.old.content ≡ Ok self.new.content) }
+        ensures refused { Refuses result (λ refusal. free_ptr ptr self.old.content ≡ Err refusal) (IsUnchanged self.old self.new) }
         ensures bound { AtMost free_touches self.old.touches self.new.touches }
     {
         free(&mut self.store, ptr)
@@ -246,13 +230,9 @@ impl Heap {
     /// `BadPointer` unless a live block has both the pointer's place and its slot; as `malloc` without a
     /// pointer, or where the block has to move: then the old block is as it was.
     pub fn realloc(&mut self, ptr: Option<Ptr>, n: u64) -> Result<Option<Ptr>, Refusal>
-        ensures ok { IfOk result (λ given. reallocated (λ a b. a == b) (slot_of given) (place_and_slot ptr) n self.old.content ≡ Ok (place_and_slot given, self.new.content)) }
-        ensures slot_below { IfOk result (λ given. IfSome given (λ p. p.slot < self.old.content.records)) }
-        ensures slot_new { IfOk result (λ given. IfSome given (λ p. ptr ≢ Some p → slot_times p.slot (blocks_of self.old.content.pools) ≡ 0)) }
-        ensures refused { IfErr result (λ refusal. (slot : ℕ) → reallocated (λ a b. a == b) slot (place_and_slot ptr) n self.old.content ≡ Err refusal) }
+        ensures ok { IfOk result (λ given. IsMoved (realloc_ptr ptr n) ptr given self.old.content self.new.content) }
+        ensures refused { Refuses result (λ refusal. (slot : ℕ) → realloc_ptr ptr n slot self.old.content ≡ Err refusal) (IsUnchanged self.old self.new) }
         ensures table_full { result ≡ Err TableFull → HasFewRecords self.old.content }
-        ensures never_memory { result ≢ Err Refusal.OutOfMemory }
-        ensures unchanged { OnErr result (IsUnchanged self.old self.new) }
         ensures bound { AtMost realloc_touches self.old.touches self.new.touches }
     {
         realloc(&mut self.store, ptr, n)
@@ -264,11 +244,9 @@ impl Heap {
     ///
     /// `BadPointer` unless a live block has both the pointer's place and its slot.
     pub fn block_size(&mut self, ptr: Ptr) -> Result<u32, Refusal>
-        ensures ok { IfOk result (λ bytes. sized (λ slot. slot == ptr.slot) ptr.place self.old.content ≡ Ok bytes) }
-        ensures refused { IfErr result (λ refusal. sized (λ slot. slot == ptr.slot) ptr.place self.old.content ≡ Err refusal) }
-        ensures never_memory { result ≢ Err Refusal.OutOfMemory }
-        ensures unchanged { IsUnchanged self.old self.new }
-        ensures bound { AtMost block_size_touches self.old.touches self.new.touches }
+        ensures ok { IfOk result (λ bytes. block_size_ptr ptr self.old.content ≡ Ok bytes) }
+        ensures refused { Refuses result (λ refusal. block_size_ptr ptr self.old.content ≡ Err refusal) (IsUnchanged self.old self.new) }
+        ensures read { Reads block_size_touches self.old self.new }
     {
         block_size(&mut self.store, ptr)
     }
@@ -276,8 +254,7 @@ impl Heap {
     /// Where each pool begins and how many bytes it has, in order of base. At most eight touches.
     pub fn pools(&mut self) -> ArrayVec<(u64, u64), MOST_POOLS>
         ensures value { result.items ≡ map range_of self.old.content.pools }
-        ensures unchanged { IsUnchanged self.old self.new }
-        ensures bound { AtMost 8 self.old.touches self.new.touches }
+        ensures read { Reads 8 self.old self.new }
     {
         let entries = entries(&mut self.store);
         pool_ranges(entries.as_slice())
@@ -289,11 +266,8 @@ impl Heap {
     ///
     /// `NoPool` where no pool begins there.
     pub fn first(&mut self, base: u64) -> Result<Cursor, Refusal>
-        ensures ok { IfOk result (λ cursor. rows_from base self.old.content.pools ≡ Ok (rows_behind self.new.rows cursor)) }
-        ensures stands { IfOk result (λ cursor. is_at_row self.new.rows cursor) }
-        ensures refused { IfErr result (λ refusal. rows_from base self.old.content.pools ≡ Err refusal) }
-        ensures unchanged { IsUnchanged self.old self.new }
-        ensures bound { AtMost 4 self.old.touches self.new.touches }
+        ensures found { FindsRows result (rows_from base self.old.content.pools) (rows_behind self.new.rows) (is_at_row self.new.rows) }
+        ensures read { Reads 4 self.old self.new }
     {
         first(&mut self.store, base)
     }
@@ -302,12 +276,9 @@ impl Heap {
     /// touch, and none where there is no row.
     pub fn row(&mut self, cursor: Cursor) -> Option<(Row, Cursor)>
         requires { is_at_row self.old.rows cursor }
-        ensures some { IfSome result (λ given. rows_behind self.old.rows cursor ≡ given.0 ∷ rows_behind self.new.rows given.1) }
-        ensures next_stands { IfSome result (λ given. is_at_row self.new.rows given.1) }
-        ensures none { IfNone result (rows_behind self.old.rows cursor ≡ []) }
+        ensures given { GivesRow result (rows_behind self.old.rows cursor) (rows_behind self.new.rows) (is_at_row self.new.rows) }
         ensures unchanged { IsUnchanged self.old self.new }
-        ensures bound { IfSome result (λ given. AtMost 1 self.old.touches self.new.touches) }
-        ensures no_touch { IfNone result (self.new.touches ≡ self.old.touches) }
+        ensures touched { TouchesForRow 1 result self.old.touches self.new.touches }
     {
         row(&mut self.store, cursor)
     }
@@ -323,8 +294,7 @@ impl Heap {
         ensures ok { OnOk result (IsWalk (λ p x q. F.step p x tt q) base self.old.content.pools visit.old visit.new) }
         ensures refused { IfErr result (λ refusal. rows_from base self.old.content.pools ≡ Err refusal) }
         ensures unvisited { OnErr result (visit.new ≡ visit.old) }
-        ensures unchanged { IsUnchanged self.old self.new }
-        ensures bound { AtMost (walk_touches (rows_from base self.old.content.pools)) self.old.touches self.new.touches }
+        ensures read { Reads (walk_touches (rows_from base self.old.content.pools)) self.old self.new }
     {
         walk(&mut self.store, base, visit)
     }
@@ -339,8 +309,7 @@ impl Heap {
         requires { F.IsAlwaysCallable visit }
         ensures ok { OnOk result ((last : F) × IsWalk (λ p x q. F.step p x tt q) base self.old.content.pools visit last) }
         ensures refused { IfErr result (λ refusal. rows_from base self.old.content.pools ≡ Err refusal) }
-        ensures unchanged { IsUnchanged self.old self.new }
-        ensures bound { AtMost (walk_touches (rows_from base self.old.content.pools)) self.old.touches self.new.touches }
+        ensures read { Reads (walk_touches (rows_from base self.old.content.pools)) self.old self.new }
     {
         self.walk_with(base, &mut visit)
     }
@@ -367,10 +336,7 @@ impl Heap {
     pub fn keeps_good(&self)
         ensures good { IsGood self.now.content }
         ensures slots { HasGoodSlots self.now.content }
-        ensures aligned { HasAlignedBlocks self.now.content }
-        ensures disjoint { HasDisjointBlocks self.now.content }
-        ensures listed_once { ListsFreeBlocks self.now.content }
-        ensures listed_alone { ListsNothingElse self.now.content }
+        ensures laid_out { IsLaidOut self.now.content }
         ensures touches { ⟦<Heap as Heaped>⟧.touches self.now ≡ self.now.touches }
         ensures memory { ⟦<Heap as Heaped>⟧.lacks self.now → ⊥ }
     {

@@ -1,18 +1,18 @@
 //! malloc: the block picked is taken, whole or in part.
 
-ghost use Rattle.std.specs.Prelude.{◌≡◌, ℕ, false, ◌%◌, ◌<◌, ◌≤◌, Some, None, Ok, Err, IfSome, IfNone, IfOk, IfErr, OnErr};
+ghost use Rattle.std.specs.Prelude.{◌≡◌, ℕ, false, ◌%◌, ◌<◌, ◌≤◌, Some, None, Err, IfSome, IfNone};
 ghost use Rattle.tlsf_class.specs.Classes.{unit};
 ghost use Rattle.tlsf_store.specs.declared.records.State.TheVariants.{Free};
 ghost use Rattle.tlsf_store.specs.Records.{record_at, vacant_count};
 ghost use Rattle.tlsf_heap.specs.Touches.{AtMost, malloc_touches};
-ghost use Rattle.tlsf_heap.specs.Content.{blocks_of};
 ghost use Rattle.tlsf_heap.specs.Lists.{pick as picked};
-ghost use Rattle.tlsf_heap.specs.Malloc.{malloc as served, malloc_rounded, malloc_picked};
-ghost use Rattle.tlsf_heap.specs.GoodSlots.{slot_times};
+ghost use Rattle.tlsf_heap.specs.Malloc.{malloc as served, malloc_rounded};
+ghost use Rattle.tlsf_heap.specs.Served.{IsServed};
 ghost use Rattle.tlsf_heap.specs.Inner.Following.{Stands, content_of};
 ghost use Rattle.tlsf_heap.specs.Inner.Nodes.{Status, InUse, Listed, is_listed};
 ghost use Rattle.tlsf_heap.specs.Inner.At.{At, StandsAt, with_slot, at_turned, at_taken, at_cut, at_trimmed};
 ghost use Rattle.tlsf_heap.specs.Inner.Spans.{IsRead};
+ghost use Rattle.tlsf_heap.specs.Inner.Answers.{Answers, Leaves};
 
 use crate::chains::{split, turn};
 use crate::free_lists::{link, unlink};
@@ -29,13 +29,7 @@ use tlsf_store::{Record, Slot, State, Store};
 /// As `Heap::malloc`.
 pub(crate) fn malloc(store: &mut Store, n: u64) -> Result<Ptr, Refusal>
     requires { Stands store.old.cells }
-    ensures stands { Stands store.new.cells }
-    ensures ok { IfOk result (λ ptr. served ptr.slot n (content_of store.old.cells) ≡ Ok (ptr.place, content_of store.new.cells)) }
-    ensures slot_below { IfOk result (λ ptr. ptr.slot < (content_of store.old.cells).records) }
-    ensures slot_new { IfOk result (λ ptr. slot_times ptr.slot (blocks_of (content_of store.old.cells).pools) ≡ 0) }
-    ensures refused { IfErr result (λ refusal. (slot : ℕ) → served slot n (content_of store.old.cells) ≡ Err refusal) }
-    ensures cells { OnErr result (store.new.cells ≡ store.old.cells) }
-    ensures touches { AtMost malloc_touches store.old.touches store.new.touches }
+    ensures { Answers result (IsServed (λ slot. served slot n)) (λ refusal old. (slot : ℕ) → served slot n old ≡ Err refusal) malloc_touches store.old store.new }
 {
     if n == 0 {
         return Err(Refusal::ZeroSize);
@@ -55,13 +49,7 @@ pub(crate) fn allocate(store: &mut Store, asked: u32) -> Result<Ptr, Refusal>
     requires stands { Stands store.old.cells }
     requires whole { asked % unit ≡ 0 }
     requires some { 0 < asked }
-    ensures stands { Stands store.new.cells }
-    ensures ok { IfOk result (λ ptr. malloc_rounded ptr.slot (Some asked) (content_of store.old.cells) ≡ Ok (ptr.place, content_of store.new.cells)) }
-    ensures slot_below { IfOk result (λ ptr. ptr.slot < (content_of store.old.cells).records) }
-    ensures slot_new { IfOk result (λ ptr. slot_times ptr.slot (blocks_of (content_of store.old.cells).pools) ≡ 0) }
-    ensures refused { IfErr result (λ refusal. (slot : ℕ) → malloc_rounded slot (Some asked) (content_of store.old.cells) ≡ Err refusal) }
-    ensures cells { OnErr result (store.new.cells ≡ store.old.cells) }
-    ensures touches { AtMost malloc_touches store.old.touches store.new.touches }
+    ensures { Answers result (IsServed (λ slot. malloc_rounded slot (Some asked))) (λ refusal old. (slot : ℕ) → malloc_rounded slot (Some asked) old ≡ Err refusal) malloc_touches store.old store.new }
 {
     let Some(slot) = pick(store, asked) else {
         return Err(Refusal::NoFit);
@@ -78,8 +66,7 @@ pub(crate) fn pick(store: &mut Store, asked: u32) -> Option<Slot>
     ensures free { IfSome result (λ slot. (record_at store.old.cells.records slot).state ≡ Free) }
     ensures found { IfSome result (λ slot. picked asked (content_of store.old.cells).lists ≡ Some (record_at store.old.cells.records slot).place) }
     ensures none { IfNone result (picked asked (content_of store.old.cells).lists ≡ None) }
-    ensures cells { store.new.cells ≡ store.old.cells }
-    ensures touches { AtMost 4 store.old.touches store.new.touches }
+    ensures left { Leaves store.old.cells 4 store.old store.new }
 {
     let Some(class) = class_for(asked) else {
         return None;
@@ -98,12 +85,7 @@ fn take(store: &mut Store, slot: Slot, asked: u32) -> Result<Ptr, Refusal>
     requires some { 0 < asked }
     requires free { (record_at store.old.cells.records slot).state ≡ Free }
     requires found { picked asked (content_of store.old.cells).lists ≡ Some (record_at store.old.cells.records slot).place }
-    ensures stands { Stands store.new.cells }
-    ensures ok { IfOk result (λ ptr. malloc_picked ptr.slot asked (Some (record_at store.old.cells.records slot).place) (content_of store.old.cells) ≡ Ok (ptr.place, content_of store.new.cells)) }
-    ensures slot { IfOk result (λ ptr. ptr.slot ≡ slot) }
-    ensures refused { IfErr result (λ refusal. (owner : ℕ) → malloc_picked owner asked (Some (record_at store.old.cells.records slot).place) (content_of store.old.cells) ≡ Err refusal) }
-    ensures cells { OnErr result (store.new.cells ≡ store.old.cells) }
-    ensures touches { AtMost 19 store.old.touches store.new.touches }
+    ensures { Answers result (IsServed (λ owner. malloc_rounded owner (Some asked))) (λ refusal old. (owner : ℕ) → malloc_rounded owner (Some asked) old ≡ Err refusal) 19 store.old store.new }
 {
     let block = store.read_used(slot);
     if block.size == asked {

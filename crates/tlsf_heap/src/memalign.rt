@@ -1,19 +1,19 @@
 //! memalign: the block picked is carved, so that a live block begins at a multiple of an alignment.
 
-ghost use Rattle.std.specs.Prelude.{◌≡◌, ℕ, true, ◌+◌, ◌-◌, ◌%◌, ◌^◌, ◌<◌, ◌≤◌, Some, Ok, Err, length, IfOk, IfErr, OnErr};
+ghost use Rattle.std.specs.Prelude.{◌≡◌, ℕ, true, ◌+◌, ◌-◌, ◌%◌, ◌^◌, ◌<◌, ◌≤◌, Some, Err, length};
 ghost use Rattle.std.specs.Int.{next_multiple_of};
 ghost use Rattle.tlsf_class.specs.Classes.{unit, greatest_size};
 ghost use Rattle.tlsf_store.specs.declared.records.State.TheVariants.{Free};
 ghost use Rattle.tlsf_store.specs.Records.{blank, record_at, vacant_count};
 ghost use Rattle.tlsf_heap.specs.Touches.{AtMost, memalign_touches};
-ghost use Rattle.tlsf_heap.specs.Content.{blocks_of};
 ghost use Rattle.tlsf_heap.specs.Lists.{pick as picked};
-ghost use Rattle.tlsf_heap.specs.Memalign.{is_alignment as is_one, size_asked as asked_size, gap_records, memalign as served, memalign_picked};
-ghost use Rattle.tlsf_heap.specs.GoodSlots.{slot_times};
+ghost use Rattle.tlsf_heap.specs.Memalign.{is_alignment as is_one, size_asked as asked_size, gap_records, memalign as served, memalign_rounded};
+ghost use Rattle.tlsf_heap.specs.Served.{IsServed};
 ghost use Rattle.tlsf_heap.specs.Inner.Following.{Stands, content_of};
 ghost use Rattle.tlsf_heap.specs.Inner.Nodes.{InUse};
 ghost use Rattle.tlsf_heap.specs.Inner.At.{At, StandsAt, at_gapped};
 ghost use Rattle.tlsf_heap.specs.Inner.Spans.{IsRead};
+ghost use Rattle.tlsf_heap.specs.Inner.Answers.{Answers};
 
 use crate::chains::{set_state, split};
 use crate::free::enter;
@@ -34,13 +34,7 @@ const GREATEST_ALIGNMENT: u64 = 1 << 29;
 /// As `Heap::memalign`.
 pub(crate) fn memalign(store: &mut Store, align: u64, n: u64) -> Result<Ptr, Refusal>
     requires { Stands store.old.cells }
-    ensures stands { Stands store.new.cells }
-    ensures ok { IfOk result (λ ptr. served ptr.slot align n (content_of store.old.cells) ≡ Ok (ptr.place, content_of store.new.cells)) }
-    ensures slot_below { IfOk result (λ ptr. ptr.slot < (content_of store.old.cells).records) }
-    ensures slot_new { IfOk result (λ ptr. slot_times ptr.slot (blocks_of (content_of store.old.cells).pools) ≡ 0) }
-    ensures refused { IfErr result (λ refusal. (slot : ℕ) → served slot align n (content_of store.old.cells) ≡ Err refusal) }
-    ensures cells { OnErr result (store.new.cells ≡ store.old.cells) }
-    ensures touches { AtMost memalign_touches store.old.touches store.new.touches }
+    ensures { Answers result (IsServed (λ slot. served slot align n)) (λ refusal old. (slot : ℕ) → served slot align n old ≡ Err refusal) memalign_touches store.old store.new }
 {
     if !is_alignment(align) {
         return Err(Refusal::BadAlign);
@@ -71,13 +65,7 @@ fn carve(store: &mut Store, slot: Slot, align: u32, asked: u32) -> Result<Ptr, R
     requires some { 0 < asked }
     requires free { (record_at store.old.cells.records slot).state ≡ Free }
     requires found { picked (asked_size align asked) (content_of store.old.cells).lists ≡ Some (record_at store.old.cells.records slot).place }
-    ensures stands { Stands store.new.cells }
-    ensures ok { IfOk result (λ ptr. memalign_picked ptr.slot align asked (Some (record_at store.old.cells.records slot).place) (content_of store.old.cells) ≡ Ok (ptr.place, content_of store.new.cells)) }
-    ensures slot_below { IfOk result (λ ptr. ptr.slot < (content_of store.old.cells).records) }
-    ensures slot_new { IfOk result (λ ptr. slot_times ptr.slot (blocks_of (content_of store.old.cells).pools) ≡ 0) }
-    ensures refused { IfErr result (λ refusal. (owner : ℕ) → memalign_picked owner align asked (Some (record_at store.old.cells.records slot).place) (content_of store.old.cells) ≡ Err refusal) }
-    ensures cells { OnErr result (store.new.cells ≡ store.old.cells) }
-    ensures touches { AtMost 38 store.old.touches store.new.touches }
+    ensures { Answers result (IsServed (λ owner. memalign_rounded owner align (Some asked))) (λ refusal old. (owner : ℕ) → memalign_rounded owner align (Some asked) old ≡ Err refusal) 38 store.old store.new }
 {
     let block = store.read_used(slot);
     let start = start_of(block.place, align);

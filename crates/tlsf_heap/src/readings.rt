@@ -1,14 +1,16 @@
 //! Readings: the first row of a pool, and the rows behind it.
 
-ghost use Rattle.std.specs.Prelude.{◌≡◌, ◌==◌, ◌+◌, ◌-◌, ◌<◌, ◌≤◌, [], ◌∷◌, Ok, Err, IfOk, IfErr, IfSome, IfNone};
+ghost use Rattle.std.specs.Prelude.{◌≡◌, ◌+◌, ◌-◌, ◌<◌, ◌≤◌, Ok, Err, IfOk, IfErr};
 ghost use Rattle.tlsf_store.specs.Cells.{most_pools};
-ghost use Rattle.tlsf_heap.specs.Touches.{AtMost, block_size_touches};
+ghost use Rattle.tlsf_heap.specs.Touches.{block_size_touches};
 ghost use Rattle.tlsf_heap.specs.Inner.Following.{Stands, content_of};
 ghost use Rattle.tlsf_heap.specs.Inner.Entries.{entries_of};
 ghost use Rattle.tlsf_heap.specs.Rows.{rows_from};
-ghost use Rattle.tlsf_heap.specs.BlockSize.{block_size as sized};
-ghost use Rattle.tlsf_heap.specs.Cursors.{rows_by, rest_of, stands_at, slot_for, begins_below, slot_if, AreInOrder, IsNarrowed};
+ghost use Rattle.tlsf_heap.specs.Pointer.{block_size_ptr};
+ghost use Rattle.tlsf_heap.specs.Readings.{FindsRows, GivesRow, TouchesForRow};
+ghost use Rattle.tlsf_heap.specs.Cursors.{rows_by, rows_behind, is_at_row, slot_for, begins_below, slot_if, AreInOrder, IsNarrowed};
 ghost use Rattle.tlsf_heap.specs.Inner.States.{is_state_live};
+ghost use Rattle.tlsf_heap.specs.Inner.Answers.{Leaves, LeavesAfter};
 
 use crate::free::live;
 use crate::{Cursor, Ptr, Refusal, Row};
@@ -24,11 +26,8 @@ const HALF: u32 = MOST_POOLS as u32 / 2;
 /// `NoPool` where no pool begins there.
 pub(crate) fn first(store: &mut Store, base: u64) -> Result<Cursor, Refusal>
     requires { Stands store.old.cells }
-    ensures ok { IfOk result (λ cursor. rows_from base (content_of store.old.cells).pools ≡ Ok (rest_of (rows_by store.old.cells.records) cursor.next)) }
-    ensures stands { IfOk result (λ cursor. stands_at (rows_by store.old.cells.records) cursor.next) }
-    ensures refused { IfErr result (λ refusal. rows_from base (content_of store.old.cells).pools ≡ Err refusal) }
-    ensures cells { store.new.cells ≡ store.old.cells }
-    ensures touches { store.new.touches ≡ store.old.touches + 4 }
+    ensures found { FindsRows result (rows_from base (content_of store.old.cells).pools) (rows_behind (rows_by store.old.cells.records)) (is_at_row (rows_by store.old.cells.records)) }
+    ensures left { LeavesAfter store.old.cells 4 store.old store.new }
 {
     match find(store, base) {
         Some(slot) => Ok(Cursor {
@@ -42,8 +41,7 @@ pub(crate) fn first(store: &mut Store, base: u64) -> Result<Cursor, Refusal>
 fn find(store: &mut Store, base: u64) -> Option<Slot>
     requires { Stands store.old.cells }
     ensures value { result ≡ slot_for base (entries_of store.old.cells.pools) }
-    ensures cells { store.new.cells ≡ store.old.cells }
-    ensures touches { store.new.touches ≡ store.old.touches + 4 }
+    ensures left { LeavesAfter store.old.cells 4 store.old store.new }
 {
     let place = skip(store, base, 0, HALF);
     let place = skip(store, base, place, HALF / 2);
@@ -59,8 +57,7 @@ fn skip(store: &mut Store, base: u64, place: u32, width: u32) -> u32
     requires narrowed { IsNarrowed base store.old.cells.pools place (place + width + width - 1) }
     ensures narrowed { IsNarrowed base store.old.cells.pools result (result + width - 1) }
     ensures within { result + width ≤ place + width + width }
-    ensures cells { store.new.cells ≡ store.old.cells }
-    ensures touches { store.new.touches ≡ store.old.touches + 1 }
+    ensures left { LeavesAfter store.old.cells 1 store.old store.new }
 {
     if is_below(store.pool(place + width - 1), base) {
         place + width
@@ -99,13 +96,10 @@ fn first_if(pool: Option<Pool>, base: u64) -> Option<Slot>
 /// row.
 pub(crate) fn row(store: &mut Store, cursor: Cursor) -> Option<(Row, Cursor)>
     requires stands { Stands store.old.cells }
-    requires there { stands_at (rows_by store.old.cells.records) cursor.next }
-    ensures some { IfSome result (λ given. rest_of (rows_by store.old.cells.records) cursor.next ≡ given.0 ∷ rest_of (rows_by store.old.cells.records) given.1.next) }
-    ensures next_stands { IfSome result (λ given. stands_at (rows_by store.old.cells.records) given.1.next) }
-    ensures none { IfNone result (rest_of (rows_by store.old.cells.records) cursor.next ≡ []) }
+    requires there { is_at_row (rows_by store.old.cells.records) cursor }
+    ensures given { GivesRow result (rows_behind (rows_by store.old.cells.records) cursor) (rows_behind (rows_by store.old.cells.records)) (is_at_row (rows_by store.old.cells.records)) }
     ensures cells { store.new.cells ≡ store.old.cells }
-    ensures touches { AtMost 1 store.old.touches store.new.touches }
-    ensures no_touch { IfNone result (store.new.touches ≡ store.old.touches) }
+    ensures touched { TouchesForRow 1 result store.old.touches store.new.touches }
 {
     let Some(next) = cursor.next else {
         return None;
@@ -152,10 +146,9 @@ fn number_of(slot: Option<Slot>) -> Option<u32>
 /// `BadPointer` unless a live block has both the pointer's place and its slot.
 pub(crate) fn block_size(store: &mut Store, ptr: Ptr) -> Result<u32, Refusal>
     requires { Stands store.old.cells }
-    ensures ok { IfOk result (λ bytes. sized (λ slot. slot == ptr.slot) ptr.place (content_of store.old.cells) ≡ Ok bytes) }
-    ensures refused { IfErr result (λ refusal. sized (λ slot. slot == ptr.slot) ptr.place (content_of store.old.cells) ≡ Err refusal) }
-    ensures cells { store.new.cells ≡ store.old.cells }
-    ensures touches { AtMost block_size_touches store.old.touches store.new.touches }
+    ensures ok { IfOk result (λ bytes. block_size_ptr ptr (content_of store.old.cells) ≡ Ok bytes) }
+    ensures refused { IfErr result (λ refusal. block_size_ptr ptr (content_of store.old.cells) ≡ Err refusal) }
+    ensures left { Leaves store.old.cells block_size_touches store.old store.new }
 {
     let Some(block) = live(store, ptr) else {
         return Err(Refusal::BadPointer);

@@ -1,19 +1,20 @@
 //! realloc: the block gets another size in its place, or moves.
 
-ghost use Rattle.std.specs.Prelude.{◌≡◌, ◌≢◌, ℕ, true, false, ◌+◌, ◌%◌, ◌<◌, ◌≤◌, ◌==◌, Some, None, Ok, Err, IfOk, IfErr, IfSome, OnErr, option_map};
+ghost use Rattle.std.specs.Prelude.{◌≡◌, ◌≢◌, ℕ, true, ◌%◌, ◌<◌, ◌==◌, Some, None, Err, option_map};
 ghost use Rattle.tlsf_class.specs.Classes.{unit, greatest_size};
 ghost use Rattle.tlsf_heap.specs.Touches.{AtMost, realloc_touches};
 ghost use Rattle.tlsf_heap.specs.Content.{blocks_of, size_at};
 ghost use Rattle.tlsf_heap.specs.Free.{is_live as is_live_in};
-ghost use Rattle.tlsf_heap.specs.Realloc.{fits_in_place as fits, resized, moved, realloc as reallocated, realloc_sized};
+ghost use Rattle.tlsf_heap.specs.Realloc.{fits_in_place as fits, resized, moved, realloc_sized};
 ghost use Rattle.tlsf_heap.specs.Malloc.{malloc_rounded};
-ghost use Rattle.tlsf_heap.specs.Pointer.{place_and_slot, slot_of};
-ghost use Rattle.tlsf_heap.specs.GoodSlots.{slot_times};
+ghost use Rattle.tlsf_heap.specs.Pointer.{realloc_ptr};
+ghost use Rattle.tlsf_heap.specs.Served.{IsMoved};
 ghost use Rattle.tlsf_heap.specs.Inner.Following.{Stands, content_of};
 ghost use Rattle.tlsf_heap.specs.Inner.Nodes.{InUse};
 ghost use Rattle.tlsf_heap.specs.Inner.Joined.{listed_first};
 ghost use Rattle.tlsf_heap.specs.Inner.At.{At, StandsAt};
 ghost use Rattle.tlsf_heap.specs.Inner.Spans.{IsRead};
+ghost use Rattle.tlsf_heap.specs.Inner.Answers.{Answers, Leaves};
 
 use crate::free::{free, is_free, join_next, live, release};
 use crate::malloc::{allocate, malloc, trim};
@@ -29,13 +30,7 @@ use tlsf_store::{Slot, State, Store};
 /// As `Heap::realloc`.
 pub(crate) fn realloc(store: &mut Store, ptr: Option<Ptr>, n: u64) -> Result<Option<Ptr>, Refusal>
     requires { Stands store.old.cells }
-    ensures stands { Stands store.new.cells }
-    ensures ok { IfOk result (λ given. reallocated (λ a b. a == b) (slot_of given) (place_and_slot ptr) n (content_of store.old.cells) ≡ Ok (place_and_slot given, content_of store.new.cells)) }
-    ensures slot_below { IfOk result (λ given. IfSome given (λ p. p.slot < (content_of store.old.cells).records)) }
-    ensures slot_new { IfOk result (λ given. IfSome given (λ p. ptr ≢ Some p → slot_times p.slot (blocks_of (content_of store.old.cells).pools) ≡ 0)) }
-    ensures refused { IfErr result (λ refusal. (owner : ℕ) → reallocated (λ a b. a == b) owner (place_and_slot ptr) n (content_of store.old.cells) ≡ Err refusal) }
-    ensures cells { OnErr result (store.new.cells ≡ store.old.cells) }
-    ensures touches { AtMost realloc_touches store.old.touches store.new.touches }
+    ensures { Answers result (IsMoved (realloc_ptr ptr n) ptr) (λ refusal old. (owner : ℕ) → realloc_ptr ptr n owner old ≡ Err refusal) realloc_touches store.old store.new }
 {
     match ptr {
         Some(ptr) => reallocate(store, ptr, n),
@@ -54,13 +49,7 @@ pub(crate) fn realloc(store: &mut Store, ptr: Option<Ptr>, n: u64) -> Result<Opt
 /// As `Heap::realloc`.
 fn reallocate(store: &mut Store, ptr: Ptr, n: u64) -> Result<Option<Ptr>, Refusal>
     requires { Stands store.old.cells }
-    ensures stands { Stands store.new.cells }
-    ensures ok { IfOk result (λ given. reallocated (λ a b. a == b) (slot_of given) (Some (ptr.place, ptr.slot)) n (content_of store.old.cells) ≡ Ok (place_and_slot given, content_of store.new.cells)) }
-    ensures slot_below { IfOk result (λ given. IfSome given (λ p. p.slot < (content_of store.old.cells).records)) }
-    ensures slot_new { IfOk result (λ given. IfSome given (λ p. ptr ≢ p → slot_times p.slot (blocks_of (content_of store.old.cells).pools) ≡ 0)) }
-    ensures refused { IfErr result (λ refusal. (owner : ℕ) → reallocated (λ a b. a == b) owner (Some (ptr.place, ptr.slot)) n (content_of store.old.cells) ≡ Err refusal) }
-    ensures cells { OnErr result (store.new.cells ≡ store.old.cells) }
-    ensures touches { AtMost realloc_touches store.old.touches store.new.touches }
+    ensures { Answers result (IsMoved (realloc_ptr (Some ptr) n) (Some ptr)) (λ refusal old. (owner : ℕ) → realloc_ptr (Some ptr) n owner old ≡ Err refusal) realloc_touches store.old store.new }
 {
     if n == 0 {
         return match free(store, ptr) {
@@ -94,13 +83,7 @@ fn resize(store: &mut Store, ptr: Ptr, block: Span, asked: u32) -> Result<Ptr, R
     requires read { IsRead block store.old.cells.records }
     requires some { 0 < asked }
     requires whole { asked % unit ≡ 0 }
-    ensures stands { Stands store.new.cells }
-    ensures ok { IfOk result (λ given. realloc_sized given.slot ptr.place ptr.slot asked (content_of store.old.cells) ≡ Ok (Some (given.place, given.slot), content_of store.new.cells)) }
-    ensures slot_below { IfOk result (λ given. given.slot < (content_of store.old.cells).records) }
-    ensures slot_new { IfOk result (λ given. ptr ≢ given → slot_times given.slot (blocks_of (content_of store.old.cells).pools) ≡ 0) }
-    ensures refused { IfErr result (λ refusal. (owner : ℕ) → realloc_sized owner ptr.place ptr.slot asked (content_of store.old.cells) ≡ Err refusal) }
-    ensures cells { OnErr result (store.new.cells ≡ store.old.cells) }
-    ensures touches { AtMost 57 store.old.touches store.new.touches }
+    ensures { Answers result (λ given. IsMoved (λ slot. realloc_sized slot ptr.place ptr.slot asked) (Some ptr) (Some given)) (λ refusal old. (owner : ℕ) → realloc_sized owner ptr.place ptr.slot asked old ≡ Err refusal) 57 store.old store.new }
 {
     if asked == block.size {
         return Ok(ptr);
@@ -121,8 +104,7 @@ fn fits_in_place(store: &mut Store, block: &Span, asked: u32) -> bool
     requires live { is_live_in (λ slot. slot == block.now.slot) block.now.place (blocks_of (content_of store.old.cells).pools) ≡ true }
     requires read { IsRead block.now store.old.cells.records }
     ensures value { result ≡ fits block.now.place asked (content_of store.old.cells) }
-    ensures cells { store.new.cells ≡ store.old.cells }
-    ensures touches { AtMost 2 store.old.touches store.new.touches }
+    ensures left { Leaves store.old.cells 2 store.old store.new }
 {
     let behind = free_behind(store, block);
     if block.size <= asked {
@@ -136,8 +118,7 @@ fn free_behind(store: &mut Store, block: &Span) -> Option<u32>
     requires stands { (at : At) × StandsAt block.now.slot InUse store.old.cells at }
     requires read { IsRead block.now store.old.cells.records }
     ensures value { (at : At) → StandsAt block.now.slot InUse store.old.cells at → result ≡ option_map (λ node. node.size) (listed_first at.nodes) }
-    ensures cells { store.new.cells ≡ store.old.cells }
-    ensures touches { AtMost 1 store.old.touches store.new.touches }
+    ensures left { Leaves store.old.cells 1 store.old store.new }
 {
     let Some(next_slot) = block.next else {
         return None;
@@ -177,13 +158,7 @@ fn relocate(store: &mut Store, ptr: Ptr, asked: u32) -> Result<Ptr, Refusal>
     requires live { is_live_in (λ slot. slot == ptr.slot) ptr.place (blocks_of (content_of store.old.cells).pools) ≡ true }
     requires some { 0 < asked }
     requires whole { asked % unit ≡ 0 }
-    ensures stands { Stands store.new.cells }
-    ensures ok { IfOk result (λ given. moved given.slot ptr.place (malloc_rounded given.slot (Some asked) (content_of store.old.cells)) ≡ Ok (Some (given.place, given.slot), content_of store.new.cells)) }
-    ensures slot_below { IfOk result (λ given. given.slot < (content_of store.old.cells).records) }
-    ensures slot_new { IfOk result (λ given. slot_times given.slot (blocks_of (content_of store.old.cells).pools) ≡ 0) }
-    ensures refused { IfErr result (λ refusal. (owner : ℕ) → moved owner ptr.place (malloc_rounded owner (Some asked) (content_of store.old.cells)) ≡ Err refusal) }
-    ensures cells { OnErr result (store.new.cells ≡ store.old.cells) }
-    ensures touches { AtMost 55 store.old.touches store.new.touches }
+    ensures { Answers result (λ given. IsMoved (λ slot old. moved slot ptr.place (malloc_rounded slot (Some asked) old)) (Some ptr) (Some given)) (λ refusal old. (owner : ℕ) → moved owner ptr.place (malloc_rounded owner (Some asked) old) ≡ Err refusal) 55 store.old store.new }
 {
     match allocate(store, asked) {
         Ok(given) => {

@@ -1,6 +1,6 @@
 //! remove_pool: a pool that is one free block leaves.
 
-ghost use Rattle.std.specs.Prelude.{◌≡◌, ◌%◌, ◌<◌, ◌≤◌, ◌&&◌, [], length, is_none, All, Ok, Err, OnOk, OnErr, IfErr};
+ghost use Rattle.std.specs.Prelude.{◌≡◌, ◌%◌, ◌<◌, ◌≤◌, ◌&&◌, [], length, is_none, All, Ok, Err};
 ghost use Rattle.tlsf_class.specs.Classes.{unit};
 ghost use Rattle.tlsf_store.specs.Cells.{most_pools};
 ghost use Rattle.tlsf_store.specs.Records.{record_at};
@@ -12,7 +12,8 @@ ghost use Rattle.tlsf_heap.specs.Inner.Positions.{plug};
 ghost use Rattle.tlsf_heap.specs.Inner.Entering.{entries_in};
 ghost use Rattle.tlsf_heap.specs.Inner.Represents.{Represents};
 ghost use Rattle.tlsf_heap.specs.Inner.At.{At, StandsAt, without_area};
-ghost use Rattle.tlsf_heap.specs.Inner.Following.{Stands, content_of};
+ghost use Rattle.tlsf_heap.specs.Inner.Following.{Stands};
+ghost use Rattle.tlsf_heap.specs.Inner.Answers.{Answers};
 
 use crate::Refusal;
 use crate::entries::{entries, number_of, set_entries};
@@ -28,11 +29,7 @@ use tlsf_store::{Record, Slot, Store};
 /// As `Heap::remove_pool`.
 pub(crate) fn remove_pool(store: &mut Store, base: u64) -> Result<(), Refusal>
     requires { Stands store.old.cells }
-    ensures stands { Stands store.new.cells }
-    ensures ok { OnOk result (removed base (content_of store.old.cells) ≡ Ok (content_of store.new.cells)) }
-    ensures refused { IfErr result (λ refusal. removed base (content_of store.old.cells) ≡ Err refusal) }
-    ensures cells { OnErr result (store.new.cells ≡ store.old.cells) }
-    ensures touches { AtMost remove_pool_touches store.old.touches store.new.touches }
+    ensures { Answers result (λ done old new. removed base old ≡ Ok new) (λ refusal old. removed base old ≡ Err refusal) remove_pool_touches store.old store.new }
 {
     let mut entries = entries(store);
     let Some(number) = number_of(entries.as_slice(), base) else {

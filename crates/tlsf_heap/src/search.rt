@@ -2,9 +2,9 @@
 
 ghost use Rattle.std.specs.Prelude.{◌≡◌, ◌+◌, ◌*◌, ◌≤◌, length, drop, IfSome, IfNone};
 ghost use Rattle.tlsf_class.specs.Classes.{steps, levels, classes};
-ghost use Rattle.tlsf_heap.specs.Touches.{AtMost};
 ghost use Rattle.tlsf_heap.specs.Images.Bitmaps.{AreBitmapsOf};
 ghost use Rattle.tlsf_heap.specs.Inner.Bitmaps.{HasNoBit, IsLowestFrom, first_head};
+ghost use Rattle.tlsf_heap.specs.Inner.Answers.{Leaves};
 
 use tlsf_class::{Class, STEPS};
 use tlsf_store::{Slot, Store};
@@ -29,8 +29,7 @@ pub(crate) fn search(store: &mut Store, class: Class) -> Option<Slot>
     requires bitmaps { AreBitmapsOf store.old.cells.heads store.old.cells.step_words store.old.cells.level_word }
     requires count { length store.old.cells.heads ≡ classes }
     ensures value { result ≡ first_head (drop class store.old.cells.heads) }
-    ensures cells { store.new.cells ≡ store.old.cells }
-    ensures touches { AtMost 4 store.old.touches store.new.touches }
+    ensures left { Leaves store.old.cells 4 store.old store.new }
 {
     let level = class.number() / STEPS;
     let word = store.step_word(level);
@@ -47,8 +46,7 @@ fn search_levels(store: &mut Store, from: u32) -> Option<Slot>
     requires bitmaps { AreBitmapsOf store.old.cells.heads store.old.cells.step_words store.old.cells.level_word }
     requires count { length store.old.cells.heads ≡ classes }
     ensures value { result ≡ first_head (drop (from * steps) store.old.cells.heads) }
-    ensures cells { store.new.cells ≡ store.old.cells }
-    ensures touches { AtMost 3 store.old.touches store.new.touches }
+    ensures left { Leaves store.old.cells 3 store.old store.new }
 {
     let word = store.level_word();
     let Some(level) = lowest_from(word, from) else {

@@ -53,7 +53,7 @@ run_of_requests = (
   (
     one_block,
     5,
-    record { served = refl; slot_below = lit< tt; slot_new = refl },
+    record { ok = refl; slot_below = lit< tt; slot_new = refl },
     lit≤ tt,
     lit≤ tt,
     (
@@ -65,7 +65,7 @@ run_of_requests = (
       (
         two_blocks,
         5,
-        record { served = refl; slot_below = lit< tt; slot_new = refl },
+        record { ok = refl; slot_below = lit< tt; slot_new = refl },
         lit≤ tt,
         lit≤ tt,
         (
@@ -83,7 +83,7 @@ run_of_requests = (
             (
               three_blocks,
               5,
-              record { served = refl; slot_below = lit< tt; slot_new = refl },
+              record { ok = refl; slot_below = lit< tt; slot_new = refl },
               lit≤ tt,
               lit≤ tt,
               (refl, refl),

@@ -7,6 +7,7 @@ use Rattle.tlsf_store.specs.declared.records.Record.{Record}
 use Rattle.tlsf_store.specs.Records.{blank, record_at}
 use Rattle.tlsf_store.specs.Cells.{Cells, with_record}
 use Rattle.tlsf_heap.specs.declared.span.Span.{Span}
+use Rattle.tlsf_heap.specs.Pointer.{Pointer}
 use Rattle.tlsf_heap.specs.Inner.Edits.{edited, IsUsed, unlinked_by}
 use Rattle.tlsf_heap.specs.Inner.Chains.{with_prev}
 use Rattle.tlsf_heap.specs.Inner.Represents.{first_slot}
@@ -23,7 +24,13 @@ pub record IsRead (span : Span) (records : List Record) : Type 0 where
   pub next : span.next ≡ (record_at records span.slot).next
   pub in_units : span.place % unit ≡ 0
 
--- the same by the node
+-- the record that the pointer's slot has, of a block that begins at the pointer's place, a multiple of the unit
+pub record IsRecordOf (block : Record) (pointer : Pointer) (records : List Record) : Type 0 where
+  pub read : block ≡ record_at records pointer.slot
+  pub place : block.place ≡ pointer.place
+  pub in_units : block.place % unit ≡ 0
+
+-- what is known of the block by the node
 pub record IsSpanOf (span : Span) (at : At) : Type 0 where
   pub slot : span.slot ≡ at.node.slot
   pub place : span.place ≡ at.node.place

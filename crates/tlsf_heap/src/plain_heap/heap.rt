@@ -33,11 +33,9 @@ impl Model for PlainHeap {
 }
 
 impl PlainHeap {
-    ghost use Rattle.std.specs.Prelude.{◌≡◌, ◌≢◌, ℕ, ◌<◌, ◌==◌, Some, Ok, Err, IfOk, IfErr, IfSome, OnErr};
-    ghost use Rattle.tlsf_heap.specs.Content.{blocks_of};
-    ghost use Rattle.tlsf_heap.specs.GoodSlots.{slot_times};
-    ghost use Rattle.tlsf_heap.specs.Pointer.{place_and_slot, slot_of};
-    ghost use Rattle.tlsf_heap.specs.Realloc.{realloc as reallocated};
+    ghost use Rattle.std.specs.Prelude.{◌≡◌, ◌≢◌, ℕ, Some, Err, IfOk, IfErr, OnErr};
+    ghost use Rattle.tlsf_heap.specs.Pointer.{realloc_ptr};
+    ghost use Rattle.tlsf_heap.specs.Served.{IsMoved};
 
     /// The block with another size; none where no byte is asked for, for then it is freed.
     ///
@@ -45,10 +43,8 @@ impl PlainHeap {
     ///
     /// As `Heaped::realloc`.
     fn reallocate(&mut self, ptr: Ptr, n: u64) -> Result<Option<Ptr>, Refusal>
-        ensures ok { IfOk result (λ given. reallocated (λ a b. a == b) (slot_of given) (Some (ptr.place, ptr.slot)) n self.old ≡ Ok (place_and_slot given, self.new)) }
-        ensures slot_below { IfOk result (λ given. IfSome given (λ p. p.slot < self.old.records)) }
-        ensures slot_new { IfOk result (λ given. IfSome given (λ p. ptr ≢ p → slot_times p.slot (blocks_of self.old.pools) ≡ 0)) }
-        ensures refused { IfErr result (λ refusal. refusal ≢ Refusal.OutOfMemory → (slot : ℕ) → reallocated (λ a b. a == b) slot (Some (ptr.place, ptr.slot)) n self.old ≡ Err refusal) }
+        ensures ok { IfOk result (λ given. IsMoved (realloc_ptr (Some ptr) n) (Some ptr) given self.old self.new) }
+        ensures refused { IfErr result (λ refusal. refusal ≢ Refusal.OutOfMemory → (slot : ℕ) → realloc_ptr (Some ptr) n slot self.old ≡ Err refusal) }
         ensures unchanged { OnErr result (self.new ≡ self.old) }
     {
         if !self.content.is_live(ptr.place(), ptr.slot()) {

@@ -1,10 +1,9 @@
 //! malloc on plain lists.
 
-ghost use Rattle.std.specs.Prelude.{◌≡◌, ◌≢◌, ℕ, ◌%◌, ◌<◌, Some, Ok, Err, IfOk, IfErr};
+ghost use Rattle.std.specs.Prelude.{◌≡◌, ◌≢◌, ℕ, ◌%◌, ◌<◌, Some, Err, IfOk, IfErr};
 ghost use Rattle.tlsf_class.specs.Classes.{unit};
-ghost use Rattle.tlsf_heap.specs.Content.{blocks_of};
 ghost use Rattle.tlsf_heap.specs.Malloc.{malloc_rounded};
-ghost use Rattle.tlsf_heap.specs.GoodSlots.{slot_times};
+ghost use Rattle.tlsf_heap.specs.Served.{IsServed};
 ghost use Rattle.tlsf_heap.specs.PlainHeap.{IsPlain};
 
 use super::block::Block;
@@ -22,9 +21,7 @@ pub fn allocate(content: &Content, asked: u32) -> Result<(Content, Ptr), Refusal
     requires whole { asked % unit ≡ 0 }
     requires some { 0 < asked }
     ensures plain { IfOk result (λ given. IsPlain given.0) }
-    ensures ok { IfOk result (λ given. malloc_rounded given.1.slot (Some asked) content.now ≡ Ok (given.1.place, given.0)) }
-    ensures slot_below { IfOk result (λ given. given.1.slot < content.now.records) }
-    ensures slot_new { IfOk result (λ given. slot_times given.1.slot (blocks_of content.now.pools) ≡ 0) }
+    ensures ok { IfOk result (λ given. IsServed (λ slot. malloc_rounded slot (Some asked)) given.1 content.now given.0) }
     ensures refused { IfErr result (λ refusal. refusal ≢ Refusal.OutOfMemory → (slot : ℕ) → malloc_rounded slot (Some asked) content.now ≡ Err refusal) }
 {
     let place = content.pick(asked).ok_or(Refusal::NoFit)?;

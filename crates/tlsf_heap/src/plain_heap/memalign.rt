@@ -1,10 +1,9 @@
 //! memalign on plain lists.
 
-ghost use Rattle.std.specs.Prelude.{◌≡◌, ◌≢◌, ℕ, true, ◌%◌, ◌<◌, ◌≤◌, Some, Ok, Err, IfOk, IfErr};
+ghost use Rattle.std.specs.Prelude.{◌≡◌, ◌≢◌, ℕ, true, ◌%◌, ◌<◌, ◌≤◌, Some, Err, IfOk, IfErr};
 ghost use Rattle.tlsf_class.specs.Classes.{unit, greatest_size};
-ghost use Rattle.tlsf_heap.specs.Content.{blocks_of};
 ghost use Rattle.tlsf_heap.specs.Memalign.{is_alignment as is_one, memalign_rounded};
-ghost use Rattle.tlsf_heap.specs.GoodSlots.{slot_times};
+ghost use Rattle.tlsf_heap.specs.Served.{IsServed};
 ghost use Rattle.tlsf_heap.specs.PlainHeap.{IsPlain};
 
 use super::block::Block;
@@ -26,9 +25,7 @@ pub fn carve(content: &Content, align: u32, asked: u32) -> Result<(Content, Ptr)
     requires some { 0 < asked }
     requires most { asked ≤ greatest_size }
     ensures plain { IfOk result (λ given. IsPlain given.0) }
-    ensures ok { IfOk result (λ given. memalign_rounded given.1.slot align (Some asked) content.now ≡ Ok (given.1.place, given.0)) }
-    ensures slot_below { IfOk result (λ given. given.1.slot < content.now.records) }
-    ensures slot_new { IfOk result (λ given. slot_times given.1.slot (blocks_of content.now.pools) ≡ 0) }
+    ensures ok { IfOk result (λ given. IsServed (λ slot. memalign_rounded slot align (Some asked)) given.1 content.now given.0) }
     ensures refused { IfErr result (λ refusal. refusal ≢ Refusal.OutOfMemory → (slot : ℕ) → memalign_rounded slot align (Some asked) content.now ≡ Err refusal) }
 {
     let place = content

@@ -1,12 +1,12 @@
 //! realloc on plain lists.
 
-ghost use Rattle.std.specs.Prelude.{◌≡◌, ◌≢◌, ℕ, ◌==◌, ◌%◌, ◌<◌, true, Some, Ok, Err, IfOk, IfErr};
+ghost use Rattle.std.specs.Prelude.{◌≡◌, ◌≢◌, ℕ, ◌==◌, ◌%◌, ◌<◌, true, Some, Err, IfOk, IfErr};
 ghost use Rattle.tlsf_class.specs.Classes.{unit};
 ghost use Rattle.tlsf_heap.specs.Content.{blocks_of, size_at};
 ghost use Rattle.tlsf_heap.specs.Free.{is_live};
 ghost use Rattle.tlsf_heap.specs.Realloc.{fits_in_place as fits, resized as resized_so, moved, realloc_sized};
 ghost use Rattle.tlsf_heap.specs.Malloc.{malloc_rounded};
-ghost use Rattle.tlsf_heap.specs.GoodSlots.{slot_times};
+ghost use Rattle.tlsf_heap.specs.Served.{IsMoved};
 ghost use Rattle.tlsf_heap.specs.PlainHeap.{IsPlain};
 
 use super::block::Block;
@@ -70,9 +70,7 @@ pub fn resize(content: &Content, ptr: Ptr, asked: u32) -> Result<(Content, Ptr),
     requires whole { asked % unit ≡ 0 }
     requires some { 0 < asked }
     ensures plain { IfOk result (λ given. IsPlain given.0) }
-    ensures ok { IfOk result (λ given. realloc_sized given.1.slot ptr.place ptr.slot asked content.now ≡ Ok (Some (given.1.place, given.1.slot), given.0)) }
-    ensures slot_below { IfOk result (λ given. given.1.slot < content.now.records) }
-    ensures slot_new { IfOk result (λ given. ptr ≢ given.1 → slot_times given.1.slot (blocks_of content.now.pools) ≡ 0) }
+    ensures ok { IfOk result (λ given. IsMoved (λ slot. realloc_sized slot ptr.place ptr.slot asked) (Some ptr) (Some given.1) content.now given.0) }
     ensures refused { IfErr result (λ refusal. refusal ≢ Refusal.OutOfMemory → (slot : ℕ) → realloc_sized slot ptr.place ptr.slot asked content.now ≡ Err refusal) }
 {
     let size = content.size_at(ptr.place());
@@ -99,9 +97,7 @@ fn relocate(content: &Content, ptr: Ptr, asked: u32) -> Result<(Content, Ptr), R
     requires whole { asked % unit ≡ 0 }
     requires some { 0 < asked }
     ensures plain { IfOk result (λ given. IsPlain given.0) }
-    ensures ok { IfOk result (λ given. moved given.1.slot ptr.place (malloc_rounded given.1.slot (Some asked) content.now) ≡ Ok (Some (given.1.place, given.1.slot), given.0)) }
-    ensures slot_below { IfOk result (λ given. given.1.slot < content.now.records) }
-    ensures slot_new { IfOk result (λ given. slot_times given.1.slot (blocks_of content.now.pools) ≡ 0) }
+    ensures ok { IfOk result (λ given. IsMoved (λ slot old. moved slot ptr.place (malloc_rounded slot (Some asked) old)) (Some ptr) (Some given.1) content.now given.0) }
     ensures refused { IfErr result (λ refusal. refusal ≢ Refusal.OutOfMemory → (slot : ℕ) → moved slot ptr.place (malloc_rounded slot (Some asked) content.now) ≡ Err refusal) }
 {
     let (next, new) = allocate(content, asked)?;

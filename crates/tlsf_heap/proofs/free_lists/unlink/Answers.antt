@@ -1,4 +1,4 @@
-use Rattle.std.proofs.Common.{◌≡◌, ℕ, Option, Some, None, IfSome, IfNone, arith}
+use Rattle.std.proofs.Common.{rules, ◌≡◌, ℕ, Option, Some, None, IfSome, IfNone, arith}
 use Rattle.tlsf_heap.specs.Touches.{AtMost}
 use Rattle.tlsf_heap.proofs.free_lists.unlink.Goals as goal
 
@@ -13,6 +13,8 @@ unlink_touches (Some slot) a b c back idle behind few = record {
   bound = omega (arith, back.bound, few.bound);
 }
 
-pub returns-clause-touches : goal.returns-clause-touches
-returns-clause-touches c =
-    unlink_touches c.args.block.now.next_free _ _ _ c.set_in_back.ensures.touches c.set_in_back.ensures.idle c.set_behind.ensures.touches c.set_behind.ensures.few
+pub returns : goal.returns
+returns c = record {
+  cells = search rules;
+  touches = unlink_touches c.args.block.now.next_free _ _ _ c.set_in_back.ensures.left.touches c.set_in_back.ensures.idle c.set_behind.ensures.left.touches c.set_behind.ensures.few;
+}

@@ -1,17 +1,20 @@
-use Rattle.std.proofs.Common.{◌≡◌, ◌≢◌, ℕ, ◌<◌, length, sym, ap, ◌∙◌, arith, Option, Some, Ok}
+use Rattle.std.proofs.Common.{rules, ◌≡◌, ◌≢◌, ℕ, ◌<◌, length, sym, ap, ◌∙◌, arith, Option, Some, Ok, Result}
 use Rattle.tlsf_store.specs.declared.records.Record.{Record}
 use Rattle.tlsf_store.specs.declared.records.State.TheVariants.{Free}
 use Rattle.tlsf_store.specs.Records.{blank, record_at}
 use Rattle.tlsf_store.specs.Cells.{Cells, with_taken}
 use Rattle.tlsf_store.proofs.RecordLaws.{record_at-set_other}
-use Rattle.tlsf_heap.specs.Malloc.{malloc_picked}
+use Rattle.tlsf_heap.specs.declared.refusal.Refusal.{Refusal}
+use Rattle.tlsf_heap.specs.Content.{Content}
+use Rattle.tlsf_heap.specs.Lists.{pick}
+use Rattle.tlsf_heap.specs.Malloc.{malloc_picked, malloc_rounded}
 use Rattle.tlsf_heap.specs.Inner.Nodes.{Listed}
 use Rattle.tlsf_heap.specs.Inner.Following.{Stands, content_of}
 use Rattle.tlsf_heap.specs.Inner.At.{At, StandsAt, with_slot}
 use Rattle.tlsf_heap.proofs.Inner.Steps.{slot_used, size_read}
 use Rattle.tlsf_heap.proofs.Inner.Allotted.{slot_stands}
 use Rattle.tlsf_heap.proofs.Inner.Live.{free_at}
-use Rattle.tlsf_heap.proofs.Inner.Served.{room_left, holds, whole_stands, part_stands, full_refused}
+use Rattle.tlsf_heap.proofs.Inner.Served.{room_left, holds, whole_stands, part_stands, full_refused, slot_below, slot_new}
 use Rattle.tlsf_heap.proofs.malloc.take.Goals as goal
 
 -- the size that was read is the node's
@@ -44,6 +47,10 @@ pub take_whole-requires-clause-stands : goal.take_whole-requires-clause-stands
 take_whole-requires-clause-stands c =
     let by = free_at c.args.store.now.cells c.requires.stands c.args.slot c.requires.free in (by.at, rw c.read_used-block.ensures.cells by.stands)
 
+-- where a block is picked, what is said of it is said of the bytes asked
+picked : (owner asked place : ℕ) (content : Content ℕ) → pick asked content.lists ≡ Some place → (answer : Result (ℕ × Content ℕ) Refusal) → malloc_picked owner asked (Some place) content ≡ answer → malloc_rounded owner (Some asked) content ≡ answer
+picked owner asked place content found answer is = ap (λ at. malloc_picked owner asked at content) found ∙ is
+
 -- what a whole block leaves
 whole : (c : goal.After-new) → Stands c.take_whole.new.store.cells × (malloc_picked c.args.slot c.args.asked (Some (record_at c.args.store.now.cells.records c.args.slot).place) (content_of c.args.store.now.cells) ≡ Ok ((record_at c.args.store.now.cells.records c.args.slot).place, content_of c.take_whole.new.store.cells))
 whole c =
@@ -53,21 +60,34 @@ whole c =
     whole_stands old c.requires.stands (record_at old.records c.args.slot).place c.args.slot c.args.asked by c.requires.some c.requires.whole c.requires.found c.take_whole.new.store.cells
     (c.take_whole.ensures.leads by.at (rw c.read_used-block.ensures.cells by.stands)) size
 
-pub returns-then-block-asked-clause-stands : goal.returns-then-block-asked-clause-stands
-returns-then-block-asked-clause-stands c = (whole c).0
+pub returns-then-block-asked : goal.returns-then-block-asked
+returns-then-block-asked c = record {
+  stands = (whole c).0;
+  ok = record {
+    ok = rw (c.new.ensures, c.read_used-block.ensures.value, c.slot.view_is) (picked c.args.slot c.args.asked (record_at c.args.store.now.cells.records c.args.slot).place (content_of c.args.store.now.cells) c.requires.found _ (whole c).1);
+    slot_below = rw (c.new.ensures, c.slot.view_is) (slot_below c.args.store.now.cells c.requires.stands (record_at c.args.store.now.cells.records c.args.slot).place c.args.slot (free_at c.args.store.now.cells c.requires.stands c.args.slot c.requires.free));
+    slot_new = rw (c.new.ensures, c.slot.view_is) (slot_new c.args.store.now.cells c.requires.stands (record_at c.args.store.now.cells.records c.args.slot).place c.args.slot (free_at c.args.store.now.cells c.requires.stands c.args.slot c.requires.free));
+  };
+  refused = search rules;
+  cells = search rules;
+  touches = search rules;
+}
 
-pub returns-then-block-asked-clause-ok : goal.returns-then-block-asked-clause-ok
-returns-then-block-asked-clause-ok c = rw (c.new.ensures, c.read_used-block.ensures.value, c.slot.view_is) (whole c).1
-
-pub returns-in_default-clause-refused : goal.returns-in_default-clause-refused
-returns-in_default-clause-refused c =
-    let old : Cells = c.args.store.now.cells in
-    let by = free_at old c.requires.stands c.args.slot c.requires.free in
-    let place : ℕ = (record_at old.records c.args.slot).place in
-    let none = rw c.read_used-block.ensures.cells at c.in_default.ensures.none in
-    let size = size_is old c.args.slot by.at c.read_used-block.result by.stands c.read_used-block.ensures.value in
-    let least = holds old c.requires.stands place c.args.slot c.args.asked by c.requires.some c.requires.whole c.requires.found in
-    full_refused old c.requires.stands place c.args.slot c.args.asked by c.requires.some c.requires.whole c.requires.found none (omega (arith, least, size, c.if-block-asked.false))
+pub returns-in_default : goal.returns-in_default
+returns-in_default c = record {
+  stands = search rules;
+  ok = search rules;
+  refused = λ owner.
+      let old : Cells = c.args.store.now.cells in
+      let by = free_at old c.requires.stands c.args.slot c.requires.free in
+      let place : ℕ = (record_at old.records c.args.slot).place in
+      let none = rw c.read_used-block.ensures.cells at c.in_default.ensures.none in
+      let size = size_is old c.args.slot by.at c.read_used-block.result by.stands c.read_used-block.ensures.value in
+      let least = holds old c.requires.stands place c.args.slot c.args.asked by c.requires.some c.requires.whole c.requires.found in
+      picked owner c.args.asked place (content_of old) c.requires.found _ (full_refused old c.requires.stands place c.args.slot c.args.asked by c.requires.some c.requires.whole c.requires.found none (omega (arith, least, size, c.if-block-asked.false)) owner);
+  cells = search rules;
+  touches = search rules;
+}
 
 pub take_part-requires-clause-stands : goal.take_part-requires-clause-stands
 take_part-requires-clause-stands c =
@@ -102,8 +122,15 @@ part c =
     part_stands old c.requires.stands place c.args.slot c.args.asked by c.requires.some c.requires.whole c.requires.found c.take_part.new.store.cells c.in-Some.rest
     (c.take_part.ensures.leads by.at stands) (omega (arith, least, size, c.if-block-asked.false)) room
 
-pub returns-clause-stands : goal.returns-clause-stands
-returns-clause-stands c = (part c).0
-
-pub returns-clause-ok : goal.returns-clause-ok
-returns-clause-ok c = rw (c.new-2.ensures, c.read_used-block.ensures.value, c.slot-2.view_is) (part c).1
+pub returns : goal.returns
+returns c = record {
+  stands = (part c).0;
+  ok = record {
+    ok = rw (c.new-2.ensures, c.read_used-block.ensures.value, c.slot-2.view_is) (picked c.args.slot c.args.asked (record_at c.args.store.now.cells.records c.args.slot).place (content_of c.args.store.now.cells) c.requires.found _ (part c).1);
+    slot_below = rw (c.new-2.ensures, c.slot-2.view_is) (slot_below c.args.store.now.cells c.requires.stands (record_at c.args.store.now.cells.records c.args.slot).place c.args.slot (free_at c.args.store.now.cells c.requires.stands c.args.slot c.requires.free));
+    slot_new = rw (c.new-2.ensures, c.slot-2.view_is) (slot_new c.args.store.now.cells c.requires.stands (record_at c.args.store.now.cells.records c.args.slot).place c.args.slot (free_at c.args.store.now.cells c.requires.stands c.args.slot c.requires.free));
+  };
+  refused = search rules;
+  cells = search rules;
+  touches = search rules;
+}

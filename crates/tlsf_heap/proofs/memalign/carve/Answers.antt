@@ -1,9 +1,12 @@
-use Rattle.std.proofs.Common.{◌≡◌, ℕ, ◌+◌, ◌-◌, ◌%◌, ◌<◌, ◌≤◌, refl, ap, ◌∙◌, subst, arith, Some, Ok, inl, inr}
+use Rattle.std.proofs.Common.{rules, ◌≡◌, ℕ, ◌+◌, ◌-◌, ◌%◌, ◌<◌, ◌≤◌, refl, ap, ◌∙◌, subst, arith, Some, Ok, Result, inl, inr}
 use Rattle.std.proofs.lemmas.Bool.{cases_lt}
 use Rattle.std.specs.Int.{next_multiple_of}
 use Rattle.tlsf_store.specs.Records.{record_at, vacant_count}
 use Rattle.tlsf_store.specs.Cells.{Cells}
-use Rattle.tlsf_heap.specs.Memalign.{gap_records, memalign_picked}
+use Rattle.tlsf_heap.specs.declared.refusal.Refusal.{Refusal}
+use Rattle.tlsf_heap.specs.Content.{Content}
+use Rattle.tlsf_heap.specs.Lists.{pick}
+use Rattle.tlsf_heap.specs.Memalign.{gap_records, size_asked, memalign_picked, memalign_rounded}
 use Rattle.tlsf_class.specs.Classes.{unit}
 use Rattle.tlsf_store.specs.declared.records.Record.{Record}
 use Rattle.tlsf_heap.specs.declared.span.Span.{Span}
@@ -19,6 +22,10 @@ use Rattle.tlsf_heap.proofs.Inner.Spans.{read_of, by_node, by_record}
 use Rattle.tlsf_heap.proofs.Inner.Carving.{known, gap_of_some, carved_full, carved_stands, vacant_new, vacant_taken, vacant_after}
 use Rattle.tlsf_heap.proofs.memalign.carve.Goals as goal
 
+-- where a block is picked, what is said of it is said of the bytes asked
+picked : (owner align asked place : ℕ) (content : Content ℕ) → pick (size_asked align asked) content.lists ≡ Some place → (answer : Result (ℕ × Content ℕ) Refusal) → memalign_picked owner align asked (Some place) content ≡ answer → memalign_rounded owner align (Some asked) content ≡ answer
+picked owner align asked place content found answer is = ap (λ at. memalign_picked owner align asked at content) found ∙ is
+
 pub start_of-start-requires-clause-fits : goal.start_of-start-requires-clause-fits
 start_of-start-requires-clause-fits c = let k = known c.args.store.now.cells c.requires.stands c.args.slot c.args.align c.args.asked c.requires.is c.requires.some c.requires.whole c.requires.free c.requires.found c.read_used-block.result c.read_used-block.ensures.value in omega (arith, k.begins, k.fits, k.ends, c.requires.some)
 
@@ -28,15 +35,21 @@ overflow_sub-left c = let k = known c.args.store.now.cells c.requires.stands c.a
 pub overflow_sub-left-2 : goal.overflow_sub-left-2
 overflow_sub-left-2 c = let k = known c.args.store.now.cells c.requires.stands c.args.slot c.args.align c.args.asked c.requires.is c.requires.some c.requires.whole c.requires.free c.requires.found c.read_used-block.result c.read_used-block.ensures.value in omega (arith, k.fits, c.start_of-start.ensures)
 
-pub returns-then-vacant-records_for-clause-refused : goal.returns-then-vacant-records_for-clause-refused
-returns-then-vacant-records_for-clause-refused c owner =
-    let k = known c.args.store.now.cells c.requires.stands c.args.slot c.args.align c.args.asked c.requires.is c.requires.some c.requires.whole c.requires.free c.requires.found c.read_used-block.result c.read_used-block.ensures.value in
-    let gap_is : c.start_of-start.result - c.read_used-block.result.place ≡ next_multiple_of (record_at c.args.store.now.cells.records c.args.slot).place c.args.align - (record_at c.args.store.now.cells.records c.args.slot).place =
-    ap (λ s. s - c.read_used-block.result.place) c.start_of-start.ensures ∙ ap (λ p. next_multiple_of p c.args.align - p) k.place_is in
-    let few : vacant_count c.args.store.now.cells.records < gap_records (c.start_of-start.result - c.read_used-block.result.place) + gap_records ((c.read_used-block.result.size - (c.start_of-start.result - c.read_used-block.result.place)) - c.args.asked) =
-    omega (arith, c.if-vacant-records_for.true, c.vacant.ensures.value, ap (λ (s : Cells). vacant_count s.records) c.read_used-block.ensures.cells, c.records_for.ensures, c.records_for-2.ensures) in
-    let P : ℕ → ℕ → Type 0 = λ g n. vacant_count c.args.store.now.cells.records < gap_records g + gap_records ((n - g) - c.args.asked) in
-    carved_full c.args.store.now.cells c.requires.stands (record_at c.args.store.now.cells.records c.args.slot).place c.args.slot c.args.align c.args.asked k.by c.requires.is c.requires.some c.requires.whole c.requires.found (subst (λ n. P (next_multiple_of (record_at c.args.store.now.cells.records c.args.slot).place c.args.align - (record_at c.args.store.now.cells.records c.args.slot).place) n) k.size_is (subst (λ g. P g c.read_used-block.result.size) gap_is few)) owner
+pub returns-then-vacant-records_for : goal.returns-then-vacant-records_for
+returns-then-vacant-records_for c = record {
+  stands = search rules;
+  ok = search rules;
+  refused = λ owner. let k = known c.args.store.now.cells c.requires.stands c.args.slot c.args.align c.args.asked c.requires.is c.requires.some c.requires.whole c.requires.free c.requires.found c.read_used-block.result c.read_used-block.ensures.value in
+      let gap_is : c.start_of-start.result - c.read_used-block.result.place ≡ next_multiple_of (record_at c.args.store.now.cells.records c.args.slot).place c.args.align - (record_at c.args.store.now.cells.records c.args.slot).place =
+      ap (λ s. s - c.read_used-block.result.place) c.start_of-start.ensures ∙ ap (λ p. next_multiple_of p c.args.align - p) k.place_is in
+      let few : vacant_count c.args.store.now.cells.records < gap_records (c.start_of-start.result - c.read_used-block.result.place) + gap_records ((c.read_used-block.result.size - (c.start_of-start.result - c.read_used-block.result.place)) - c.args.asked) =
+      omega (arith, c.if-vacant-records_for.true, c.vacant.ensures.value, ap (λ (s : Cells). vacant_count s.records) c.read_used-block.ensures.cells, c.records_for.ensures, c.records_for-2.ensures) in
+      let P : ℕ → ℕ → Type 0 = λ g n. vacant_count c.args.store.now.cells.records < gap_records g + gap_records ((n - g) - c.args.asked) in
+      picked owner c.args.align c.args.asked (record_at c.args.store.now.cells.records c.args.slot).place (content_of c.args.store.now.cells) c.requires.found _
+      (carved_full c.args.store.now.cells c.requires.stands (record_at c.args.store.now.cells.records c.args.slot).place c.args.slot c.args.align c.args.asked k.by c.requires.is c.requires.some c.requires.whole c.requires.found (subst (λ n. P (next_multiple_of (record_at c.args.store.now.cells.records c.args.slot).place c.args.align - (record_at c.args.store.now.cells.records c.args.slot).place) n) k.size_is (subst (λ g. P g c.read_used-block.result.size) gap_is few)) owner);
+  cells = search rules;
+  touches = search rules;
+}
 
 pub read_used-block-requires-clause-within : goal.read_used-block-requires-clause-within
 read_used-block-requires-clause-within c =
@@ -143,28 +156,26 @@ left c =
     (subst (λ n. P (next_multiple_of (record_at c.args.store.now.cells.records c.args.slot).place c.args.align - (record_at c.args.store.now.cells.records c.args.slot).place) n) k.size_is (subst (λ g. P g c.read_used-block.result.size) gap_is enough))
     (subst Q gap_is end.1)
 
-pub returns-clause-stands : goal.returns-clause-stands
-returns-clause-stands c = (left c).0
-
-pub returns-clause-ok : goal.returns-clause-ok
-returns-clause-ok c =
-    let k = known c.args.store.now.cells c.requires.stands c.args.slot c.args.align c.args.asked c.requires.is c.requires.some c.requires.whole c.requires.free c.requires.found c.read_used-block.result c.read_used-block.ensures.value in
-    let start = c.start_of-start.ensures ∙ ap (λ p. next_multiple_of p c.args.align) k.place_is in
-    rw (c.new.ensures, c.live.view_is, start) (left c).1
-
-pub returns-clause-slot_below : goal.returns-clause-slot_below
-returns-clause-slot_below c =
-    let k = known c.args.store.now.cells c.requires.stands c.args.slot c.args.align c.args.asked c.requires.is c.requires.some c.requires.whole c.requires.free c.requires.found c.read_used-block.result c.read_used-block.ensures.value in
-    let taken : StandsAt c.args.slot InUse c.take_whole.new.store.cells (at_taken k.by.at) = c.take_whole.ensures.leads k.by.at (rw (c.vacant.ensures.cells, c.read_used-block.ensures.cells) k.by.stands) in
-    rw (c.new.ensures, c.live.view_is) (omega (arith, c.leave_gap-live.ensures.below, taken.0.count, k.by.stands.0.count, records_are c.args.store.now.cells))
-
-pub returns-clause-slot_new : goal.returns-clause-slot_new
-returns-clause-slot_new c =
-    let k = known c.args.store.now.cells c.requires.stands c.args.slot c.args.align c.args.asked c.requires.is c.requires.some c.requires.whole c.requires.free c.requires.found c.read_used-block.result c.read_used-block.ensures.value in
-    let taken : StandsAt c.args.slot InUse c.take_whole.new.store.cells (at_taken k.by.at) = c.take_whole.ensures.leads k.by.at (rw (c.vacant.ensures.cells, c.read_used-block.ensures.cells) k.by.stands) in
-    rw (c.new.ensures, c.live.view_is) (elim (cases_lt 0 (c.start_of-start.result - c.read_used-block.result.place)) [
-      | inl some ↦ vacant_new c.args.store.now.cells c.requires.stands (record_at c.args.store.now.cells.records c.args.slot).place c.args.slot c.args.align c.args.asked k.by c.requires.is c.requires.some c.requires.whole c.requires.found c.take_whole.new.store.cells taken c.leave_gap-live.result (c.leave_gap-live.ensures.vacant some)
-      | inr none ↦
-          let own : c.leave_gap-live.result ≡ c.args.slot = c.leave_gap-live.ensures.same (omega (arith, none)) ∙ ap (λ (s : Span). s.slot) c.of-whole.ensures in
-          rw own (slot_new c.args.store.now.cells c.requires.stands (record_at c.args.store.now.cells.records c.args.slot).place c.args.slot k.by)
-    ])
+pub returns : goal.returns
+returns c = record {
+  stands = (left c).0;
+  ok = record {
+    ok = let k = known c.args.store.now.cells c.requires.stands c.args.slot c.args.align c.args.asked c.requires.is c.requires.some c.requires.whole c.requires.free c.requires.found c.read_used-block.result c.read_used-block.ensures.value in
+        let start = c.start_of-start.ensures ∙ ap (λ p. next_multiple_of p c.args.align) k.place_is in
+        rw (c.new.ensures, c.live.view_is, start) (picked c.leave_gap-live.result c.args.align c.args.asked (record_at c.args.store.now.cells.records c.args.slot).place (content_of c.args.store.now.cells) c.requires.found _ (left c).1);
+    slot_below = let k = known c.args.store.now.cells c.requires.stands c.args.slot c.args.align c.args.asked c.requires.is c.requires.some c.requires.whole c.requires.free c.requires.found c.read_used-block.result c.read_used-block.ensures.value in
+        let taken : StandsAt c.args.slot InUse c.take_whole.new.store.cells (at_taken k.by.at) = c.take_whole.ensures.leads k.by.at (rw (c.vacant.ensures.cells, c.read_used-block.ensures.cells) k.by.stands) in
+        rw (c.new.ensures, c.live.view_is) (omega (arith, c.leave_gap-live.ensures.below, taken.0.count, k.by.stands.0.count, records_are c.args.store.now.cells));
+    slot_new = let k = known c.args.store.now.cells c.requires.stands c.args.slot c.args.align c.args.asked c.requires.is c.requires.some c.requires.whole c.requires.free c.requires.found c.read_used-block.result c.read_used-block.ensures.value in
+        let taken : StandsAt c.args.slot InUse c.take_whole.new.store.cells (at_taken k.by.at) = c.take_whole.ensures.leads k.by.at (rw (c.vacant.ensures.cells, c.read_used-block.ensures.cells) k.by.stands) in
+        rw (c.new.ensures, c.live.view_is) (elim (cases_lt 0 (c.start_of-start.result - c.read_used-block.result.place)) [
+          | inl some ↦ vacant_new c.args.store.now.cells c.requires.stands (record_at c.args.store.now.cells.records c.args.slot).place c.args.slot c.args.align c.args.asked k.by c.requires.is c.requires.some c.requires.whole c.requires.found c.take_whole.new.store.cells taken c.leave_gap-live.result (c.leave_gap-live.ensures.vacant some)
+          | inr none ↦
+              let own : c.leave_gap-live.result ≡ c.args.slot = c.leave_gap-live.ensures.same (omega (arith, none)) ∙ ap (λ (s : Span). s.slot) c.of-whole.ensures in
+              rw own (slot_new c.args.store.now.cells c.requires.stands (record_at c.args.store.now.cells.records c.args.slot).place c.args.slot k.by)
+        ]);
+  };
+  refused = search rules;
+  cells = search rules;
+  touches = search rules;
+}

@@ -10,5 +10,5 @@ pub returns-clause-ok : goal.returns-clause-ok
 returns-clause-ok c =
     let old : Cells = c.args.store.now.cells in
     let live = sym c.in-Some.ensures.value in
-    let size = size_known old c.requires c.args.ptr.place c.args.ptr.slot live c.in-Some.block c.in-Some.ensures.read in
+    let size = size_known old c.requires c.args.ptr.place c.args.ptr.slot live c.in-Some.block c.in-Some.ensures.read.read in
     ap (λ b. cond b (Ok (size_at c.args.ptr.place (blocks_of (content_of old).pools))) (Err BadPointer)) live ∙ ap (λ n. Ok n) (sym size)

@@ -1,4 +1,4 @@
-use Rattle.std.proofs.Common.{◌≡◌, ◌∷◌, ap, ◌∙◌, arith, Some}
+use Rattle.std.proofs.Common.{rules, ◌≡◌, ◌∷◌, ap, ◌∙◌, arith, Some}
 use Rattle.tlsf_store.specs.declared.records.Record.{Record}
 use Rattle.tlsf_store.specs.Records.{record_at}
 use Rattle.tlsf_heap.specs.Inner.Edits.{IsUsed}
@@ -19,13 +19,17 @@ row_is c =
     let r : Record = record_at c.args.store.now.cells.records c.in-Some.next in
     rw (c.is_used.ensures, c.read-block.ensures.value) (ap (λ b. record { place = r.place; size = r.size; used = b }) (live_is_used r.state c.in-Some.next r.place r.size))
 
-pub returns-clause-some : goal.returns-clause-some
-returns-clause-some c =
-    rw (c.in-Some.is, next_is c) (row_then_rest c.args.store.now.cells c.requires.stands c.in-Some.next (used c)
-    ∙ ap (λ row. row ∷ rest_of (rows_by c.args.store.now.cells.records) (record_at c.args.store.now.cells.records c.in-Some.next).next) (row_is c))
+pub returns-clause-given : goal.returns-clause-given
+returns-clause-given c = record {
+  some = rw (c.in-Some.is, next_is c) (row_then_rest c.args.store.now.cells c.requires.stands c.in-Some.next (used c)
+      ∙ ap (λ row. row ∷ rest_of (rows_by c.args.store.now.cells.records) (record_at c.args.store.now.cells.records c.in-Some.next).next) (row_is c));
+  next_stands = rw (next_is c) (rest_stands c.args.store.now.cells c.requires.stands c.in-Some.next (used c));
+  none = search rules;
+}
 
-pub returns-clause-next_stands : goal.returns-clause-next_stands
-returns-clause-next_stands c = rw (next_is c) (rest_stands c.args.store.now.cells c.requires.stands c.in-Some.next (used c))
-
-pub returns-then-next-records-clause-none : goal.returns-then-next-records-clause-none
-returns-then-next-records-clause-none c = rw c.in-Some.is (past_rest c.args.store.now.cells.records c.in-Some.next (omega (arith, c.if-next-records.true, c.records.ensures.value)))
+pub returns-then-next-records-clause-given : goal.returns-then-next-records-clause-given
+returns-then-next-records-clause-given c = record {
+  some = search rules;
+  next_stands = search rules;
+  none = rw c.in-Some.is (past_rest c.args.store.now.cells.records c.in-Some.next (omega (arith, c.if-next-records.true, c.records.ensures.value)));
+}

@@ -51,5 +51,5 @@ returns-else-is_some-clause-value c =
     let old : Cells = c.args.store.now.cells in
     let r = reading old c.requires.stands c.args.block.now c.requires.live c.requires.read c.free_behind-behind.result c.free_behind-behind.ensures.value in
     let is = fits_smaller old c.requires.stands c.args.block.now.place c.args.block.now.slot r.by c.args.asked c.free_behind-behind.result r.behind_is (omega (arith, c.if-block-asked.false, r.size_is)) in
-    let vacant : c.vacant.result ≡ vacant_count old.records = c.vacant.ensures.value ∙ ap (λ (s : Cells). vacant_count s.records) c.free_behind-behind.ensures.cells in
+    let vacant : c.vacant.result ≡ vacant_count old.records = c.vacant.ensures.value ∙ ap (λ (s : Cells). vacant_count s.records) c.free_behind-behind.ensures.left.cells in
     ap (nat_lt 0) vacant ∙ sym (is ∙ ap (λ b. b || nat_lt 0 (vacant_count old.records)) (sym c.is_some.ensures ∙ c.if-is_some.false))

@@ -1,4 +1,4 @@
-use Rattle.std.proofs.Common.{◌≡◌, ℕ, true, sym, ap, ◌∙◌, subst, Option, Some, Ok}
+use Rattle.std.proofs.Common.{rules, ◌≡◌, ℕ, true, sym, ap, ◌∙◌, subst, Option, Some, Ok}
 use Rattle.std.specs.Prelude.{◌==◌}
 use Rattle.tlsf_store.specs.Cells.{Cells}
 use Rattle.tlsf_heap.specs.Content.{Content, blocks_of}
@@ -24,35 +24,41 @@ still old mid owner place slot asked at stands live served =
 pub read_used-block-requires-clause-within : goal.read_used-block-requires-clause-within
 read_used-block-requires-clause-within c =
     let mid : Cells = c.allocate.new.store.cells in
-    let live = still c.args.store.now.cells mid c.in-Ok.given.slot c.args.ptr.place c.args.ptr.slot c.args.asked c.in-Ok.given.place c.requires.stands c.requires.live c.in-Ok.ensures.ok in
+    let live = still c.args.store.now.cells mid c.in-Ok.given.slot c.args.ptr.place c.args.ptr.slot c.args.asked c.in-Ok.given.place c.requires.stands c.requires.live c.in-Ok.ensures.ok.ok in
     let by = live_at mid c.in-Ok.ensures.stands c.args.ptr.place c.args.ptr.slot live in
     rw c.slot.ensures (slot_used mid c.args.ptr.slot InUse by.at by.stands).0
 
 pub read_used-block-requires-clause-used : goal.read_used-block-requires-clause-used
 read_used-block-requires-clause-used c =
     let mid : Cells = c.allocate.new.store.cells in
-    let live = still c.args.store.now.cells mid c.in-Ok.given.slot c.args.ptr.place c.args.ptr.slot c.args.asked c.in-Ok.given.place c.requires.stands c.requires.live c.in-Ok.ensures.ok in
+    let live = still c.args.store.now.cells mid c.in-Ok.given.slot c.args.ptr.place c.args.ptr.slot c.args.asked c.in-Ok.given.place c.requires.stands c.requires.live c.in-Ok.ensures.ok.ok in
     let by = live_at mid c.in-Ok.ensures.stands c.args.ptr.place c.args.ptr.slot live in
     rw c.slot.ensures (slot_used mid c.args.ptr.slot InUse by.at by.stands).1
 
 pub release-requires-clause-stands : goal.release-requires-clause-stands
 release-requires-clause-stands c =
     let mid : Cells = c.allocate.new.store.cells in
-    let live = still c.args.store.now.cells mid c.in-Ok.given.slot c.args.ptr.place c.args.ptr.slot c.args.asked c.in-Ok.given.place c.requires.stands c.requires.live c.in-Ok.ensures.ok in
+    let live = still c.args.store.now.cells mid c.in-Ok.given.slot c.args.ptr.place c.args.ptr.slot c.args.asked c.in-Ok.given.place c.requires.stands c.requires.live c.in-Ok.ensures.ok.ok in
     let by = live_at mid c.in-Ok.ensures.stands c.args.ptr.place c.args.ptr.slot live in
     (by.at, rw (c.read_used-block.ensures.cells, c.slot.ensures) by.stands)
 
 left : (c : goal.After-release) → Stands c.release.new.store.cells × (content_of c.release.new.store.cells ≡ after_free c.args.ptr.place (content_of c.allocate.new.store.cells))
 left c =
     let mid : Cells = c.allocate.new.store.cells in
-    let live = still c.args.store.now.cells mid c.in-Ok.given.slot c.args.ptr.place c.args.ptr.slot c.args.asked c.in-Ok.given.place c.requires.stands c.requires.live c.in-Ok.ensures.ok in
+    let live = still c.args.store.now.cells mid c.in-Ok.given.slot c.args.ptr.place c.args.ptr.slot c.args.asked c.in-Ok.given.place c.requires.stands c.requires.live c.in-Ok.ensures.ok.ok in
     let by = live_at mid c.in-Ok.ensures.stands c.args.ptr.place c.args.ptr.slot live in
     freed_stands mid c.in-Ok.ensures.stands c.args.ptr.place c.args.ptr.slot c.release.new.store.cells by live (c.release.ensures.leads by.at (rw (c.read_used-block.ensures.cells, c.slot.ensures) by.stands))
 
-pub returns-in-Ok-clause-stands : goal.returns-in-Ok-clause-stands
-returns-in-Ok-clause-stands c = (left c).0
-
-pub returns-in-Ok-clause-ok : goal.returns-in-Ok-clause-ok
-returns-in-Ok-clause-ok c =
-    let given : Option (ℕ × ℕ) = Some (c.in-Ok.given.place, c.in-Ok.given.slot) in
-    ap (moved c.in-Ok.given.slot c.args.ptr.place) c.in-Ok.ensures.ok ∙ ap (λ x. Ok (given, x)) (sym (left c).1)
+pub returns-in-Ok : goal.returns-in-Ok
+returns-in-Ok c = record {
+  stands = (left c).0;
+  ok = record {
+    ok = let given : Option (ℕ × ℕ) = Some (c.in-Ok.given.place, c.in-Ok.given.slot) in
+        ap (moved c.in-Ok.given.slot c.args.ptr.place) c.in-Ok.ensures.ok.ok ∙ ap (λ x. Ok (given, x)) (sym (left c).1);
+    slot_below = c.in-Ok.ensures.ok.slot_below;
+    slot_new = λ other. c.in-Ok.ensures.ok.slot_new;
+  };
+  refused = search rules;
+  cells = search rules;
+  touches = search rules;
+}

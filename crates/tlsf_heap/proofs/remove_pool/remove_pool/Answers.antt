@@ -1,4 +1,4 @@
-use Rattle.std.proofs.Common.{◌≡◌, ℕ, suc, ◌<◌, ◌&&◌, Bool, true, false, List, take, drop, length, get_or, sym, ap, ◌∙◌, subst, Ok}
+use Rattle.std.proofs.Common.{rules, ◌≡◌, ℕ, suc, ◌<◌, ◌&&◌, Bool, true, false, List, take, drop, length, get_or, sym, ap, ◌∙◌, subst, Ok}
 use Rattle.std.specs.Prelude.{All, is_none, remove}
 use Rattle.std.proofs.lemmas.List.Elements.{All-append, All-take, All-drop}
 use Rattle.tlsf_store.specs.declared.records.Record.{Record}
@@ -34,46 +34,56 @@ told old one stands base number items now entry block same items_are now_is is e
       block_is = block_is ∙ ap (λ (s : Cells). record_at s.records entry.first) same;
     }
 
-pub returns-in_default-clause-refused : goal.returns-in_default-clause-refused
-returns-in_default-clause-refused c =
-    let P : List PoolEntry → Type 0 = λ entries. All (λ entry. entry.base ≡ c.args.base → ⊥) entries in
-    refused_none c.args.store.now.cells c.requires c.args.base (subst P (c.as_slice.ensures.value ∙ c.entries-entries.ensures.value) c.in_default.ensures.none)
+pub returns-in_default : goal.returns-in_default
+returns-in_default c = record {
+  stands = search rules;
+  ok = search rules;
+  refused = let P : List PoolEntry → Type 0 = λ entries. All (λ entry. entry.base ≡ c.args.base → ⊥) entries in
+      refused_none c.args.store.now.cells c.requires c.args.base (subst P (c.as_slice.ensures.value ∙ c.entries-entries.ensures.value) c.in_default.ensures.none);
+  cells = search rules;
+  touches = search rules;
+}
 
 alone_by : (old : Cells) (stands : Stands old) (base number : ℕ) (entry : PoolEntry) (block : Record) → Told old stands base number entry block → (result answer : Bool) → result ≡ (is_state_free block.state && is_none block.next) → result ≡ answer
     → (is_state_free (record_at old.records entry.first).state && is_none (record_at old.records entry.first).next) ≡ answer
 alone_by old stands base number entry block t result answer is answered = ap (λ (r : Record). is_state_free r.state && is_none r.next) (sym t.block_is) ∙ sym is ∙ answered
 
-pub returns-then-not-is_alone-clause-refused : goal.returns-then-not-is_alone-clause-refused
-returns-then-not-is_alone-clause-refused c =
-    let old : Cells = c.args.store.now.cells in
-    let t = told old c.entries-entries.new.store.cells c.requires c.args.base c.in-Some.number c.entries-entries.result.items c.as_slice.result.now c.remove-entry.result c.read-block.result c.entries-entries.ensures.cells c.entries-entries.ensures.value c.as_slice.ensures.value c.in-Some.ensures.found c.remove-entry.ensures.value c.read-block.ensures.value in
-    refused_used old c.requires c.args.base c.in-Some.number t.is.0 t.is.1 c.remove-entry.result.first t.slot_is
-    (alone_by old c.requires c.args.base c.in-Some.number c.remove-entry.result c.read-block.result t c.is_alone.result false c.is_alone.ensures c.if-not-is_alone.true)
+pub returns-then-not-is_alone : goal.returns-then-not-is_alone
+returns-then-not-is_alone c = record {
+  stands = search rules;
+  ok = search rules;
+  refused = let old : Cells = c.args.store.now.cells in
+      let t = told old c.entries-entries.new.store.cells c.requires c.args.base c.in-Some.number c.entries-entries.result.items c.as_slice.result.now c.remove-entry.result c.read-block.result c.entries-entries.ensures.left.cells c.entries-entries.ensures.value c.as_slice.ensures.value c.in-Some.ensures.found c.remove-entry.ensures.value c.read-block.ensures.value in
+      refused_used old c.requires c.args.base c.in-Some.number t.is.0 t.is.1 c.remove-entry.result.first t.slot_is
+      (alone_by old c.requires c.args.base c.in-Some.number c.remove-entry.result c.read-block.result t c.is_alone.result false c.is_alone.ensures c.if-not-is_alone.true);
+  cells = search rules;
+  touches = search rules;
+}
 
 pub drop_pool-requires-clause-stands : goal.drop_pool-requires-clause-stands
 drop_pool-requires-clause-stands c =
     let old : Cells = c.args.store.now.cells in
-    let t = told old c.entries-entries.new.store.cells c.requires c.args.base c.in-Some.number c.entries-entries.result.items c.as_slice.result.now c.remove-entry.result c.read-block.result c.entries-entries.ensures.cells c.entries-entries.ensures.value c.as_slice.ensures.value c.in-Some.ensures.found c.remove-entry.ensures.value c.read-block.ensures.value in
+    let t = told old c.entries-entries.new.store.cells c.requires c.args.base c.in-Some.number c.entries-entries.result.items c.as_slice.result.now c.remove-entry.result c.read-block.result c.entries-entries.ensures.left.cells c.entries-entries.ensures.value c.as_slice.ensures.value c.in-Some.ensures.found c.remove-entry.ensures.value c.read-block.ensures.value in
     let unused = alone_by old c.requires c.args.base c.in-Some.number c.remove-entry.result c.read-block.result t c.is_alone.result true c.is_alone.ensures c.if-not-is_alone.false in
     let slot : ℕ = c.remove-entry.result.first in
     let here = stands_there old c.requires c.args.base c.in-Some.number t.is.0 t.is.1 slot t.slot_is unused in
     let node : At = node_there old c.requires c.args.base c.in-Some.number t.is.0 t.is.1 slot t.slot_is unused in
     let P : Cells → Type 0 = λ cells. StandsAt slot Listed cells node in
-    (node, subst P (sym (c.read-block.ensures.cells ∙ c.entries-entries.ensures.cells)) here)
+    (node, subst P (sym (c.read-block.ensures.cells ∙ c.entries-entries.ensures.left.cells)) here)
 
 pub drop_pool-requires-clause-below : goal.drop_pool-requires-clause-below
 drop_pool-requires-clause-below c =
     let P : PoolEntry → Type 0 = λ entry. entry.first < length c.args.store.now.cells.records in
     let items : List PoolEntry = c.entries-entries.result.items in
     let n : ℕ = c.in-Some.number in
-    rw (c.as_slice-2.ensures.value, c.remove-entry.ensures.items, c.read-block.ensures.cells, c.entries-entries.ensures.cells)
+    rw (c.as_slice-2.ensures.value, c.remove-entry.ensures.items, c.read-block.ensures.cells, c.entries-entries.ensures.left.cells)
     (All-append P (take n items) (drop (suc n) items) (All-take P n items c.entries-entries.ensures.below) (All-drop P (suc n) items c.entries-entries.ensures.below))
 
 -- what is left
 left : (c : goal.After-drop_pool) → Stands c.drop_pool.new.store.cells × (remove_pool c.args.base (content_of c.args.store.now.cells) ≡ Ok (content_of c.drop_pool.new.store.cells))
 left c =
     let old : Cells = c.args.store.now.cells in
-    let t = told old c.entries-entries.new.store.cells c.requires c.args.base c.in-Some.number c.entries-entries.result.items c.as_slice.result.now c.remove-entry.result c.read-block.result c.entries-entries.ensures.cells c.entries-entries.ensures.value c.as_slice.ensures.value c.in-Some.ensures.found c.remove-entry.ensures.value c.read-block.ensures.value in
+    let t = told old c.entries-entries.new.store.cells c.requires c.args.base c.in-Some.number c.entries-entries.result.items c.as_slice.result.now c.remove-entry.result c.read-block.result c.entries-entries.ensures.left.cells c.entries-entries.ensures.value c.as_slice.ensures.value c.in-Some.ensures.found c.remove-entry.ensures.value c.read-block.ensures.value in
     let unused = alone_by old c.requires c.args.base c.in-Some.number c.remove-entry.result c.read-block.result t c.is_alone.result true c.is_alone.ensures c.if-not-is_alone.false in
     let slot : ℕ = c.remove-entry.result.first in
     let here = stands_there old c.requires c.args.base c.in-Some.number t.is.0 t.is.1 slot t.slot_is unused in
@@ -81,11 +91,14 @@ left c =
     let node : At = node_there old c.requires c.args.base c.in-Some.number t.is.0 t.is.1 slot t.slot_is unused in
     let entries = c.as_slice-2.ensures.value ∙ c.remove-entry.ensures.items ∙ ap (λ items. remove items c.in-Some.number) c.entries-entries.ensures.value ∙ alone.2 in
     let P : Cells → Type 0 = λ cells. StandsAt slot Listed cells node in
-    let now : StandsAt slot Listed c.read-block.new.self.cells node = subst P (sym (c.read-block.ensures.cells ∙ c.entries-entries.ensures.cells)) here in
+    let now : StandsAt slot Listed c.read-block.new.self.cells node = subst P (sym (c.read-block.ensures.cells ∙ c.entries-entries.ensures.left.cells)) here in
     removed_stands old c.requires c.args.base c.in-Some.number t.is.0 t.is.1 slot t.slot_is unused c.drop_pool.new.store.cells (c.drop_pool.ensures.leads node now alone.0 alone.1 entries)
 
-pub returns-clause-stands : goal.returns-clause-stands
-returns-clause-stands c = (left c).0
-
-pub returns-clause-ok : goal.returns-clause-ok
-returns-clause-ok c = (left c).1
+pub returns : goal.returns
+returns c = record {
+  stands = (left c).0;
+  ok = (left c).1;
+  refused = search rules;
+  cells = search rules;
+  touches = search rules;
+}

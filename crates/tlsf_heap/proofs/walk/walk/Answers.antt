@@ -8,12 +8,12 @@ pub loop-row-preserved : goal.loop-row-preserved
 loop-row-preserved g c =
     let same = ap (λ (cells : Cells). rows_by cells.records) c.loop-row.invariant.cells in
     let rest : rest_of (rows_by c.args.store.now.cells.records) c.loop-row.cursor.next ≡ c.in-Some.row ∷ rest_of (rows_by c.args.store.now.cells.records) c.in-Some.next.next =
-    rw same at c.in-Some.ensures.some in
+    rw same at c.in-Some.ensures.given.some in
     record {
       callable = mut_next g.F.FnMut _ _ _ _ _ c.visit.ensures refl c.loop-row.invariant.callable;
       cells = c.in-Some.ensures.cells ∙ c.loop-row.invariant.cells;
-      stands = rw same at c.in-Some.ensures.next_stands;
+      stands = rw same at c.in-Some.ensures.given.next_stands;
       visited = λ last behind. c.loop-row.invariant.visited last (rw rest (c.visit.new.self, c.visit.ensures, behind));
-      floor = omega arith;
-      bound = omega (arith, ap length rest);
+      floor = omega (arith, c.in-Some.ensures.touched.bound);
+      bound = omega (arith, c.in-Some.ensures.touched.bound, ap length rest);
     }

@@ -1,4 +1,4 @@
-use Rattle.std.proofs.Common.{◌≡◌, ℕ, Err}
+use Rattle.std.proofs.Common.{rules, ◌≡◌, ℕ, Err}
 use Rattle.std.proofs.lemmas.Result.{IfErr-at_err}
 use Rattle.tlsf_heap.specs.declared.refusal.Refusal.{Refusal}
 use Rattle.tlsf_heap.specs.declared.refusal.Refusal.TheVariants.{NoFit, TableFull, OutOfMemory}
@@ -21,5 +21,9 @@ pub returns-clause-table_full : goal.returns-clause-table_full
 returns-clause-table_full c = λ is.
     rw (← c.self.view_is) (malloc_full 0 c.args.n (content_of c.self.inside.store.cells) (content_is_good c.self.inside.store.cells c.self.invariant) (refused c TableFull is))
 
-pub returns-clause-never_memory : goal.returns-clause-never_memory
-returns-clause-never_memory c = λ is. malloc_lacks_none 0 c.args.n (content_of c.self.inside.store.cells) (refused c OutOfMemory is)
+pub returns-clause-refused : goal.returns-clause-refused
+returns-clause-refused c = record {
+  refused = search rules;
+  never_memory = λ is. malloc_lacks_none 0 c.args.n (content_of c.self.inside.store.cells) (refused c OutOfMemory is);
+  unchanged = search rules;
+}

@@ -1,8 +1,8 @@
-use Rattle.std.proofs.Common.{◌≡◌, ℕ, ◌%◌, Ok, Err}
+use Rattle.std.proofs.Common.{rules, ◌≡◌, ℕ, ◌%◌, Err}
 use Rattle.std.proofs.lemmas.Result.{IfErr-at_err}
 use Rattle.tlsf_heap.specs.declared.refusal.Refusal.{Refusal}
 use Rattle.tlsf_heap.specs.declared.refusal.Refusal.TheVariants.{NoFit, TableFull, OutOfMemory}
-use Rattle.tlsf_heap.specs.Pointer.{Pointer}
+use Rattle.tlsf_heap.specs.Served.{IsServed}
 use Rattle.tlsf_heap.specs.Memalign.{memalign}
 use Rattle.tlsf_heap.specs.Inner.Following.{content_of}
 use Rattle.tlsf_heap.proofs.Inner.Standing.{content_is_good}
@@ -18,9 +18,9 @@ refused c refusal is = IfErr-at_err (λ why. (slot : ℕ) → memalign slot c.ar
 pub returns-clause-multiple : goal.returns-clause-multiple
 returns-clause-multiple c =
     if_ok c.memalign.result
-    (λ (ptr : Pointer). memalign ptr.slot c.args.align c.args.n (content_of c.self.inside.store.cells) ≡ Ok (ptr.place, content_of c.memalign.new.store.cells))
+    (λ ptr. IsServed (λ slot. memalign slot c.args.align c.args.n) ptr (content_of c.self.inside.store.cells) (content_of c.memalign.new.store.cells))
     (λ ptr. ptr.place % c.args.align ≡ 0)
-    (λ ptr e. memalign_multiple ptr.slot c.args.align c.args.n (content_of c.self.inside.store.cells) (ptr.place, content_of c.memalign.new.store.cells) (content_is_good c.self.inside.store.cells c.self.invariant) e)
+    (λ ptr e. memalign_multiple ptr.slot c.args.align c.args.n (content_of c.self.inside.store.cells) (ptr.place, content_of c.memalign.new.store.cells) (content_is_good c.self.inside.store.cells c.self.invariant) e.ok)
     c.memalign.ensures.ok
 
 pub returns-clause-no_fit : goal.returns-clause-no_fit
@@ -31,5 +31,9 @@ pub returns-clause-table_full : goal.returns-clause-table_full
 returns-clause-table_full c = λ is.
     rw (← c.self.view_is) (aligned_full 0 c.args.align c.args.n (content_of c.self.inside.store.cells) (content_is_good c.self.inside.store.cells c.self.invariant) (refused c TableFull is))
 
-pub returns-clause-never_memory : goal.returns-clause-never_memory
-returns-clause-never_memory c = λ is. aligned_lacks_none 0 c.args.align c.args.n (content_of c.self.inside.store.cells) (content_is_good c.self.inside.store.cells c.self.invariant) (refused c OutOfMemory is)
+pub returns-clause-refused : goal.returns-clause-refused
+returns-clause-refused c = record {
+  refused = search rules;
+  never_memory = λ is. aligned_lacks_none 0 c.args.align c.args.n (content_of c.self.inside.store.cells) (content_is_good c.self.inside.store.cells c.self.invariant) (refused c OutOfMemory is);
+  unchanged = search rules;
+}

@@ -1,4 +1,4 @@
-use Rattle.std.proofs.Common.{◌≡◌, ℕ, Err, inl, inr}
+use Rattle.std.proofs.Common.{rules, ◌≡◌, ℕ, Err, inl, inr}
 use Rattle.std.specs.Prelude.{◌==◌, ◌⊎◌}
 use Rattle.std.proofs.lemmas.Result.{IfErr-at_err}
 use Rattle.tlsf_heap.specs.declared.refusal.Refusal.{Refusal}
@@ -27,9 +27,13 @@ returns-clause-table_full c = λ is.
       | inr (inr other) ↦ absurd (cc)
     ])
 
-pub returns-clause-never_memory : goal.returns-clause-never_memory
-returns-clause-never_memory c = λ is. elim (refused c OutOfMemory is) [
-  | inl memory ↦ malloc_lacks_none 0 c.args.n (content_of c.self.inside.store.cells) memory
-  | inr (inl other) ↦ cc
-  | inr (inr other) ↦ cc
-]
+pub returns-clause-refused : goal.returns-clause-refused
+returns-clause-refused c = record {
+  refused = search rules;
+  never_memory = λ is. elim (refused c OutOfMemory is) [
+    | inl memory ↦ malloc_lacks_none 0 c.args.n (content_of c.self.inside.store.cells) memory
+    | inr (inl other) ↦ cc
+    | inr (inr other) ↦ cc
+  ];
+  unchanged = search rules;
+}

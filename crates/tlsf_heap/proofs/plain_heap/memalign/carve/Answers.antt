@@ -73,7 +73,11 @@ returns-clause-ok c =
     let start : ℕ = c.start_of-start.result in
     let slot : ℕ = c.least_slot-slot.result in
     let made : Content ℕ = aligned slot start c.args.asked c.in_ok-place.place c.size_at-size.result c.args.content.now in
-    rw c.new.ensures
-    (carved_or_full by slot c.has_too_many.result full slot
-    ∙ ap (λ b. cond b (Err TableFull) (Ok (start, made))) c.if-has_too_many.false
-    ∙ ap (λ x. Ok (start, x)) (sym after))
+    record {
+      ok = rw c.new.ensures
+          (carved_or_full by slot c.has_too_many.result full slot
+          ∙ ap (λ b. cond b (Err TableFull) (Ok (start, made))) c.if-has_too_many.false
+          ∙ ap (λ x. Ok (start, x)) (sym after));
+      slot_below = rw c.new.ensures c.least_slot-slot.ensures.below;
+      slot_new = rw c.new.ensures c.least_slot-slot.ensures.new;
+    }

@@ -1,9 +1,12 @@
-use Rattle.std.proofs.Common.{◌≡◌, ℕ, true, sym, ap, ◌∙◌, arith}
+use Rattle.std.proofs.Common.{◌≡◌, ℕ, true, sym, ap, ◌∙◌, arith, Some}
 use Rattle.std.specs.Prelude.{◌==◌}
 use Rattle.tlsf_class.proofs.RoundingLaws.{round-Some}
 use Rattle.tlsf_heap.specs.Content.{Content, blocks_of}
 use Rattle.tlsf_heap.specs.Free.{is_live}
+use Rattle.tlsf_heap.specs.Pointer.{realloc_ptr}
+use Rattle.tlsf_heap.specs.Realloc.{realloc_sized}
 use Rattle.tlsf_heap.proofs.Content.ReallocCases.{realloc_resized}
+use Rattle.tlsf_heap.proofs.Content.ServedCalls.{moved_as}
 use Rattle.tlsf_heap.proofs.plain_heap.heap.PlainHeap.reallocate.Goals as goal
 
 pub resize-requires-clause-whole : goal.resize-requires-clause-whole
@@ -22,7 +25,9 @@ returns-in-Ok-clause-ok c =
     let content : Content ℕ = c.self.inside.content in
     let live = live_at content c.args.ptr.place c.args.ptr.slot c.place.result c.slot.result c.is_live.result c.place.ensures c.slot.ensures c.is_live.ensures c.if-not-is_live.false in
     rw (← c.self.view_is)
-    (realloc_resized (λ a b. a == b) c.in-Ok.new.slot c.args.ptr.slot c.args.ptr.place c.args.n c.in_ok-asked.asked content live c.if-n-eq0.false (sym c.round.ensures ∙ c.in_ok-asked.ensures.ok_part) ∙ c.in-Ok.ensures.ok)
+    (moved_as (realloc_ptr (Some c.args.ptr) c.args.n) (λ slot. realloc_sized slot c.args.ptr.place c.args.ptr.slot c.in_ok-asked.asked) content c.in-Ok.next
+    (λ slot. realloc_resized (λ a b. a == b) slot c.args.ptr.slot c.args.ptr.place c.args.n c.in_ok-asked.asked content live c.if-n-eq0.false (sym c.round.ensures ∙ c.in_ok-asked.ensures.ok_part))
+    (Some c.args.ptr) (Some c.in-Ok.new) c.in-Ok.ensures.ok)
 
 pub returns-in-Err-clause-refused : goal.returns-in-Err-clause-refused
 returns-in-Err-clause-refused c = λ named slot.

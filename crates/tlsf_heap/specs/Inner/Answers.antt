@@ -1,0 +1,27 @@
+-- What steps over a store promise: the cells that they leave, and how often they touch it.
+use Rattle.std.specs.Prelude.{◌≡◌, ℕ, ◌+◌, Result, IfOk, IfErr, OnErr}
+use Rattle.tlsf_store.specs.Cells.{Cells}
+use Rattle.tlsf_store.specs.CountedCells.{CountedCells}
+use Rattle.tlsf_heap.specs.declared.refusal.Refusal.{Refusal}
+use Rattle.tlsf_heap.specs.Touches.{AtMost}
+use Rattle.tlsf_heap.specs.Content.{Content}
+use Rattle.tlsf_heap.specs.Inner.Following.{Stands, content_of}
+
+-- these cells are left, after at most n touches
+pub record Leaves (left : Cells) (n : ℕ) (old new : CountedCells) : Type 0 where
+  pub cells : new.cells ≡ left
+  pub touches : AtMost n old.touches new.touches
+
+-- these cells are left, after n touches
+pub record LeavesAfter (left : Cells) (n : ℕ) (old new : CountedCells) : Type 0 where
+  pub cells : new.cells ≡ left
+  pub touches : new.touches ≡ old.touches + n
+
+-- a call over a store that stands: what it gives, or why it is refused, by the content; refused, it leaves the cells as they
+-- were; and at most n touches
+pub record Answers {A : Type 0} (result : Result A Refusal) (gives : A → Content ℕ → Content ℕ → Type 0) (refuses : Refusal → Content ℕ → Type 0) (n : ℕ) (old new : CountedCells) : Type 0 where
+  pub stands : Stands new.cells
+  pub ok : IfOk result (λ given. gives given (content_of old.cells) (content_of new.cells))
+  pub refused : IfErr result (λ refusal. refuses refusal (content_of old.cells))
+  pub cells : OnErr result (new.cells ≡ old.cells)
+  pub touches : AtMost n old.touches new.touches

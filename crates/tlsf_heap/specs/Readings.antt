@@ -1,0 +1,24 @@
+-- What readings of a pool's rows give.
+use Rattle.std.specs.Prelude.{◌≡◌, ℕ, List, [], ◌∷◌, Option, IfSome, IfNone, Result, Ok, Err, IfOk, IfErr}
+use Rattle.tlsf_heap.specs.declared.row.Row.{Row}
+use Rattle.tlsf_heap.specs.declared.cursor.Cursor.{Cursor}
+use Rattle.tlsf_heap.specs.declared.refusal.Refusal.{Refusal}
+use Rattle.tlsf_heap.specs.Touches.{AtMost}
+
+-- the cursor at the first of these rows, or why there are none; `rest` has the rows from a cursor on, and `stands_at` is where
+-- it can be read
+pub record FindsRows (result : Result Cursor Refusal) (rows : Result (List Row) Refusal) (rest : Cursor → List Row) (stands_at : Cursor → Type 0) : Type 0 where
+  pub ok : IfOk result (λ cursor. rows ≡ Ok (rest cursor))
+  pub stands : IfOk result (λ cursor. stands_at cursor)
+  pub refused : IfErr result (λ refusal. rows ≡ Err refusal)
+
+-- the first of these rows, and the cursor behind it, or nothing where there is none
+pub record GivesRow (result : Option (Row × Cursor)) (rows : List Row) (rest : Cursor → List Row) (stands_at : Cursor → Type 0) : Type 0 where
+  pub some : IfSome result (λ given. rows ≡ given.0 ∷ rest given.1)
+  pub next_stands : IfSome result (λ given. stands_at given.1)
+  pub none : IfNone result (rows ≡ [])
+
+-- a row takes at most n touches, and none takes none
+pub record TouchesForRow (n : ℕ) (result : Option (Row × Cursor)) (old new : ℕ) : Type 0 where
+  pub bound : IfSome result (λ given. AtMost n old new)
+  pub no_touch : IfNone result (new ≡ old)
