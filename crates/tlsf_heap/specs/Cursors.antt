@@ -5,7 +5,6 @@ use Rattle.tlsf_store.specs.declared.records.Record.{Record}
 use Rattle.tlsf_store.specs.declared.pools.Pool.{Pool as StoredPool}
 use Rattle.tlsf_store.specs.Records.{record_at, is_vacant}
 use Rattle.tlsf_store.specs.Cells.{pool_at, most_pools}
-use Rattle.tlsf_heap.specs.declared.pool_entry.PoolEntry.{PoolEntry}
 use Rattle.tlsf_heap.specs.declared.cursor.Cursor.{Cursor}
 use Rattle.tlsf_heap.specs.declared.row.Row.{Row}
 use Rattle.tlsf_heap.specs.Inner.Following.{block_at, chain_from}
@@ -37,7 +36,7 @@ abbrev pub is_at_row : List (List Row) → Cursor → Type 0
 is_at_row rows cursor = stands_at rows cursor.next
 
 -- the first block of the first pool that begins at the base
-abbrev pub slot_for : ℕ → List PoolEntry → Option ℕ
+abbrev pub slot_for : ℕ → List StoredPool → Option ℕ
 slot_for base [] = None
 slot_for base (entry ∷ entries) = if entry.base == base then Some entry.first else slot_for base entries
 

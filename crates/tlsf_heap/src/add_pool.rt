@@ -18,10 +18,9 @@ ghost use Rattle.tlsf_heap.specs.Inner.Entering.{pool_laid};
 use crate::Refusal;
 use crate::entries::{entries, is_apart, place_for, set_entries};
 use crate::free_lists::link;
-use crate::pool_entry::PoolEntry;
 use arrayvec::ArrayVec;
 use tlsf_class::class_of;
-use tlsf_store::{MOST_POOLS, Record, Slot, State, Store, can_be_pool};
+use tlsf_store::{MOST_POOLS, Pool, Record, State, Store, can_be_pool};
 
 /// A pool of `bytes` bytes from the place `base` on enters the store, as one free block. At most 27
 /// touches.
@@ -43,17 +42,17 @@ pub(crate) fn add_pool(store: &mut Store, base: u64, bytes: u64) -> Result<(), R
     let Some(slot) = store.take_vacant() else {
         return Err(Refusal::TableFull);
     };
-    let entry = PoolEntry {
+    let entry = Pool {
         base: base as u32,
         bytes: bytes as u32,
-        first: slot.0,
+        first: slot,
     };
     put_pool(store, entries, entry);
     Ok(())
 }
 
 /// Whether base and bytes can be those of a pool, which overlaps no pool of the entries.
-fn can_enter(entries: &[PoolEntry], base: u64, bytes: u64) -> bool
+fn can_enter(entries: &[Pool], base: u64, bytes: u64) -> bool
     ensures { result ≡ can_be base bytes && list_all (is_entry_apart base bytes) entries.now }
 {
     can_be_pool(base, bytes) && is_apart(entries, base, bytes)
@@ -61,7 +60,7 @@ fn can_enter(entries: &[PoolEntry], base: u64, bytes: u64) -> bool
 
 /// Makes a pool one free block, whose slot was taken, the first of its class's list, and puts its entry
 /// among the others. At most 17 touches.
-fn put_pool(store: &mut Store, mut entries: ArrayVec<PoolEntry, MOST_POOLS>, entry: PoolEntry)
+fn put_pool(store: &mut Store, mut entries: ArrayVec<Pool, MOST_POOLS>, entry: Pool)
     requires can { can_be entry.base entry.bytes ≡ true }
     requires room { array_vec_len entries < most_pools }
     requires count { length store.old.cells.pools ≡ most_pools }
@@ -72,12 +71,12 @@ fn put_pool(store: &mut Store, mut entries: ArrayVec<PoolEntry, MOST_POOLS>, ent
     ensures leads { (layout : Layout) → Represents store.old.cells (record layout { taken = entry.first ∷ layout.taken }) → Represents store.new.cells (pool_laid entry layout) }
     ensures touches { AtMost 17 store.old.touches store.new.touches }
 {
-    let slot = Slot(entry.first);
-    let place = place_for(entries.as_slice(), entry.base);
+    let Pool { base, bytes, first } = entry;
+    let place = place_for(entries.as_slice(), base);
     entries.insert(place, entry);
-    store.write(slot, free_block(entry.base, entry.bytes));
+    store.write(first, free_block(base, bytes));
     set_entries(store, entries.as_slice());
-    link(store, class_of(entry.bytes), slot);
+    link(store, class_of(bytes), first);
 }
 
 /// The record of a free block without neighbours.

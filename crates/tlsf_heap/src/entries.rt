@@ -9,12 +9,11 @@ ghost use Rattle.tlsf_heap.specs.Pools.{end_of_places};
 ghost use Rattle.tlsf_heap.specs.Inner.Entries.{entry_place, with_entries, is_entry_apart, entry_range};
 ghost use Rattle.tlsf_heap.specs.Inner.Answers.{LeavesAfter};
 
-use crate::pool_entry::PoolEntry;
 use arrayvec::ArrayVec;
 use tlsf_store::{MOST_POOLS, Pool, Store};
 
 /// The entries of the store's pools. One touch an entry.
-pub(crate) fn entries(store: &mut Store) -> ArrayVec<PoolEntry, MOST_POOLS>
+pub(crate) fn entries(store: &mut Store) -> ArrayVec<Pool, MOST_POOLS>
     requires { length store.old.cells.pools ≡ most_pools }
     ensures value { result.items ≡ entries_of store.old.cells.pools }
     ensures below { All (λ entry. entry.first < length store.old.cells.records) result.items }
@@ -28,27 +27,24 @@ pub(crate) fn entries(store: &mut Store) -> ArrayVec<PoolEntry, MOST_POOLS>
 }
 
 /// Appends an entry, if there is one.
-fn push_entry(entries: &mut ArrayVec<PoolEntry, MOST_POOLS>, pool: Option<Pool>)
+fn push_entry(entries: &mut ArrayVec<Pool, MOST_POOLS>, pool: Option<Pool>)
     requires { array_vec_len entries.old < most_pools }
     ensures items { entries.new.items ≡ entries.old.items ++ entries_of (pool ∷ []) }
 {
     if let Some(pool) = pool {
-        entries.push(PoolEntry::of(pool));
+        entries.push(pool);
     }
 }
 
 /// The pool of this number; none behind the last entry.
-fn pool_at(entries: &[PoolEntry], number: usize) -> Option<Pool>
+fn pool_at(entries: &[Pool], number: usize) -> Option<Pool>
     ensures { result ≡ padded_at entries.now number }
 {
-    match entries.get(number) {
-        Some(entry) => Some(entry.pool()),
-        None => None,
-    }
+    entries.get(number).copied()
 }
 
 /// Writes these entries, and none behind them. One touch an entry.
-pub(crate) fn set_entries(store: &mut Store, entries: &[PoolEntry])
+pub(crate) fn set_entries(store: &mut Store, entries: &[Pool])
     requires count { length store.old.cells.pools ≡ most_pools }
     requires few { length entries.now ≤ most_pools }
     requires below { All (λ entry. entry.first < length store.old.cells.records) entries.now }
@@ -60,7 +56,7 @@ pub(crate) fn set_entries(store: &mut Store, entries: &[PoolEntry])
 }
 
 /// Whether the bytes from `base` on overlap no pool of the entries.
-pub(crate) fn is_apart(entries: &[PoolEntry], base: u64, bytes: u64) -> bool
+pub(crate) fn is_apart(entries: &[Pool], base: u64, bytes: u64) -> bool
     requires { base + bytes ≤ end_of_places }
     ensures { result ≡ list_all (is_entry_apart base bytes) entries.now }
 {
@@ -72,7 +68,7 @@ pub(crate) fn is_apart(entries: &[PoolEntry], base: u64, bytes: u64) -> bool
 }
 
 /// How many pools begin at or below `base`, in front of the first that begins behind it.
-pub(crate) fn place_for(entries: &[PoolEntry], base: u32) -> usize
+pub(crate) fn place_for(entries: &[Pool], base: u32) -> usize
     ensures within { result ≤ length entries.now }
     ensures place { result ≡ entry_place base entries.now }
 {
@@ -85,7 +81,7 @@ pub(crate) fn place_for(entries: &[PoolEntry], base: u32) -> usize
 }
 
 /// The number of the pool that begins at `base`, if there is one.
-pub(crate) fn number_of(entries: &[PoolEntry], base: u64) -> Option<usize>
+pub(crate) fn number_of(entries: &[Pool], base: u64) -> Option<usize>
     ensures found { IfSome result (λ number. (number < length entries.now) × ((d : _) → (slice_index_or entries.now number d).base ≡ base)) }
     ensures none { IfNone result (All (λ entry. entry.base ≢ base) entries.now) }
 {
@@ -98,7 +94,7 @@ pub(crate) fn number_of(entries: &[PoolEntry], base: u64) -> Option<usize>
 }
 
 /// Where the pools of the entries begin and how many bytes they have.
-pub(crate) fn pool_ranges(entries: &[PoolEntry]) -> ArrayVec<(u64, u64), MOST_POOLS>
+pub(crate) fn pool_ranges(entries: &[Pool]) -> ArrayVec<(u64, u64), MOST_POOLS>
     requires { length entries.now ≤ most_pools }
     ensures { result.items ≡ map entry_range entries.now }
 {

@@ -21,7 +21,6 @@ mod malloc;
 mod memalign;
 mod plain_heap;
 mod pointer;
-mod pool_entry;
 mod readings;
 mod realloc;
 mod refusal;

@@ -19,8 +19,7 @@ use crate::Refusal;
 use crate::entries::{entries, number_of, set_entries};
 use crate::free::is_free;
 use crate::malloc::take_whole;
-use crate::pool_entry::PoolEntry;
-use tlsf_store::{Record, Slot, Store};
+use tlsf_store::{Pool, Record, Slot, Store};
 
 /// The pool that begins at `base` leaves the store, and its one free block its class's list. At most 26 touches.
 ///
@@ -36,7 +35,7 @@ pub(crate) fn remove_pool(store: &mut Store, base: u64) -> Result<(), Refusal>
         return Err(Refusal::NoPool);
     };
     let entry = entries.remove(number);
-    let slot = Slot(entry.first);
+    let slot = entry.first;
     let block = store.read(slot);
     if !is_alone(&block) {
         return Err(Refusal::PoolInUse);
@@ -54,7 +53,7 @@ fn is_alone(block: &Record) -> bool
 
 /// The one free block of a pool, of this record, leaves its class's list, its record is vacant, and these are
 /// the entries. At most 17 touches.
-fn drop_pool(store: &mut Store, slot: Slot, block: &Record, entries: &[PoolEntry])
+fn drop_pool(store: &mut Store, slot: Slot, block: &Record, entries: &[Pool])
     requires stands { (at : At) × StandsAt slot Listed store.old.cells at }
     requires read { block.now ≡ record_at store.old.cells.records slot }
     requires in_units { block.now.place % unit ≡ 0 }

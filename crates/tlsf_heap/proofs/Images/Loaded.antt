@@ -15,7 +15,7 @@ use Rattle.tlsf_heap.specs.Images.Image.{two_at, count_at, pools_at, size_word, 
 use Rattle.tlsf_heap.specs.Images.Rules.{has_magic, has_length, has_pools, has_unused_pools, has_states, present, are_pools, first_of, rules_of_parts, first_broken}
 use Rattle.tlsf_heap.proofs.Images.UnbrokenRules.{holds_first}
 use Rattle.tlsf_heap.specs.Images.Described.{described, parts_of}
-use Rattle.tlsf_heap.specs.Inner.Entries.{pool_in, entries_of, padded}
+use Rattle.tlsf_heap.specs.Inner.Entries.{entries_of, padded}
 use Rattle.tlsf_heap.specs.Inner.Following.{content_from, content_of, Stands}
 use Rattle.tlsf_heap.specs.Inner.Imaged.{AreImaged, AreLoaded}
 use Rattle.tlsf_heap.proofs.Images.Standing.{imaged_stand}
@@ -38,18 +38,18 @@ module _ (pool : ℕ → StoredPool) (count : ℕ) where
   none_there (suc n) = none_there n
 
   abbrev padded_to : ℕ → List (Option StoredPool) → List (Option StoredPool)
-  padded_to n pools = map (λ e. Some (pool_in e)) (entries_of pools) ++ replicate (n - length (entries_of pools)) None
+  padded_to n pools = map (λ e. Some e) (entries_of pools) ++ replicate (n - length (entries_of pools)) None
 
   packed_from : (from n : ℕ) → entries_from from n ≡ padded_to n (entries_from from n)
   packed_from from zero = refl
   packed_from from (suc n) = elim (cases_lt from count) [
-    | inl below ↦ rw (lt-ltb from count below) (ap (λ rest. Some (pool from) ∷ rest) (packed_from (from + 1) n ∙ ap (λ k. map (λ e. Some (pool_in e)) (entries_of (entries_from (from + 1) n)) ++ replicate k None) (
+    | inl below ↦ rw (lt-ltb from count below) (ap (λ rest. Some (pool from) ∷ rest) (packed_from (from + 1) n ∙ ap (λ k. map (λ e. Some e) (entries_of (entries_from (from + 1) n)) ++ replicate k None) (
         let e : n - length (entries_of (entries_from (from + 1) n)) ≡ suc n - suc (length (entries_of (entries_from (from + 1) n))) = omega arith in e
         )))
     | inr past ↦
         let all : entries_from from (suc n) ≡ replicate (suc n) None = none_from from (suc n) past in
         let P : List (Option StoredPool) → Type 0 = λ pools. pools ≡ padded_to (suc n) pools in
-        let none : replicate (suc n) None ≡ padded_to (suc n) (replicate (suc n) None) = sym (ap (λ entries. map (λ e. Some (pool_in e)) entries ++ replicate (suc n - length entries) None) (none_there (suc n)) ∙ ap (λ k. replicate k None) (let e : suc n - 0 ≡ suc n = omega arith in e)) in
+        let none : replicate (suc n) None ≡ padded_to (suc n) (replicate (suc n) None) = sym (ap (λ entries. map (λ e. Some e) entries ++ replicate (suc n - length entries) None) (none_there (suc n)) ∙ ap (λ k. replicate k None) (let e : suc n - 0 ≡ suc n = omega arith in e)) in
         subst P (sym all) none
   ]
 

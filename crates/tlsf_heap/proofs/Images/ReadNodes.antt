@@ -17,7 +17,7 @@ use Rattle.tlsf_heap.proofs.Images.Counting.{times}
 use Rattle.tlsf_heap.proofs.Images.Totals.{all_first, all_rest}
 use Rattle.tlsf_heap.proofs.Images.Once.{linked_step, linked_ends}
 use Rattle.tlsf_heap.specs.Images.Described.{parts_of}
-use Rattle.tlsf_heap.specs.Inner.Entries.{entry_in, entries_of}
+use Rattle.tlsf_heap.specs.Inner.Entries.{entries_of}
 use Rattle.tlsf_heap.specs.Inner.Nodes.{Status, InUse, Listed, Node, Area, Layout, nodes_of, has_slot, is_listed, owner_of}
 use Rattle.tlsf_heap.specs.Inner.Represents.{in_pool, pool_views, state_of, first_slot, AreLinked, IsChain}
 use Rattle.tlsf_heap.proofs.Counts.{count-map}
@@ -36,7 +36,7 @@ node_at records slot =
 
 -- the area of a pool
 abbrev pub area_from : Parts → StoredPool → Area
-area_from parts pool = record { entry = entry_in pool; nodes = map (node_at parts.records) (chain_of parts pool) }
+area_from parts pool = record { entry = pool; nodes = map (node_at parts.records) (chain_of parts pool) }
 
 -- the layout that cells have by their links
 abbrev pub layout_of : Cells → Layout
@@ -111,4 +111,4 @@ module _ (parts : Parts) where
   pub entries_are : (pools : List (Option StoredPool)) → map (λ (area : Area). area.entry) (map (area_from parts) (present pools)) ≡ entries_of pools
   entries_are [] = refl
   entries_are (None ∷ pools) = entries_are pools
-  entries_are (Some pool ∷ pools) = ap (λ entries. entry_in pool ∷ entries) (entries_are pools)
+  entries_are (Some pool ∷ pools) = ap (λ entries. pool ∷ entries) (entries_are pools)

@@ -15,10 +15,9 @@ use Rattle.tlsf_heap.specs.Images.Rules.{present, at, is_free as is_state_free, 
 use Rattle.tlsf_heap.proofs.Images.Totals.{all_first, all_rest, is_block, has_bytes, chain_used, begins_at, covered_rest, covers_pool}
 use Rattle.tlsf_heap.proofs.Images.UnbrokenRules.{IsUnbroken, unbroken}
 use Rattle.tlsf_heap.specs.Images.Described.{parts_of}
-use Rattle.tlsf_heap.specs.declared.pool_entry.PoolEntry.{PoolEntry}
 use Rattle.tlsf_heap.specs.Content.{blocks_of}
 use Rattle.tlsf_heap.specs.Good.{Covers, NoFreeNeighbours, AreGoodPools, times, is_listed, AreLists, IsGood}
-use Rattle.tlsf_heap.specs.Inner.Entries.{pool_in, entries_of}
+use Rattle.tlsf_heap.specs.Inner.Entries.{entries_of}
 use Rattle.tlsf_heap.specs.Inner.Nodes.{Node, Area, block_of, pool_of, owner_of, content_by, nodes_of, list_of, has_place, is_listed as is_listed_status, is_listed_in}
 use Rattle.tlsf_heap.specs.Inner.Joined.{is_loose}
 use Rattle.tlsf_heap.specs.Inner.Following.{Stands}
@@ -116,8 +115,8 @@ module _ (cells : Cells) (imaged : AreImaged cells) where
         arith,
         imaged.pools_count,
         ap length imaged.packed,
-        length-append (map (λ (e : PoolEntry). Some (pool_in e)) entries) (replicate (most_pools - length entries) None),
-        length-map {A = PoolEntry} {B = Option StoredPool} entries (λ e. Some (pool_in e)),
+        length-append (map (λ (e : StoredPool). Some e) entries) (replicate (most_pools - length entries) None),
+        length-map {A = StoredPool} {B = Option StoredPool} entries (λ e. Some e),
       )
 
   good : IsGood (content_by (layout_of cells))

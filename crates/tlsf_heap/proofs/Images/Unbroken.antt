@@ -23,10 +23,9 @@ use Rattle.tlsf_heap.proofs.Images.Counting.{counts_any}
 use Rattle.tlsf_heap.proofs.Images.Totals.{from_all_below, among_any}
 use Rattle.tlsf_heap.proofs.Images.UnbrokenRules.{IsUnbroken}
 use Rattle.tlsf_heap.specs.Images.Described.{parts_of}
-use Rattle.tlsf_heap.specs.declared.pool_entry.PoolEntry.{PoolEntry}
 use Rattle.tlsf_heap.specs.Content.{is_free}
 use Rattle.tlsf_heap.specs.Good.{Covers, NoFreeNeighbours, AreGoodPools}
-use Rattle.tlsf_heap.specs.Inner.Entries.{pool_in, padded}
+use Rattle.tlsf_heap.specs.Inner.Entries.{padded}
 use Rattle.tlsf_heap.specs.Inner.Nodes.{Status, InUse, Listed, Loose, Node, Area, owner_of, block_of, pool_of, nodes_of, list_of, has_slot}
 use Rattle.tlsf_heap.specs.Inner.Represents.{InPool, InList, in_pool, in_list, pool_views, list_views, state_of, first_slot, AreLinked, IsChain, uses_in}
 use Rattle.tlsf_heap.specs.Inner.Following.{Stands}
@@ -82,16 +81,16 @@ below_is : (count : ℕ) (link : Option ℕ) → IsBelow count link → is_below
 below_is count None below = refl
 below_is count (Some slot) below = lt-ltb slot count below
 
-pub present_padded : (entries : List PoolEntry) → present (padded entries) ≡ map pool_in entries
+pub present_padded : (entries : List StoredPool) → present (padded entries) ≡ entries
 present_padded entries = present_on entries (most_pools - length entries)
   where
     nothing : (n : ℕ) → present (replicate n None) ≡ []
     nothing zero = refl
     nothing (suc n) = nothing n
 
-    present_on : (entries : List PoolEntry) (n : ℕ) → present (map (λ e. Some (pool_in e)) entries ++ replicate n None) ≡ map pool_in entries
+    present_on : (entries : List StoredPool) (n : ℕ) → present (map (λ e. Some e) entries ++ replicate n None) ≡ entries
     present_on [] n = nothing n
-    present_on (entry ∷ entries) n = ap (λ pools. pool_in entry ∷ pools) (present_on entries n)
+    present_on (entry ∷ entries) n = ap (λ pools. entry ∷ pools) (present_on entries n)
 
 -- lists from a class on, each by its number
 lists_from : (parts : Parts) (from : ℕ) (heads : List (Option ℕ)) → ((number : ℕ) → number < length heads → is_list parts (from + number) (slice_index_or heads number None) ≡ true) → are_lists parts from heads ≡ true
@@ -116,7 +115,7 @@ module _ (cells : Cells) (stands : Stands cells) where
   used slot = is_used (at parts slot).state
 
   abbrev pools_of : List Area → List StoredPool
-  pools_of some = map pool_in (map (λ area. area.entry) some)
+  pools_of some = map (λ area. area.entry) some
 
   abbrev slots : List Node → List ℕ
   slots nodes = map (λ node. node.slot) nodes
@@ -137,7 +136,7 @@ module _ (cells : Cells) (stands : Stands cells) where
   known_rest : (area : Area) (some : List Area) → AreKnown (area ∷ some) → AreKnown some
   known_rest area some known = (known.0.1, omega (arith, known.1, length-append area.nodes (nodes_of some)))
 
-  chain_is : (area : Area) (some : List Area) → AreKnown (area ∷ some) → chain_of parts (pool_in area.entry) ≡ slots area.nodes
+  chain_is : (area : Area) (some : List Area) → AreKnown (area ∷ some) → chain_of parts area.entry ≡ slots area.nodes
   chain_is area some known =
       ap (follow (length cells.records) (λ slot. (at parts slot).next)) (sym known.0.0.begins)
       ∙ follow_linked in_pool (pool_views cells.records) (λ v. v.next) (λ prev node after. refl) (length cells.records) None area.nodes (omega (arith, known.1, length-append area.nodes (nodes_of some))) known.0.0.linked
@@ -146,7 +145,7 @@ module _ (cells : Cells) (stands : Stands cells) where
   chains [] known = refl
   chains (area ∷ some) known =
       let P : Option ℕ → Type 0 = λ first. is_linked used (λ slot. (at parts slot).next) (λ slot. (at parts slot).prev) (length cells.records) None first ≡ true in
-      and_from (is_chain parts (pool_in area.entry)) (list_all (is_chain parts) (pools_of some)) (
+      and_from (is_chain parts area.entry) (list_all (is_chain parts) (pools_of some)) (
       subst P known.0.0.begins (
       linked_slots in_pool (pool_views cells.records) (λ v. v.next) (λ v. v.prev) (λ prev node after. refl) (λ prev node after. refl) used (length cells.records) None area.nodes
       (omega (arith, known.1, length-append area.nodes (nodes_of some))) known.0.0.linked (none_vacant None area.nodes known.0.0.linked)
@@ -180,14 +179,14 @@ module _ (cells : Cells) (stands : Stands cells) where
   cover : (from : ℕ) (some : List Area) → AreKnown some → AreGoodPools from (map pool_of some) → list_all (λ pool. covers parts pool.base (pool.base + pool.bytes) (chain_of parts pool)) (pools_of some) ≡ true
   cover from [] known good = refl
   cover from (area ∷ some) known good =
-      and_from (covers parts area.entry.base (area.entry.base + area.entry.bytes) (chain_of parts (pool_in area.entry))) _
+      and_from (covers parts area.entry.base (area.entry.base + area.entry.bytes) (chain_of parts area.entry)) _
       (ap (covers parts area.entry.base (area.entry.base + area.entry.bytes)) (chain_is area some known) ∙ covered None area.nodes area.entry.base (area.entry.base + area.entry.bytes) known.0.0.linked good.1.covered)
       (cover (area.entry.base + area.entry.bytes) some (known_rest area some known) good.2)
 
   all_merged : (from : ℕ) (some : List Area) → AreKnown some → AreGoodPools from (map pool_of some) → list_all (λ pool. are_merged parts false (chain_of parts pool)) (pools_of some) ≡ true
   all_merged from [] known good = refl
   all_merged from (area ∷ some) known good =
-      and_from (are_merged parts false (chain_of parts (pool_in area.entry))) _ (ap (are_merged parts false) (chain_is area some known) ∙ merged None false area.nodes known.0.0.linked good.1.merged)
+      and_from (are_merged parts false (chain_of parts area.entry)) _ (ap (are_merged parts false) (chain_is area some known) ∙ merged None false area.nodes known.0.0.linked good.1.merged)
       (all_merged (area.entry.base + area.entry.bytes) some (known_rest area some known) good.2)
 
   -- the first node of each area is in range
@@ -201,7 +200,7 @@ module _ (cells : Cells) (stands : Stands cells) where
       let here = good.1 in
       let both : (slot : ℕ) → count_by (has_slot slot) (nodes_of (area ∷ some)) ≡ count_by (has_slot slot) area.nodes + count_by (has_slot slot) (nodes_of some) = λ slot. count-nodes (has_slot slot) area some in
       let first : pool.first < length cells.records = below pool.first (omega (arith, both pool.first, first_stands area.nodes pool.first known.0.0.begins)) in
-      and_from (is_pool (length cells.records) from (pool_in pool)) (are_pools (length cells.records) (pool.base + pool.bytes) (pools_of some)) (
+      and_from (is_pool (length cells.records) from pool) (are_pools (length cells.records) (pool.base + pool.bytes) (pools_of some)) (
       and_from (can_be_pool pool.base pool.bytes) _ (
       and_from (eqb (pool.base % unit) 0) _ (eq-eqb _ _ here.base_in_units) (
       and_from (eqb (pool.bytes % unit) 0) _ (eq-eqb _ _ here.bytes_in_units) (

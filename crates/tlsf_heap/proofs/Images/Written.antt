@@ -19,9 +19,9 @@ use Rattle.tlsf_heap.proofs.Images.ReadBack.{IsWritten}
 use Rattle.tlsf_heap.proofs.Images.Writable.{below_written, block_written}
 use Rattle.tlsf_heap.proofs.Images.ImageBack.{AreWritable, parts_back}
 use Rattle.tlsf_heap.proofs.Images.RulesBack.{written_first}
-use Rattle.tlsf_heap.specs.declared.pool_entry.PoolEntry.{PoolEntry}
+use Rattle.tlsf_store.specs.declared.pools.Pool.{Pool as StoredPool}
 use Rattle.tlsf_heap.specs.Images.Described.{described}
-use Rattle.tlsf_heap.specs.Inner.Entries.{pool_in, entries_of}
+use Rattle.tlsf_heap.specs.Inner.Entries.{entries_of}
 use Rattle.tlsf_heap.specs.Inner.Nodes.{has_slot}
 use Rattle.tlsf_heap.specs.Inner.Represents.{InPool, pool_views, first_slot}
 use Rattle.tlsf_heap.specs.Inner.Following.{content_of, content_from, Stands}
@@ -41,7 +41,7 @@ module _ (cells : Cells) (stands : Stands cells) (few : length cells.records ≤
   abbrev parts : Parts
   parts = told_parts cells
 
-  abbrev entries : List PoolEntry
+  abbrev entries : List StoredPool
   entries = map (λ area. area.entry) stands.layout.areas
 
   rules : IsUnbroken parts
@@ -57,15 +57,15 @@ module _ (cells : Cells) (stands : Stands cells) (few : length cells.records ≤
   pools_count = ap length stands.represented.entries ∙ length-padded entries (few_entries cells stands)
 
   present_count : length (present cells.pools) ≡ length entries
-  present_count = ap (λ ps. length (present ps)) stands.represented.entries ∙ ap length (present_padded entries) ∙ length-map entries pool_in
+  present_count = ap (λ ps. length (present ps)) stands.represented.entries ∙ ap length (present_padded entries)
 
   packed : (number : ℕ) → number < most_pools → is_some (pool_at cells.pools number) ≡ nat_lt number (length (present cells.pools))
   packed number within = elim (cases_lt number (length entries)) [
     | inl below ↦
-        ap is_some (entry_at cells stands number within ∙ get_or-map (λ (e : PoolEntry). Some (pool_in e)) entries number (record { base = 0; bytes = 0; first = 0 }) None below)
+        ap is_some (entry_at cells stands number within ∙ get_or-map (λ (e : StoredPool). Some e) entries number (record { base = 0; bytes = 0; first = 0 }) None below)
         ∙ sym (lt-ltb number (length (present cells.pools)) (omega (arith, below, present_count)))
     | inr past ↦
-        ap is_some (entry_at cells stands number within ∙ get_or_past (map (λ (e : PoolEntry). Some (pool_in e)) entries) number None (omega (arith, past, length-map entries (λ (e : PoolEntry). Some (pool_in e)))))
+        ap is_some (entry_at cells stands number within ∙ get_or_past (map (λ (e : StoredPool). Some e) entries) number None (omega (arith, past, length-map entries (λ (e : StoredPool). Some e))))
         ∙ sym (le-ltb number (length (present cells.pools)) (omega (arith, past, present_count)))
   ]
 

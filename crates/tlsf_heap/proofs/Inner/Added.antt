@@ -9,7 +9,7 @@ use Rattle.tlsf_store.specs.Records.{blank, blank_in, record_at, vacant_count}
 use Rattle.tlsf_store.specs.Cells.{Cells, most_pools}
 use Rattle.tlsf_store.proofs.RecordLaws.{vacant_count-take}
 use Rattle.tlsf_heap.specs.declared.refusal.Refusal.TheVariants.{BadPool, PoolsFull, TableFull}
-use Rattle.tlsf_heap.specs.declared.pool_entry.PoolEntry.{PoolEntry}
+use Rattle.tlsf_store.specs.declared.pools.Pool.{Pool as StoredPool}
 use Rattle.tlsf_heap.specs.Content.{used_records}
 use Rattle.tlsf_heap.specs.Pools.{add_pool, with_pool, can_be_pool, is_apart}
 use Rattle.tlsf_heap.specs.Inner.Entries.{is_entry_apart}
@@ -29,7 +29,7 @@ pub least_bytes : (base bytes : ℕ) → can_be_pool base bytes ≡ true → uni
 least_bytes base bytes can = leb-true _ _ (and_parts _ _ (and_parts _ _ (and_parts _ _ can).1).1).0
 
 -- whether a pool from base on may enter beside the entries
-abbrev pub is_allowed : ℕ → ℕ → List PoolEntry → Bool
+abbrev pub is_allowed : ℕ → ℕ → List StoredPool → Bool
 is_allowed base bytes entries = can_be_pool base bytes && list_all (is_entry_apart base bytes) entries
 
 module _ (cells : Cells) (stands : Stands cells) (base bytes : ℕ) where
@@ -64,7 +64,7 @@ module _ (cells : Cells) (stands : Stands cells) (base bytes : ℕ) where
 
         pub pool_added : (new : Cells) → Represents new (pool_laid (record { base = base; bytes = bytes; first = slot }) stands.layout) → Stands new × (add_pool base bytes (content_of cells) ≡ Ok (content_of new))
         pool_added new after =
-            let entry : PoolEntry = record { base = base; bytes = bytes; first = slot } in
+            let entry : StoredPool = record { base = base; bytes = bytes; first = slot } in
             let loose : Node → Bool = λ node. is_loose node.status in
             let is : content_by (pool_laid entry stands.layout) ≡ with_pool base bytes (content_of cells) =
             pool_laid_is entry stands.layout stands.represented.index.lists_count (λ e. omega (arith, e, least_bytes base bytes (and_parts _ _ allowed).0)) ∙ ap (with_pool base bytes) (sym (stood_for cells stands)) in

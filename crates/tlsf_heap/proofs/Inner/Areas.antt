@@ -3,7 +3,7 @@ use Rattle.std.proofs.Common.{◌≡◌, ℕ, zero, suc, ◌<◌, true, false, �
 use Rattle.std.specs.Prelude.{is_none, remove}
 use Rattle.tlsf_store.specs.declared.records.Record.{Record}
 use Rattle.tlsf_store.specs.Records.{record_at}
-use Rattle.tlsf_heap.specs.declared.pool_entry.PoolEntry.{PoolEntry}
+use Rattle.tlsf_store.specs.declared.pools.Pool.{Pool as StoredPool}
 use Rattle.std.specs.List.{list_all}
 use Rattle.std.proofs.lemmas.Bool.{ne_eqb}
 use Rattle.tlsf_heap.specs.Content.{Block, is_free}
@@ -27,7 +27,7 @@ pub record AreaAt (number : ℕ) (areas : List Area) : Type 0 where
   pub behind : List Area
   pub same : (others : List Area) → plug front others ≡ before ++ others
   pub whole : areas ≡ before ++ area ∷ behind
-  pub entry_is : (d : PoolEntry) → get_or (entries_in areas) number d ≡ area.entry
+  pub entry_is : (d : StoredPool) → get_or (entries_in areas) number d ≡ area.entry
   pub others : remove (entries_in areas) number ≡ entries_in (plug front behind)
 
 pub area_at : (number : ℕ) (areas : List Area) → number < length areas → AreaAt number areas

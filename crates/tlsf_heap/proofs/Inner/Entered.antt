@@ -8,7 +8,7 @@ use Rattle.tlsf_store.specs.declared.records.State.TheVariants.{Vacant, Free}
 use Rattle.tlsf_store.proofs.RecordLaws.{record_at-set_same}
 use Rattle.tlsf_store.specs.Cells.{Cells, head_at}
 use Rattle.tlsf_class.specs.Classes.{class}
-use Rattle.tlsf_heap.specs.declared.pool_entry.PoolEntry.{PoolEntry}
+use Rattle.tlsf_store.specs.declared.pools.Pool.{Pool as StoredPool}
 use Rattle.tlsf_heap.specs.Inner.Entries.{entries_of}
 use Rattle.tlsf_heap.specs.Inner.Edits.{IsUsed}
 use Rattle.tlsf_heap.specs.Inner.Entries.{inserted, with_entry, free_record, pool_entered}
@@ -35,13 +35,13 @@ map-inserted f key new_key same item (other ∷ items) =
     ]
 
 -- where the entry's area comes to stand: the areas in front of it, nearest first, and those behind
-pub record Place (entry : PoolEntry) (passed areas : List Area) : Type 0 where
+pub record Place (entry : StoredPool) (passed areas : List Area) : Type 0 where
   pub front : List Area
   pub behind : List Area
   pub whole : plug passed areas ≡ plug front behind
   pub put : (node : Node) → plug passed (with_area (area_of_one entry node) areas) ≡ plug front (area_of_one entry node ∷ behind)
 
-pub place : (entry : PoolEntry) (passed areas : List Area) → Place entry passed areas
+pub place : (entry : StoredPool) (passed areas : List Area) → Place entry passed areas
 place entry passed [] = record { front = passed; behind = []; whole = refl; put = λ node. refl }
 place entry passed (other ∷ areas) = elim (cases_Bool (nat_lt entry.base other.entry.base)) [
   | inl before ↦ record { front = passed; behind = other ∷ areas; whole = refl; put = λ node. rw before refl }
@@ -50,7 +50,7 @@ place entry passed (other ∷ areas) = elim (cases_Bool (nat_lt entry.base other
       record { front = later.front; behind = later.behind; whole = later.whole; put = λ node. rw after (later.put node) }
 ]
 
-module _ (cells : Cells) (entry : PoolEntry) (layout : Layout) (was : Represents cells (record layout { taken = entry.first ∷ layout.taken })) where
+module _ (cells : Cells) (entry : StoredPool) (layout : Layout) (was : Represents cells (record layout { taken = entry.first ∷ layout.taken })) where
   abbrev at : Place entry [] layout.areas
   at = place entry [] layout.areas
 
@@ -64,13 +64,13 @@ module _ (cells : Cells) (entry : PoolEntry) (layout : Layout) (was : Represents
   entries_are : entries_in (plug at.front (area_of_one entry (pool_node entry) ∷ at.behind)) ≡ with_entry entry (entries_of cells.pools)
   entries_are =
       ap entries_in (sym (at.put (pool_node entry)))
-      ∙ map-inserted (λ (area : Area). area.entry) (λ (area : Area). area.entry.base) (λ (other : PoolEntry). other.base) (λ area. refl) (area_of_one entry (pool_node entry)) layout.areas
+      ∙ map-inserted (λ (area : Area). area.entry) (λ (area : Area). area.entry.base) (λ (other : StoredPool). other.base) (λ area. refl) (area_of_one entry (pool_node entry)) layout.areas
       ∙ ap (with_entry entry) (sym (ap entries_of was.entries ∙ entries_of-padded (entries_in layout.areas)))
 
   is_put : Represents put (record layout { areas = plug at.front (area_of_one entry (pool_node entry) ∷ at.behind) })
   is_put =
       let P : List Area → Type 0 = λ areas. Represents cells (record layout { areas = areas; taken = entry.first ∷ layout.taken }) in
-      let Q : List PoolEntry → Type 0 = λ entries. Represents (pool_put entry entries cells) (record layout { areas = plug at.front (area_of_one entry (pool_node entry) ∷ at.behind) }) in
+      let Q : List StoredPool → Type 0 = λ entries. Represents (pool_put entry entries cells) (record layout { areas = plug at.front (area_of_one entry (pool_node entry) ∷ at.behind) }) in
       subst Q entries_are (pool_enters cells layout.count at.front at.behind layout.lists entry layout.taken (subst P at.whole was))
 
   -- what link needs then
@@ -90,10 +90,10 @@ module _ (cells : Cells) (entry : PoolEntry) (layout : Layout) (was : Represents
       subst P (sym (at.put (turned Listed (pool_node entry)))) (linked_laid put layout.count position (pool_node entry) [] layout.lists layout.taken is_put)
 
 -- a pool that enters: once it is there its slot is in use, and so is the first of its list, and then it is laid
-pub record Enters (entry : PoolEntry) (layout : Layout) (cells : Cells) : Type 0 where
+pub record Enters (entry : StoredPool) (layout : Layout) (cells : Cells) : Type 0 where
   pub slot : IsUsed (pool_put entry (with_entry entry (entries_of cells.pools)) cells).records (Some entry.first)
   pub first : IsUsed (pool_put entry (with_entry entry (entries_of cells.pools)) cells).records (head_at cells.heads (class entry.bytes))
   pub laid : Represents (pool_entered entry cells) (pool_laid entry layout)
 
-pub pool_is_laid : (cells : Cells) (entry : PoolEntry) (layout : Layout) → Represents cells (record layout { taken = entry.first ∷ layout.taken }) → Enters entry layout cells
+pub pool_is_laid : (cells : Cells) (entry : StoredPool) (layout : Layout) → Represents cells (record layout { taken = entry.first ∷ layout.taken }) → Enters entry layout cells
 pool_is_laid cells entry layout was = record { slot = slot_used cells entry layout was; first = first_used cells entry layout was; laid = is_laid cells entry layout was }

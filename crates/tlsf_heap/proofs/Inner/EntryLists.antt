@@ -7,62 +7,61 @@ use Rattle.std.proofs.lemmas.List.Elements.{All-push}
 use Rattle.std.proofs.lemmas.List.Sums.{prefix_len_is}
 use Rattle.tlsf_store.specs.declared.pools.Pool.{Pool as StoredPool}
 use Rattle.tlsf_store.specs.Cells.{pool_at, most_pools, IsPoolBelow}
-use Rattle.tlsf_heap.specs.declared.pool_entry.PoolEntry.{PoolEntry}
-use Rattle.tlsf_heap.specs.Inner.Entries.{pool_in, entry_in, padded, padded_at, entries_of}
+use Rattle.tlsf_heap.specs.Inner.Entries.{padded, padded_at, entries_of}
 use Rattle.tlsf_heap.specs.Inner.Entries.{entry_place, with_entry}
 
 -- the entry that fills no place
-abbrev pub no_entry : PoolEntry
+abbrev pub no_entry : StoredPool
 no_entry = record { base = 0; bytes = 0; first = 0 }
 
-abbrev pub FirstBelow : ℕ → PoolEntry → Type 0
+abbrev pub FirstBelow : ℕ → StoredPool → Type 0
 FirstBelow count entry = entry.first < count
 
 pub entries_of-append : (pools more : List (Option StoredPool)) → entries_of (pools ++ more) ≡ entries_of pools ++ entries_of more
 entries_of-append [] more = refl
 entries_of-append (None ∷ pools) more = entries_of-append pools more
-entries_of-append (Some pool ∷ pools) more = ap (λ es. entry_in pool ∷ es) (entries_of-append pools more)
+entries_of-append (Some pool ∷ pools) more = ap (λ es. pool ∷ es) (entries_of-append pools more)
 
 pub entries_of_more : (pools : List (Option StoredPool)) (n : ℕ) → n < length pools → entries_of (take (n + 1) pools) ≡ entries_of (take n pools) ++ entries_of (pool_at pools n ∷ [])
 entries_of_more pools n within = ap entries_of (take_more pools n None within) ∙ entries_of-append (take n pools) (get_or pools n None ∷ [])
 
-pub length-entries_more : (entries : List PoolEntry) (pool : Option StoredPool) → length (entries ++ entries_of (pool ∷ [])) ≤ length entries + 1
-length-entries_more entries None = omega (arith, length-append {A = PoolEntry} entries [])
-length-entries_more entries (Some pool) = omega (arith, length-append {A = PoolEntry} entries (entry_in pool ∷ []))
+pub length-entries_more : (entries : List StoredPool) (pool : Option StoredPool) → length (entries ++ entries_of (pool ∷ [])) ≤ length entries + 1
+length-entries_more entries None = omega (arith, length-append {A = StoredPool} entries [])
+length-entries_more entries (Some pool) = omega (arith, length-append {A = StoredPool} entries (pool ∷ []))
 
-pub entries_below_more : (count : ℕ) (entries : List PoolEntry) (pool : Option StoredPool) → All (FirstBelow count) entries → IsPoolBelow count pool → All (FirstBelow count) (entries ++ entries_of (pool ∷ []))
-entries_below_more count entries None all below = let P : List PoolEntry → Type 0 = λ es. All (FirstBelow count) es in subst P (sym (append-none entries)) all
+pub entries_below_more : (count : ℕ) (entries : List StoredPool) (pool : Option StoredPool) → All (FirstBelow count) entries → IsPoolBelow count pool → All (FirstBelow count) (entries ++ entries_of (pool ∷ []))
+entries_below_more count entries None all below = let P : List StoredPool → Type 0 = λ es. All (FirstBelow count) es in subst P (sym (append-none entries)) all
   where
-    append-none : (es : List PoolEntry) → es ++ [] ≡ es
+    append-none : (es : List StoredPool) → es ++ [] ≡ es
     append-none [] = refl
     append-none (e ∷ es) = ap (λ r. e ∷ r) (append-none es)
-entries_below_more count entries (Some pool) all below = All-push (FirstBelow count) entries (entry_in pool) all below
+entries_below_more count entries (Some pool) all below = All-push (FirstBelow count) entries (pool) all below
 
 -- the entries of what was written from them
-pub entries_of-padded : (entries : List PoolEntry) → entries_of (padded entries) ≡ entries
-entries_of-padded entries = entries_of-append (map (λ e. Some (pool_in e)) entries) (replicate (most_pools - length entries) None) ∙ whole entries (most_pools - length entries)
+pub entries_of-padded : (entries : List StoredPool) → entries_of (padded entries) ≡ entries
+entries_of-padded entries = entries_of-append (map (λ e. Some e) entries) (replicate (most_pools - length entries) None) ∙ whole entries (most_pools - length entries)
   where
     nothing : (n : ℕ) → entries_of (replicate n None) ≡ []
     nothing zero = refl
     nothing (suc n) = nothing n
 
-    whole : (es : List PoolEntry) (n : ℕ) → entries_of (map (λ e. Some (pool_in e)) es) ++ entries_of (replicate n None) ≡ es
+    whole : (es : List StoredPool) (n : ℕ) → entries_of (map (λ e. Some e) es) ++ entries_of (replicate n None) ≡ es
     whole [] n = nothing n
     whole (e ∷ es) n = ap (λ r. e ∷ r) (whole es n)
 
-pub length-padded : (entries : List PoolEntry) → length entries ≤ most_pools → length (padded entries) ≡ most_pools
+pub length-padded : (entries : List StoredPool) → length entries ≤ most_pools → length (padded entries) ≡ most_pools
 length-padded entries few = omega (
   arith,
   few,
-  length-append (map (λ (e : PoolEntry). Some (pool_in e)) entries) (replicate (most_pools - length entries) None),
-  length-map {A = PoolEntry} {B = Option StoredPool} entries (λ e. Some (pool_in e)),
+  length-append (map (λ (e : StoredPool). Some e) entries) (replicate (most_pools - length entries) None),
+  length-map {A = StoredPool} {B = Option StoredPool} entries (λ e. Some e),
   length-replicate {A = Option StoredPool} (most_pools - length entries) None,
 )
 
-pub padded_at_is : (entries : List PoolEntry) (k : ℕ) → k < most_pools → padded_at entries k ≡ pool_at (padded entries) k
+pub padded_at_is : (entries : List StoredPool) (k : ℕ) → k < most_pools → padded_at entries k ≡ pool_at (padded entries) k
 padded_at_is entries k within =
-    let pools : List (Option StoredPool) = map (λ e. Some (pool_in e)) entries in
-    let same : length pools ≡ length entries = length-map entries (λ e. Some (pool_in e)) in
+    let pools : List (Option StoredPool) = map (λ e. Some e) entries in
+    let same : length pools ≡ length entries = length-map entries (λ e. Some e) in
     elim (cases_lt k (length pools)) [
       | inl below ↦ sym (get_or_append_left pools (replicate (most_pools - length entries) None) None k below)
       | inr past ↦
@@ -72,29 +71,29 @@ padded_at_is entries k within =
           ∙ get_or-replicate (most_pools - length entries) (k - length pools) None None behind)
     ]
 
-pub written_is_padded : (pools : List (Option StoredPool)) (entries : List PoolEntry) → length pools ≡ most_pools → length entries ≤ most_pools → ((k : ℕ) → k < most_pools → pool_at pools k ≡ padded_at entries k) → pools ≡ padded entries
+pub written_is_padded : (pools : List (Option StoredPool)) (entries : List StoredPool) → length pools ≡ most_pools → length entries ≤ most_pools → ((k : ℕ) → k < most_pools → pool_at pools k ≡ padded_at entries k) → pools ≡ padded entries
 written_is_padded pools entries count few written =
     ext_get_or None pools (padded entries) (count ∙ sym (length-padded entries few)) (λ k within. let below : k < most_pools = omega (arith, within, count) in written k below ∙ padded_at_is entries k below)
 
-pub padded_at-below : (count : ℕ) (entries : List PoolEntry) (k : ℕ) → All (FirstBelow count) entries → IsPoolBelow count (padded_at entries k)
+pub padded_at-below : (count : ℕ) (entries : List StoredPool) (k : ℕ) → All (FirstBelow count) entries → IsPoolBelow count (padded_at entries k)
 padded_at-below count entries k all = elim (cases_lt k (length entries)) [
   | inl below ↦
       let P : Option StoredPool → Type 0 = λ p. IsPoolBelow count p in
-      subst P (sym (get_or-map (λ (e : PoolEntry). Some (pool_in e)) entries k no_entry None below)) (all k no_entry below)
+      subst P (sym (get_or-map (λ (e : StoredPool). Some e) entries k no_entry None below)) (all k no_entry below)
   | inr past ↦
       let P : Option StoredPool → Type 0 = λ p. IsPoolBelow count p in
-      subst P (sym (get_or_past (map (λ (e : PoolEntry). Some (pool_in e)) entries) k None (omega (arith, past, length-map {A = PoolEntry} {B = Option StoredPool} entries (λ e. Some (pool_in e)))))) tt
+      subst P (sym (get_or_past (map (λ (e : StoredPool). Some e) entries) k None (omega (arith, past, length-map {A = StoredPool} {B = Option StoredPool} entries (λ e. Some e))))) tt
 ]
 
 -- the first entry that begins behind the base
-pub entry_place_is : (base : ℕ) (entries : List PoolEntry) (n : ℕ) (d : PoolEntry) → n ≤ length entries → ((k : ℕ) (d : PoolEntry) → k < n → (get_or entries k d).base ≤ base) → (n < length entries → base < (get_or entries n d).base) → n ≡ entry_place base entries
+pub entry_place_is : (base : ℕ) (entries : List StoredPool) (n : ℕ) (d : StoredPool) → n ≤ length entries → ((k : ℕ) (d : StoredPool) → k < n → (get_or entries k d).base ≤ base) → (n < length entries → base < (get_or entries n d).base) → n ≡ entry_place base entries
 entry_place_is base entries n d within before behind =
-    sym (prefix_len_is (λ (e : PoolEntry). not (nat_lt base e.base)) entries n d within
+    sym (prefix_len_is (λ (e : StoredPool). not (nat_lt base e.base)) entries n d within
     (λ k below. not_from_false _ (le-ltb base (get_or entries k d).base (before k d below)))
     (λ below. not_from_true _ (lt-ltb base (get_or entries n d).base (behind below))))
 
 -- an entry in front of the first that begins behind it stands in order of base
-pub insert_is : (entry : PoolEntry) (entries : List PoolEntry) → insert entries (entry_place entry.base entries) entry ≡ with_entry entry entries
+pub insert_is : (entry : StoredPool) (entries : List StoredPool) → insert entries (entry_place entry.base entries) entry ≡ with_entry entry entries
 insert_is entry [] = refl
 insert_is entry (other ∷ entries) = elim (cases_Bool (nat_lt entry.base other.base)) [
   | inl before ↦ rw before refl

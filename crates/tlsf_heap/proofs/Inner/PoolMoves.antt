@@ -6,7 +6,7 @@ use Rattle.tlsf_store.specs.declared.records.Record.{Record}
 use Rattle.tlsf_store.specs.Records.{blank, record_at}
 use Rattle.tlsf_store.specs.Cells.{Cells}
 use Rattle.tlsf_store.proofs.RecordLaws.{record_at-set_same, record_at-set_other}
-use Rattle.tlsf_heap.specs.declared.pool_entry.PoolEntry.{PoolEntry}
+use Rattle.tlsf_store.specs.declared.pools.Pool.{Pool as StoredPool}
 use Rattle.tlsf_heap.specs.Inner.Entries.{free_record}
 use Rattle.tlsf_heap.specs.Good.{times}
 use Rattle.tlsf_heap.specs.Inner.Nodes.{Node, Area, has_slot, nodes_of, list_of, is_listed, is_listed_in}
@@ -20,7 +20,7 @@ use Rattle.tlsf_heap.proofs.Content.FreeLists.{times-cons}
 use Rattle.tlsf_heap.proofs.Inner.Chains.{uses_most, used_below, chains_same, unlisted, unlisted_nowhere, index_same, listed_within, AtNode, at_node}
 use Rattle.tlsf_heap.proofs.Inner.Taken.{counted_apart}
 
-module _ (cells : Cells) (count : ℕ) (front behind : List Area) (lists : List (List Node)) (entry : PoolEntry) (taken : List ℕ)
+module _ (cells : Cells) (count : ℕ) (front behind : List Area) (lists : List (List Node)) (entry : StoredPool) (taken : List ℕ)
     (was : Represents cells (record { count = count; areas = plug front behind; lists = lists; taken = entry.first ∷ taken })) where
   abbrev slot : ℕ
   slot = entry.first
@@ -78,7 +78,7 @@ module _ (cells : Cells) (count : ℕ) (front behind : List Area) (lists : List 
         agree = λ number test. omega (arith, was.agree number test, counts (λ other. is_listed_in number other && test other), unlisted number test node refl);
       }
 
-module _ (cells : Cells) (count : ℕ) (front behind : List Area) (lists : List (List Node)) (entry : PoolEntry) (node : Node) (taken : List ℕ)
+module _ (cells : Cells) (count : ℕ) (front behind : List Area) (lists : List (List Node)) (entry : StoredPool) (node : Node) (taken : List ℕ)
     (was : Represents cells (record { count = count; areas = plug front (area_of_one entry node ∷ behind); lists = lists; taken = taken })) (was_not : is_listed node.status ≡ false) where
   abbrev emptied : List Record
   emptied = set cells.records node.slot blank

@@ -9,7 +9,7 @@ use Rattle.tlsf_store.specs.declared.records.State.{State}
 use Rattle.tlsf_store.specs.declared.records.State.TheVariants.{Vacant, Free, Live}
 use Rattle.tlsf_store.specs.Records.{record_at}
 use Rattle.tlsf_store.specs.Cells.{Cells}
-use Rattle.tlsf_heap.specs.declared.pool_entry.PoolEntry.{PoolEntry}
+use Rattle.tlsf_store.specs.declared.pools.Pool.{Pool as StoredPool}
 use Rattle.tlsf_heap.specs.declared.refusal.Refusal.TheVariants.{NoPool, PoolInUse}
 use Rattle.tlsf_heap.specs.Content.{Block, Pool, Content}
 use Rattle.tlsf_heap.specs.Lists.{unlink}
@@ -81,21 +81,21 @@ module _ (cells : Cells) (stands : Stands cells) (base : ℕ) where
   -- where no entry begins at the base
   pub refused_none : All (λ entry. entry.base ≢ base) (entries_of cells.pools) → remove_pool base (content_of cells) ≡ Err NoPool
   refused_none none =
-      let P : List PoolEntry → Type 0 = λ entries. AllByRecursion (λ entry. entry.base ≢ base) entries in
+      let P : List StoredPool → Type 0 = λ entries. AllByRecursion (λ entry. entry.base ≢ base) entries in
       let apart = bases_apart stands.layout.areas (subst P (entries_are cells stands) (recursion_from_All (λ entry. entry.base ≢ base) (entries_of cells.pools) none)) in
       ap (λ found. remove_found found (content_of cells)) (ap (λ (content : Content ℕ). find (is_based base) content.pools) (stood_for cells stands) ∙ none_found base (map pool_of stands.layout.areas) apart)
 
   -- where the entry of a number does
-  module _ (number : ℕ) (within : number < length (entries_of cells.pools)) (based : (d : PoolEntry) → (get_or (entries_of cells.pools) number d).base ≡ base) where
+  module _ (number : ℕ) (within : number < length (entries_of cells.pools)) (based : (d : StoredPool) → (get_or (entries_of cells.pools) number d).base ≡ base) where
     pub at : AreaAt number stands.layout.areas
     at = area_at number stands.layout.areas (omega (arith, within, ap length (entries_are cells stands), length-map stands.layout.areas (λ (area : Area). area.entry)))
 
     -- the entry, and the others
-    pub entry_at : (d : PoolEntry) → get_or (entries_of cells.pools) number d ≡ at.area.entry
+    pub entry_at : (d : StoredPool) → get_or (entries_of cells.pools) number d ≡ at.area.entry
     entry_at d = ap (λ entries. get_or entries number d) (entries_are cells stands) ∙ at.entry_is d
 
     base_is : at.area.entry.base ≡ base
-    base_is = let d : PoolEntry = at.area.entry in ap (λ (entry : PoolEntry). entry.base) (sym (entry_at d)) ∙ based d
+    base_is = let d : StoredPool = at.area.entry in ap (λ (entry : StoredPool). entry.base) (sym (entry_at d)) ∙ based d
 
     pools_are : (content_of cells).pools ≡ map pool_of at.before ++ pool_of at.area ∷ map pool_of at.behind
     pools_are = ap (λ (content : Content ℕ). content.pools) (stood_for cells stands) ∙ ap (map pool_of) at.whole ∙ map-append pool_of at.before (at.area ∷ at.behind)

@@ -3,7 +3,7 @@ use Rattle.std.proofs.Common.{◌≡◌, ℕ, List, [], ◌∷◌, map, replicat
 use Rattle.tlsf_class.specs.Classes.{classes, class, low}
 use Rattle.tlsf_store.specs.declared.records.State.TheVariants.{Live}
 use Rattle.tlsf_store.specs.Cells.{Cells, empty_cells, with_taken}
-use Rattle.tlsf_heap.specs.declared.pool_entry.PoolEntry.{PoolEntry}
+use Rattle.tlsf_store.specs.declared.pools.Pool.{Pool as StoredPool}
 use Rattle.tlsf_heap.specs.Content.{Content}
 use Rattle.tlsf_heap.specs.Inner.Edits.{linked, unlinked}
 use Rattle.tlsf_heap.specs.Inner.Chains.{with_state, split}
@@ -18,7 +18,7 @@ use Rattle.tlsf_heap.specs.Inner.Represents.{pool_views, list_views, in_pool, in
 use Rattle.tlsf_heap.specs.Inner.Joined.{freed_layout}
 
 -- a pool of 1024 bytes in a store of 4 records
-abbrev entry : PoolEntry
+abbrev entry : StoredPool
 entry = record { base = 0; bytes = 1024; first = 0 }
 
 abbrev position : List Node → Position

@@ -10,7 +10,7 @@ use Rattle.tlsf_store.specs.declared.records.State.{State}
 use Rattle.tlsf_store.specs.declared.records.State.TheVariants.{Vacant, Free, Live}
 use Rattle.tlsf_store.specs.Records.{blank, record_at, is_vacant}
 use Rattle.tlsf_store.specs.Cells.{Cells, pool_at, most_pools}
-use Rattle.tlsf_heap.specs.declared.pool_entry.PoolEntry.{PoolEntry}
+use Rattle.tlsf_store.specs.declared.pools.Pool.{Pool as StoredPool}
 use Rattle.tlsf_heap.specs.declared.refusal.Refusal.TheVariants.{NoPool}
 use Rattle.tlsf_heap.specs.declared.row.Row.{Row}
 use Rattle.tlsf_heap.specs.Content.{Pool, Content, is_free}
@@ -34,7 +34,7 @@ use Rattle.tlsf_heap.proofs.Inner.Located.{Located, located}
 use Rattle.tlsf_heap.proofs.Inner.Used.{stands_used as slot_used, is_used, node_is_used, next_used}
 
 -- the entries begin at or above a place, each at or above the one before
-abbrev Rises : ℕ → List PoolEntry → Type 0
+abbrev Rises : ℕ → List StoredPool → Type 0
 Rises from [] = ⊤
 Rises from (entry ∷ entries) = (from ≤ entry.base) × Rises entry.base entries
 
@@ -43,24 +43,24 @@ rises from low [] h g = tt
 rises from low (area ∷ areas) h g = (omega (arith, h, g.0), rises (area.entry.base + area.entry.bytes) area.entry.base areas (omega arith) g.2)
 
 module _ (base : ℕ) where
-  above_all : (from k : ℕ) (entries : List PoolEntry) → Rises from entries → begins_below base (padded_at entries k) ≡ true → from < base
+  above_all : (from k : ℕ) (entries : List StoredPool) → Rises from entries → begins_below base (padded_at entries k) ≡ true → from < base
   above_all from k [] r h = absurd (true≢false (sym h))
   above_all from zero (entry ∷ entries) r h = omega (arith, r.0, ltb-true entry.base base h)
   above_all from (suc k) (entry ∷ entries) r h = omega (arith, r.0, above_all entry.base k entries r.1 h)
 
-  in_order_entries : (from j k : ℕ) (entries : List PoolEntry) → Rises from entries → j ≤ k → begins_below base (padded_at entries k) ≡ true → begins_below base (padded_at entries j) ≡ true
+  in_order_entries : (from j k : ℕ) (entries : List StoredPool) → Rises from entries → j ≤ k → begins_below base (padded_at entries k) ≡ true → begins_below base (padded_at entries j) ≡ true
   in_order_entries from j k [] r le h = absurd (true≢false (sym h))
   in_order_entries from zero zero (entry ∷ entries) r le h = h
   in_order_entries from zero (suc k) (entry ∷ entries) r le h = lt-ltb entry.base base (above_all entry.base k entries r.1 h)
   in_order_entries from (suc j) zero (entry ∷ entries) r le h = absurd (omega (arith, le))
   in_order_entries from (suc j) (suc k) (entry ∷ entries) r le h = in_order_entries entry.base j k entries r.1 (omega (arith, le)) h
 
-  none_above : (from : ℕ) (entries : List PoolEntry) → Rises from entries → base < from → slot_for base entries ≡ None
+  none_above : (from : ℕ) (entries : List StoredPool) → Rises from entries → base < from → slot_for base entries ≡ None
   none_above from [] r h = refl
   none_above from (entry ∷ entries) r h = rw (ne_eqb entry.base base (λ e. absurd (omega (arith, r.0, h, e)))) (none_above entry.base entries r.1 (omega (arith, r.0, h)))
 
   -- the pool at the place found, if it begins at the base, is the first that does
-  found_at : (from place top : ℕ) (entries : List PoolEntry) → Rises from entries → length entries ≤ suc top → ((j : ℕ) → j < place → begins_below base (padded_at entries j) ≡ true)
+  found_at : (from place top : ℕ) (entries : List StoredPool) → Rises from entries → length entries ≤ suc top → ((j : ℕ) → j < place → begins_below base (padded_at entries j) ≡ true)
       → (begins_below base (padded_at entries place) ≡ false) ⊎ (place ≡ top) → slot_if base (padded_at entries place) ≡ slot_for base entries
   found_at from place top [] r few below above = refl
   found_at from zero top (entry ∷ entries) r few below above = elim (cases_eq entry.base base) [
@@ -71,7 +71,7 @@ module _ (base : ℕ) where
     ]))
   ]
     where
-      none_left : (es : List PoolEntry) → length es ≤ 0 → slot_for base es ≡ None
+      none_left : (es : List StoredPool) → length es ≤ 0 → slot_for base es ≡ None
       none_left [] h = refl
       none_left (e ∷ es) h = absurd (omega (arith, h))
   found_at from (suc place) top (entry ∷ entries) r few below above =
@@ -125,14 +125,14 @@ module _ (records : List Record) where
       rows_used node.slot used ∙ ap (map row_at) (follow_linked in_pool (pool_views records) (λ v. v.next) (λ prev n after. refl) (length records) before (node ∷ nodes) fits l)
 
 module _ (cells : Cells) (stands : Stands cells) where
-  abbrev entries : List PoolEntry
+  abbrev entries : List StoredPool
   entries = map (λ (a : Area). a.entry) stands.layout.areas
 
   ascending : Rises 0 entries
   ascending = rises 0 0 stands.layout.areas (omega arith) stands.good.pools_good
 
   pub few_entries : length entries ≤ most_pools
-  few_entries = omega (arith, length-map {A = Area} {B = PoolEntry} stands.layout.areas (λ a. a.entry), length-map {A = Area} {B = Pool ℕ} stands.layout.areas pool_of, stands.good.pools_few)
+  few_entries = omega (arith, length-map {A = Area} {B = StoredPool} stands.layout.areas (λ a. a.entry), length-map {A = Area} {B = Pool ℕ} stands.layout.areas pool_of, stands.good.pools_few)
 
   pub entries_are : entries_of cells.pools ≡ entries
   entries_are = ap entries_of stands.represented.entries ∙ entries_of-padded entries

@@ -3,7 +3,7 @@ use Rattle.std.proofs.Common.{◌≡◌, ◌≢◌, ℕ, ◌+◌, Bool, true, fa
 use Rattle.std.specs.Prelude.{nat_lt}
 use Rattle.std.proofs.lemmas.Bool.{ne_eqb}
 use Rattle.tlsf_class.specs.Classes.{classes}
-use Rattle.tlsf_heap.specs.declared.pool_entry.PoolEntry.{PoolEntry}
+use Rattle.tlsf_store.specs.declared.pools.Pool.{Pool as StoredPool}
 use Rattle.tlsf_heap.specs.Content.{Block, Pool}
 use Rattle.tlsf_heap.specs.Malloc.{gap}
 use Rattle.tlsf_heap.specs.Lists.{link}
@@ -24,7 +24,7 @@ inserted_is pool (other ∷ pools) = elim (nat_lt pool.base other.base) as (λ b
 ]
 
 -- the nodes are one more
-pub count-with_area : (test : Node → Bool) (entry : PoolEntry) (node : Node) (areas : List Area) → count_by test (nodes_of (with_area (area_of_one entry node) areas)) ≡ one_if (test node) + count_by test (nodes_of areas)
+pub count-with_area : (test : Node → Bool) (entry : StoredPool) (node : Node) (areas : List Area) → count_by test (nodes_of (with_area (area_of_one entry node) areas)) ≡ one_if (test node) + count_by test (nodes_of areas)
 count-with_area test entry node areas =
     let at : Place entry [] areas = place entry [] areas in
     let one : Area = area_of_one entry node in
@@ -38,7 +38,7 @@ count-with_area test entry node areas =
       count-cons test node [],
     )
 
-pub pool_laid_is : (entry : PoolEntry) (layout : Layout) → length layout.lists ≡ classes → entry.bytes ≢ 0 → content_by (pool_laid entry layout) ≡ with_pool entry.base entry.bytes (content_by layout)
+pub pool_laid_is : (entry : StoredPool) (layout : Layout) → length layout.lists ≡ classes → entry.bytes ≢ 0 → content_by (pool_laid entry layout) ≡ with_pool entry.base entry.bytes (content_by layout)
 pool_laid_is entry layout full some =
     let node : Node = turned Listed (pool_node entry) in
     let one : Area = area_of_one entry node in

@@ -2,7 +2,7 @@
 use Rattle.std.proofs.Common.{◌≡◌, ℕ, false, [], ◌∷◌, map, Some, None, refl}
 use Rattle.tlsf_class.specs.Classes.{class, low}
 use Rattle.tlsf_store.specs.Cells.{Cells, empty_cells, with_taken}
-use Rattle.tlsf_heap.specs.declared.pool_entry.PoolEntry.{PoolEntry}
+use Rattle.tlsf_store.specs.declared.pools.Pool.{Pool as StoredPool}
 use Rattle.tlsf_heap.specs.Inner.Entries.{pool_entered}
 use Rattle.tlsf_heap.specs.Pools.{created, with_pool}
 use Rattle.tlsf_heap.specs.Cursors.{rows_by, rest_of}
@@ -11,7 +11,7 @@ use Rattle.tlsf_heap.specs.Inner.Represents.{pool_views, in_pool, AreLinked}
 use Rattle.tlsf_heap.specs.Inner.Entering.{pool_node, entries_in, pool_laid}
 use Rattle.tlsf_heap.proofs.Inner.Empty.{empty}
 
-abbrev pool : ℕ → ℕ → ℕ → PoolEntry
+abbrev pool : ℕ → ℕ → ℕ → StoredPool
 pool base bytes first = record { base = base; bytes = bytes; first = first }
 
 -- first-split, its add_pool
@@ -34,7 +34,7 @@ its_node = (refl, tt)
 abbrev three_pools : Layout
 three_pools = pool_laid (pool 64 64 2) (pool_laid (pool 0 64 1) (pool_laid (pool 128 64 0) (empty 3)))
 
-in_order : map (λ (entry : PoolEntry). entry.base) (entries_in three_pools.areas) ≡ 0 ∷ 64 ∷ 128 ∷ []
+in_order : map (λ (entry : StoredPool). entry.base) (entries_in three_pools.areas) ≡ 0 ∷ 64 ∷ 128 ∷ []
 unfolding class low entered
 in_order = refl
 

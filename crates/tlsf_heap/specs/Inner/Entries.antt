@@ -4,42 +4,34 @@ use Rattle.std.specs.List.{position_or_len}
 use Rattle.tlsf_class.specs.Classes.{class}
 use Rattle.tlsf_store.specs.declared.records.State.TheVariants.{Free}
 use Rattle.tlsf_store.specs.declared.records.Record.{Record}
-use Rattle.tlsf_heap.specs.declared.pool_entry.PoolEntry.{PoolEntry}
 use Rattle.tlsf_store.specs.declared.pools.Pool.{Pool as StoredPool}
 use Rattle.tlsf_store.specs.Cells.{Cells, with_record, most_pools}
 use Rattle.tlsf_heap.specs.Inner.Edits.{linked}
 
--- an entry as the store keeps it, and as the heap works on it
-abbrev pub pool_in : PoolEntry → StoredPool
-pool_in entry = record { base = entry.base; bytes = entry.bytes; first = entry.first }
-
-abbrev pub entry_in : StoredPool → PoolEntry
-entry_in pool = record { base = pool.base; bytes = pool.bytes; first = pool.first }
-
 -- the entries, and none behind them
-abbrev pub padded : List PoolEntry → List (Option StoredPool)
-padded entries = map (λ entry. Some (pool_in entry)) entries ++ replicate (most_pools - length entries) None
+abbrev pub padded : List StoredPool → List (Option StoredPool)
+padded entries = map (λ entry. Some entry) entries ++ replicate (most_pools - length entries) None
 
 -- the pool of this number, none behind the last entry
-abbrev pub padded_at : List PoolEntry → ℕ → Option StoredPool
-padded_at entries number = slice_index_or (map (λ entry. Some (pool_in entry)) entries) number None
+abbrev pub padded_at : List StoredPool → ℕ → Option StoredPool
+padded_at entries number = slice_index_or (map (λ entry. Some entry) entries) number None
 
 -- the entries that there are
-abbrev pub entries_of : List (Option StoredPool) → List PoolEntry
+abbrev pub entries_of : List (Option StoredPool) → List StoredPool
 entries_of [] = []
 entries_of (None ∷ pools) = entries_of pools
-entries_of (Some pool ∷ pools) = entry_in pool ∷ entries_of pools
+entries_of (Some pool ∷ pools) = pool ∷ entries_of pools
 
 -- how many entries stand in front of the first that begins behind the base
-abbrev pub entry_place : ℕ → List PoolEntry → ℕ
+abbrev pub entry_place : ℕ → List StoredPool → ℕ
 entry_place base entries = position_or_len (λ entry. nat_lt base entry.base) entries
 
 -- whether the bytes from base on lie before or behind the entry's pool
-abbrev pub is_entry_apart : ℕ → ℕ → PoolEntry → Bool
+abbrev pub is_entry_apart : ℕ → ℕ → StoredPool → Bool
 is_entry_apart base bytes entry = nat_le (base + bytes) entry.base || nat_le (entry.base + entry.bytes) base
 
 -- where the entry's pool begins, and its bytes
-abbrev pub entry_range : PoolEntry → ℕ × ℕ
+abbrev pub entry_range : StoredPool → ℕ × ℕ
 entry_range entry = (entry.base, entry.bytes)
 
 -- the item stands in front of the first one whose key is greater
@@ -48,11 +40,11 @@ inserted key item [] = item ∷ []
 inserted key item (other ∷ items) = if nat_lt (key item) (key other) then item ∷ other ∷ items else other ∷ inserted key item items
 
 -- the entries in order of base, with this one among them
-abbrev pub with_entry : PoolEntry → List PoolEntry → List PoolEntry
+abbrev pub with_entry : StoredPool → List StoredPool → List StoredPool
 with_entry entry entries = inserted (λ e. e.base) entry entries
 
 -- the cells with these entries, and none behind them
-abbrev pub with_entries : List PoolEntry → Cells → Cells
+abbrev pub with_entries : List StoredPool → Cells → Cells
 with_entries entries cells = record cells { pools = padded entries }
 
 -- the record of a free block without neighbours
@@ -60,6 +52,6 @@ abbrev pub free_record : ℕ → ℕ → Record
 free_record place size = record { place = place; size = size; state = Free; prev = None; next = None; prev_free = None; next_free = None }
 
 -- the entry's pool is one free block, first in its class's list
-abbrev pub pool_entered : PoolEntry → Cells → Cells
+abbrev pub pool_entered : StoredPool → Cells → Cells
 pool_entered entry cells =
     linked (class entry.bytes) entry.first (with_entries (with_entry entry (entries_of cells.pools)) (with_record cells entry.first (free_record entry.base entry.bytes)))

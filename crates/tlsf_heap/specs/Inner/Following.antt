@@ -6,7 +6,7 @@ use Rattle.tlsf_store.specs.declared.records.Record.{Record}
 use Rattle.tlsf_store.specs.Records.{record_at}
 use Rattle.tlsf_store.specs.Cells.{Cells}
 pub use Rattle.tlsf_heap.specs.Images.Links.{follow, chain_from, list_from}
-use Rattle.tlsf_heap.specs.declared.pool_entry.PoolEntry.{PoolEntry}
+use Rattle.tlsf_store.specs.declared.pools.Pool.{Pool as StoredPool}
 use Rattle.tlsf_heap.specs.Content.{Block, Pool, Content}
 use Rattle.tlsf_heap.specs.Good.{IsGood}
 use Rattle.tlsf_heap.specs.Inner.Entries.{entries_of}
@@ -27,11 +27,11 @@ block_at records slot =
     record { place = r.place; size = r.size; owner = owner_in r.state slot }
 
 -- the pool of an entry
-abbrev pub pool_from : List Record → PoolEntry → Pool ℕ
+abbrev pub pool_from : List Record → StoredPool → Pool ℕ
 pool_from records entry = record { base = entry.base; bytes = entry.bytes; blocks = map (block_at records) (chain_from records (Some entry.first)) }
 
 -- the content of records, entries and heads
-abbrev pub content_from : List Record → List PoolEntry → List (Option ℕ) → Content ℕ
+abbrev pub content_from : List Record → List StoredPool → List (Option ℕ) → Content ℕ
 content_from records entries heads = record {
   records = length records;
   pools = map (pool_from records) entries;

@@ -1,7 +1,7 @@
 -- Nodes: the blocks of a heap with the slots of their records, by pool and by class.
 use Rattle.std.specs.Prelude.{ℕ, ◌+◌, ◌-◌, Bool, true, false, not, ◌&&◌, ◌==◌, List, [], ◌∷◌, map, flat_map, filter, slice_index_or, slice_set, Option, Some, None, if◌then◌else◌}
 use Rattle.tlsf_class.specs.Classes.{class}
-use Rattle.tlsf_heap.specs.declared.pool_entry.PoolEntry.{PoolEntry}
+use Rattle.tlsf_store.specs.declared.pools.Pool.{Pool as StoredPool}
 use Rattle.tlsf_heap.specs.Content.{Block, Pool, Content}
 
 -- live; free and in its class's list; or free and on its way, in no list
@@ -17,7 +17,7 @@ pub record Node : Type 0 where
 
 -- a pool's entry, and its nodes in order of place
 pub record Area : Type 0 where
-  pub entry : PoolEntry
+  pub entry : StoredPool
   pub nodes : List Node
 
 pub record Layout : Type 0 where

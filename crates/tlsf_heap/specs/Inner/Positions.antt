@@ -1,6 +1,6 @@
 -- A position in a layout: what stands in front of it and behind it, the nearest first.
 use Rattle.std.specs.Prelude.{ℕ, List, [], ◌∷◌}
-use Rattle.tlsf_heap.specs.declared.pool_entry.PoolEntry.{PoolEntry}
+use Rattle.tlsf_store.specs.declared.pools.Pool.{Pool as StoredPool}
 use Rattle.tlsf_heap.specs.Inner.Nodes.{Node, Area, Layout}
 
 -- the items in front, nearest first, and then those behind
@@ -13,7 +13,7 @@ pub record Position : Type 0 where
   -- the areas in front of its own, nearest first
   pub areas_before : List Area
   -- the entry of its area
-  pub entry : PoolEntry
+  pub entry : StoredPool
   -- the nodes of its area in front of it, nearest first
   pub before : List Node
   -- the areas behind its own, in order

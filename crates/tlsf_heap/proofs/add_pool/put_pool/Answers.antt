@@ -1,7 +1,7 @@
 use Rattle.std.proofs.Common.{◌≡◌, ◌<◌, ℕ, List, ◌∷◌, length, take, drop}
 use Rattle.std.proofs.lemmas.List.{length-set}
 use Rattle.std.proofs.lemmas.List.Elements.{All-append, All-take, All-cons, All-drop}
-use Rattle.tlsf_heap.specs.declared.pool_entry.PoolEntry.{PoolEntry}
+use Rattle.tlsf_store.specs.declared.pools.Pool.{Pool as StoredPool}
 use Rattle.tlsf_heap.specs.Inner.Entries.{entries_of}
 use Rattle.tlsf_heap.specs.Inner.Entries.{with_entry}
 use Rattle.tlsf_heap.specs.Inner.CellEdits.{pool_put}
@@ -12,7 +12,7 @@ use Rattle.tlsf_heap.proofs.add_pool.put_pool.Goals as goal
 -- the cells once the pool is there
 put : (c : goal.After-class_of) → c.set_entries.new.store.cells ≡ pool_put c.args.entry (with_entry c.args.entry (entries_of c.args.store.now.cells.pools)) c.args.store.now.cells
 put c =
-    let items : List PoolEntry = c.args.entries.items in
+    let items : List StoredPool = c.args.entries.items in
     let all : c.as_slice-2.result.now ≡ with_entry c.args.entry (entries_of c.args.store.now.cells.pools) =
     rw (c.as_slice-2.ensures.value, c.insert.ensures.items, c.place_for-place.ensures.place, c.as_slice.ensures.value, insert_is c.args.entry items, c.requires.entries) in
     rw (c.set_entries.ensures.cells, c.write.ensures.written, c.free_block.ensures, all)
@@ -29,7 +29,7 @@ returns-clause-leads c layout was = rw (c.link.ensures.cells, c.class_of.ensures
 pub set_entries-requires-clause-below : goal.set_entries-requires-clause-below
 set_entries-requires-clause-below c =
     let n : ℕ = c.place_for-place.result in
-    let items : List PoolEntry = c.args.entries.items in
-    let P : PoolEntry → Type 0 = λ e. e.first < length c.args.store.now.cells.records in
+    let items : List StoredPool = c.args.entries.items in
+    let P : StoredPool → Type 0 = λ e. e.first < length c.args.store.now.cells.records in
     rw (c.write.ensures.written, length-set c.args.store.now.cells.records c.args.entry.first c.free_block.result, c.as_slice-2.ensures.value, c.insert.ensures.items)
     (All-append P (take n items) (c.args.entry ∷ drop n items) (All-take P n items c.requires.below) (All-cons P c.args.entry (drop n items) c.requires.slot_used.0 (All-drop P n items c.requires.below)))

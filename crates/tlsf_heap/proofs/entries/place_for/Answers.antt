@@ -1,10 +1,13 @@
-use Rattle.std.proofs.Common.{arith, length}
+use Rattle.std.proofs.Common.{◌<◌, arith, length, subst}
+use Rattle.tlsf_store.specs.declared.pools.Pool.{Pool as StoredPool}
 use Rattle.tlsf_heap.proofs.Inner.EntryLists.{no_entry, entry_place_is}
 use Rattle.tlsf_heap.proofs.entries.place_for.Goals as goal
 
 pub returns-then-base-entry-clause-place : goal.returns-then-base-entry-clause-place
 returns-then-base-entry-clause-place c =
-    entry_place_is c.args.base c.args.entries.now c.loop-number.number _ (omega arith) c.loop-number.invariant (λ below. c.if-base-entry.true)
+    let P : StoredPool → Type 0 = λ entry. c.args.base < entry.base in
+    entry_place_is c.args.base c.args.entries.now c.loop-number.number c.index-entries-number.result (omega arith) c.loop-number.invariant
+    (λ below. subst P c.index-entries-number.is c.if-base-entry.true)
 
 pub returns-clause-place : goal.returns-clause-place
 returns-clause-place c =

@@ -4,7 +4,7 @@ use Rattle.std.proofs.lemmas.List.Elements.{All-append, All-take, All-drop}
 use Rattle.tlsf_store.specs.declared.records.Record.{Record}
 use Rattle.tlsf_store.specs.Records.{record_at}
 use Rattle.tlsf_store.specs.Cells.{Cells}
-use Rattle.tlsf_heap.specs.declared.pool_entry.PoolEntry.{PoolEntry}
+use Rattle.tlsf_store.specs.declared.pools.Pool.{Pool as StoredPool}
 use Rattle.tlsf_heap.specs.Pools.{remove_pool}
 use Rattle.tlsf_heap.specs.Inner.Entries.{entries_of}
 use Rattle.tlsf_heap.specs.Inner.States.{is_state_free}
@@ -15,22 +15,22 @@ use Rattle.tlsf_heap.proofs.Inner.Removed.{at, entry_at, node_there, stands_ther
 use Rattle.tlsf_heap.proofs.remove_pool.remove_pool.Goals as goal
 
 -- the number found, of an entry that begins at the base
-abbrev IsNumber : (entries : List PoolEntry) (base number : ℕ) → Type 0
-IsNumber entries base number = (number < length entries) × ((d : PoolEntry) → (get_or entries number d).base ≡ base)
+abbrev IsNumber : (entries : List StoredPool) (base number : ℕ) → Type 0
+IsNumber entries base number = (number < length entries) × ((d : StoredPool) → (get_or entries number d).base ≡ base)
 
 -- what the entry and the record of its first slot tell
-record Told (old : Cells) (stands : Stands old) (base number : ℕ) (entry : PoolEntry) (block : Record) : Type 0 where
+record Told (old : Cells) (stands : Stands old) (base number : ℕ) (entry : StoredPool) (block : Record) : Type 0 where
   is : IsNumber (entries_of old.pools) base number
   slot_is : entry.first ≡ (at old stands base number is.0 is.1).area.entry.first
   block_is : block ≡ record_at old.records entry.first
 
-told : (old one : Cells) (stands : Stands old) (base number : ℕ) (items now : List PoolEntry) (entry : PoolEntry) (block : Record)
+told : (old one : Cells) (stands : Stands old) (base number : ℕ) (items now : List StoredPool) (entry : StoredPool) (block : Record)
     → one ≡ old → items ≡ entries_of old.pools → now ≡ items → IsNumber now base number → entry ≡ get_or items number entry → block ≡ record_at one.records entry.first → Told old stands base number entry block
 told old one stands base number items now entry block same items_are now_is is entry_is block_is =
     let number_is : IsNumber (entries_of old.pools) base number = subst (λ entries. IsNumber entries base number) (now_is ∙ items_are) is in
     record {
       is = number_is;
-      slot_is = ap (λ (e : PoolEntry). e.first) (entry_is ∙ ap (λ entries. get_or entries number entry) items_are ∙ entry_at old stands base number number_is.0 number_is.1 entry);
+      slot_is = ap (λ (e : StoredPool). e.first) (entry_is ∙ ap (λ entries. get_or entries number entry) items_are ∙ entry_at old stands base number number_is.0 number_is.1 entry);
       block_is = block_is ∙ ap (λ (s : Cells). record_at s.records entry.first) same;
     }
 
@@ -38,13 +38,13 @@ pub returns-in_default : goal.returns-in_default
 returns-in_default c = record {
   stands = search rules;
   ok = search rules;
-  refused = let P : List PoolEntry → Type 0 = λ entries. All (λ entry. entry.base ≡ c.args.base → ⊥) entries in
+  refused = let P : List StoredPool → Type 0 = λ entries. All (λ entry. entry.base ≡ c.args.base → ⊥) entries in
       refused_none c.args.store.now.cells c.requires c.args.base (subst P (c.as_slice.ensures.value ∙ c.entries-entries.ensures.value) c.in_default.ensures.none);
   cells = search rules;
   touches = search rules;
 }
 
-alone_by : (old : Cells) (stands : Stands old) (base number : ℕ) (entry : PoolEntry) (block : Record) → Told old stands base number entry block → (result answer : Bool) → result ≡ (is_state_free block.state && is_none block.next) → result ≡ answer
+alone_by : (old : Cells) (stands : Stands old) (base number : ℕ) (entry : StoredPool) (block : Record) → Told old stands base number entry block → (result answer : Bool) → result ≡ (is_state_free block.state && is_none block.next) → result ≡ answer
     → (is_state_free (record_at old.records entry.first).state && is_none (record_at old.records entry.first).next) ≡ answer
 alone_by old stands base number entry block t result answer is answered = ap (λ (r : Record). is_state_free r.state && is_none r.next) (sym t.block_is) ∙ sym is ∙ answered
 
@@ -73,8 +73,8 @@ drop_pool-requires-clause-stands c =
 
 pub drop_pool-requires-clause-below : goal.drop_pool-requires-clause-below
 drop_pool-requires-clause-below c =
-    let P : PoolEntry → Type 0 = λ entry. entry.first < length c.args.store.now.cells.records in
-    let items : List PoolEntry = c.entries-entries.result.items in
+    let P : StoredPool → Type 0 = λ entry. entry.first < length c.args.store.now.cells.records in
+    let items : List StoredPool = c.entries-entries.result.items in
     let n : ℕ = c.in-Some.number in
     rw (c.as_slice-2.ensures.value, c.remove-entry.ensures.items, c.read-block.ensures.cells, c.entries-entries.ensures.left.cells)
     (All-append P (take n items) (drop (suc n) items) (All-take P n items c.entries-entries.ensures.below) (All-drop P (suc n) items c.entries-entries.ensures.below))
