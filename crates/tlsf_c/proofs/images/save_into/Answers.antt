@@ -3,7 +3,7 @@ use Rattle.std.specs.Prelude.{min, nat_le, if◌then◌else◌}
 use Rattle.tlsf_c.specs.Placed.{placed}
 use Rattle.tlsf_c.specs.Saving.{no_room}
 use Rattle.tlsf_c.proofs.SavedLemmas.{has_text}
-use Rattle.tlsf_c.proofs.image.save_into.Goals as goal
+use Rattle.tlsf_c.proofs.images.save_into.Goals as goal
 
 pub returns-then-window-clause-saved : goal.returns-then-window-clause-saved
 returns-then-window-clause-saved c =

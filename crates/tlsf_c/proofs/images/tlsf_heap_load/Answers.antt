@@ -2,7 +2,7 @@ use Rattle.std.proofs.Common.{inr, ap, ◌∙◌}
 use Rattle.tlsf_heap.specs.Images.Rules.{first_broken}
 use Rattle.tlsf_c.specs.Saving.{fault_number}
 use Rattle.tlsf_c.proofs.LoadLemmas.{none_where_loaded, number_of_broken}
-use Rattle.tlsf_c.proofs.image.tlsf_heap_load.Goals as goal
+use Rattle.tlsf_c.proofs.images.tlsf_heap_load.Goals as goal
 
 pub returns-in-Ok-clause-broken : goal.returns-in-Ok-clause-broken
 returns-in-Ok-clause-broken c = λ rule is. absurd (none_where_loaded (first_broken c.args.bytes.now) c.in-Ok.heap c.in-Ok.ensures.broken rule is)
