@@ -1,3 +1,4 @@
+pub mod Answers
 pub mod Creation
 pub mod Given
 pub mod Lends

@@ -1,5 +1,5 @@
 -- What a walk puts into a C program's rows.
-use Rattle.std.specs.Prelude.{ℕ, nat_le, List, [], ◌∷◌, filter}
+use Rattle.std.specs.Prelude.{◌≡◌, ℕ, nat_le, List, [], ◌∷◌, filter, length}
 use Rattle.tlsf_heap.specs.declared.row.Row.{Row as HeapRow}
 use Rattle.tlsf_c.specs.declared.row.Row.{Row}
 
@@ -16,3 +16,8 @@ unfoldable pub filled : List HeapRow → List Row → List Row
 filled [] room = room
 filled (row ∷ rows) [] = []
 filled (row ∷ rows) (other ∷ room) = row_for row ∷ filled rows room
+
+-- these rows are put into the room, as many as there is room for; and how many they are
+pub record IsFilled (given : List HeapRow) (many : ℕ) (old new : List Row) : Type 0 where
+  pub rows : new ≡ filled given old
+  pub count : many ≡ length given

@@ -1,15 +1,12 @@
 //! Blocks are asked for and given back.
 
-ghost use Rattle.std.specs.Prelude.{◌≡◌, ◌≢◌, ◌%◌, ◌<◌, ◌==◌, ◌⊎◌, Ok, Some};
+ghost use Rattle.std.specs.Prelude.{◌≡◌, ◌≢◌, ◌%◌, ◌<◌, ◌⊎◌, Ok, Some};
 ghost use Rattle.tlsf_heap.specs.Touches.{AtMost, malloc_touches, memalign_touches, free_touches, realloc_touches, block_size_touches};
-ghost use Rattle.tlsf_heap.specs.Counted.{IsUnchanged};
-ghost use Rattle.tlsf_heap.specs.GoodSlots.{slot_times};
-ghost use Rattle.tlsf_heap.specs.Content.{blocks_of};
+ghost use Rattle.tlsf_heap.specs.Counted.{IsUnchanged, Reads};
 ghost use Rattle.tlsf_heap.specs.Malloc.{malloc as served};
 ghost use Rattle.tlsf_heap.specs.Memalign.{memalign as aligned};
-ghost use Rattle.tlsf_heap.specs.Free.{free as freed};
-ghost use Rattle.tlsf_heap.specs.Realloc.{realloc as reallocated};
-ghost use Rattle.tlsf_heap.specs.BlockSize.{block_size as sized};
+ghost use Rattle.tlsf_heap.specs.Pointer.{free_ptr, realloc_ptr, block_size_ptr};
+ghost use Rattle.tlsf_c.specs.Answers.{Answers, AnswersBlock, pointer_of};
 ghost use Rattle.tlsf_c.specs.Given.{given};
 ghost use Rattle.tlsf_c.specs.Status.{status_of};
 
@@ -22,12 +19,7 @@ use crate::status::{SERVED, number};
 /// The status is 0 or the number of `ZeroSize`, `NoFit` or `TableFull`.
 #[unsafe(no_mangle)]
 pub extern "C" fn tlsf_heap_malloc(handle: &mut Handle, bytes: u64, out: &mut Block) -> u32
-    ensures status { status_of (served out.new.slot bytes handle.old.value.content) ≡ result }
-    ensures ok { result ≡ 0 → served out.new.slot bytes handle.old.value.content ≡ Ok (out.new.place, handle.new.value.content) }
-    ensures slot_below { result ≡ 0 → out.new.slot < handle.old.value.content.records }
-    ensures slot_new { result ≡ 0 → slot_times out.new.slot (blocks_of handle.old.value.content.pools) ≡ 0 }
-    ensures unchanged { result ≢ 0 → IsUnchanged handle.old.value handle.new.value }
-    ensures out { result ≢ 0 → out.new ≡ out.old }
+    ensures answer { AnswersBlock (λ slot. served slot bytes) result out.old out.new handle.old.value handle.new.value }
     ensures bound { AtMost malloc_touches handle.old.value.touches handle.new.value.touches }
 {
     match handle.heap().malloc(bytes) {
@@ -49,13 +41,8 @@ pub extern "C" fn tlsf_heap_memalign(
     bytes: u64,
     out: &mut Block,
 ) -> u32
-    ensures status { status_of (aligned out.new.slot align bytes handle.old.value.content) ≡ result }
-    ensures ok { result ≡ 0 → aligned out.new.slot align bytes handle.old.value.content ≡ Ok (out.new.place, handle.new.value.content) }
+    ensures answer { AnswersBlock (λ slot. aligned slot align bytes) result out.old out.new handle.old.value handle.new.value }
     ensures multiple { result ≡ 0 → out.new.place % align ≡ 0 }
-    ensures slot_below { result ≡ 0 → out.new.slot < handle.old.value.content.records }
-    ensures slot_new { result ≡ 0 → slot_times out.new.slot (blocks_of handle.old.value.content.pools) ≡ 0 }
-    ensures unchanged { result ≢ 0 → IsUnchanged handle.old.value handle.new.value }
-    ensures out { result ≢ 0 → out.new ≡ out.old }
     ensures bound { AtMost memalign_touches handle.old.value.touches handle.new.value.touches }
 {
     match handle.heap().memalign(align, bytes) {
@@ -72,9 +59,7 @@ pub extern "C" fn tlsf_heap_memalign(
 /// The status is 0, or the number of `BadPointer` unless a live block has both the place and the slot.
 #[unsafe(no_mangle)]
 pub extern "C" fn tlsf_heap_free(handle: &mut Handle, block: Block) -> u32
-    ensures status { status_of (freed (λ slot. slot == block.slot) block.place handle.old.value.content) ≡ result }
-    ensures ok { result ≡ 0 → freed (λ slot. slot == block.slot) block.place handle.old.value.content ≡ Ok handle.new.value.content }
-    ensures unchanged { result ≢ 0 → IsUnchanged handle.old.value handle.new.value }
+    ensures answer { Answers (free_ptr (pointer_of block)) result handle.old.value handle.new.value }
     ensures bound { AtMost free_touches handle.old.value.touches handle.new.value.touches }
 {
     match handle.heap().free(block.ptr()) {
@@ -94,8 +79,8 @@ pub extern "C" fn tlsf_heap_realloc(
     bytes: u64,
     out: &mut Block,
 ) -> u32
-    ensures status { status_of (reallocated (λ a b. a == b) out.new.slot (Some (block.place, block.slot)) bytes handle.old.value.content) ≡ result }
-    ensures ok { result ≡ 0 → reallocated (λ a b. a == b) out.new.slot (Some (block.place, block.slot)) bytes handle.old.value.content ≡ Ok (given bytes out.new.place out.new.slot, handle.new.value.content) }
+    ensures status { status_of (realloc_ptr (Some (pointer_of block)) bytes out.new.slot handle.old.value.content) ≡ result }
+    ensures ok { result ≡ 0 → realloc_ptr (Some (pointer_of block)) bytes out.new.slot handle.old.value.content ≡ Ok (given bytes out.new.place out.new.slot, handle.new.value.content) }
     ensures slot_below { result ≡ 0 → bytes ≢ 0 → out.new.slot < handle.old.value.content.records }
     ensures unchanged { result ≢ 0 → IsUnchanged handle.old.value handle.new.value }
     ensures out { (result ≢ 0) ⊎ (bytes ≡ 0) → out.new ≡ out.old }
@@ -116,11 +101,10 @@ pub extern "C" fn tlsf_heap_realloc(
 /// The status is 0, or the number of `BadPointer` unless a live block has both the place and the slot.
 #[unsafe(no_mangle)]
 pub extern "C" fn tlsf_heap_block_size(handle: &mut Handle, block: Block, out: &mut u32) -> u32
-    ensures status { status_of (sized (λ slot. slot == block.slot) block.place handle.old.value.content) ≡ result }
-    ensures ok { result ≡ 0 → sized (λ slot. slot == block.slot) block.place handle.old.value.content ≡ Ok out.new }
-    ensures unchanged { IsUnchanged handle.old.value handle.new.value }
+    ensures status { status_of (block_size_ptr (pointer_of block) handle.old.value.content) ≡ result }
+    ensures ok { result ≡ 0 → block_size_ptr (pointer_of block) handle.old.value.content ≡ Ok out.new }
     ensures out { result ≢ 0 → out.new ≡ out.old }
-    ensures bound { AtMost block_size_touches handle.old.value.touches handle.new.value.touches }
+    ensures read { Reads block_size_touches handle.old.value handle.new.value }
 {
     match handle.heap().block_size(block.ptr()) {
         Ok(bytes) => {

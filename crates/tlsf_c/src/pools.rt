@@ -1,10 +1,8 @@
 //! Pools come and go.
 
-ghost use Rattle.std.specs.Prelude.{◌≡◌, ◌≢◌, Ok};
 ghost use Rattle.tlsf_heap.specs.Touches.{AtMost, add_pool_touches, remove_pool_touches};
-ghost use Rattle.tlsf_heap.specs.Counted.{IsUnchanged};
 ghost use Rattle.tlsf_heap.specs.Pools.{add_pool as added, remove_pool as removed};
-ghost use Rattle.tlsf_c.specs.Status.{status_of};
+ghost use Rattle.tlsf_c.specs.Answers.{Answers};
 
 use crate::handle::Handle;
 use crate::status::{SERVED, number};
@@ -14,9 +12,7 @@ use crate::status::{SERVED, number};
 /// The status is 0 or the number of `BadPool`, `PoolsFull` or `TableFull`.
 #[unsafe(no_mangle)]
 pub extern "C" fn tlsf_heap_add_pool(handle: &mut Handle, base: u64, bytes: u64) -> u32
-    ensures status { status_of (added base bytes handle.old.value.content) ≡ result }
-    ensures ok { result ≡ 0 → added base bytes handle.old.value.content ≡ Ok handle.new.value.content }
-    ensures unchanged { result ≢ 0 → IsUnchanged handle.old.value handle.new.value }
+    ensures answer { Answers (added base bytes) result handle.old.value handle.new.value }
     ensures bound { AtMost add_pool_touches handle.old.value.touches handle.new.value.touches }
 {
     match handle.heap().add_pool(base, bytes) {
@@ -30,9 +26,7 @@ pub extern "C" fn tlsf_heap_add_pool(handle: &mut Handle, base: u64, bytes: u64)
 /// The status is 0 or the number of `NoPool` or `PoolInUse`.
 #[unsafe(no_mangle)]
 pub extern "C" fn tlsf_heap_remove_pool(handle: &mut Handle, base: u64) -> u32
-    ensures status { status_of (removed base handle.old.value.content) ≡ result }
-    ensures ok { result ≡ 0 → removed base handle.old.value.content ≡ Ok handle.new.value.content }
-    ensures unchanged { result ≢ 0 → IsUnchanged handle.old.value handle.new.value }
+    ensures answer { Answers (removed base) result handle.old.value handle.new.value }
     ensures bound { AtMost remove_pool_touches handle.old.value.touches handle.new.value.touches }
 {
     match handle.heap().remove_pool(base) {

@@ -1,12 +1,11 @@
 //! The rows of a pool.
 
 ghost use Rattle.std.specs.Prelude.{◌≡◌, ◌≢◌, ◌^◌, ◌≤◌, Ok, IfOk, length, slice_set};
-ghost use Rattle.tlsf_heap.specs.Touches.{AtMost};
-ghost use Rattle.tlsf_heap.specs.Counted.{IsUnchanged};
+ghost use Rattle.tlsf_heap.specs.Counted.{Reads};
 ghost use Rattle.tlsf_heap.specs.Cursors.{rows_behind, is_at_row};
 ghost use Rattle.tlsf_heap.specs.Rows.{rows_from};
 ghost use Rattle.tlsf_heap.specs.Walk.{walk_touches};
-ghost use Rattle.tlsf_c.specs.Rows.{filled, from_place};
+ghost use Rattle.tlsf_c.specs.Rows.{IsFilled, from_place};
 ghost use Rattle.tlsf_c.specs.Status.{status_of};
 
 use crate::handle::Handle;
@@ -28,12 +27,10 @@ pub extern "C" fn tlsf_heap_walk(
     count: &mut u64,
 ) -> u32
     ensures status { status_of (rows_from base handle.old.value.content.pools) ≡ result }
-    ensures rows { IfOk (rows_from base handle.old.value.content.pools) (λ given. rows.new ≡ filled (from_place from given) rows.old) }
-    ensures count { IfOk (rows_from base handle.old.value.content.pools) (λ given. count.new ≡ length (from_place from given)) }
+    ensures filled { IfOk (rows_from base handle.old.value.content.pools) (λ given. IsFilled (from_place from given) count.new rows.old rows.new) }
     ensures rows_stay { result ≢ 0 → rows.new ≡ rows.old }
     ensures count_stays { result ≢ 0 → count.new ≡ count.old }
-    ensures unchanged { IsUnchanged handle.old.value handle.new.value }
-    ensures bound { AtMost (walk_touches (rows_from base handle.old.value.content.pools)) handle.old.value.touches handle.new.value.touches }
+    ensures read { Reads (walk_touches (rows_from base handle.old.value.content.pools)) handle.old.value handle.new.value }
 {
     let heap = handle.heap();
     heap.keeps_good();
@@ -51,10 +48,8 @@ pub extern "C" fn tlsf_heap_walk(
 fn fill(heap: &mut Heap, cursor: Cursor, from: u64, rows: &mut [Row]) -> u64
     requires stands { is_at_row heap.old.rows cursor }
     requires few { length (rows_behind heap.old.rows cursor) ≤ 2 ^ 32 }
-    ensures count { result ≡ length (from_place from (rows_behind heap.old.rows cursor)) }
-    ensures rows { rows.new ≡ filled (from_place from (rows_behind heap.old.rows cursor)) rows.old }
-    ensures unchanged { IsUnchanged heap.old heap.new }
-    ensures bound { AtMost (length (rows_behind heap.old.rows cursor)) heap.old.touches heap.new.touches }
+    ensures filled { IsFilled (from_place from (rows_behind heap.old.rows cursor)) result rows.old rows.new }
+    ensures read { Reads (length (rows_behind heap.old.rows cursor)) heap.old heap.new }
 {
     let mut count = 0;
     let mut here = cursor;

@@ -5,6 +5,7 @@ use Rattle.tlsf_heap.specs.declared.row.Row.{Row}
 use Rattle.tlsf_heap.specs.Content.{Content}
 use Rattle.tlsf_heap.specs.Counted.{Counted, range_of}
 use Rattle.tlsf_heap.specs.Pools.{end_of_places}
+use Rattle.tlsf_heap.specs.Touches.{AtMost}
 
 pub record CountedRegion : Type 0 where
   pub content : Content ℕ
@@ -42,3 +43,19 @@ pub record WasRead (most : ℕ) (old new : CountedRegion) : Type 0 where
   pub rows : new.rows ≡ old.rows
   pub floor : old.touches ≤ new.touches
   pub bound : new.touches ≤ old.touches + most
+
+-- all is as it was, the bytes too
+pub record IsAsBefore (old new : CountedRegion) : Type 0 where
+  pub unchanged : IsUnchanged old new
+  pub bytes : new.bytes ≡ old.bytes
+
+-- no byte changes, and there are at most n touches
+pub record KeepsBytes (n : ℕ) (old new : CountedRegion) : Type 0 where
+  pub bytes : new.bytes ≡ old.bytes
+  pub bound : AtMost n old.touches new.touches
+
+-- a reading: nothing changes, and there are at most n touches
+pub record Reads (n : ℕ) (old new : CountedRegion) : Type 0 where
+  pub unchanged : IsUnchanged old new
+  pub bytes : new.bytes ≡ old.bytes
+  pub bound : AtMost n old.touches new.touches

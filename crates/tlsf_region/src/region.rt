@@ -34,24 +34,25 @@ impl Region {
     ghost use Rattle.std.specs.Prelude.{◌≡◌, ◌≢◌, ℕ, true, false, ◌+◌, ◌%◌, ◌<◌, ◌≤◌, ◌==◌, ◌⊎◌, ◌↔◌, [], ◌∷◌, map, replicate, length, Ok, Err, Some, IfOk, IfErr, IfSome, IfNone, OnOk, OnErr};
     ghost use Rattle.tlsf_heap.specs.Pools.{created, most_records, end_of_places, remove_pool as removed};
     ghost use Rattle.tlsf_heap.specs.Content.{blocks_of, size_at};
-    ghost use Rattle.tlsf_heap.specs.GoodSlots.{HasGoodSlots, slot_times};
+    ghost use Rattle.tlsf_heap.specs.GoodSlots.{HasGoodSlots};
+    ghost use Rattle.tlsf_heap.specs.Served.{IsServed, IsMoved, Refuses};
+    ghost use Rattle.tlsf_heap.specs.Readings.{FindsRows, GivesRow, TouchesForRow};
     ghost use Rattle.tlsf_heap.specs.Malloc.{malloc as served};
-    ghost use Rattle.tlsf_heap.specs.Free.{free as freed, is_live};
+    ghost use Rattle.tlsf_heap.specs.Free.{is_live};
     ghost use Rattle.tlsf_heap.specs.Good.{IsGood};
-    ghost use Rattle.tlsf_heap.specs.Realloc.{realloc as reallocated};
     ghost use Rattle.tlsf_heap.specs.BlockSize.{block_size as sized};
-    ghost use Rattle.tlsf_heap.specs.Pointer.{Pointer, place_and_slot, slot_of};
+    ghost use Rattle.tlsf_heap.specs.Pointer.{Pointer, free_ptr, realloc_ptr, block_size_ptr};
     ghost use Rattle.tlsf_heap.specs.Rows.{rows_from};
     ghost use Rattle.tlsf_heap.specs.Cursors.{rows_behind, is_at_row};
     ghost use Rattle.tlsf_heap.specs.Counted.{range_of};
-    ghost use Rattle.tlsf_heap.specs.Implied.{NoneFits, NoneFitsAligned, HasFewRecords, HasFewRecordsAndOne, HasAlignedBlocks, HasDisjointBlocks, ListsFreeBlocks, ListsNothingElse};
+    ghost use Rattle.tlsf_heap.specs.Implied.{NoneFits, NoneFitsAligned, HasFewRecords, HasFewRecordsAndOne, IsLaidOut};
     ghost use Rattle.tlsf_heap.specs.Memalign.{memalign as aligned};
     ghost use Rattle.tlsf_heap.specs.Walk.{IsWalk, walk_touches};
     ghost use Rattle.tlsf_heap.specs.declared.refusal.Refusal.TheVariants.{NoFit, TableFull};
     ghost use Rattle.tlsf_region.specs.Pools.{add_pool_within};
     ghost use Rattle.tlsf_region.specs.Realloc.{bytes_after_realloc};
     ghost use Rattle.tlsf_heap.specs.Touches.{AtMost, add_pool_touches, remove_pool_touches, malloc_touches, memalign_touches, free_touches, realloc_touches, block_size_touches};
-    ghost use Rattle.tlsf_region.specs.Region.{IsWithin, IsUnchanged, WasRead};
+    ghost use Rattle.tlsf_region.specs.Region.{IsWithin, IsUnchanged, WasRead, IsAsBefore, KeepsBytes, Reads};
     ghost use Rattle.tlsf_region.specs.Bytes.{block_bytes, live_bytes};
     ghost use Rattle.tlsf_region.specs.Lends.{ends_read, lends_from, lends_block};
     ghost use Rattle.std.specs.Borrow.{sem};
@@ -97,12 +98,9 @@ impl Region {
     /// at most two records a live block and one a pool then.
     pub fn add_pool(&mut self, base: u64, bytes: u64) -> Result<(), Refusal>
         ensures ok { OnOk result (add_pool_within (length self.old.bytes) base bytes self.old.content ≡ Ok self.new.content) }
-        ensures refused { IfErr result (λ refusal. add_pool_within (length self.old.bytes) base bytes self.old.content ≡ Err refusal) }
+        ensures refused { Refuses result (λ refusal. add_pool_within (length self.old.bytes) base bytes self.old.content ≡ Err refusal) (IsUnchanged self.old self.new) }
         ensures table_full { result ≡ Err TableFull → HasFewRecords self.old.content }
-        ensures never_memory { result ≢ Err Refusal.OutOfMemory }
-        ensures unchanged { OnErr result (IsUnchanged self.old self.new) }
-        ensures bytes { self.new.bytes ≡ self.old.bytes }
-        ensures bound { AtMost add_pool_touches self.old.touches self.new.touches }
+        ensures kept { KeepsBytes add_pool_touches self.old self.new }
     {
         let len = self.bytes.len() as u64;
         if base > len || bytes > len - base {
@@ -118,11 +116,8 @@ impl Region {
     /// `NoPool` where no pool begins there; `PoolInUse` unless the pool is one free block.
     pub fn remove_pool(&mut self, base: u64) -> Result<(), Refusal>
         ensures ok { OnOk result (removed base self.old.content ≡ Ok self.new.content) }
-        ensures refused { IfErr result (λ refusal. removed base self.old.content ≡ Err refusal) }
-        ensures never_memory { result ≢ Err Refusal.OutOfMemory }
-        ensures unchanged { OnErr result (IsUnchanged self.old self.new) }
-        ensures bytes { self.new.bytes ≡ self.old.bytes }
-        ensures bound { AtMost remove_pool_touches self.old.touches self.new.touches }
+        ensures refused { Refuses result (λ refusal. removed base self.old.content ≡ Err refusal) (IsUnchanged self.old self.new) }
+        ensures kept { KeepsBytes remove_pool_touches self.old self.new }
     {
         self.heap.remove_pool(base)
     }
@@ -135,16 +130,11 @@ impl Region {
     /// `ZeroSize` for 0; `NoFit` where no such block is there, or `n` is above the greatest size;
     /// `TableFull` where a rest would be left and each record is in use.
     pub fn malloc(&mut self, n: u64) -> Result<Ptr, Refusal>
-        ensures ok { IfOk result (λ ptr. served ptr.slot n self.old.content ≡ Ok (ptr.place, self.new.content)) }
-        ensures slot_below { IfOk result (λ ptr. ptr.slot < self.old.content.records) }
-        ensures slot_new { IfOk result (λ ptr. slot_times ptr.slot (blocks_of self.old.content.pools) ≡ 0) }
-        ensures refused { IfErr result (λ refusal. (slot : ℕ) → served slot n self.old.content ≡ Err refusal) }
+        ensures ok { IfOk result (λ ptr. IsServed (λ slot. served slot n) ptr self.old.content self.new.content) }
+        ensures refused { Refuses result (λ refusal. (slot : ℕ) → served slot n self.old.content ≡ Err refusal) (IsUnchanged self.old self.new) }
         ensures no_fit { result ≡ Err NoFit → NoneFits n self.old.content }
         ensures table_full { result ≡ Err TableFull → HasFewRecords self.old.content }
-        ensures never_memory { result ≢ Err Refusal.OutOfMemory }
-        ensures unchanged { OnErr result (IsUnchanged self.old self.new) }
-        ensures bytes { self.new.bytes ≡ self.old.bytes }
-        ensures bound { AtMost malloc_touches self.old.touches self.new.touches }
+        ensures kept { KeepsBytes malloc_touches self.old self.new }
     {
         self.heap.malloc(n)
     }
@@ -158,17 +148,12 @@ impl Region {
     /// no such block is there, or `n` is above the greatest size; `TableFull` where the blocks in front and
     /// behind need more records than are left.
     pub fn memalign(&mut self, align: u64, n: u64) -> Result<Ptr, Refusal>
-        ensures ok { IfOk result (λ ptr. aligned ptr.slot align n self.old.content ≡ Ok (ptr.place, self.new.content)) }
+        ensures ok { IfOk result (λ ptr. IsServed (λ slot. aligned slot align n) ptr self.old.content self.new.content) }
         ensures multiple { IfOk result (λ ptr. ptr.place % align ≡ 0) }
-        ensures slot_below { IfOk result (λ ptr. ptr.slot < self.old.content.records) }
-        ensures slot_new { IfOk result (λ ptr. slot_times ptr.slot (blocks_of self.old.content.pools) ≡ 0) }
-        ensures refused { IfErr result (λ refusal. (slot : ℕ) → aligned slot align n self.old.content ≡ Err refusal) }
+        ensures refused { Refuses result (λ refusal. (slot : ℕ) → aligned slot align n self.old.content ≡ Err refusal) (IsUnchanged self.old self.new) }
         ensures no_fit { result ≡ Err NoFit → NoneFitsAligned align n self.old.content }
         ensures table_full { result ≡ Err TableFull → HasFewRecordsAndOne self.old.content }
-        ensures never_memory { result ≢ Err Refusal.OutOfMemory }
-        ensures unchanged { OnErr result (IsUnchanged self.old self.new) }
-        ensures bytes { self.new.bytes ≡ self.old.bytes }
-        ensures bound { AtMost memalign_touches self.old.touches self.new.touches }
+        ensures kept { KeepsBytes memalign_touches self.old self.new }
     {
         self.heap.memalign(align, n)
     }
@@ -179,12 +164,9 @@ impl Region {
     ///
     /// `BadPointer` unless a live block has both the pointer's place and its slot.
     pub fn free(&mut self, ptr: Ptr) -> Result<(), Refusal>
-        ensures ok { OnOk result (freed (λ slot. slot == ptr.slot) ptr.place self.old.content ≡ Ok self.new.content) }
-        ensures refused { IfErr result (λ refusal. freed (λ slot. slot == ptr.slot) ptr.place self.old.content ≡ Err refusal) }
-        ensures never_memory { result ≢ Err Refusal.OutOfMemory }
-        ensures unchanged { OnErr result (IsUnchanged self.old self.new) }
-        ensures bytes { self.new.bytes ≡ self.old.bytes }
-        ensures bound { AtMost free_touches self.old.touches self.new.touches }
+        ensures ok { OnOk result (free_ptr ptr self.old.content ≡ Ok self.new.content) }
+        ensures refused { Refuses result (λ refusal. free_ptr ptr self.old.content ≡ Err refusal) (IsUnchanged self.old self.new) }
+        ensures kept { KeepsBytes free_touches self.old self.new }
     {
         self.heap.free(ptr)
     }
@@ -197,15 +179,10 @@ impl Region {
     /// `BadPointer` unless a live block has both the pointer's place and its slot; as `malloc` without a
     /// pointer, or where the block has to move: then the old block is as it was.
     pub fn realloc(&mut self, ptr: Option<Ptr>, n: u64) -> Result<Option<Ptr>, Refusal>
-        ensures ok { IfOk result (λ given. reallocated (λ a b. a == b) (slot_of given) (place_and_slot ptr) n self.old.content ≡ Ok (place_and_slot given, self.new.content)) }
-        ensures slot_below { IfOk result (λ given. IfSome given (λ p. p.slot < self.old.content.records)) }
-        ensures slot_new { IfOk result (λ given. IfSome given (λ p. ptr ≢ Some p → slot_times p.slot (blocks_of self.old.content.pools) ≡ 0)) }
-        ensures refused { IfErr result (λ refusal. (slot : ℕ) → reallocated (λ a b. a == b) slot (place_and_slot ptr) n self.old.content ≡ Err refusal) }
+        ensures ok { IfOk result (λ given. IsMoved (realloc_ptr ptr n) ptr given self.old.content self.new.content) }
+        ensures refused { Refuses result (λ refusal. (slot : ℕ) → realloc_ptr ptr n slot self.old.content ≡ Err refusal) (IsAsBefore self.old self.new) }
         ensures table_full { result ≡ Err TableFull → HasFewRecords self.old.content }
-        ensures never_memory { result ≢ Err Refusal.OutOfMemory }
-        ensures unchanged { OnErr result (IsUnchanged self.old self.new) }
         ensures bytes { IfOk result (λ given. self.new.bytes ≡ bytes_after_realloc ptr given self.old.content self.old.bytes) }
-        ensures bytes_unchanged { OnErr result (self.new.bytes ≡ self.old.bytes) }
         ensures bound { AtMost (realloc_touches + block_size_touches) self.old.touches self.new.touches }
     {
         let Some(old) = ptr else {
@@ -227,11 +204,9 @@ impl Region {
     ///
     /// `BadPointer` unless a live block has both the pointer's place and its slot.
     pub fn block_size(&mut self, ptr: Ptr) -> Result<u32, Refusal>
-        ensures ok { IfOk result (λ bytes. sized (λ slot. slot == ptr.slot) ptr.place self.old.content ≡ Ok bytes) }
-        ensures refused { IfErr result (λ refusal. sized (λ slot. slot == ptr.slot) ptr.place self.old.content ≡ Err refusal) }
-        ensures unchanged { IsUnchanged self.old self.new }
-        ensures bytes { self.new.bytes ≡ self.old.bytes }
-        ensures bound { AtMost block_size_touches self.old.touches self.new.touches }
+        ensures ok { IfOk result (λ bytes. block_size_ptr ptr self.old.content ≡ Ok bytes) }
+        ensures refused { IfErr result (λ refusal. block_size_ptr ptr self.old.content ≡ Err refusal) }
+        ensures read { Reads block_size_touches self.old self.new }
     {
         self.heap.block_size(ptr)
     }
@@ -301,9 +276,7 @@ impl Region {
     /// Where each pool begins and how many bytes it has, in order of base. At most eight touches.
     pub fn pools(&mut self) -> ArrayVec<(u64, u64), MOST_POOLS>
         ensures value { result.items ≡ map range_of self.old.content.pools }
-        ensures unchanged { IsUnchanged self.old self.new }
-        ensures bytes { self.new.bytes ≡ self.old.bytes }
-        ensures bound { AtMost 8 self.old.touches self.new.touches }
+        ensures read { Reads 8 self.old self.new }
     {
         self.heap.pools()
     }
@@ -314,12 +287,8 @@ impl Region {
     ///
     /// `NoPool` where no pool begins there.
     pub fn first(&mut self, base: u64) -> Result<Cursor, Refusal>
-        ensures ok { IfOk result (λ cursor. rows_from base self.old.content.pools ≡ Ok (rows_behind self.new.rows cursor)) }
-        ensures stands { IfOk result (λ cursor. is_at_row self.new.rows cursor) }
-        ensures refused { IfErr result (λ refusal. rows_from base self.old.content.pools ≡ Err refusal) }
-        ensures unchanged { IsUnchanged self.old self.new }
-        ensures bytes { self.new.bytes ≡ self.old.bytes }
-        ensures bound { AtMost 4 self.old.touches self.new.touches }
+        ensures found { FindsRows result (rows_from base self.old.content.pools) (rows_behind self.new.rows) (is_at_row self.new.rows) }
+        ensures read { Reads 4 self.old self.new }
     {
         self.heap.first(base)
     }
@@ -328,13 +297,9 @@ impl Region {
     /// touch, and none where there is no row.
     pub fn row(&mut self, cursor: Cursor) -> Option<(Row, Cursor)>
         requires { is_at_row self.old.rows cursor }
-        ensures some { IfSome result (λ given. rows_behind self.old.rows cursor ≡ given.0 ∷ rows_behind self.new.rows given.1) }
-        ensures next_stands { IfSome result (λ given. is_at_row self.new.rows given.1) }
-        ensures none { IfNone result (rows_behind self.old.rows cursor ≡ []) }
-        ensures unchanged { IsUnchanged self.old self.new }
-        ensures bytes { self.new.bytes ≡ self.old.bytes }
-        ensures bound { IfSome result (λ given. AtMost 1 self.old.touches self.new.touches) }
-        ensures no_touch { IfNone result (self.new.touches ≡ self.old.touches) }
+        ensures given { GivesRow result (rows_behind self.old.rows cursor) (rows_behind self.new.rows) (is_at_row self.new.rows) }
+        ensures same { IsAsBefore self.old self.new }
+        ensures touched { TouchesForRow 1 result self.old.touches self.new.touches }
     {
         self.heap.row(cursor)
     }
@@ -350,9 +315,7 @@ impl Region {
         ensures ok { OnOk result (IsWalk (λ p x q. F.step p x tt q) base self.old.content.pools visit.old visit.new) }
         ensures refused { IfErr result (λ refusal. rows_from base self.old.content.pools ≡ Err refusal) }
         ensures unvisited { OnErr result (visit.new ≡ visit.old) }
-        ensures unchanged { IsUnchanged self.old self.new }
-        ensures bytes { self.new.bytes ≡ self.old.bytes }
-        ensures bound { AtMost (walk_touches (rows_from base self.old.content.pools)) self.old.touches self.new.touches }
+        ensures read { Reads (walk_touches (rows_from base self.old.content.pools)) self.old self.new }
     {
         self.heap.walk_with(base, visit)
     }
@@ -367,9 +330,7 @@ impl Region {
         requires { F.IsAlwaysCallable visit }
         ensures ok { OnOk result ((last : F) × IsWalk (λ p x q. F.step p x tt q) base self.old.content.pools visit last) }
         ensures refused { IfErr result (λ refusal. rows_from base self.old.content.pools ≡ Err refusal) }
-        ensures unchanged { IsUnchanged self.old self.new }
-        ensures bytes { self.new.bytes ≡ self.old.bytes }
-        ensures bound { AtMost (walk_touches (rows_from base self.old.content.pools)) self.old.touches self.new.touches }
+        ensures read { Reads (walk_touches (rows_from base self.old.content.pools)) self.old self.new }
     {
         self.walk_with(base, &mut visit)
     }
@@ -378,8 +339,7 @@ impl Region {
     /// answer is `true`. There are more touches than records.
     pub fn check(&mut self) -> bool
         ensures whole { result ≡ true }
-        ensures unchanged { IsUnchanged self.old self.new }
-        ensures bytes { self.new.bytes ≡ self.old.bytes }
+        ensures same { IsAsBefore self.old self.new }
         ensures each_read { self.old.touches + self.old.content.records < self.new.touches }
     {
         self.heap.check()
@@ -390,10 +350,7 @@ impl Region {
     pub fn keeps_good(&self)
         ensures good { IsGood self.now.content }
         ensures slots { HasGoodSlots self.now.content }
-        ensures aligned { HasAlignedBlocks self.now.content }
-        ensures disjoint { HasDisjointBlocks self.now.content }
-        ensures listed_once { ListsFreeBlocks self.now.content }
-        ensures listed_alone { ListsNothingElse self.now.content }
+        ensures laid_out { IsLaidOut self.now.content }
         ensures within { IsWithin self.now.content self.now.bytes }
         ensures as_many { (ptr : Pointer) → IfSome (live_bytes ptr self.now.content self.now.bytes) (λ block. length block ≡ size_at ptr.place (blocks_of self.now.content.pools)) }
     {

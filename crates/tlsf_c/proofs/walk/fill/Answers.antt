@@ -33,7 +33,7 @@ loop-next-preserved c =
     let all = kept.past ++ item ∷ [] in
     let same = c.in-Some.ensures.unchanged.rows ∙ kept.same in
     let rest : rest_of c.args.heap.now.rows c.loop-next.here.next ≡ item ∷ rest_of c.args.heap.now.rows next.next =
-    sym (ap (λ (rows : List (List HeapRow)). rest_of rows c.loop-next.here.next) kept.same) ∙ c.in-Some.ensures.some ∙ ap (λ (rows : List (List HeapRow)). item ∷ rest_of rows next.next) same in
+    sym (ap (λ (rows : List (List HeapRow)). rest_of rows c.loop-next.here.next) kept.same) ∙ c.in-Some.ensures.given.some ∙ ap (λ (rows : List (List HeapRow)). item ∷ rest_of rows next.next) same in
     let more : length all ≡ length kept.past + 1 = length-append kept.past (item ∷ []) in
     let one_more : length (put ++ item ∷ []) ≡ length put + 1 = length-append put (item ∷ []) in
     record {
@@ -59,9 +59,9 @@ loop-next-preserved c =
         | else-from-next w ↦ let is = from_place_passed c.args.from kept.past item w.if-from-next.false in
             w.rows-is ∙ kept.rows ∙ sym (ap (λ (rows : List HeapRow). filled rows c.args.rows.now) is)
       ];
-      stands = subst (λ (rows : List (List HeapRow)). stands_at rows next.next) same c.in-Some.ensures.next_stands;
+      stands = subst (λ (rows : List (List HeapRow)). stands_at rows next.next) same c.in-Some.ensures.given.next_stands;
       content = c.in-Some.ensures.unchanged.content ∙ kept.content;
       same = same;
-      floor = omega (arith, c.in-Some.ensures.bound.floor, kept.floor);
-      bound = omega (arith, c.in-Some.ensures.bound.bound, kept.bound, more);
+      floor = omega (arith, c.in-Some.ensures.touched.bound.floor, kept.floor);
+      bound = omega (arith, c.in-Some.ensures.touched.bound.bound, kept.bound, more);
     }

@@ -13,6 +13,6 @@ invariant_of-self c =
       within =
           ends_within c.add_pool.result c.self.inside.heap c.add_pool.new.self bytes
           (IfOk-weaker c.add_pool.result _ _ (λ done e. subst (λ given. IfOk given (λ new. EndBelow (length bytes) (ranges new))) e (add_pool_ends (length bytes) c.args.base c.args.bytes old below c.self.invariant.within.pools)) c.add_pool.ensures.ok)
-          c.add_pool.ensures.unchanged c.self.invariant.within;
+          c.add_pool.ensures.refused.unchanged c.self.invariant.within;
       exact = c.self.invariant.exact;
     }

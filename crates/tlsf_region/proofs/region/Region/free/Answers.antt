@@ -1,4 +1,4 @@
-use Rattle.std.proofs.Common.{◌≡◌, subst, IfOk}
+use Rattle.std.proofs.Common.{rules, ◌≡◌, subst, IfOk}
 use Rattle.std.specs.Prelude.{◌==◌}
 use Rattle.std.proofs.lemmas.Result.{IfOk-weaker}
 use Rattle.tlsf_region.proofs.Ranges.{free_ranges, still_within, ranges}
@@ -12,9 +12,13 @@ invariant_of-self c =
       within =
           still_within c.free.result c.self.inside.heap c.free.new.self c.self.inside.bytes.items
           (IfOk-weaker c.free.result _ _ (λ done e. subst (λ given. IfOk given (λ new. ranges new ≡ ranges old)) e (free_ranges (λ slot. slot == c.args.ptr.slot) c.args.ptr.place old)) after.ok)
-          after.unchanged c.self.invariant.within;
+          after.refused.unchanged c.self.invariant.within;
       exact = c.self.invariant.exact;
     }
 
 pub returns-clause-refused : goal.returns-clause-refused
-returns-clause-refused c = rw (← c.self.view_is) c.free.ensures.refused
+returns-clause-refused c = record {
+  refused = rw (← c.self.view_is) c.free.ensures.refused.refused;
+  never_memory = search rules;
+  unchanged = search rules;
+}

@@ -10,7 +10,7 @@ invariant_of-self c =
     record {
       within =
           still_within c.memalign.result c.self.inside.heap c.memalign.new.self c.self.inside.bytes.items
-          (IfOk-weaker c.memalign.result _ _ (λ ptr e. subst (λ given. IfOk given (λ new. ranges new.1 ≡ ranges old)) e (memalign_ranges ptr.slot c.args.align c.args.n old)) after.ok)
-          after.unchanged c.self.invariant.within;
+          (IfOk-weaker c.memalign.result _ _ (λ ptr e. subst (λ given. IfOk given (λ new. ranges new.1 ≡ ranges old)) e.ok (memalign_ranges ptr.slot c.args.align c.args.n old)) after.ok)
+          after.refused.unchanged c.self.invariant.within;
       exact = c.self.invariant.exact;
     }

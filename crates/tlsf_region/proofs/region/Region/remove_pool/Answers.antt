@@ -12,6 +12,6 @@ invariant_of-self c =
       within =
           ends_within c.remove_pool.result c.self.inside.heap c.remove_pool.new.self bytes
           (IfOk-weaker c.remove_pool.result _ _ (λ done e. subst (λ given. IfOk given (λ new. EndBelow (length bytes) (ranges new))) e (remove_pool_ends (length bytes) c.args.base old c.self.invariant.within.pools)) c.remove_pool.ensures.ok)
-          c.remove_pool.ensures.unchanged c.self.invariant.within;
+          c.remove_pool.ensures.refused.unchanged c.self.invariant.within;
       exact = c.self.invariant.exact;
     }
