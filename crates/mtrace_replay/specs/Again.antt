@@ -1,7 +1,8 @@
 -- A log that is read again.
-use Rattle.std.specs.Prelude.{◌≡◌, ◌≢◌, ◌⊎◌, ℕ, ◌≤◌, List, ◌∷◌, length, reverse, Result, Ok, Err, IfOk, IfErr, IsErrOf}
+use Rattle.std.specs.Prelude.{◌≡◌, ◌≢◌, ◌⊎◌, ℕ, ◌≤◌, List, [], ◌∷◌, length, reverse, Result, Ok, Err, IfOk, IfErr, OnOk, OnErr, IsErrOf}
 use Rattle.std.specs.Io.KnownBytes.{prepend_known}
 use Rattle.mtrace_log.specs.HasRead.{HasRead, HasReadAll}
+use Rattle.mtrace_log.specs.Trace.{HasNotFailed}
 use Rattle.mtrace_replay.specs.declared.settings.Settings.{Settings}
 use Rattle.mtrace_replay.specs.Moment.{Reading}
 use Rattle.mtrace_replay.specs.Replay.{Replayed, StandsFor}
@@ -32,6 +33,16 @@ abbrev pub FailsAgain : (whole left_old left_new : Bytes) (calls_old calls_new :
 FailsAgain whole left_old left_new calls_old calls_new =
     ((left_new ≡ left_old) × (calls_new ≡ Failed ∷ calls_old))
     ⊎ ((first : List Reading) × FailedInPiece whole left_new (Began ∷ calls_old) calls_new first)
+
+-- What a call leaves that reads and replays the first lines of a text, from this start on and behind these calls: they were replayed,
+-- or the reader failed.
+pub record ReplaysFirst {R E : Type 0} (left bytes : R → Bytes) (pulls : R → List Call) (start : Bytes) (calls : List Call) (Fails : Type 0) (most : ℕ)
+    (result : Result (Unit {0}) E) (replay_old replay_new : Replayed) (reader_old reader_new : R) : Type 0 where
+  pub done : OnOk result ((settings : Settings) → StandsFor replay_old settings [] → HasReplayedFirst most settings replay_new start (left reader_new))
+  pub not_failed : OnOk result (HasNotFailed calls (pulls reader_new))
+  pub read : OnErr result ((settings : Settings) → StandsFor replay_old settings [] → Fails)
+  pub whole : bytes reader_new ≡ bytes reader_old
+  pub records : replay_new.content.records ≡ replay_old.content.records
 
 -- What follows a first reading: the log was read again, and a text was written, or a beginning where the writer failed, or nothing
 -- where the reader did.

@@ -1,6 +1,8 @@
 -- The entries, sorted by origin, cut into runs of one origin, from the back.
-use Rattle.std.specs.Prelude.{◌≡◌, ℕ, ◌+◌, Bool, false, if◌then◌else◌, List, [], ◌∷◌, ⊤}
+use Rattle.std.specs.Prelude.{◌≡◌, ℕ, ◌+◌, ◌≤◌, Bool, false, if◌then◌else◌, List, [], ◌∷◌, ⊤, Vec, vec_capacity}
 use Rattle.std.specs.List.{AllByRecursion}
+use Rattle.std.specs.List.Sorted.{IsPermutation, IsSortedByKey}
+use Rattle.std.specs.declared.cmp.Ordering.{Ordering}
 use Rattle.std.specs.Ordering.{is_eq, is_lt}
 use denote.Ref.{Bor}
 use Rattle.std.specs.declared.cmp.Ordering.TheVariants.{Less}
@@ -45,3 +47,9 @@ lent_origin entry = entry.now.at
 pub record Grouped : Type 0 where
   pub room : ℕ
   pub sites : List Site
+
+-- the elements were put in order by their keys, without memory
+pub record Sorts {X K Z : Type 0} (key : X → K) (cmp : K → K → Ordering) (old new : Vec X Z) : Type 0 where
+  pub moved : IsPermutation old.items new.items
+  pub sorted : IsSortedByKey key cmp new.items
+  pub capacity : vec_capacity old ≤ vec_capacity new

@@ -1,5 +1,5 @@
 -- What is held, by address, as a list in order of address.
-use Rattle.std.specs.Prelude.{◌≡◌, ◌≢◌, ℕ, ◌+◌, ◌*◌, ◌<◌, ◌≤◌, ◌^◌, List, length, map, find, sum_by, Option, Some, ◌==◌, IfOk, IfErr}
+use Rattle.std.specs.Prelude.{◌≡◌, ◌≢◌, Bool, ℕ, ◌+◌, ◌*◌, ◌<◌, ◌≤◌, ◌^◌, List, length, map, find, sum_by, Option, Some, ◌==◌, IfOk, IfErr}
 use Rattle.std.specs.List.Sorted.{IsStrictlyIncreasing}
 use Rattle.mtrace_replay.specs.Holding.{Holding}
 use Rattle.mtrace_replay.specs.declared.key.Key.{Key}
@@ -31,7 +31,7 @@ AreInOrder holdings = IsStrictlyIncreasing (addresses holdings)
 abbrev pub held_bytes : List Holding → ℕ
 held_bytes holdings = sum_by (λ holding. holding.entry.size) holdings
 
--- so many look-ups: each compares at most as many addresses as the room has binary digits; the room stays
+-- look-ups, this many: each compares at most as many addresses as the room has binary digits; the room stays
 pub record LooksUp (times : ℕ) (old new : Indexed) : Type 0 where
   pub room : new.room ≡ old.room
   pub compared : (digits : ℕ) → old.room < 2 ^ digits → new.comparisons ≤ old.comparisons + times * digits
@@ -40,6 +40,26 @@ pub record LooksUp (times : ℕ) (old new : Indexed) : Type 0 where
 pub record IsFound (keys : List Key) (found : Found) : Type 0 where
   pub held : IfOk found.place (StandsAt keys found.address)
   pub absent : IfErr found.place (FitsAt keys found.address)
+
+-- look-ups found where the address stands, and changed nothing
+pub record Finds (times wanted : ℕ) (answer : Found) (old new : Indexed) : Type 0 where
+  pub found : IsFound old.keys answer
+  pub address : answer.address ≡ wanted
+  pub unchanged : new.all ≡ old.all
+  pub keys : new.keys ≡ old.keys
+  pub looked : LooksUp times old new
+
+-- look-ups told whether this is so, and changed nothing
+pub record Tells (times : ℕ) (is_so answer : Bool) (old new : Indexed) : Type 0 where
+  pub value : answer ≡ is_so
+  pub unchanged : new.all ≡ old.all
+  pub keys : new.keys ≡ old.keys
+  pub looked : LooksUp times old new
+
+-- the answer is how many there are, and they are few
+pub record Counts (many answer : ℕ) : Type 0 where
+  pub len : answer ≡ many
+  pub small : answer < 2 ^ 63
 
 -- no block that another address is held under has that slot
 abbrev pub IsNewSlot : ℕ → ℕ → List Holding → Type 0

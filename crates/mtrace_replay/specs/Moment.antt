@@ -127,15 +127,8 @@ asks (Ok (Aligned at address align size)) pending held = not (is_some (held addr
 
 -- whether a line is `>`
 abbrev pub is_new : Reading → Bool
-is_new (Err fault) = false
-is_new (Ok Start) = false
-is_new (Ok End) = false
-is_new (Ok (Alloc at address size)) = false
-is_new (Ok (Free at address)) = false
-is_new (Ok (Old at address)) = false
 is_new (Ok (New at address size)) = true
-is_new (Ok (Failed at address size)) = false
-is_new (Ok (Aligned at address align size)) = false
+is_new _ = false
 
 -- the line of this number is `<`, where an address is pending, and no `>` follows
 abbrev pub half : ℕ → Option ℕ → List Diagnostic

@@ -1,17 +1,20 @@
 -- What a run read and wrote, by its answer.
-use Rattle.std.specs.Prelude.{◌≡◌, ◌≢◌, ◌⊎◌, ◌↔◌, ℕ, Bool, true, false, List, [], ◌∷◌, ◌++◌, length, reverse, Option, Result, Ok, Err, IsTrue, IfOk, OnOk, IsErrOf}
+use Rattle.std.specs.Prelude.{◌≡◌, ◌≢◌, ◌⊎◌, ◌↔◌, ℕ, Bool, true, false, List, [], ◌∷◌, ◌++◌, length, reverse, Option, Result, Ok, Err, IsTrue, IfOk, OnOk, OnErr, IsErrOf, ◌||◌, if◌then◌else◌}
 use Rattle.std.specs.Io.KnownBytes.{prepend_known}
 use Rattle.mtrace_log.specs.HasRead.{HasRead, HasReadAll, HasReadBefore}
 use Rattle.mtrace_log.specs.Progress.{HasMore, greatest_number}
-use Rattle.mtrace_log.specs.Trace.{HasGiven, HasGivenAll, HasGivenAndFailed, HasNotFailed, HasTakenAndFlushed, HasFailedToWrite, FlushWasAsked}
+use Rattle.mtrace_log.specs.Trace.{HasGiven, HasGivenAll, HasGivenAndFailed, HasNotFailed, HasTaken, HasTakenAndFlushed, HasTakenAndFailed, HasFailedToWrite, FlushWasAsked}
 use Rattle.mtrace_log.specs.declared.call.Call.{Call}
 use Rattle.mtrace_replay.specs.Entry.{Entry}
 use Rattle.mtrace_replay.specs.declared.report.Report.{Report}
 use Rattle.mtrace_replay.specs.declared.report.Report.TheVariants.{Notes}
 use Rattle.mtrace_replay.specs.declared.run.Ended.{Ended}
+use Rattle.mtrace_replay.specs.declared.run.Failing.{Failing}
+use Rattle.mtrace_replay.specs.declared.run.Failing.TheVariants.{Reader, Writer}
 use Rattle.mtrace_replay.specs.declared.totals.Totals.{Totals}
 use Rattle.mtrace_replay.specs.declared.settings.Settings.{Settings}
 use Rattle.mtrace_replay.specs.declared.status.Status.{Status}
+use Rattle.mtrace_replay.specs.declared.status.Status.TheVariants.{Clean, Found}
 use Rattle.mtrace_replay.specs.declared.status.RunFault.{RunFault}
 use Rattle.mtrace_replay.specs.declared.status.RunFault.TheVariants.{Read, Write, OutOfMemory, BadSettings, Image}
 use Rattle.mtrace_replay.specs.Settings.{are_bad}
@@ -22,7 +25,7 @@ use Rattle.mtrace_replay.specs.History.{history, notes, diagnostics, AreHeld, en
 use Rattle.mtrace_replay.specs.Replay.{Replayed, StandsFor, entries, added_notes}
 use Rattle.mtrace_replay.specs.declared.diagnostic.Diagnostic.{Diagnostic}
 use Rattle.mtrace_replay.specs.Texts.{notes_text, report_text, status_of}
-use Rattle.mtrace_log.specs.Output.{Wrote, Begins}
+use Rattle.mtrace_log.specs.Output.{Wrote, Begins, Puts}
 
 abbrev pub Bytes : Type 0
 Bytes = Option (List ℕ)
@@ -31,7 +34,7 @@ Bytes = Option (List ℕ)
 abbrev pub text_of_notes : Settings → List Reading → List ℕ
 text_of_notes settings lines = notes_text (notes (history settings lines))
 
--- all diagnostics of the lines, and then the report of what they come to
+-- all diagnostics of the lines, and then the report
 abbrev pub whole_text : Report → Settings → List Reading → List Given → Totals → List ℕ
 whole_text report settings lines all totals =
     notes_text (diagnostics settings lines)
@@ -130,6 +133,12 @@ pub record Runs {R W : Type 0} (report : Report) (settings : Settings) (left : R
   pub nothing_done : IsErrOf result BadSettings → (reader_new ≡ reader_old) × (writer_new ≡ writer_old)
   pub no_image_fault : result ≢ Err Image
 
+-- a run as `Runs` tells it, after which the reader has the same bytes in whole
+pub record RunsOnce {R W : Type 0} (report : Report) (settings : Settings) (left bytes : R → Bytes) (pulls : R → List Call) (taken : W → Bytes) (puts : W → List Call)
+    (result : Result Status RunFault) (reader_old reader_new : R) (writer_old writer_new : W) : Type 0 where
+  pub runs : Runs report settings left pulls taken puts result reader_old reader_new writer_old writer_new
+  pub whole : bytes reader_new ≡ bytes reader_old
+
 -- what a replay writes at the end: the diagnostic of the last line, and the report
 abbrev pub end_text : Report → Replayed → List ℕ
 end_text report replay =
@@ -163,6 +172,52 @@ pub record HasReplayed (settings : Settings) (replay : Replayed) (noted : Bool) 
   pub stands : StandsFor replay settings (reverse lines)
   pub wrote : Wrote taken_old taken_new (text_of_notes settings lines)
   pub noted_is : noted ≡ is_some_note (notes (history settings lines))
+
+-- What a call leaves that replays one line and puts what is wrong with it, for all lines before it.
+pub record ReplaysLine {W E : Type 0} (taken : W → Bytes) (puts : W → List Call) (number : ℕ) (line : Reading) (result : Result Bool E)
+    (replay_old replay_new : Replayed) (findings : List Diagnostic) (writer_old writer_new : W) : Type 0 where
+  pub done : IfOk result (λ noted. (settings : Settings) (past : List Reading) → StandsFor replay_old settings past
+      → LineGives replay_new settings line past (taken writer_old) (taken writer_new) noted)
+  pub counted : OnOk result (replay_new.totals.lines ≡ number)
+  pub cleared : OnOk result (findings ≡ [])
+  pub records : replay_new.content.records ≡ replay_old.content.records
+  pub took : OnOk result (HasTaken (puts writer_old) (puts writer_new))
+  pub write : OnErr result ((settings : Settings) (past : List Reading) → StandsFor replay_old settings past
+      → LineBegins replay_new settings line past (taken writer_old) (taken writer_new))
+  pub failed : OnErr result (HasTakenAndFailed (puts writer_old) (puts writer_new))
+
+-- What a call leaves that reads and replays all lines and puts what is wrong with each, unless the reader or the writer fails.
+pub record ReplaysLines {R W : Type 0} (left bytes : R → Bytes) (pulls : R → List Call) (taken : W → Bytes) (puts : W → List Call) (result : Result Bool Failing)
+    (replay_old replay_new : Replayed) (reader_old reader_new : R) (writer_old writer_new : W) : Type 0 where
+  pub done : IfOk result (λ noted. (settings : Settings) → StandsFor replay_old settings []
+      → HasReplayed settings replay_new noted (left reader_old) (left reader_new) (taken writer_old) (taken writer_new))
+  pub records : replay_new.content.records ≡ replay_old.content.records
+  pub whole : bytes reader_new ≡ bytes reader_old
+  pub reader_ended : OnOk result (HasGivenAll (pulls reader_old) (pulls reader_new))
+  pub reader_not_failed : result ≢ Err Reader → HasNotFailed (pulls reader_old) (pulls reader_new)
+  pub writer_took : result ≢ Err Writer → HasTaken (puts writer_old) (puts writer_new)
+  pub writer_failed : IsErrOf result Writer → HasTakenAndFailed (puts writer_old) (puts writer_new)
+  pub read : IsErrOf result Reader → (settings : Settings) → StandsFor replay_old settings []
+      → StopsAtRead settings (left reader_old) (left reader_new) (pulls reader_old) (pulls reader_new) (taken writer_old) (taken writer_new)
+  pub write : IsErrOf result Writer → (settings : Settings) → StandsFor replay_old settings []
+      → (report : Report) → StopsAtWrite report settings (left reader_old) (left reader_new) (taken writer_old) (taken writer_new)
+
+-- what a call leaves that puts this text with the report in it
+pub record PutsReport {W T E : Type 0} (taken : W → Bytes) (puts : W → List Call) (result : Result T E) (report : Report) (text : List ℕ)
+    (replay_old replay_new : Replayed) (writer_old writer_new : W) : Type 0 where
+  pub put : Puts taken puts result text writer_old writer_new
+  pub kept : report ≡ Notes → replay_new ≡ replay_old
+
+-- What a call leaves that puts all that is written at the end, and flushes. It answers the status, by whether a line had a diagnostic.
+pub record Finishes {W E : Type 0} (taken : W → Bytes) (puts : W → List Call) (report : Report) (noted : Bool) (result : Result Status E)
+    (replay_old replay_new : Replayed) (writer_old writer_new : W) : Type 0 where
+  pub all : OnOk result (Wrote (taken writer_old) (taken writer_new) (end_text report replay_old))
+  pub status : IfOk result (λ status. status
+      ≡ (if noted || (is_some_note (half replay_old.totals.lines replay_old.pending) || is_some_entry (entries replay_old)) then Found else Clean))
+  pub flushed : OnOk result (HasTakenAndFlushed (puts writer_old) (puts writer_new))
+  pub beginning : OnErr result (Begins (taken writer_old) (taken writer_new) (end_text report replay_old))
+  pub failed : OnErr result (HasFailedToWrite (puts writer_old) (puts writer_new))
+  pub kept : report ≡ Notes → replay_new ≡ replay_old
 
 -- the status of a run with its replay
 abbrev pub status_in : Result Ended RunFault → Result Status RunFault

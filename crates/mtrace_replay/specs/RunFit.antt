@@ -1,5 +1,5 @@
 -- What a run leaves that tells how large a pool a log needs.
-use Rattle.std.specs.Prelude.{◌≡◌, ◌≢◌, ◌⊎◌, ◌↔◌, ℕ, zero, suc, ◌<◌, Bool, true, false, List, ◌++◌, ◌∷◌, map, count_by, Option, Result, IsErrOf, IsTrue}
+use Rattle.std.specs.Prelude.{◌≡◌, ◌≢◌, ◌⊎◌, ◌↔◌, ℕ, zero, suc, ◌<◌, Bool, true, false, List, ◌++◌, ◌∷◌, map, count_by, Option, Result, IfOk, OnOk, OnErr, IsErrOf, IsTrue}
 use Rattle.std.specs.List.{AllByRecursion}
 use Rattle.std.specs.Io.KnownBytes.{prepend_known}
 use Rattle.mtrace_log.specs.HasRead.{HasRead, HasReadAll}
@@ -17,6 +17,7 @@ use Rattle.mtrace_replay.specs.History.{history}
 use Rattle.mtrace_replay.specs.Fit.{one_pool, greatest_settings, enough_records, is_bad_step, step_of, sizes, Verdict, fitted}
 use Rattle.mtrace_replay.specs.Texts.{greatest_line, most_line, fitted_lines, untried_lines}
 use Rattle.mtrace_replay.specs.Run.{Bytes, FailedInPiece, IsPastLastNumber}
+use Rattle.mtrace_replay.specs.Replay.{Replayed}
 use Rattle.mtrace_replay.specs.Again.{Follows, RunsAgain}
 
 -- how many of the lines are refused on a heap by the settings
@@ -29,7 +30,7 @@ IsTried settings true whole left = (lines : List Reading) × HasReadAll whole le
 IsTried settings false whole left =
     (lines : List Reading) × (unused : List ℕ) × (HasRead whole (prepend_known unused left) lines ⊎ HasReadAll whole left lines) × (0 < refusals settings lines)
 
--- the log was tried on one pool of each size, with so many records, and these are the verdicts
+-- the log was tried on one pool of each size, with this many records, and these are the verdicts
 pub record AreVerdicts (records : ℕ) (whole : Bytes) (tried : List ℕ) (verdicts : List Verdict) : Type 0 where
   pub sizes_are : map (λ verdict. verdict.size) verdicts ≡ tried
   pub each : AllByRecursion (λ verdict. (left : Bytes) × IsTried (one_pool verdict.size records) verdict.serves whole left) verdicts
@@ -70,6 +71,21 @@ pub record FailsLater (whole left_old left_new : Bytes) (calls_old calls_new : L
   pub calls_middle : List Call
   pub none_failed : NoneFailed calls_old calls_middle
   pub fails : FailsIn whole left_middle left_new calls_middle calls_new
+
+-- What a call leaves that tries a log on the heap of a replay, with this many records: what it found, or the reader failed.
+pub record TriesLog {R E : Type 0} (Tried : Bool → Type 0) (Fails : Type 0) (bytes : R → Bytes) (pulls : R → List Call) (many : ℕ)
+    (result : Result Bool E) (reader_old reader_new : R) (replay : Replayed) : Type 0 where
+  pub tried : IfOk result Tried
+  pub not_failed : OnOk result (NoneFailed (pulls reader_old) (pulls reader_new))
+  pub read : OnErr result Fails
+  pub whole : bytes reader_new ≡ bytes reader_old
+  pub records : replay.content.records ≡ many
+
+-- What a call leaves that reads the log again, once for each size: what it tells of that, or the reader failed.
+pub record ReadsAgain {R T E : Type 0} (Tells : T → Type 0) (left whole : R → Bytes) (pulls : R → List Call) (result : Result T E) (old new : R) : Type 0 where
+  pub tells : IfOk result Tells
+  pub not_failed : OnOk result (NoneFailed (pulls old) (pulls new))
+  pub read : OnErr result (FailsLater (whole old) (left old) (left new) (pulls old) (pulls new))
 
 -- the log whose lines these are was read again for each size, and what they tell was written
 abbrev pub FitFollows : {R W T : Type 0} → (step : Option ℕ) (lines : List Reading) (left whole : R → Bytes) (pulls : R → List Call) (taken : W → Bytes) (puts : W → List Call)

@@ -1,5 +1,5 @@
 -- What a run leaves that tells who holds the memory of a log.
-use Rattle.std.specs.Prelude.{◌≡◌, ℕ, List, ◌∷◌, ◌++◌, length, Result}
+use Rattle.std.specs.Prelude.{◌≡◌, ℕ, ◌≤◌, List, [], ◌∷◌, ◌++◌, length, Result}
 use Rattle.mtrace_log.specs.declared.call.Call.{Call}
 use Rattle.mtrace_log.specs.declared.call.Call.TheVariants.{Began}
 use Rattle.mtrace_log.specs.Trace.{HasNotFailed}
@@ -12,9 +12,26 @@ use Rattle.mtrace_replay.specs.Totals.{AreTotals}
 use Rattle.mtrace_replay.specs.Moment.{Reading, Given}
 use Rattle.mtrace_replay.specs.History.{history, AreHeld, entries_of}
 use Rattle.mtrace_replay.specs.Sites.{Site, AreSites}
+use Rattle.mtrace_replay.specs.declared.sites.Sum.{Sum}
+use Rattle.mtrace_replay.specs.Entry.{Entry}
+use Rattle.mtrace_replay.specs.Gather.{Grouped}
+use Rattle.mtrace_replay.specs.Replay.{Replayed, StandsFor}
 use Rattle.mtrace_replay.specs.Texts.{total_size, section, peak_words, end_words}
 use Rattle.mtrace_replay.specs.Run.{Bytes}
 use Rattle.mtrace_replay.specs.Again.{HasReadFirst, FailsAgain, Follows, RunsAgain}
+
+-- how many entries there are, of how many bytes, and their sites
+pub record Groups (entries : List Entry) (sum : Sum) (grouped : Grouped) : Type 0 where
+  pub blocks : sum.blocks ≡ length entries
+  pub bytes : sum.bytes ≡ total_size entries
+  pub sites : AreSites entries grouped.sites
+
+-- a replay of no line yet, by the settings, and room to group as much as it has records, at the peak and at the end
+pub record HasMemory (settings : Settings) (start : Replayed) (peak end : ℕ) : Type 0 where
+  pub replay : StandsFor start settings []
+  pub records : start.content.records ≡ settings.records
+  pub peak_room : settings.records ≤ peak
+  pub end_room : settings.records ≤ end
 
 -- what lines leave held, and its sites
 pub record HeldSites (settings : Settings) (lines : List Reading) : Type 0 where

@@ -1,17 +1,21 @@
 -- What one line does to the heap and to what is held.
-use Rattle.std.specs.Prelude.{◌≡◌, ℕ, ◌+◌, ◌≤◌, Bool, true, false, List, length, map, find, option_map, Option, Some, ◌==◌, Result, IfOk, OnOk, OnErr}
+use Rattle.std.specs.Prelude.{◌≡◌, ◌≢◌, ℕ, ◌+◌, ◌<◌, ◌≤◌, Bool, true, false, List, length, map, find, option_map, Option, Some, None, ◌==◌, if◌then◌else◌, Result, Ok, Err, IfOk, IfErr, OnOk, OnErr}
 use Rattle.tlsf_class.specs.Classes.{greatest_size}
 use Rattle.tlsf_heap.specs.Content.{Content, blocks_of, size_at}
 use Rattle.tlsf_heap.specs.Pools.{most_records}
 use Rattle.tlsf_heap.specs.Free.{is_live}
 use Rattle.tlsf_heap.specs.Bare.{bare}
+use Rattle.tlsf_heap.specs.GoodSlots.{slot_times}
 use Rattle.tlsf_heap.specs.Run.{MayLack}
+use Rattle.tlsf_heap.specs.declared.refusal.Refusal.{Refusal}
+use Rattle.tlsf_heap.specs.declared.refusal.Refusal.TheVariants.{OutOfMemory}
 use Rattle.tlsf_heap.specs.Pointer.{Pointer}
 use Rattle.mtrace_replay.specs.declared.diagnostic.Diagnostic.{Diagnostic}
 use Rattle.mtrace_replay.specs.Holding.{Holding}
 use Rattle.mtrace_replay.specs.declared.totals.Totals.{Totals}
 use Rattle.mtrace_replay.specs.Started.{Bare}
-use Rattle.mtrace_replay.specs.Moment.{Given, Moment}
+use Rattle.mtrace_replay.specs.declared.step.Block.{Block}
+use Rattle.mtrace_replay.specs.Moment.{Given, Moment, without}
 use Rattle.mtrace_replay.specs.History.{held_after}
 use Rattle.mtrace_replay.specs.Index.{Indexed, held_at, LooksUp}
 
@@ -30,7 +34,7 @@ found all address = find (λ given. given.entry.addr == address) all
 abbrev pub end_of : Moment → Option ℕ
 end_of moment = option_map (λ given. given.place + size_at given.place (blocks_of moment.content.pools)) moment.given
 
--- the heap and what is held come to what the moment says; these are its diagnostics, and the end of the block given
+-- the heap and what is held are as the moment says; these are its diagnostics, and the end of the block given
 pub record Comes (content_old content_new : Bare) (old new : List Given) (notes : List Diagnostic) (end : Option ℕ) (moment : Moment) : Type 0 where
   pub content_is : content_new ≡ moment.content
   pub held_is : (address : ℕ) → found new address ≡ held_after moment (found old) address
@@ -55,9 +59,9 @@ pub record AreLive (holdings : List Holding) (content : Content ℕ) : Type 0 wh
   pub records : content.records ≤ most_records
 
 -- What a line does, or a part of it, which answers where the block ends that it was given, if any. Where no memory is
--- refused, the heap, what is held and the notes come to the moment, and what is held is live; else what is held is as it
--- was. The heap has as many records as before; so many look-ups are made, and at most so many touches: none where nothing
--- is asked of the heap.
+-- refused, the heap, what is held and the notes are as the moment says, and what is held is live; else what is held is as it
+-- was. The heap has as many records as before. The look-ups are counted, and the touches are at most `most`: none where
+-- nothing is asked of the heap.
 pub record Replays {H E : Type 0} (content : H → Content ℕ) (touches : H → ℕ) (lacks : H → Type 0) (looks most : ℕ) (asks : Bool) (moment : Moment)
     (notes : List Diagnostic) (result : Result (Option ℕ) E) (heap_old heap_new : H) (held_old held_new : Indexed) : Type 0 where
   pub comes : IfOk result (λ end. Comes (bare (content heap_old)) (bare (content heap_new)) (all_given held_old.all) (all_given held_new.all) notes end moment)
@@ -68,6 +72,42 @@ pub record Replays {H E : Type 0} (content : H → Content ℕ) (touches : H →
   pub looked : LooksUp looks held_old held_new
   pub bound : touches heap_new ≤ touches heap_old + most
   pub idle : asks ≡ false → touches heap_new ≡ touches heap_old
+
+-- What a call leaves that asks the heap for a block, by the request under each slot. The block that it gives has a slot that no block
+-- had, but where that is an old one; where the heap refuses it stays as it is. At most this many touches are made.
+pub record AsksBlock {H A T : Type 0} (content : H → Content ℕ) (touches : H → ℕ) (lacks : H → Type 0) (most : ℕ) (request : ℕ → Result (A × Content ℕ) Refusal)
+    (answer : Pointer → A) (IsOld : ℕ → Type 0) (ptr_of : T → Pointer) (result : Result T Refusal) (old new : H) : Type 0 where
+  pub ok : IfOk result (λ given. request (ptr_of given).slot ≡ Ok (answer (ptr_of given), content new))
+  pub slot_below : IfOk result (λ given. (ptr_of given).slot < (content old).records)
+  pub slot_new : IfOk result (λ given. (IsOld (ptr_of given).slot → ⊥) → slot_times (ptr_of given).slot (blocks_of (content old).pools) ≡ 0)
+  pub refused : IfErr result (λ refusal. refusal ≢ OutOfMemory → (slot : ℕ) → request slot ≡ Err refusal)
+  pub memory : IfErr result (λ refusal. refusal ≡ OutOfMemory → MayLack lacks)
+  pub unchanged : OnErr result (content new ≡ content old)
+  pub bound : touches new ≤ touches old + most
+
+-- a call of that kind which also tells where the block ends
+pub record GivesBlock {H A : Type 0} (content : H → Content ℕ) (touches : H → ℕ) (lacks : H → Type 0) (most : ℕ) (request : ℕ → Result (A × Content ℕ) Refusal)
+    (answer : Pointer → A) (IsOld : ℕ → Type 0) (result : Result Block Refusal) (old new : H) : Type 0 where
+  pub ok : IfOk result (λ given. request given.ptr.slot ≡ Ok (answer given.ptr, content new))
+  pub slot_below : IfOk result (λ given. given.ptr.slot < (content old).records)
+  pub slot_new : IfOk result (λ given. (IsOld given.ptr.slot → ⊥) → slot_times given.ptr.slot (blocks_of (content old).pools) ≡ 0)
+  pub end : IfOk result (λ given. given.end ≡ given.ptr.place + size_at given.ptr.place (blocks_of (content new).pools))
+  pub refused : IfErr result (λ refusal. refusal ≢ OutOfMemory → (slot : ℕ) → request slot ≡ Err refusal)
+  pub memory : IfErr result (λ refusal. refusal ≡ OutOfMemory → MayLack lacks)
+  pub unchanged : OnErr result (content new ≡ content old)
+  pub bound : touches new ≤ touches old + most
+
+-- what a call leaves that frees the block which an address is held under, and holds the address no more
+pub record Takes {H E : Type 0} (content_of : H → Content ℕ) (touches : H → ℕ) (lacks : H → Type 0) (most address : ℕ) (ptr : Pointer)
+    (result : Result (Unit {0}) E) (heap_old heap_new : H) (held_old held_new : Indexed) : Type 0 where
+  pub content : OnOk result (bare (content_of heap_new) ≡ without ptr.place (bare (content_of heap_old)))
+  pub held : OnOk result ((other : ℕ) → held_at held_new.all other ≡ (if address == other then None else held_at held_old.all other))
+  pub live : OnOk result (AreLive held_new.all (content_of heap_new))
+  pub memory : OnErr result (MayLack lacks)
+  pub unchanged : OnErr result (held_new.all ≡ held_old.all)
+  pub records : (content_of heap_new).records ≡ (content_of heap_old).records
+  pub looked : LooksUp 0 held_old held_new
+  pub bound : touches heap_new ≤ touches heap_old + most
 
 -- what a replay keeps: until memory is refused what is held is live; memory is refused only by a heap that lacks it;
 -- there is at most as much held as there are records, and room for as much; no more lines were served, or refused,

@@ -4,7 +4,7 @@ use Rattle.std.specs.List.{Contains, list_any}
 use Rattle.tlsf_heap.specs.Content.{Block, blocks_of, is_free}
 use Rattle.mtrace_replay.specs.declared.diagnostic.Diagnostic.{Diagnostic}
 use Rattle.mtrace_replay.specs.declared.diagnostic.Kind.{Kind}
-use Rattle.mtrace_replay.specs.declared.diagnostic.Kind.TheVariants.{TooLong, NotALine, NotHeld, AlreadyHeld, Refused, Half, Stray}
+use Rattle.mtrace_replay.specs.declared.diagnostic.Kind.TheVariants.{Refused}
 use Rattle.mtrace_replay.specs.declared.totals.Totals.{Totals}
 use Rattle.mtrace_replay.specs.Started.{Bare}
 use Rattle.mtrace_replay.specs.Moment.{Given, Moment}
@@ -20,13 +20,8 @@ abbrev pub is_served : Moment → Bool
 is_served moment = is_some moment.given
 
 abbrev pub is_refusal : Kind → Bool
-is_refusal TooLong = false
-is_refusal NotALine = false
-is_refusal (NotHeld address) = false
-is_refusal (AlreadyHeld address) = false
 is_refusal (Refused address refusal) = true
-is_refusal Half = false
-is_refusal Stray = false
+is_refusal _ = false
 
 abbrev pub is_refused : Moment → Bool
 is_refused moment = list_any (λ (note : Diagnostic). is_refusal note.kind) moment.notes

@@ -1,13 +1,13 @@
 //! The run that tells how large a pool a log needs.
 
-ghost use Rattle.std.specs.Prelude.{◌≡◌, ◌%◌, ◌<◌, ◌≤◌, false, List, reverse, IfOk, OnOk, OnErr};
+ghost use Rattle.std.specs.Prelude.{◌≡◌, ◌%◌, ◌<◌, ◌≤◌, false, List, reverse};
 ghost use Rattle.tlsf_heap.specs.Pools.{most_records};
 ghost use Rattle.mtrace_replay.specs.Moment.{Reading};
 ghost use Rattle.mtrace_replay.specs.Replay.{StandsFor};
 ghost use Rattle.mtrace_replay.specs.Saving.{PutsAndFlushes};
 ghost use Rattle.mtrace_replay.specs.Settings.{are_bad};
 ghost use Rattle.mtrace_replay.specs.Fit.{one_pool, greatest_settings, enough_records as enough_for, is_bad_step as is_bad, step_of as step_for, sizes, Verdict, fitted as fitted_by};
-ghost use Rattle.mtrace_replay.specs.RunFit.{IsTried, AreVerdicts, TellsFit, NoneFailed, FailsIn, FailsLater, FitFollows, RunsFit};
+ghost use Rattle.mtrace_replay.specs.RunFit.{IsTried, TriesLog, AreVerdicts, TellsFit, FailsIn, ReadsAgain, FitFollows, RunsFit};
 
 use crate::fit_text::{fitted_text, untried_text};
 use crate::fitted::Fitted;
@@ -56,7 +56,7 @@ fn step_of(step: Option<u64>, peak: u64) -> u64
     }
 }
 
-/// The records that are enough where so many addresses are held at most.
+/// The records that are enough where at most this many addresses are held.
 fn enough_records(most: u64) -> u32
     ensures value { result ≡ enough_for most }
     ensures some { 0 < result }
@@ -66,7 +66,7 @@ fn enough_records(most: u64) -> u32
     records.min(u64::from(MOST_RECORDS)) as u32
 }
 
-/// Begins the log again, and tries it on one pool of this many bytes, with so many records: whether no line is refused.
+/// Begins the log again, and tries it on one pool of this many bytes, with this many records: whether no line is refused.
 fn try_size<R: Again>(
     reader: &mut R,
     replay: &mut Replay<Heap>,
@@ -75,11 +75,9 @@ fn try_size<R: Again>(
 ) -> Result<bool, Failed>
     requires good { are_bad (one_pool size records) ≡ false }
     requires few { records ≤ replay.old.content.records }
-    ensures tried { IfOk result (λ serves. IsTried (one_pool size records) serves (R.whole reader.old) (R.left reader.new)) }
-    ensures not_failed { OnOk result (NoneFailed (R.trace reader.old) (R.trace reader.new)) }
-    ensures read { OnErr result (FailsIn (R.whole reader.old) (R.left reader.old) (R.left reader.new) (R.trace reader.old) (R.trace reader.new)) }
-    ensures whole { R.whole reader.new ≡ R.whole reader.old }
-    ensures records { replay.new.content.records ≡ records }
+    ensures { TriesLog (λ serves. IsTried (one_pool size records) serves (R.whole reader.old) (R.left reader.new))
+        (FailsIn (R.whole reader.old) (R.left reader.old) (R.left reader.new) (R.trace reader.old) (R.trace reader.new))
+        R.whole R.trace records result reader.old reader.new replay.new }
 {
     replay.restart(Settings {
         pool: size,
@@ -90,7 +88,7 @@ fn try_size<R: Again>(
     is_served(reader, replay)
 }
 
-/// Tries the sizes for this step and this peak, in rising order, with so many records.
+/// Tries the sizes for this step and this peak, in rising order, with this many records.
 fn try_sizes<R: Again>(
     reader: &mut R,
     replay: &mut Replay<Heap>,
@@ -103,10 +101,8 @@ fn try_sizes<R: Again>(
     requires some_records { 0 < records }
     requires few { records ≤ MOST_RECORDS }
     requires within { records ≤ replay.old.content.records }
-    ensures tried { IfOk result (λ fitted. (verdicts : List Verdict) × AreVerdicts records (R.whole reader.old) (sizes step peak) verdicts
-        × (fitted ≡ fitted_by verdicts)) }
-    ensures not_failed { OnOk result (NoneFailed (R.trace reader.old) (R.trace reader.new)) }
-    ensures read { OnErr result (FailsLater (R.whole reader.old) (R.left reader.old) (R.left reader.new) (R.trace reader.old) (R.trace reader.new)) }
+    ensures { ReadsAgain (λ fitted. (verdicts : List Verdict) × AreVerdicts records (R.whole reader.old) (sizes step peak) verdicts
+        × (fitted ≡ fitted_by verdicts)) R.left R.whole R.trace result reader.old reader.new }
 {
     let first = peak.div_ceil(step).max(1);
     let last = first.saturating_mul(2).min(GREATEST_POOL / step);
@@ -131,10 +127,8 @@ fn fit_text<R: Again>(
 ) -> Result<LineText, Failed>
     requires good { is_bad step ≡ false }
     requires records { replay.old.content.records ≡ most_records }
-    ensures tells { IfOk result (λ text. (lines : List Reading) → StandsFor replay.old greatest_settings (reverse lines)
-        → TellsFit step lines (R.whole reader.old) text.items) }
-    ensures not_failed { OnOk result (NoneFailed (R.trace reader.old) (R.trace reader.new)) }
-    ensures read { OnErr result (FailsLater (R.whole reader.old) (R.left reader.old) (R.left reader.new) (R.trace reader.old) (R.trace reader.new)) }
+    ensures { ReadsAgain (λ text. (lines : List Reading) → StandsFor replay.old greatest_settings (reverse lines)
+        → TellsFit step lines (R.whole reader.old) text.items) R.left R.whole R.trace result reader.old reader.new }
 {
     let totals = replay.totals();
     let most = replay.most();

@@ -2,6 +2,7 @@
 
 ghost use Rattle.std.specs.Prelude.{◌≡◌, ◌+◌, ◌≤◌, ◌++◌, length};
 ghost use Rattle.arrayvec.specs.ArrayVec.{array_vec_len};
+ghost use Rattle.mtrace_replay.specs.Appends.{Appends};
 ghost use Rattle.mtrace_replay.specs.Texts.{size_line, count_line, greatest_line, most_line, fitted_lines, untried_lines};
 
 use crate::fitted::Fitted;
@@ -15,8 +16,7 @@ use arrayvec::ArrayVec;
 /// Appends a line of a size behind its word, or that there is none.
 fn push_size_line(text: &mut LineText, word: &[u8], size: Option<u64>)
     requires { array_vec_len text.old + length word.now + 50 ≤ LONGEST_TEXT }
-    ensures bytes { text.new.items ≡ text.old.items ++ size_line word.now size }
-    ensures len { array_vec_len text.new ≤ array_vec_len text.old + length word.now + 50 }
+    ensures { Appends (size_line word.now size) (length word.now + 50) text.old text.new }
 {
     push_bytes(text, word);
     match size {
@@ -32,8 +32,7 @@ fn push_size_line(text: &mut LineText, word: &[u8], size: Option<u64>)
 /// Appends a line of a number between its words.
 fn push_count_line(text: &mut LineText, word: &[u8], number: u64, last: &[u8])
     requires { array_vec_len text.old + length word.now + length last.now + 41 ≤ LONGEST_TEXT }
-    ensures bytes { text.new.items ≡ text.old.items ++ count_line word.now number last.now }
-    ensures len { array_vec_len text.new ≤ array_vec_len text.old + length word.now + length last.now + 41 }
+    ensures { Appends (count_line word.now number last.now) (length word.now + length last.now + 41) text.old text.new }
 {
     push_bytes(text, word);
     push_number(text, u128::from(number));
@@ -44,8 +43,7 @@ fn push_count_line(text: &mut LineText, word: &[u8], number: u64, last: &[u8])
 /// Appends the peak, and the most addresses that were held.
 fn push_most(text: &mut LineText, totals: Totals, most: u64)
     requires { array_vec_len text.old ≤ 100 }
-    ensures bytes { text.new.items ≡ text.old.items ++ greatest_line totals ++ most_line most }
-    ensures len { array_vec_len text.new ≤ array_vec_len text.old + 200 }
+    ensures { Appends (greatest_line totals ++ most_line most) 200 text.old text.new }
 {
     push_greatest_line(text, totals);
     push_count_line(text, b"held at most: ", most, b" blocks");

@@ -1,10 +1,10 @@
 //! The free blocks of a heap.
 
-ghost use Rattle.std.specs.Prelude.{◌≡◌, ℕ, ◌+◌, ◌*◌, ◌<◌, ◌≤◌, ◌^◌, List, [], ◌++◌, length, flat_map, max};
+ghost use Rattle.std.specs.Prelude.{◌≡◌, ℕ, ◌+◌, ◌<◌, ◌≤◌, ◌^◌, List, [], ◌++◌, length, flat_map, max};
 ghost use Rattle.tlsf_heap.specs.Pools.{most_records};
 ghost use Rattle.tlsf_heap.specs.Content.{blocks_of};
 ghost use Rattle.mtrace_replay.specs.Texts.{free_sizes};
-ghost use Rattle.mtrace_replay.specs.Rows.{free_size, rows_at, IsFree};
+ghost use Rattle.mtrace_replay.specs.Rows.{free_size, rows_at, IsFree, IsFewFree, ReadsFree};
 ghost use Rattle.tlsf_heap.specs.Bare.{bare};
 
 use tlsf_heap::{Cursor, Heaped, Row};
@@ -57,9 +57,7 @@ impl Free {
 
 /// What is free of a row's block.
 fn free_in_row(row: Row) -> Free
-    ensures free { IsFree result (free_size row) }
-    ensures blocks { result.blocks ≤ 1 }
-    ensures bytes { result.bytes ≤ 2 ^ 32 }
+    ensures { IsFewFree 1 (free_size row) result }
 {
     if row.used {
         return Free::none();
@@ -76,10 +74,7 @@ fn free_in_row(row: Row) -> Free
 fn free_in_rows<H: Heaped>(heap: &mut H, cursor: Cursor) -> Free
     requires stands { H.stands heap.old cursor }
     requires few { length (H.rest heap.old cursor) ≤ most_records }
-    ensures free { IsFree result (flat_map free_size (H.rest heap.old cursor)) }
-    ensures blocks { result.blocks ≤ most_records }
-    ensures bytes { result.bytes ≤ 2 ^ 32 * most_records }
-    ensures unchanged { H.content heap.new ≡ H.content heap.old }
+    ensures { ReadsFree H.content most_records (flat_map free_size (H.rest heap.old cursor)) result heap.old heap.new }
 {
     let mut free = Free::none();
     let mut here = cursor;
@@ -93,10 +88,7 @@ fn free_in_rows<H: Heaped>(heap: &mut H, cursor: Cursor) -> Free
 /// What is free of the pool that begins at the place `base`.
 fn free_in_pool<H: Heaped>(heap: &mut H, base: u64) -> Free
     requires few { length (blocks_of (H.content heap.old).pools) ≤ most_records }
-    ensures free { IsFree result (flat_map free_size (rows_at (H.content heap.old).pools base)) }
-    ensures blocks { result.blocks ≤ most_records }
-    ensures bytes { result.bytes ≤ 2 ^ 32 * most_records }
-    ensures unchanged { H.content heap.new ≡ H.content heap.old }
+    ensures { ReadsFree H.content most_records (flat_map free_size (rows_at (H.content heap.old).pools base)) result heap.old heap.new }
 {
     match heap.first(base) {
         Ok(cursor) => free_in_rows(heap, cursor),

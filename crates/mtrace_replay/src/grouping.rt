@@ -2,9 +2,8 @@
 
 ghost use Rattle.std.specs.Prelude.{◌≡◌, ◌+◌, ◌^◌, ◌<◌, ◌≤◌, [], map, length, reverse, vec_len, vec_capacity, IfOk};
 ghost use Rattle.std.specs.List.{All};
-ghost use Rattle.std.specs.List.Sorted.{IsPermutation, IsSortedByKey};
 ghost use Rattle.mtrace_replay.specs.Sites.{origin_cmp, site_cmp, AreSites};
-ghost use Rattle.mtrace_replay.specs.Gather.{onto, gather, lent_origin};
+ghost use Rattle.mtrace_replay.specs.Gather.{onto, gather, lent_origin, Sorts};
 ghost use Rattle.mtrace_replay.specs.Texts.{total_size};
 
 use crate::entry::Entry;
@@ -15,18 +14,14 @@ use std::marker::Model;
 
 /// Sorts entries by location.
 fn sort_entries(entries: &mut Vec<&Entry>)
-    ensures moved { IsPermutation entries.old.items entries.new.items }
-    ensures sorted { IsSortedByKey lent_origin origin_cmp entries.new.items }
-    ensures capacity { vec_capacity entries.old ≤ vec_capacity entries.new }
+    ensures { Sorts lent_origin origin_cmp entries.old entries.new }
 {
     entries.sort_unstable_by(|a, b| compare_locations(a.at.as_ref(), b.at.as_ref()));
 }
 
 /// Sorts sites into their order.
 fn sort_sites(sites: &mut Vec<Site<'_>>)
-    ensures moved { IsPermutation sites.old.items sites.new.items }
-    ensures sorted { IsSortedByKey (λ site. site) site_cmp sites.new.items }
-    ensures capacity { vec_capacity sites.old ≤ vec_capacity sites.new }
+    ensures { Sorts (λ site. site) site_cmp sites.old sites.new }
 {
     sites.sort_unstable_by(|a, b| a.compare(b));
 }
@@ -102,7 +97,7 @@ fn collect<'a>(entries: &mut Vec<&'a Entry>, held: Entries<'a>)
 }
 
 impl<'a> Grouping<'a> {
-    /// Room for so many entries. It takes memory twice, and no more later.
+    /// Room for this many entries. It takes memory twice, and no more later.
     ///
     /// # Errors
     ///

@@ -3,7 +3,7 @@
 ghost use Rattle.std.specs.Prelude.{◌≡◌, ◌≢◌, ℕ, ◌+◌, ◌<◌, ◌≤◌, ◌^◌, option_map, option_to_list, [], length, map, None, Some, IfOk, if◌then◌else◌, ◌==◌, is_some, true};
 ghost use Rattle.mtrace_replay.specs.Keys.{Rows};
 ghost use Rattle.mtrace_replay.specs.Key.{holding_of, IsRow};
-ghost use Rattle.mtrace_replay.specs.Index.{held_at, held_bytes, AreInOrder, LooksUp, IsFound, IsNewSlot};
+ghost use Rattle.mtrace_replay.specs.Index.{held_at, held_bytes, AreInOrder, LooksUp, Finds, Tells, Counts, IsFound, IsNewSlot};
 
 use crate::arrange::{Came, arrange};
 use crate::entry::Entry;
@@ -47,7 +47,7 @@ impl Model for Index {
     ghost invariant = { λ index. IsIndex index.keys index.blocks index.bytes };
 }
 
-/// Whether room at the end is to be made anew: a new address there moved many of so many keys, or three quarters of them are
+/// Whether room at the end is to be made anew: a new address there moved many of the keys, or three quarters of them are
 /// vacant. So where addresses rise, the keys stay few, and a search stays among those that it looked at before.
 fn is_end_spent(keys: usize, blocks: u64, moved: usize) -> bool {
     moved > keys / 64 || keys as u64 / 4 > blocks.saturating_add(64)
@@ -74,7 +74,7 @@ fn size_of(keys: &Keys, key: &Key) -> u64
 }
 
 impl Index {
-    /// Nothing, with room for so many addresses. It takes memory once, for all of them.
+    /// Nothing, with room for this many addresses. It takes memory once, for all of them.
     ///
     /// # Errors
     ///
@@ -91,12 +91,10 @@ impl Index {
         })
     }
 
-    /// Nothing is held, with room for so many addresses: at most as many as before. It takes no memory.
+    /// Nothing is held, with room for this many addresses: at most as many as before. It takes no memory.
     pub fn restart(&mut self, room: u32)
         requires { room ≤ self.old.room }
-        ensures empty { self.new.all ≡ [] }
-        ensures room { self.new.room ≡ room }
-        ensures comparisons { self.new.comparisons ≡ self.old.comparisons }
+        ensures { self.new ≡ record { all = []; keys = []; room = room; comparisons = self.old.comparisons } }
     {
         self.keys.restart(room);
         self.blocks = 0;
@@ -107,11 +105,7 @@ impl Index {
     /// Where the address stands. That is where a key of it stood last, if it still does, or else as `find` says.
     #[inline(always)]
     pub fn find_again(&mut self, address: Addr) -> Found
-        ensures found { IsFound self.old.keys result }
-        ensures address { result.address ≡ address }
-        ensures unchanged { self.new.all ≡ self.old.all }
-        ensures keys { self.new.keys ≡ self.old.keys }
-        ensures looked { LooksUp 2 self.old self.new }
+        ensures { Finds 2 address result self.old self.new }
     {
         let at = self.keys.hint(address);
         if is_last_of(&self.keys, &mut self.comparisons, at, address) {
@@ -125,11 +119,7 @@ impl Index {
 
     /// Where the address stands: the one look-up, for what is read and changed there.
     pub fn find(&mut self, address: Addr) -> Found
-        ensures found { IsFound self.old.keys result }
-        ensures address { result.address ≡ address }
-        ensures unchanged { self.new.all ≡ self.old.all }
-        ensures keys { self.new.keys ≡ self.old.keys }
-        ensures looked { LooksUp 1 self.old self.new }
+        ensures { Finds 1 address result self.old self.new }
     {
         let place = search(&self.keys, &mut self.comparisons, address);
         if let Ok(at) = place {
@@ -159,10 +149,7 @@ impl Index {
 
     /// Whether the address is held.
     pub fn contains(&mut self, address: Addr) -> bool
-        ensures value { result ≡ is_some (held_at self.old.all address) }
-        ensures unchanged { self.new.all ≡ self.old.all }
-        ensures keys { self.new.keys ≡ self.old.keys }
-        ensures looked { LooksUp 1 self.old self.new }
+        ensures { Tells 1 (is_some (held_at self.old.all address)) result self.old self.new }
     {
         let found = self.find(address);
         self.is_held(&found)
@@ -248,8 +235,7 @@ impl Index {
 
     /// How many addresses are held.
     pub fn len(&self) -> u64
-        ensures len { result ≡ length self.now.all }
-        ensures small { result < 2 ^ 63 }
+        ensures { Counts (length self.now.all) result }
     {
         self.blocks
     }

@@ -1,6 +1,7 @@
 //! A key of the index: an address, and the block that it is held under, if it is.
 
-ghost use Rattle.std.specs.Prelude.{◌≡◌, ◌+◌, ◌<◌, ◌≤◌, ◌==◌, None, not, is_some};
+ghost use Rattle.std.specs.Prelude.{◌≡◌, None, not, is_some};
+ghost use Rattle.mtrace_replay.specs.Compare.{Reaches, StandsTo};
 
 use mtrace_log::Addr;
 use tlsf_heap::Ptr;
@@ -26,9 +27,7 @@ pub(crate) struct Standing {
 /// 1 where the first number is at most the second, else 0. Without a test, so that the search which adds by it has no
 /// branch to guess.
 fn at_most(first: u64, second: u64) -> usize
-    ensures one_or_none { result ≤ 1 }
-    ensures at_most { result ≡ 1 → first ≤ second }
-    ensures above { result ≡ 0 → second < first }
+    ensures { Reaches first second result }
 {
     (((1 << 64) + u128::from(second) - u128::from(first)) >> 64) as usize
 }
@@ -54,11 +53,7 @@ impl Key {
     /// How this key stands to an address: one comparison of two addresses, which is counted.
     #[inline(always)]
     pub(crate) fn compare(&self, address: Addr, comparisons: &mut GhostCount) -> Standing
-        ensures one_or_none { result.reaches ≤ 1 }
-        ensures reaches { result.reaches ≡ 1 → self.now.address ≤ address }
-        ensures above { result.reaches ≡ 0 → address < self.now.address }
-        ensures same { result.is_same ≡ (self.now.address == address) }
-        ensures counted { comparisons.new.count ≡ comparisons.old.count + 1 }
+        ensures { StandsTo self.now.address address result comparisons.old.count comparisons.new.count }
     {
         comparisons.tick();
         Standing {

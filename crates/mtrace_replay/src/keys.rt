@@ -20,7 +20,7 @@ const CHUNK: usize = 64;
 /// How many hints a chunk has: four for each key, so that most addresses have one of their own.
 const HINTS: usize = 256;
 
-/// So many keys, as many rows, and hints: where keys have stood.
+/// Keys, as many rows, and hints: where keys have stood.
 #[derive(Drop)]
 struct Chunk {
     keys: [Key; CHUNK],
@@ -62,8 +62,7 @@ fn next_place(hole: usize, at: usize) -> usize
     if hole < at { hole + 1 } else { hole - 1 }
 }
 
-/// The number of the last hint that is used where there are so many chunks, and the one before, where one more doesn't double
-/// them.
+/// The number of the last hint that is used by the number of chunks, and the one before, where one more doesn't double them.
 fn last_hint(chunks: usize, before: usize) -> usize {
     if chunks.is_power_of_two() {
         (chunks << 8).wrapping_sub(1)
@@ -73,7 +72,7 @@ fn last_hint(chunks: usize, before: usize) -> usize {
 }
 
 impl Keys {
-    /// Nothing, with room for so many keys and rows. It takes memory once, for all of them.
+    /// Nothing, with room for this many keys and rows. It takes memory once, for all of them.
     pub(crate) fn new(alloc: Global, room: u32) -> Result<Keys, AllocError>
         ensures { IfOk result (λ keys. keys ≡ record { keys = []; rows = record { entries = []; room = room } }) }
     {
@@ -87,11 +86,10 @@ impl Keys {
         })
     }
 
-    /// There are no keys, and room for so many keys and rows: at most as many as before. It takes no memory.
+    /// There are no keys, and room for this many keys and rows: at most as many as before. It takes no memory.
     pub(crate) fn restart(&mut self, room: u32)
         requires { room ≤ self.old.rows.room }
-        ensures keys { self.new.keys ≡ [] }
-        ensures room { self.new.rows.room ≡ room }
+        ensures { self.new ≡ record { keys = []; rows = record self.old.rows { room = room } } }
     {
         self.len = 0;
         self.room = room as usize;
@@ -170,7 +168,7 @@ impl Keys {
         self.last_hint = last_hint(self.chunks.len(), self.last_hint);
     }
 
-    /// Whether there are so many rows.
+    /// Whether there are this many rows.
     #[inline(always)]
     fn has_rows(&self, count: usize) -> bool
         ensures has { result ≡ true → count ≤ length self.now.rows.entries }
@@ -179,7 +177,7 @@ impl Keys {
         count.div_ceil(CHUNK) <= self.chunks.len()
     }
 
-    /// Makes chunks until there are so many rows.
+    /// Makes chunks until there are this many rows.
     #[inline(always)]
     fn cover(&mut self, count: usize)
         requires { count ≤ self.old.rows.room }
@@ -192,7 +190,7 @@ impl Keys {
         }
     }
 
-    /// Comes to have so many keys. What the ones behind those that there were are means nothing.
+    /// Comes to have this many keys. What the ones behind those that there were are means nothing.
     #[inline(never)]
     pub(crate) fn resize(&mut self, len: usize)
         requires { len ≤ self.old.rows.room }

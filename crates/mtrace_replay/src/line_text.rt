@@ -4,6 +4,7 @@ ghost use Rattle.std.specs.Prelude.{◌≡◌, ◌+◌, ◌≤◌, ◌^◌, ◌<
 ghost use Rattle.std.specs.Option.{option_copied};
 ghost use Rattle.arrayvec.specs.ArrayVec.{array_vec_len};
 ghost use Rattle.mtrace_log.specs.Address.{address_text};
+ghost use Rattle.mtrace_replay.specs.Appends.{Appends, IsShort};
 ghost use Rattle.mtrace_replay.specs.Texts.{refusal_text as text_of_refusal, kind_text as text_of_kind, note_text as text_of_note, at_text as text_of_location, entry_text as text_of_entry, number_line, pair_line, spread_text as text_of_spread, count_lines, greatest_line, held_lines, free_lines, spread_line, peak_lines, peak_words as words_of_peak, site_text as text_of_site, use_text as text_of_use, row_text as text_of_row};
 
 use crate::diagnostic::{Diagnostic, Kind};
@@ -25,16 +26,14 @@ pub(crate) type LineText = ArrayVec<u8, LONGEST_TEXT>;
 /// Appends bytes, for which there is room.
 pub(crate) fn push_bytes(text: &mut LineText, bytes: &[u8])
     requires { array_vec_len text.old + length bytes.now ≤ LONGEST_TEXT }
-    ensures bytes { text.new.items ≡ text.old.items ++ bytes.now }
-    ensures len { array_vec_len text.new ≡ array_vec_len text.old + length bytes.now }
+    ensures { Appends bytes.now (length bytes.now) text.old text.new }
 {
     let _fits = text.try_extend_from_slice(bytes);
 }
 
 pub(crate) fn push_number(text: &mut LineText, number: u128)
     requires { array_vec_len text.old + 40 ≤ LONGEST_TEXT }
-    ensures bytes { text.new.items ≡ text.old.items ++ decimal number }
-    ensures len { array_vec_len text.new ≤ array_vec_len text.old + 40 }
+    ensures { Appends (decimal number) 40 text.old text.new }
 {
     let mut buffer = Buffer::new();
     push_bytes(text, buffer.format(number).as_bytes());
@@ -42,8 +41,7 @@ pub(crate) fn push_number(text: &mut LineText, number: u128)
 
 fn push_address(text: &mut LineText, address: Addr)
     requires { array_vec_len text.old + LONGEST_ADDRESS ≤ LONGEST_TEXT }
-    ensures bytes { text.new.items ≡ text.old.items ++ address_text address }
-    ensures len { array_vec_len text.new ≤ array_vec_len text.old + LONGEST_ADDRESS }
+    ensures { Appends (address_text address) LONGEST_ADDRESS text.old text.new }
 {
     let spelled = address.text();
     push_bytes(text, spelled.as_slice());
@@ -51,8 +49,7 @@ fn push_address(text: &mut LineText, address: Addr)
 
 /// A refusal in words.
 fn refusal_text(refusal: Refusal) -> &'static [u8]
-    ensures text { result.now ≡ text_of_refusal refusal }
-    ensures short { length result.now ≤ 20 }
+    ensures { IsShort (text_of_refusal refusal) 20 result.now }
 {
     match refusal {
         Refusal::ZeroSize => b"zero size",
@@ -71,8 +68,7 @@ fn refusal_text(refusal: Refusal) -> &'static [u8]
 /// Appends what is wrong with a line.
 fn push_kind(text: &mut LineText, kind: Kind)
     requires { array_vec_len text.old ≤ 100 }
-    ensures bytes { text.new.items ≡ text.old.items ++ text_of_kind kind }
-    ensures len { array_vec_len text.new ≤ array_vec_len text.old + 60 }
+    ensures { Appends (text_of_kind kind) 60 text.old text.new }
 {
     match kind {
         Kind::TooLong => push_bytes(text, b"too long"),
@@ -111,8 +107,7 @@ pub(crate) fn note_text(note: &Diagnostic) -> LineText
 /// Appends ` at ` and the location, where there is one.
 fn push_location(text: &mut LineText, at: Option<&Location>)
     requires { array_vec_len text.old ≤ 130 }
-    ensures bytes { text.new.items ≡ text.old.items ++ text_of_location (option_copied at.entry) }
-    ensures len { array_vec_len text.new ≤ array_vec_len text.old + 4 + LONGEST_LOCATION }
+    ensures { Appends (text_of_location (option_copied at.entry)) (4 + LONGEST_LOCATION) text.old text.new }
 {
     if let Some(location) = at {
         push_bytes(text, b" at ");
@@ -138,8 +133,7 @@ pub(crate) fn entry_text(entry: &Entry) -> LineText
 /// Appends a line of a number, behind its word.
 pub(crate) fn push_number_line(text: &mut LineText, word: &[u8], number: u64)
     requires { array_vec_len text.old + length word.now + 41 ≤ LONGEST_TEXT }
-    ensures bytes { text.new.items ≡ text.old.items ++ number_line word.now number }
-    ensures len { array_vec_len text.new ≤ array_vec_len text.old + length word.now + 41 }
+    ensures { Appends (number_line word.now number) (length word.now + 41) text.old text.new }
 {
     push_bytes(text, word);
     push_number(text, u128::from(number));
@@ -156,8 +150,7 @@ pub(crate) fn push_pair_line(
     last: &[u8],
 )
     requires { array_vec_len text.old + length word.now + length middle.now + length last.now + 81 ≤ LONGEST_TEXT }
-    ensures bytes { text.new.items ≡ text.old.items ++ pair_line word.now first middle.now second last.now }
-    ensures len { array_vec_len text.new ≤ array_vec_len text.old + length word.now + length middle.now + length last.now + 81 }
+    ensures { Appends (pair_line word.now first middle.now second last.now) (length word.now + length middle.now + length last.now + 81) text.old text.new }
 {
     push_bytes(text, word);
     push_number(text, u128::from(first));
@@ -193,7 +186,7 @@ pub(crate) fn peak_words(line: u64) -> LineText
     text
 }
 
-/// The end of a line behind such words: how many blocks were held, and how many bytes they have together.
+/// The end of a line behind those words: how many blocks were held, and how many bytes they have together.
 pub(crate) fn section_text(blocks: u64, bytes: u64) -> LineText
     ensures { result.items ≡ pair_line (codes ": ") blocks (codes " blocks, ") bytes (codes " bytes.") }
 {
@@ -219,8 +212,7 @@ pub(crate) fn site_text(site: &Site<'_>) -> LineText
 /// Appends how the lines went.
 fn push_counts(text: &mut LineText, totals: Totals)
     requires { array_vec_len text.old ≤ 100 }
-    ensures bytes { text.new.items ≡ text.old.items ++ count_lines totals }
-    ensures len { array_vec_len text.new ≤ array_vec_len text.old + 150 }
+    ensures { Appends (count_lines totals) 150 text.old text.new }
 {
     push_number_line(text, b"lines: ", totals.lines);
     push_number_line(text, b"served: ", totals.served);
@@ -230,8 +222,7 @@ fn push_counts(text: &mut LineText, totals: Totals)
 /// Appends the line of the peak.
 pub(crate) fn push_greatest_line(text: &mut LineText, totals: Totals)
     requires { array_vec_len text.old + 102 ≤ LONGEST_TEXT }
-    ensures bytes { text.new.items ≡ text.old.items ++ greatest_line totals }
-    ensures len { array_vec_len text.new ≤ array_vec_len text.old + 102 }
+    ensures { Appends (greatest_line totals) 102 text.old text.new }
 {
     push_pair_line(
         text,
@@ -246,8 +237,7 @@ pub(crate) fn push_greatest_line(text: &mut LineText, totals: Totals)
 /// Appends what is held, and what was at the most.
 fn push_held(text: &mut LineText, totals: Totals)
     requires { array_vec_len text.old ≤ 300 }
-    ensures bytes { text.new.items ≡ text.old.items ++ held_lines totals }
-    ensures len { array_vec_len text.new ≤ array_vec_len text.old + 260 }
+    ensures { Appends (held_lines totals) 260 text.old text.new }
 {
     push_pair_line(
         text,
@@ -264,8 +254,7 @@ fn push_held(text: &mut LineText, totals: Totals)
 /// Appends what is free.
 fn push_free(text: &mut LineText, free: Free)
     requires { array_vec_len text.old ≤ 500 }
-    ensures bytes { text.new.items ≡ text.old.items ++ free_lines free.bytes free.blocks free.largest }
-    ensures len { array_vec_len text.new ≤ array_vec_len text.old + 160 }
+    ensures { Appends (free_lines free.bytes free.blocks free.largest) 160 text.old text.new }
 {
     push_pair_line(
         text,
@@ -281,8 +270,7 @@ fn push_free(text: &mut LineText, free: Free)
 /// Appends the high place in thousandths of the peak, or that there is no peak.
 fn push_spread(text: &mut LineText, high: u64, peak: u64)
     requires { array_vec_len text.old + 40 ≤ LONGEST_TEXT }
-    ensures bytes { text.new.items ≡ text.old.items ++ text_of_spread high peak }
-    ensures len { array_vec_len text.new ≤ array_vec_len text.old + 40 }
+    ensures { Appends (text_of_spread high peak) 40 text.old text.new }
 {
     if peak == 0 {
         push_bytes(text, b"-");
@@ -315,8 +303,7 @@ pub(crate) fn peak_text(totals: Totals, free: Free) -> LineText
 
 /// Whether a block is live, in words.
 fn use_text(used: bool) -> &'static [u8]
-    ensures text { result.now ≡ text_of_use used }
-    ensures short { length result.now ≤ 5 }
+    ensures { IsShort (text_of_use used) 5 result.now }
 {
     if used { b" used" } else { b" free" }
 }

@@ -108,13 +108,11 @@ impl<H: Heaped> Model for Replay<H> {
 }
 
 impl<H: Heaped> Replay<H> {
-    ghost use Rattle.std.specs.Prelude.{◌↔◌, ℕ, ◌+◌, ◌*◌, ◌<◌, ◌≤◌, ◌^◌, true, false, List, [], ◌∷◌, length, IsTrue, IsErrOf, IfOk, IfErr, OnOk, OnErr};
-    ghost use Rattle.tlsf_heap.specs.Run.{MayLack};
+    ghost use Rattle.std.specs.Prelude.{◌↔◌, ◌+◌, ◌≤◌, false, [], length, IsTrue, IsErrOf, IfOk};
     ghost use Rattle.mtrace_replay.specs.declared.settings.Settings.{Settings};
     ghost use Rattle.mtrace_replay.specs.Settings.{are_bad};
-    ghost use Rattle.mtrace_replay.specs.Moment.{Reading, asks, half};
-    ghost use Rattle.mtrace_replay.specs.Step.{found};
-    ghost use Rattle.mtrace_replay.specs.Replay.{StandsFor, entries, Feeds};
+    ghost use Rattle.mtrace_replay.specs.Index.{Counts};
+    ghost use Rattle.mtrace_replay.specs.Replay.{StandsFor, entries, Feeds, TellsEnd};
     ghost use Rattle.mtrace_log.specs.Output.{Puts};
     ghost use Rattle.mtrace_replay.specs.Texts.{free_sizes, walk_report, total_size};
     ghost use Rattle.mtrace_replay.specs.Rows.{IsFree};
@@ -166,7 +164,7 @@ impl<H: Heaped> Replay<H> {
         }
     }
 
-    /// `feed` of the line of this number that says this, with its location where it lies. What is wrong comes to the findings.
+    /// `feed` of the line of this number that says this, with its location where it lies. What is wrong goes to the findings.
     #[inline(always)]
     pub(crate) fn feed_lent(
         &mut self,
@@ -216,11 +214,7 @@ impl<H: Heaped> Replay<H> {
     ///
     /// `OutOfMemory` exactly where `feed` has answered it.
     pub fn finish(&self) -> Result<Note, ReplayFault>
-        ensures note { IfOk result (λ note. note.items ≡ half self.now.totals.lines self.now.pending) }
-        ensures fault { IfErr result (λ fault. fault ≡ ReplayFault.OutOfMemory) }
-        ensures for_good { OnErr result (self.now.out_of_memory ≡ true) }
-        ensures memory { OnErr result (MayLack H.lacks) }
-        ensures works { OnOk result (self.now.out_of_memory ≡ false) }
+        ensures { TellsEnd H.lacks (λ note. note.items) result self.now }
     {
         if self.out_of_memory {
             return Err(ReplayFault::OutOfMemory);
@@ -232,8 +226,7 @@ impl<H: Heaped> Replay<H> {
 
     /// How many addresses are held.
     pub(crate) fn blocks(&self) -> u64
-        ensures len { result ≡ length (entries self.now) }
-        ensures small { result < 2 ^ 63 }
+        ensures { Counts (length (entries self.now)) result }
     {
         self.held.len()
     }
@@ -253,7 +246,7 @@ impl<H: Heaped> Replay<H> {
         self.held.entries()
     }
 
-    /// What the lines fed come to in sum.
+    /// The sums over the lines fed.
     pub fn totals(&self) -> Totals
         ensures totals { result ≡ self.now.totals }
     {

@@ -2,8 +2,8 @@
 
 ghost use Rattle.std.specs.Prelude.{◌≡◌, ◌≢◌, false, [], flat_map};
 ghost use Rattle.mtrace_log.specs.Output.{Puts};
-ghost use Rattle.mtrace_replay.specs.declared.report.Report.TheVariants.{Notes};
 ghost use Rattle.mtrace_replay.specs.Replay.{entries};
+ghost use Rattle.mtrace_replay.specs.Run.{PutsReport};
 ghost use Rattle.mtrace_replay.specs.Texts.{entry_text as text_of_entry, leaks_report, peak_report, report_text};
 
 use crate::index::Entries;
@@ -17,7 +17,7 @@ use tlsf_heap::Heaped;
 pub enum Report {
     /// What is held at the end: a line for each address, and how many blocks and bytes they are.
     Leaks,
-    /// What the lines come to in sum, the most that was held, and what is free at the end.
+    /// The sums over the lines, the most that was held, and what is free at the end.
     Peak,
     /// The heap's pools at the end, each with its blocks.
     Walk,
@@ -84,8 +84,8 @@ pub(crate) fn put_report<W: Sink, H: Heaped>(
     report: Report,
 ) -> Result<(), Failed>
     requires works { replay.old.out_of_memory ≡ false }
-    ensures put { Puts W.taken W.trace result (report_text report (entries replay.old) replay.old.totals replay.old.content) writer.old writer.new }
-    ensures kept { report ≡ Notes → replay.new ≡ replay.old }
+    ensures { PutsReport W.taken W.trace result report (report_text report (entries replay.old) replay.old.totals replay.old.content)
+        replay.old replay.new writer.old writer.new }
 {
     match report {
         Report::Leaks => put_leaks(writer, replay),

@@ -1,14 +1,11 @@
 //! The runs that write the reports of a log.
 
-ghost use Rattle.std.specs.Prelude.{◌≡◌, ◌≢◌, ◌↔◌, ◌+◌, ◌++◌, ◌||◌, false, List, [], IsTrue, IfOk, IfErr, OnOk, OnErr, IsErrOf, Ok, Err, if◌then◌else◌};
-ghost use Rattle.mtrace_log.specs.Trace.{HasGivenAll, HasNotFailed, HasTaken, HasTakenAndFlushed, HasTakenAndFailed, HasFailedToWrite, FlushWasAsked};
-ghost use Rattle.tlsf_heap.specs.Run.{MayLack};
-ghost use Rattle.mtrace_replay.specs.Settings.{are_bad};
-ghost use Rattle.mtrace_log.specs.Output.{Wrote, Begins, Puts};
+ghost use Rattle.std.specs.Prelude.{◌≡◌, ◌+◌, ◌++◌, false, [], IfOk, if◌then◌else◌};
+ghost use Rattle.mtrace_log.specs.Trace.{FlushWasAsked};
+ghost use Rattle.mtrace_log.specs.Output.{Puts};
 ghost use Rattle.mtrace_replay.specs.Texts.{notes_text, report_text};
-ghost use Rattle.mtrace_replay.specs.Moment.{Reading, half};
-ghost use Rattle.mtrace_replay.specs.Replay.{StandsFor, entries};
-ghost use Rattle.mtrace_replay.specs.Run.{end_text, Runs, EndsAt, status_in, StopsAtRead, StopsAtWrite, HasReplayed, LineGives, LineBegins, is_some_note, is_some_entry};
+ghost use Rattle.mtrace_replay.specs.Replay.{entries};
+ghost use Rattle.mtrace_replay.specs.Run.{Runs, RunsOnce, EndsAt, status_in, ReplaysLine, ReplaysLines, PutsReport, Finishes};
 
 use crate::diagnostic::Note;
 use crate::findings::Findings;
@@ -43,67 +40,50 @@ fn put_findings<W: Sink>(writer: &mut W, findings: &mut Findings) -> Result<(), 
     put_note(writer, &note)
 }
 
+/// Which of the two failed, so that no more lines are replayed.
+#[derive(Clone, Copy)]
+pub(crate) enum Failing {
+    // The reader failed, or a line past the last number would come.
+    Reader,
+    // The writer failed.
+    Writer,
+}
+
 /// Replays one line and puts what is wrong with it. Answers whether anything is. The findings are empty before and after, so one
 /// serves all lines.
 #[inline(always)]
-fn replay_line<H: Heaped, W: Sink>(
+fn replay_line<W: Sink>(
     writer: &mut W,
-    replay: &mut Replay<H>,
+    replay: &mut Replay<Heap>,
     number: u64,
     event: Result<Event<LentLocation<'_>>, LineFault>,
     findings: &mut Findings,
-) -> Result<bool, RunFault>
+) -> Result<bool, Failed>
     requires next { replay.old.out_of_memory ≡ false → number ≡ replay.old.totals.lines + 1 }
     requires none { findings.old ≡ [] }
-    ensures done { IfOk result (λ noted. (settings : Settings) (past : List Reading) → StandsFor replay.old settings past
-        → LineGives replay.new settings event.entry past (W.taken writer.old) (W.taken writer.new) noted) }
-    ensures counted { OnOk result (replay.new.totals.lines ≡ number) }
-    ensures cleared { OnOk result (findings.new ≡ []) }
-    ensures records { replay.new.content.records ≡ replay.old.content.records }
-    ensures took { result ≢ Err RunFault.Write → HasTaken (W.trace writer.old) (W.trace writer.new) }
-    ensures write { IsErrOf result RunFault.Write → (settings : Settings) (past : List Reading) → StandsFor replay.old settings past
-        → LineBegins replay.new settings event.entry past (W.taken writer.old) (W.taken writer.new) }
-    ensures failed { IsErrOf result RunFault.Write → HasTakenAndFailed (W.trace writer.old) (W.trace writer.new) }
-    ensures memory { IsErrOf result RunFault.OutOfMemory → MayLack H.lacks }
-    ensures no_read { result ≢ Err RunFault.Read }
-    ensures no_settings { result ≢ Err RunFault.BadSettings }
-    ensures no_image { result ≢ Err RunFault.Image }
+    ensures { ReplaysLine W.taken W.trace number event.entry result replay.old replay.new findings.new writer.old writer.new }
 {
     let Ok(()) = replay.feed_lent(number, event, findings) else {
-        return Err(RunFault::OutOfMemory);
+        unreachable!();
     };
     if findings.is_empty() {
         return Ok(false);
     }
     match put_findings(writer, findings) {
         Ok(()) => Ok(true),
-        Err(_) => Err(RunFault::Write),
+        Err(failed) => Err(failed),
     }
 }
 
 /// Reads and replays all lines of the log; what is wrong with a line is put at once. Answers whether
 /// anything is.
-fn replay_lines<H: Heaped, R: Source, W: Sink>(
+fn replay_lines<R: Source, W: Sink>(
     reader: &mut R,
     writer: &mut W,
-    replay: &mut Replay<H>,
-) -> Result<bool, RunFault>
+    replay: &mut Replay<Heap>,
+) -> Result<bool, Failing>
     requires start { replay.old.totals.lines ≡ 0 }
-    ensures done { IfOk result (λ noted. (settings : Settings) → StandsFor replay.old settings []
-        → HasReplayed settings replay.new noted (R.left reader.old) (R.left reader.new) (W.taken writer.old) (W.taken writer.new)) }
-    ensures records { replay.new.content.records ≡ replay.old.content.records }
-    ensures whole { R.whole reader.new ≡ R.whole reader.old }
-    ensures reader_ended { OnOk result (HasGivenAll (R.trace reader.old) (R.trace reader.new)) }
-    ensures reader_not_failed { result ≢ Err RunFault.Read → HasNotFailed (R.trace reader.old) (R.trace reader.new) }
-    ensures writer_took { result ≢ Err RunFault.Write → HasTaken (W.trace writer.old) (W.trace writer.new) }
-    ensures writer_failed { IsErrOf result RunFault.Write → HasTakenAndFailed (W.trace writer.old) (W.trace writer.new) }
-    ensures read { IsErrOf result RunFault.Read → (settings : Settings) → StandsFor replay.old settings []
-        → StopsAtRead settings (R.left reader.old) (R.left reader.new) (R.trace reader.old) (R.trace reader.new) (W.taken writer.old) (W.taken writer.new) }
-    ensures write { IsErrOf result RunFault.Write → (settings : Settings) → StandsFor replay.old settings []
-        → (report : Report) → StopsAtWrite report settings (R.left reader.old) (R.left reader.new) (W.taken writer.old) (W.taken writer.new) }
-    ensures memory { IsErrOf result RunFault.OutOfMemory → MayLack H.lacks }
-    ensures no_settings { result ≢ Err RunFault.BadSettings }
-    ensures no_image { result ≢ Err RunFault.Image }
+    ensures { ReplaysLines R.left R.whole R.trace W.taken W.trace result replay.old replay.new reader.old reader.new writer.old writer.new }
 {
     let mut lines = Lines::new();
     let mut noted = false;
@@ -112,11 +92,11 @@ fn replay_lines<H: Heaped, R: Source, W: Sink>(
         let number = match lines.advance(reader) {
             Ok(Some(number)) => number,
             Ok(None) => return Ok(noted),
-            Err(_) => return Err(RunFault::Read),
+            Err(_) => return Err(Failing::Reader),
         };
         match replay_line(writer, replay, number, lines.event(), &mut findings) {
             Ok(more) => noted |= more,
-            Err(fault) => return Err(fault),
+            Err(_) => return Err(Failing::Writer),
         }
     }
 }
@@ -129,8 +109,8 @@ fn put_end<H: Heaped, W: Sink>(
     report: Report,
 ) -> Result<(), Failed>
     requires works { replay.old.out_of_memory ≡ false }
-    ensures put { Puts W.taken W.trace result (notes_text note.now.items ++ report_text report (entries replay.old) replay.old.totals replay.old.content) writer.old writer.new }
-    ensures kept { report ≡ Report.Notes → replay.new ≡ replay.old }
+    ensures { PutsReport W.taken W.trace result report (notes_text note.now.items ++ report_text report (entries replay.old) replay.old.totals replay.old.content)
+        replay.old replay.new writer.old writer.new }
 {
     put_note(writer, note)?;
     put_report(writer, replay, report)
@@ -153,26 +133,19 @@ fn finish<H: Heaped, W: Sink>(
     replay: &mut Replay<H>,
     noted: bool,
     report: Report,
-) -> Result<Status, RunFault>
+) -> Result<Status, Failed>
     requires works { replay.old.out_of_memory ≡ false }
-    ensures all { OnOk result (Wrote (W.taken writer.old) (W.taken writer.new) (end_text report replay.old)) }
-    ensures status { IfOk result (λ status. status
-        ≡ (if noted || (is_some_note (half replay.old.totals.lines replay.old.pending) || is_some_entry (entries replay.old)) then Status.Found else Status.Clean)) }
-    ensures flushed { OnOk result (HasTakenAndFlushed (W.trace writer.old) (W.trace writer.new)) }
-    ensures beginning { OnErr result (Begins (W.taken writer.old) (W.taken writer.new) (end_text report replay.old)) }
-    ensures failed { OnErr result (HasFailedToWrite (W.trace writer.old) (W.trace writer.new)) }
-    ensures only_write { IfErr result (λ fault. fault ≡ RunFault.Write) }
-    ensures kept { report ≡ Report.Notes → replay.new ≡ replay.old }
+    ensures { Finishes W.taken W.trace report noted result replay.old replay.new writer.old writer.new }
 {
     let Ok(note) = replay.finish() else {
         unreachable!();
     };
     let is_found = noted || !note.is_empty() || replay.blocks() > 0;
     if put_end(writer, replay, &note, report).is_err() {
-        return Err(RunFault::Write);
+        return Err(Failed);
     }
     if writer.flush().is_err() {
-        return Err(RunFault::Write);
+        return Err(Failed);
     }
     Ok(status_by(is_found))
 }
@@ -213,14 +186,13 @@ pub(crate) fn replay_log<R: Source, W: Sink>(
     match replay_lines(reader, writer, &mut replay) {
         Ok(noted) => match finish(writer, &mut replay, noted, report) {
             Ok(status) => Ok(Ended { status, replay }),
-            Err(fault) => Err(fault),
+            Err(_) => Err(RunFault::Write),
         },
-        Err(RunFault::Write) => Err(RunFault::Write),
-        Err(RunFault::Read) => {
+        Err(Failing::Writer) => Err(RunFault::Write),
+        Err(Failing::Reader) => {
             ask_flush(writer);
             Err(RunFault::Read)
         }
-        Err(_) => unreachable!(),
     }
 }
 
@@ -232,8 +204,7 @@ fn run_report<R: Source, W: Sink>(
     settings: Settings,
     report: Report,
 ) -> Result<Status, RunFault>
-    ensures runs { Runs report settings R.left R.trace W.taken W.trace result reader.old reader.new writer.old writer.new }
-    ensures whole { R.whole reader.new ≡ R.whole reader.old }
+    ensures { RunsOnce report settings R.left R.whole R.trace W.taken W.trace result reader.old reader.new writer.old writer.new }
 {
     match replay_log(alloc, reader, writer, settings, report) {
         Ok(ended) => Ok(ended.status),
@@ -259,14 +230,13 @@ pub fn run_leaks<R: Source, W: Sink>(
     writer: &mut W,
     settings: Settings,
 ) -> Result<Status, RunFault>
-    ensures runs { Runs Report.Leaks settings R.left R.trace W.taken W.trace result reader.old reader.new writer.old writer.new }
-    ensures whole { R.whole reader.new ≡ R.whole reader.old }
+    ensures { RunsOnce Report.Leaks settings R.left R.whole R.trace W.taken W.trace result reader.old reader.new writer.old writer.new }
 {
     run_report(alloc, reader, writer, settings, Report::Leaks)
 }
 
 /// Reads a log of mtrace(3), replays it on a heap by the settings, and writes what is wrong with its
-/// lines, each as it comes, and then the report of the peak: what the lines come to in sum, and what is free
+/// lines, each as it comes, and then the report of the peak: the sums over the lines, and what is free
 /// at the end of the log.
 ///
 /// The writer is flushed once at the end, but not after `Write`, `BadSettings` or `OutOfMemory`; after `Read` it doesn't
@@ -284,8 +254,7 @@ pub fn run_peak<R: Source, W: Sink>(
     writer: &mut W,
     settings: Settings,
 ) -> Result<Status, RunFault>
-    ensures runs { Runs Report.Peak settings R.left R.trace W.taken W.trace result reader.old reader.new writer.old writer.new }
-    ensures whole { R.whole reader.new ≡ R.whole reader.old }
+    ensures { RunsOnce Report.Peak settings R.left R.whole R.trace W.taken W.trace result reader.old reader.new writer.old writer.new }
 {
     run_report(alloc, reader, writer, settings, Report::Peak)
 }
@@ -309,8 +278,7 @@ pub fn run_walk<R: Source, W: Sink>(
     writer: &mut W,
     settings: Settings,
 ) -> Result<Status, RunFault>
-    ensures runs { Runs Report.Walk settings R.left R.trace W.taken W.trace result reader.old reader.new writer.old writer.new }
-    ensures whole { R.whole reader.new ≡ R.whole reader.old }
+    ensures { RunsOnce Report.Walk settings R.left R.whole R.trace W.taken W.trace result reader.old reader.new writer.old writer.new }
 {
     run_report(alloc, reader, writer, settings, Report::Walk)
 }

@@ -1,18 +1,16 @@
 //! The run that tells who holds the memory of a log.
 
-ghost use Rattle.std.specs.Prelude.{◌≡◌, ◌∷◌, ◌++◌, ◌≤◌, ◌↔◌, List, [], length, reverse, flat_map, OnOk, OnErr, IfOk, IsErrOf, IsTrue};
+ghost use Rattle.std.specs.Prelude.{◌≡◌, ◌∷◌, ◌++◌, ◌≤◌, ◌↔◌, List, [], reverse, flat_map, IfOk, IsErrOf, IsTrue};
 ghost use Rattle.mtrace_log.specs.Output.{Puts};
-ghost use Rattle.mtrace_log.specs.Trace.{HasNotFailed};
 ghost use Rattle.mtrace_log.specs.declared.call.Call.{Call};
 ghost use Rattle.mtrace_replay.specs.declared.settings.Settings.{Settings};
 ghost use Rattle.mtrace_replay.specs.Settings.{are_bad};
 ghost use Rattle.mtrace_replay.specs.Moment.{Reading};
 ghost use Rattle.mtrace_replay.specs.Replay.{StandsFor, entries};
-ghost use Rattle.mtrace_replay.specs.Sites.{AreSites};
-ghost use Rattle.mtrace_replay.specs.Texts.{total_size, site_text as text_of_site, section, peak_words as words_of_peak, end_words};
+ghost use Rattle.mtrace_replay.specs.Texts.{site_text as text_of_site, section, peak_words as words_of_peak, end_words};
 ghost use Rattle.mtrace_replay.specs.Saving.{PutsAndFlushes};
-ghost use Rattle.mtrace_replay.specs.Again.{HasReplayedFirst, FailsAgain};
-ghost use Rattle.mtrace_replay.specs.RunSites.{SitesFollow, RunsSites};
+ghost use Rattle.mtrace_replay.specs.Again.{FailsAgain, ReplaysFirst};
+ghost use Rattle.mtrace_replay.specs.RunSites.{Groups, HasMemory, SitesFollow, RunsSites};
 
 use crate::again::replay_first;
 use crate::grouping::Grouping;
@@ -47,9 +45,7 @@ struct Sum {
 /// Groups what a replay holds.
 fn group_held<'a, H: Heaped>(replay: &'a Replay<H>, grouping: &mut Grouping<'a>) -> Sum
     requires room { replay.now.content.records ≤ grouping.old.room }
-    ensures blocks { result.blocks ≡ length (entries replay.now) }
-    ensures bytes { result.bytes ≡ total_size (entries replay.now) }
-    ensures sites { AreSites (entries replay.now) grouping.new.sites }
+    ensures { Groups (entries replay.now) result grouping.new }
 {
     let sum = Sum {
         blocks: replay.blocks(),
@@ -80,19 +76,12 @@ fn replay_again<R: Again>(
     most: u64,
 ) -> Result<(), Failed>
     requires start { replay.old.totals.lines ≡ 0 }
-    ensures done { OnOk result ((settings : Settings) → StandsFor replay.old settings []
-        → HasReplayedFirst most settings replay.new (R.whole reader.old) (R.left reader.new)) }
-    ensures not_failed { OnOk result (HasNotFailed (Call.Began ∷ R.trace reader.old) (R.trace reader.new)) }
-    ensures read { OnErr result ((settings : Settings) → StandsFor replay.old settings []
-        → FailsAgain (R.whole reader.old) (R.left reader.old) (R.left reader.new) (R.trace reader.old) (R.trace reader.new)) }
-    ensures records { replay.new.content.records ≡ replay.old.content.records }
+    ensures { ReplaysFirst R.left R.whole R.trace (R.whole reader.old) (Call.Began ∷ R.trace reader.old)
+        (FailsAgain (R.whole reader.old) (R.left reader.old) (R.left reader.new) (R.trace reader.old) (R.trace reader.new))
+        most result replay.old replay.new reader.old reader.new }
 {
     reader.begin()?;
-    match replay_first(reader, replay, most) {
-        Ok(()) => Ok(()),
-        Err(RunFault::Read) => Err(Failed),
-        Err(_) => unreachable!(),
-    }
+    replay_first(reader, replay, most)
 }
 
 /// Puts what is held at the peak and what is held at the end, each by its sites.
@@ -163,10 +152,7 @@ fn take_memory<'a>(
     alloc: Global,
     settings: Settings,
 ) -> Result<(Replay<Heap>, Grouping<'a>, Grouping<'a>), ReplayFault>
-    ensures replay { IfOk result (λ taken. StandsFor taken.0 settings []) }
-    ensures records { IfOk result (λ taken. taken.0.content.records ≡ settings.records) }
-    ensures peak_room { IfOk result (λ taken. settings.records ≤ taken.1.room) }
-    ensures end_room { IfOk result (λ taken. settings.records ≤ taken.2.room) }
+    ensures made { IfOk result (λ taken. HasMemory settings taken.0 taken.1.room taken.2.room) }
     ensures bad_settings { IsErrOf result ReplayFault.BadSettings ↔ IsTrue (are_bad settings) }
 {
     let replay = Replay::create(alloc, settings)?;

@@ -1,15 +1,13 @@
 //! What one line does to the heap and to what is held.
 
-ghost use Rattle.std.specs.Prelude.{◌≡◌, ◌≢◌, ℕ, ◌+◌, ◌<◌, ◌≤◌, Ok, Err, IfErr, ◌&&◌, not, is_some, true, List, [], ◌∷◌, length, Some, None, option_map, IfOk, OnOk, OnErr, if◌then◌else◌, ◌==◌};
+ghost use Rattle.std.specs.Prelude.{◌≡◌, ◌≢◌, ◌+◌, ◌<◌, ◌≤◌, ◌&&◌, not, is_some, true, [], Some, None, ◌==◌};
 ghost use Rattle.tlsf_heap.specs.Bare.{bare};
 ghost use Rattle.tlsf_heap.specs.Content.{blocks_of, size_at};
 ghost use Rattle.tlsf_heap.specs.Free.{is_live};
-ghost use Rattle.tlsf_heap.specs.GoodSlots.{slot_times};
 ghost use Rattle.tlsf_heap.specs.Realloc.{realloc as reallocated};
-ghost use Rattle.tlsf_heap.specs.Run.{MayLack};
-ghost use Rattle.mtrace_replay.specs.Index.{held_at, LooksUp, IsFound};
-ghost use Rattle.mtrace_replay.specs.Moment.{asked_size as size_asked, asked_block, without, allocation, release as released, moved, renewal, renewal_asks, asks, outcome as outcome_of};
-ghost use Rattle.mtrace_replay.specs.Step.{found, all_given, Replays, IsUnder, AreLive};
+ghost use Rattle.mtrace_replay.specs.Index.{held_at, IsFound, Tells};
+ghost use Rattle.mtrace_replay.specs.Moment.{asked_size as size_asked, asked_block, allocation, release as released, moved, renewal, renewal_asks, asks, outcome as outcome_of};
+ghost use Rattle.mtrace_replay.specs.Step.{found, all_given, Replays, AsksBlock, GivesBlock, Takes, IsUnder, AreLive};
 
 use crate::diagnostic::{Diagnostic, Kind};
 use crate::entry::Entry;
@@ -50,13 +48,8 @@ struct Block {
 /// Asks for a block of at least `n` bytes, at a multiple of an alignment where there is one.
 #[inline(always)]
 fn ask_block<H: Heaped>(heap: &mut H, align: Option<Addr>, n: u64) -> Result<Ptr, Refusal>
-    ensures ok { IfOk result (λ ptr. asked_block ptr.slot align n (H.content heap.old) ≡ Ok (ptr.place, H.content heap.new)) }
-    ensures slot_below { IfOk result (λ ptr. ptr.slot < (H.content heap.old).records) }
-    ensures slot_new { IfOk result (λ ptr. slot_times ptr.slot (blocks_of (H.content heap.old).pools) ≡ 0) }
-    ensures refused { IfErr result (λ refusal. refusal ≢ Refusal.OutOfMemory → (slot : ℕ) → asked_block slot align n (H.content heap.old) ≡ Err refusal) }
-    ensures memory { IfErr result (λ refusal. refusal ≡ Refusal.OutOfMemory → MayLack H.lacks) }
-    ensures unchanged { OnErr result (H.content heap.new ≡ H.content heap.old) }
-    ensures bound { H.touches heap.new ≤ H.touches heap.old + 160 }
+    ensures { AsksBlock H.content H.touches H.lacks 160 (λ slot. asked_block slot align n (H.content heap.old))
+        (λ ptr. ptr.place) (λ slot. ⊥) (λ ptr. ptr) result heap.old heap.new }
 {
     match align {
         None => heap.malloc(n),
@@ -67,14 +60,8 @@ fn ask_block<H: Heaped>(heap: &mut H, align: Option<Addr>, n: u64) -> Result<Ptr
 /// The block that was asked for, and where it ends.
 #[inline(always)]
 fn new_block<H: Heaped>(heap: &mut H, align: Option<Addr>, n: u64) -> Result<Block, Refusal>
-    ensures ok { IfOk result (λ given. asked_block given.ptr.slot align n (H.content heap.old) ≡ Ok (given.ptr.place, H.content heap.new)) }
-    ensures slot_below { IfOk result (λ given. given.ptr.slot < (H.content heap.old).records) }
-    ensures slot_new { IfOk result (λ given. slot_times given.ptr.slot (blocks_of (H.content heap.old).pools) ≡ 0) }
-    ensures end { IfOk result (λ given. given.end ≡ given.ptr.place + size_at given.ptr.place (blocks_of (H.content heap.new).pools)) }
-    ensures refused { IfErr result (λ refusal. refusal ≢ Refusal.OutOfMemory → (slot : ℕ) → asked_block slot align n (H.content heap.old) ≡ Err refusal) }
-    ensures memory { IfErr result (λ refusal. refusal ≡ Refusal.OutOfMemory → MayLack H.lacks) }
-    ensures unchanged { OnErr result (H.content heap.new ≡ H.content heap.old) }
-    ensures bound { H.touches heap.new ≤ H.touches heap.old + 164 }
+    ensures { GivesBlock H.content H.touches H.lacks 164 (λ slot. asked_block slot align n (H.content heap.old))
+        (λ ptr. ptr.place) (λ slot. ⊥) result heap.old heap.new }
 {
     heap.keeps_good();
     match ask_block(heap, align, n) {
@@ -89,16 +76,8 @@ fn new_block<H: Heaped>(heap: &mut H, align: Option<Addr>, n: u64) -> Result<Blo
 /// The live block with room for `n` bytes, in its place or moved, and where it ends.
 fn realloc_block<H: Heaped>(heap: &mut H, ptr: Ptr, n: u64) -> Result<Block, Refusal>
     requires some { 0 < n }
-    ensures ok { IfOk result (λ given. reallocated (λ a b. a == b) given.ptr.slot (Some (ptr.place, ptr.slot)) n (H.content heap.old)
-        ≡ Ok (Some (given.ptr.place, given.ptr.slot), H.content heap.new)) }
-    ensures slot_below { IfOk result (λ given. given.ptr.slot < (H.content heap.old).records) }
-    ensures slot_new { IfOk result (λ given. given.ptr.slot ≢ ptr.slot → slot_times given.ptr.slot (blocks_of (H.content heap.old).pools) ≡ 0) }
-    ensures end { IfOk result (λ given. given.end ≡ given.ptr.place + size_at given.ptr.place (blocks_of (H.content heap.new).pools)) }
-    ensures refused { IfErr result (λ refusal. refusal ≢ Refusal.OutOfMemory → (slot : ℕ)
-        → reallocated (λ a b. a == b) slot (Some (ptr.place, ptr.slot)) n (H.content heap.old) ≡ Err refusal) }
-    ensures memory { IfErr result (λ refusal. refusal ≡ Refusal.OutOfMemory → MayLack H.lacks) }
-    ensures unchanged { OnErr result (H.content heap.new ≡ H.content heap.old) }
-    ensures bound { H.touches heap.new ≤ H.touches heap.old + 260 }
+    ensures { GivesBlock H.content H.touches H.lacks 260 (λ slot. reallocated (λ a b. a == b) slot (Some (ptr.place, ptr.slot)) n (H.content heap.old))
+        (λ given. Some (given.place, given.slot)) (λ slot. slot ≡ ptr.slot) result heap.old heap.new }
 {
     heap.keeps_good();
     match heap.realloc(Some(ptr), n) {
@@ -160,14 +139,7 @@ fn take<H: Heaped>(
     requires live { AreLive held.old.all (H.content heap.old) }
     requires found { IsFound held.old.keys found.now }
     requires held { IsUnder ptr (held_at held.old.all found.now.address) }
-    ensures content { OnOk result (bare (H.content heap.new) ≡ without ptr.place (bare (H.content heap.old))) }
-    ensures held { OnOk result ((other : ℕ) → held_at held.new.all other ≡ (if found.now.address == other then None else held_at held.old.all other)) }
-    ensures live { OnOk result (AreLive held.new.all (H.content heap.new)) }
-    ensures memory { OnErr result (MayLack H.lacks) }
-    ensures unchanged { OnErr result (held.new.all ≡ held.old.all) }
-    ensures records { (H.content heap.new).records ≡ (H.content heap.old).records }
-    ensures looked { LooksUp 0 held.old held.new }
-    ensures bound { H.touches heap.new ≤ H.touches heap.old + 96 }
+    ensures { Takes H.content H.touches H.lacks 96 found.now.address ptr result heap.old heap.new held.old held.new }
 {
     heap.keeps_good();
     match heap.free(ptr) {
@@ -243,10 +215,7 @@ fn reallocate<H: Heaped>(
 
 /// Whether the address is another one than the old one, and held.
 fn is_held_too(held: &mut Index, address: Addr, old: Addr) -> bool
-    ensures value { result ≡ (not (address == old) && is_some (held_at held.old.all address)) }
-    ensures unchanged { held.new.all ≡ held.old.all }
-    ensures keys { held.new.keys ≡ held.old.keys }
-    ensures looked { LooksUp 1 held.old held.new }
+    ensures { Tells 1 (not (address == old) && is_some (held_at held.old.all address)) result held.old held.new }
 {
     address != old && held.contains(address)
 }

@@ -1,11 +1,11 @@
 //! A log that is read until a line is refused.
 
-ghost use Rattle.std.specs.Prelude.{◌≡◌, ◌⊎◌, ℕ, List, [], IfOk, OnOk, OnErr};
+ghost use Rattle.std.specs.Prelude.{◌≡◌, ◌⊎◌, ℕ, List, []};
 ghost use Rattle.std.specs.Io.KnownBytes.{prepend_known};
 ghost use Rattle.mtrace_replay.specs.Moment.{Reading};
 ghost use Rattle.mtrace_replay.specs.Replay.{StandsFor};
 ghost use Rattle.mtrace_replay.specs.Run.{FailedInPiece, IsPastLastNumber};
-ghost use Rattle.mtrace_replay.specs.RunFit.{IsTried, NoneFailed};
+ghost use Rattle.mtrace_replay.specs.RunFit.{IsTried, TriesLog};
 ghost use Rattle.mtrace_replay.specs.declared.settings.Settings.{Settings};
 
 use crate::findings::Findings;
@@ -20,14 +20,11 @@ pub(crate) fn is_served<R: Source>(
 ) -> Result<bool, Failed>
     requires start { replay.old.totals.lines ≡ 0 }
     requires none { replay.old.totals.refused ≡ 0 }
-    ensures tried { IfOk result (λ serves. (settings : Settings) → StandsFor replay.old settings []
-        → IsTried settings serves (R.left reader.old) (R.left reader.new)) }
-    ensures not_failed { OnOk result (NoneFailed (R.trace reader.old) (R.trace reader.new)) }
-    ensures read { OnErr result ((settings : Settings) → StandsFor replay.old settings []
+    ensures { TriesLog (λ serves. (settings : Settings) → StandsFor replay.old settings [] → IsTried settings serves (R.left reader.old) (R.left reader.new))
+        ((settings : Settings) → StandsFor replay.old settings []
         → (lines : List Reading) × (FailedInPiece (R.left reader.old) (R.left reader.new) (R.trace reader.old) (R.trace reader.new) lines
-        ⊎ ((unused : List ℕ) × IsPastLastNumber (R.left reader.old) (prepend_known unused (R.left reader.new)) (R.trace reader.old) (R.trace reader.new) lines))) }
-    ensures whole { R.whole reader.new ≡ R.whole reader.old }
-    ensures records { replay.new.content.records ≡ replay.old.content.records }
+        ⊎ ((unused : List ℕ) × IsPastLastNumber (R.left reader.old) (prepend_known unused (R.left reader.new)) (R.trace reader.old) (R.trace reader.new) lines)))
+        R.whole R.trace replay.old.content.records result reader.old reader.new replay.new }
 {
     let mut lines = Lines::new();
     let mut findings = Findings::none();

@@ -1,9 +1,8 @@
 //! The walk over a heap's pools and their blocks.
 
-ghost use Rattle.std.specs.Prelude.{◌≡◌, flat_map};
+ghost use Rattle.std.specs.Prelude.{flat_map};
 ghost use Rattle.tlsf_heap.specs.Bare.{bare};
-ghost use Rattle.mtrace_log.specs.Output.{Puts};
-ghost use Rattle.mtrace_replay.specs.Rows.{rows_at};
+ghost use Rattle.mtrace_replay.specs.Rows.{rows_at, PutsOf};
 ghost use Rattle.mtrace_replay.specs.Texts.{row_text as text_of_row, rows_text, walk_report};
 
 use crate::line_text::{pool_text, row_text};
@@ -13,8 +12,7 @@ use tlsf_heap::{Cursor, Heaped};
 /// Puts a line for each row from the cursor on.
 fn put_rows<H: Heaped, W: Sink>(writer: &mut W, heap: &mut H, cursor: Cursor) -> Result<(), Failed>
     requires { H.stands heap.old cursor }
-    ensures puts { Puts W.taken W.trace result (flat_map text_of_row (H.rest heap.old cursor)) writer.old writer.new }
-    ensures unchanged { H.content heap.new ≡ H.content heap.old }
+    ensures { PutsOf H.content W.taken W.trace result (flat_map text_of_row (H.rest heap.old cursor)) writer.old writer.new heap.old heap.new }
 {
     let mut here = cursor;
     while let Some(next) = heap.row(here) {
@@ -26,8 +24,7 @@ fn put_rows<H: Heaped, W: Sink>(writer: &mut W, heap: &mut H, cursor: Cursor) ->
 
 /// Puts the rows of the pool that begins at the place `base`.
 fn put_rows_at<H: Heaped, W: Sink>(writer: &mut W, heap: &mut H, base: u64) -> Result<(), Failed>
-    ensures puts { Puts W.taken W.trace result (flat_map text_of_row (rows_at (H.content heap.old).pools base)) writer.old writer.new }
-    ensures unchanged { H.content heap.new ≡ H.content heap.old }
+    ensures { PutsOf H.content W.taken W.trace result (flat_map text_of_row (rows_at (H.content heap.old).pools base)) writer.old writer.new heap.old heap.new }
 {
     match heap.first(base) {
         Ok(cursor) => put_rows(writer, heap, cursor),
@@ -41,8 +38,7 @@ fn put_pool<H: Heaped, W: Sink>(
     heap: &mut H,
     range: (u64, u64),
 ) -> Result<(), Failed>
-    ensures puts { Puts W.taken W.trace result (rows_text range (rows_at (H.content heap.old).pools range.0)) writer.old writer.new }
-    ensures unchanged { H.content heap.new ≡ H.content heap.old }
+    ensures { PutsOf H.content W.taken W.trace result (rows_text range (rows_at (H.content heap.old).pools range.0)) writer.old writer.new heap.old heap.new }
 {
     put_all(writer, pool_text(range.0, range.1).as_slice())?;
     put_rows_at(writer, heap, range.0)
@@ -54,8 +50,7 @@ fn put_pool<H: Heaped, W: Sink>(
 ///
 /// `Failed` where the writer failed, or took no byte of some: then a beginning of the report is put.
 pub(crate) fn put_walk<H: Heaped, W: Sink>(writer: &mut W, heap: &mut H) -> Result<(), Failed>
-    ensures puts { Puts W.taken W.trace result (walk_report (bare (H.content heap.old))) writer.old writer.new }
-    ensures unchanged { H.content heap.new ≡ H.content heap.old }
+    ensures { PutsOf H.content W.taken W.trace result (walk_report (bare (H.content heap.old))) writer.old writer.new heap.old heap.new }
 {
     heap.keeps_good();
     let pools = heap.pools();

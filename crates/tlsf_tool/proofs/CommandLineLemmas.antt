@@ -1,6 +1,7 @@
 -- The command line's description, and what a parse by it gives.
 use Rattle.std.proofs.Common.{arith, ◌≡◌, ◌∙◌, ◌⊎◌, ◌<◌, ◌^◌, ◌+◌, ◌*◌, ℕ, List, [], ◌∷◌, Option, Some, None, Result, Ok, Err, inl, inr, refl, sym, ap, ap₂, subst, true, codes, unwrap_or, option_map}
 use Rattle.std.specs.Prelude.{Box, IfSome, IfNone, String, string_bytes}
+use Rattle.std.specs.Result.{IsErrAnd}
 use Rattle.std.specs.declared.alloc.Global.{Global}
 use Rattle.std.specs.Str.Parse.{ParsesUnsigned, digits_value, without_leading_plus}
 use Rattle.clap.specs.Words.{App, HasMatchesOf, HasKind, IsAmong, Kinds, ReadsOne, Row, Text, fault_of, first_of, is_simple, is_simple_and_free, kind_of, one_text, rows_of, with_subcommand, subcommand_name_of, subcommand_of, subcommand_rows, subcommand_rows_of}
@@ -23,6 +24,7 @@ use Rattle.tlsf_tool.specs.declared.asked.ToolFault.{ToolFault}
 use Rattle.tlsf_tool.specs.declared.asked.ToolFault.TheVariants.{Help, Usage, CannotOpen, ReadsOnce, Run}
 use Rattle.tlsf_tool.specs.CommandLine.{AskFor, HasNumber, HasNoLog, MatchesAskFor, bare_line, report_line, fit_line, save_line, check_line, name_text, texts_of, tlsf_line, wrong_with}
 use Rattle.tlsf_tool.specs.Faults.{ExplainsKind, ExplainsWords, IsUsage}
+use Rattle.tlsf_tool.specs.Asks.{Asks, Picks}
 
 pub line_is_simple : is_simple tlsf_line ≡ true
 unfolding clap_on_literals
@@ -76,9 +78,9 @@ pub number_read : {E : Type 0} (gives : Text → Result ℕ E → Type 0) (f : F
     → ((t : Text) (x : Result ℕ E) → gives t x → ParsesUnsigned bits 10 t x)
     → ((one_text f id ≡ None) → r ≡ None)
     → ((t : Text) → one_text f id ≡ Some t → ReadsOne gives t r)
-    → IfSome r (HasNumber (rows_of f) id bits) × IfNone r ((n : ℕ) → HasNumber (rows_of f) id bits n → ⊥)
-number_read gives f id bits None parses none value = (tt, number_none gives f id bits None parses value refl)
-number_read gives f id bits (Some n) parses none value = (number_some gives f id bits n parses none value, tt)
+    → Picks (HasNumber (rows_of f) id bits) r
+number_read gives f id bits None parses none value = record { given = tt; other = number_none gives f id bits None parses value refl }
+number_read gives f id bits (Some n) parses none value = record { given = number_some gives f id bits n parses none value; other = tt }
 
 -- ---- the subcommand
 
@@ -186,9 +188,17 @@ refuses fault (inl usage) p = inr (usage, p)
 refuses fault (inr memory) p = inl memory
 
 -- a wrong use, for another reason that follows from the one
-pub refuses_too : {P Q : Type 0} (fault : ToolFault) → (P → Q) → (fault ≡ Run OutOfMemory) ⊎ (IsUsage fault × P) → (fault ≡ Run OutOfMemory) ⊎ (IsUsage fault × Q)
+refuses_too : {P Q : Type 0} (fault : ToolFault) → (P → Q) → (fault ≡ Run OutOfMemory) ⊎ (IsUsage fault × P) → (fault ≡ Run OutOfMemory) ⊎ (IsUsage fault × Q)
 refuses_too fault follows (inl memory) = inl memory
 refuses_too fault follows (inr usage) = inr (usage.0, follows usage.1)
+
+-- the fault is handed on, and what is missing follows
+pub asks_exit : {A P Q : Type 0} {IsAsked : A → Type 0} (result : Result A ToolFault) (fault : ToolFault) → IsErrAnd result (λ other. other ≡ fault)
+    → (P → Q) → (fault ≡ Run OutOfMemory) ⊎ (IsUsage fault × P) → Asks IsAsked Q result
+asks_exit (Ok given) fault is follows why = absurd is
+asks_exit {A} {P} {Q} (Err other) fault is follows why =
+    let R : ToolFault → Type 0 = λ f. (f ≡ Run OutOfMemory) ⊎ (IsUsage f × Q) in
+    record { asked = tt; faults = subst R (sym is) (refuses_too fault follows why) }
 
 -- ---- the parse
 

@@ -1,7 +1,14 @@
 -- What checking an image reads and writes.
-use Rattle.std.specs.Prelude.{◌≡◌, ◌≤◌, ◌⊎◌, ℕ, ◌+◌, List, ◌++◌, length, codes, Option, Some, None}
+use Rattle.std.specs.Prelude.{◌≡◌, ◌≢◌, ◌≤◌, ◌⊎◌, ℕ, ◌+◌, List, ◌∷◌, ◌++◌, length, take, codes, Option, Some, None, Result, Err, IfOk, IfErr, OnOk, OnErr, IsErrOf}
 use Rattle.std.specs.Io.KnownBytes.{prepend_known, IsAtEnd}
 use Rattle.mtrace_log.specs.Output.{Wrote}
+use Rattle.mtrace_log.specs.Trace.{pulled, HasGivenAndFailed, HasNotFailed, HasTakenAndFlushed, HasFailedToWrite}
+use Rattle.mtrace_log.specs.declared.call.Call.{Call}
+use Rattle.mtrace_log.specs.declared.failed.Failed.{Failed}
+use Rattle.mtrace_replay.specs.declared.status.Status.{Status}
+use Rattle.mtrace_replay.specs.declared.status.Status.TheVariants.{Clean, Found}
+use Rattle.mtrace_replay.specs.declared.status.RunFault.{RunFault}
+use Rattle.mtrace_replay.specs.declared.status.RunFault.TheVariants.{Read, Write, OutOfMemory}
 use Rattle.tlsf_store.specs.Records.{most_records}
 use Rattle.tlsf_heap.specs.declared.image.rule.Rule.{Rule}
 use Rattle.tlsf_heap.specs.declared.image.rule.Rule.TheVariants.{Magic, Length, Pools, UnusedPools, States, Links, Chains, Cover, OnChains, Merged, Lists, OnLists}
@@ -41,13 +48,38 @@ abbrev pub check_text : Option Rule → List ℕ
 check_text None = codes "ok\n"
 check_text (Some rule) = codes "broken: V" ++ (rule_number rule ++ codes "\n")
 
-abbrev pub check_status : Option Rule → ℕ
-check_status None = 0
-check_status (Some rule) = 1
+abbrev pub check_status : Option Rule → Status
+check_status None = Clean
+check_status (Some rule) = Found
 
 -- the image was read, and what is wrong with it was written, and no more
-pub record Checks (status : ℕ) (left_old left_new taken_old taken_new : Bytes) : Type 0 where
+pub record Checks (status : Status) (left_old left_new taken_old taken_new : Bytes) : Type 0 where
   pub bytes : List ℕ
   pub read : HasReadImage bytes left_old left_new
   pub wrote : Wrote taken_old taken_new (check_text (first_broken bytes))
   pub status_is : status ≡ check_status (first_broken bytes)
+
+-- what one call of the reader gives at the front of a piece, of which it has this room
+pub record Pulls {R : Type 0} (left : R → Bytes) (pulls : R → List Call) (result : Result ℕ Failed) (piece : List ℕ) (room : ℕ) (old new : R) : Type 0 where
+  pub bound : IfOk result (λ n. n ≤ room)
+  pub bytes : IfOk result (λ n. left old ≡ prepend_known (take n piece) (left new))
+  pub end : IfOk result (λ n. n ≡ 0 → IsAtEnd (left new))
+  pub told : pulls new ≡ pulled result ∷ pulls old
+
+-- What a call leaves that reads an image, by its answer, which holds the bytes.
+pub record ReadsImage {R T : Type 0} (bytes_of : T → List ℕ) (left : R → Bytes) (pulls : R → List Call) (result : Result T RunFault) (old new : R) : Type 0 where
+  pub read : IfOk result (λ answer. HasReadImage (bytes_of answer) (left old) (left new))
+  pub failed : IsErrOf result Read → HasGivenAndFailed (pulls old) (pulls new)
+  pub not_failed : result ≢ Err Read → HasNotFailed (pulls old) (pulls new)
+  pub faults : IfErr result (λ fault. (fault ≡ Read) ⊎ (fault ≡ OutOfMemory))
+
+-- What a check of an image leaves, by its answer. It fails only where the reader or the writer does, or where memory is refused.
+pub record ChecksImage {R W : Type 0} (left : R → Bytes) (pulls : R → List Call) (taken : W → Bytes) (puts : W → List Call)
+    (result : Result Status RunFault) (reader_old reader_new : R) (writer_old writer_new : W) : Type 0 where
+  pub checks : IfOk result (λ status. Checks status (left reader_old) (left reader_new) (taken writer_old) (taken writer_new))
+  pub flushed : OnOk result (HasTakenAndFlushed (puts writer_old) (puts writer_new))
+  pub read : IsErrOf result Read → HasGivenAndFailed (pulls reader_old) (pulls reader_new)
+  pub not_failed : result ≢ Err Read → HasNotFailed (pulls reader_old) (pulls reader_new)
+  pub write : IsErrOf result Write → HasFailedToWrite (puts writer_old) (puts writer_new)
+  pub unwritten : result ≢ Err Write → OnErr result (writer_new ≡ writer_old)
+  pub faults : IfErr result (λ fault. (fault ≡ Read) ⊎ ((fault ≡ Write) ⊎ (fault ≡ OutOfMemory)))

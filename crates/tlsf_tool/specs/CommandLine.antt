@@ -1,8 +1,11 @@
 -- The command line of the program, as clap reads it, and what its matches ask for.
-use Rattle.std.specs.Prelude.{◌≡◌, ◌⊎◌, ◌<◌, ◌^◌, ℕ, List, [], ◌∷◌, Option, Some, None, true, map, codes, string_bytes, String}
+use Rattle.std.specs.Prelude.{◌≡◌, ◌⊎◌, ◌<◌, ◌^◌, ℕ, List, [], ◌∷◌, Option, Some, None, true, false, map, codes, string_bytes, String}
 use Rattle.std.specs.declared.alloc.Global.{Global}
 use Rattle.std.specs.Str.Parse.{IsNumeral, digits_value, without_leading_plus}
-use Rattle.clap.specs.Words.{App, Kinds, Row, Rule, Text, fault_of, first_of, new_app, new_rule, one_of, subcommand_of, with_rule, with_subcommand}
+use Rattle.clap.specs.Words.{App, Kinds, Row, Rule, Text, app_of, fault_of, first_of, new_app, new_rule, one_of, rule_of, subcommand_of, with_rule, with_subcommand}
+use Rattle.clap.specs.declared.builder.arg.Arg.{Arg}
+use Rattle.clap.specs.declared.builder.command.Command.{Command as Clap}
+use Rattle.clap.specs.declared.builder.command.Command.TheViews.{out-Command}
 use Rattle.clap.specs.Simple.{on_top}
 use Rattle.clap.specs.declared.builder.value_parser.ValueParser.{ValueParser}
 use Rattle.clap.specs.declared.builder.value_parser.ValueParser.TheVariants as parser
@@ -70,6 +73,16 @@ abbrev pub tlsf_line : App
 tlsf_line = with_subcommand (with_subcommand (with_subcommand (with_subcommand (with_subcommand (with_subcommand (with_subcommand bare_line (report_line (codes "leaks")).top)
     (report_line (codes "peak")).top) (report_line (codes "walk")).top) (report_line (codes "sites")).top) fit_line.top) save_line.top) check_line.top
 
+-- an option or a word by this rule, which the subcommand has for itself
+pub record IsArgOf (rule : Rule) (arg : Arg) : Type 0 where
+  pub rule_is : rule_of arg ≡ rule
+  pub own : arg.global ≡ false
+
+-- a subcommand by this line, with no option that goes to others too
+pub record IsCommandOf (line : App) (command : Clap) : Type 0 where
+  pub line_is : app_of command ≡ line
+  pub own : (out-Command command).has_globals ≡ false
+
 -- ---- what matches ask for
 
 abbrev pub name_text : Name → Text
@@ -77,7 +90,7 @@ name_text Leaks = codes "leaks"
 name_text Peak = codes "peak"
 name_text Walk = codes "walk"
 
--- the value of this id, which clap reads as the number n of so many bits
+-- the value of this id, which clap reads as the number n of this width in bits
 abbrev pub HasNumber : List Row → Text → ℕ → ℕ → Type 0
 HasNumber rows id bits n = (text : Text) × (one_of id rows ≡ Some text) × IsNumeral 10 (without_leading_plus text)
     × (digits_value 10 (without_leading_plus text) ≡ n) × (n < 2 ^ bits)

@@ -1,3 +1,4 @@
+pub mod Asks
 pub mod Checking
 pub mod CommandLine
 pub mod Faults

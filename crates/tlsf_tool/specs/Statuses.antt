@@ -1,5 +1,5 @@
 -- The statuses that the program ends with.
-use Rattle.std.specs.Prelude.{◌≡◌, ℕ, Result, Ok, Err}
+use Rattle.std.specs.Prelude.{◌≡◌, ◌≤◌, ℕ, Result, Ok, Err}
 use Rattle.tlsf_tool.specs.declared.asked.Name.{Name}
 use Rattle.tlsf_tool.specs.declared.asked.Name.TheVariants.{Leaks, Peak, Walk}
 use Rattle.mtrace_replay.specs.declared.report.Report.{Report}
@@ -28,14 +28,17 @@ status_of_run_fault OutOfMemory = 4
 status_of_run_fault BadSettings = 2
 status_of_run_fault Image = 3
 
--- of what a run came to
+-- the status of a run, by its answer
 abbrev pub status_of_run : Result Status RunFault → ℕ
 status_of_run (Ok status) = status_of_end status
 status_of_run (Err fault) = status_of_run_fault fault
 
--- the status is that of a run of which this is true
-abbrev pub EndsAs : (Result Status RunFault → Type 0) → ℕ → Type 0
-EndsAs IsSo status = (outcome : Result Status RunFault) × IsSo outcome × (status_of_run outcome ≡ status)
+-- the status is that of a run of which this is true, and at 0 and 1 nothing is put to the errors
+pub record EndsAs {E : Type 0} (IsSo : Result Status RunFault → Type 0) (status : ℕ) (errors_old errors_new : E) : Type 0 where
+  pub outcome : Result Status RunFault
+  pub told : IsSo outcome
+  pub status_is : status_of_run outcome ≡ status
+  pub no_errors : status ≤ 1 → errors_new ≡ errors_old
 
 abbrev pub status_of_fault : ToolFault → ℕ
 status_of_fault (Help text) = 0

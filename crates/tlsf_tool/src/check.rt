@@ -1,18 +1,17 @@
 //! An image is checked.
 
-ghost use Rattle.std.specs.Prelude.{◌≡◌, ◌≢◌, ◌⊎◌, ◌<◌, ◌≤◌, ◌∷◌, length, take, Ok, Err, Some, None, IfOk, IfErr, OnOk, OnErr, IsErrOf};
-ghost use Rattle.std.specs.Io.KnownBytes.{prepend_known, IsAtEnd};
-ghost use Rattle.mtrace_log.specs.Trace.{pulled, HasGiven, HasGivenAll, HasGivenAndFailed, HasNotFailed, HasTakenAndFlushed, HasFailedToWrite};
+ghost use Rattle.std.specs.Prelude.{◌≡◌, ◌<◌, ◌≤◌, IfOk};
 ghost use Rattle.tlsf_heap.specs.Images.Rules.{first_broken};
 ghost use Rattle.mtrace_replay.specs.Saving.{PutsAndFlushes};
-ghost use Rattle.tlsf_tool.specs.Checking.{HasReadImage, Checks, check_text, check_status};
+ghost use Rattle.tlsf_tool.specs.Checking.{Pulls, ReadsImage, ChecksImage, check_text, check_status};
+ghost use Rattle.tlsf_tool.specs.Statuses.{EndsAs};
 
 use crate::asked::ToolFault;
 use crate::service::put_fault;
-use crate::statuses::fault_status;
+use crate::statuses::{end_status, fault_status};
 use mtrace_log::{Failed, Sink, Source, put_all};
-use mtrace_replay::RunFault;
-use std::alloc::Global;
+use mtrace_replay::{RunFault, Status};
+use std::alloc::{AllocError, Global};
 use tlsf_heap::{Heap, ImageFault, Rule};
 
 /// One byte more than the longest image has.
@@ -21,7 +20,7 @@ const MOST_READ: usize = 1_050_081;
 /// How many bytes are asked for at once.
 const PIECE: usize = 4_096;
 
-/// Asks the reader once for so many bytes of a piece, and answers how many it gave.
+/// Asks the reader once for as many bytes of a piece as there is room, and answers how many it gave.
 fn pull_some<R: Source>(
     reader: &mut R,
     piece: &mut [u8; PIECE],
@@ -29,10 +28,7 @@ fn pull_some<R: Source>(
 ) -> Result<usize, Failed>
     requires some { 0 < room }
     requires few { room ≤ PIECE }
-    ensures bound { IfOk result (λ n. n ≤ room) }
-    ensures bytes { IfOk result (λ n. R.left reader.old ≡ prepend_known (take n piece.new) (R.left reader.new)) }
-    ensures end { IfOk result (λ n. n ≡ 0 → IsAtEnd (R.left reader.new)) }
-    ensures told { R.trace reader.new ≡ pulled result ∷ R.trace reader.old }
+    ensures { Pulls R.left R.trace result piece.new room reader.old reader.new }
 {
     reader.pull(&mut piece[..room])
 }
@@ -44,10 +40,7 @@ fn pull_some<R: Source>(
 ///
 /// `Read` where the reader failed; `OutOfMemory` where memory is refused.
 fn read_image<R: Source>(alloc: Global, reader: &mut R) -> Result<Vec<u8>, RunFault>
-    ensures read { IfOk result (λ bytes. HasReadImage bytes.items (R.left reader.old) (R.left reader.new)) }
-    ensures failed { IsErrOf result RunFault.Read → HasGivenAndFailed (R.trace reader.old) (R.trace reader.new) }
-    ensures not_failed { result ≢ Err RunFault.Read → HasNotFailed (R.trace reader.old) (R.trace reader.new) }
-    ensures faults { IfErr result (λ fault. (fault ≡ RunFault.Read) ⊎ (fault ≡ RunFault.OutOfMemory)) }
+    ensures { ReadsImage (λ bytes. bytes.items) R.left R.trace result reader.old reader.new }
 {
     let Ok(mut bytes) = Vec::with_capacity(alloc, MOST_READ) else {
         return Err(RunFault::OutOfMemory);
@@ -68,19 +61,14 @@ fn read_image<R: Source>(alloc: Global, reader: &mut R) -> Result<Vec<u8>, RunFa
     Ok(bytes)
 }
 
-/// The first rule that the bytes break.
-///
-/// # Errors
-///
-/// `OutOfMemory` where memory is refused.
-fn broken(alloc: Global, bytes: &[u8]) -> Result<Option<Rule>, RunFault>
-    ensures rule { IfOk result (λ rule. rule ≡ first_broken bytes.now) }
-    ensures faults { IfErr result (λ fault. fault ≡ RunFault.OutOfMemory) }
+/// The first rule that the bytes break, unless memory is refused.
+fn broken(alloc: Global, bytes: &[u8]) -> Result<Option<Rule>, AllocError>
+    ensures { IfOk result (λ rule. rule ≡ first_broken bytes.now) }
 {
     match Heap::load_image(alloc, bytes) {
         Ok(_) => Ok(None),
         Err(ImageFault::Broken(rule)) => Ok(Some(rule)),
-        Err(_) => Err(RunFault::OutOfMemory),
+        Err(_) => Err(AllocError),
     }
 }
 
@@ -107,14 +95,13 @@ fn line_of(broken: Option<Rule>) -> &'static [u8]
     }
 }
 
-/// The status of an image by the first rule that it breaks.
-fn status_of(broken: Option<Rule>) -> u8
-    ensures value { result ≡ check_status broken }
-    ensures few { result ≤ 1 }
+/// Whether an image is clean, by the first rule that it breaks.
+fn status_of(broken: Option<Rule>) -> Status
+    ensures { result ≡ check_status broken }
 {
     match broken {
-        Some(_) => 1,
-        None => 0,
+        Some(_) => Status::Found,
+        None => Status::Clean,
     }
 }
 
@@ -126,28 +113,17 @@ fn put_line<W: Sink>(writer: &mut W, line: &[u8]) -> Result<(), Failed>
     writer.flush()
 }
 
-/// Reads an image, and writes the first rule that it breaks. Answers the status.
+/// Reads an image, and writes the first rule that it breaks. Answers whether it breaks one.
 fn checked<R: Source, W: Sink>(
     alloc: Global,
     reader: &mut R,
     writer: &mut W,
-) -> Result<u8, RunFault>
-    ensures checks { IfOk result (λ status. Checks status (R.left reader.old) (R.left reader.new) (W.taken writer.old) (W.taken writer.new)) }
-    ensures few { IfOk result (λ status. status ≤ 1) }
-    ensures flushed { OnOk result (HasTakenAndFlushed (W.trace writer.old) (W.trace writer.new)) }
-    ensures read { IsErrOf result RunFault.Read → HasGivenAndFailed (R.trace reader.old) (R.trace reader.new) }
-    ensures not_failed { result ≢ Err RunFault.Read → HasNotFailed (R.trace reader.old) (R.trace reader.new) }
-    ensures write { IsErrOf result RunFault.Write → HasFailedToWrite (W.trace writer.old) (W.trace writer.new) }
-    ensures unwritten { result ≢ Err RunFault.Write → OnErr result (writer.new ≡ writer.old) }
-    ensures faults { IfErr result (λ fault. (fault ≡ RunFault.Read) ⊎ ((fault ≡ RunFault.Write) ⊎ (fault ≡ RunFault.OutOfMemory))) }
+) -> Result<Status, RunFault>
+    ensures { ChecksImage R.left R.trace W.taken W.trace result reader.old reader.new writer.old writer.new }
 {
-    let bytes = match read_image(alloc, reader) {
-        Ok(bytes) => bytes,
-        Err(fault) => return Err(fault),
-    };
-    let broken = match broken(alloc, bytes.as_slice()) {
-        Ok(broken) => broken,
-        Err(fault) => return Err(fault),
+    let bytes = read_image(alloc, reader)?;
+    let Ok(broken) = broken(alloc, bytes.as_slice()) else {
+        return Err(RunFault::OutOfMemory);
     };
     match put_line(writer, line_of(broken)) {
         Ok(()) => Ok(status_of(broken)),
@@ -164,17 +140,11 @@ pub fn check_image<R: Source, W: Sink, E: Sink>(
     writer: &mut W,
     errors: &mut E,
 ) -> u8
-    ensures checks { result ≤ 1 → Checks result (R.left reader.old) (R.left reader.new) (W.taken writer.old) (W.taken writer.new) }
-    ensures flushed { result ≤ 1 → HasTakenAndFlushed (W.trace writer.old) (W.trace writer.new) }
-    ensures no_errors { result ≤ 1 → errors.new ≡ errors.old }
-    ensures failed { result ≡ 3 → HasGivenAndFailed (R.trace reader.old) (R.trace reader.new) × (writer.new ≡ writer.old)
-        ⊎ HasNotFailed (R.trace reader.old) (R.trace reader.new) × HasFailedToWrite (W.trace writer.old) (W.trace writer.new) }
-    ensures reader_not_failed { result ≢ 3 → HasNotFailed (R.trace reader.old) (R.trace reader.new) }
-    ensures memory { result ≡ 4 → writer.new ≡ writer.old }
-    ensures known { (result ≤ 1) ⊎ ((result ≡ 3) ⊎ (result ≡ 4)) }
+    ensures { EndsAs (λ outcome. ChecksImage R.left R.trace W.taken W.trace outcome reader.old reader.new writer.old writer.new)
+        result errors.old errors.new }
 {
     match checked(alloc, reader, writer) {
-        Ok(status) => status,
+        Ok(status) => end_status(status),
         Err(fault) => {
             put_fault(errors, &ToolFault::Run(fault));
             fault_status(fault)

@@ -1,9 +1,8 @@
 //! The command line, described to clap.
 
-ghost use Rattle.std.specs.Prelude.{◌≡◌, IfOk, false};
-ghost use Rattle.clap.specs.Words.{app_of, rule_of, with_subcommand};
-ghost use Rattle.clap.specs.declared.builder.command.Command.TheViews.{out-Command};
-ghost use Rattle.tlsf_tool.specs.CommandLine.{log_rule, image_rule, pool_rule, pools_rule, records_rule, step_rule, report_line, fit_line, save_line, check_line, bare_line, tlsf_line};
+ghost use Rattle.std.specs.Prelude.{◌≡◌, IfOk};
+ghost use Rattle.clap.specs.Words.{app_of, with_subcommand};
+ghost use Rattle.tlsf_tool.specs.CommandLine.{IsArgOf, IsCommandOf, log_rule, image_rule, pool_rule, pools_rule, records_rule, step_rule, report_line, fit_line, save_line, check_line, bare_line, tlsf_line};
 
 use clap::{Arg, Command, value_parser};
 use std::alloc::{AllocError, Global};
@@ -61,8 +60,7 @@ const CHECK: &str = "Tells whether an image can be loaded, or the first rule tha
 
 /// The option of a pool's size.
 fn pool_option<'a>(alloc: Global) -> Arg<'a>
-    ensures rule { rule_of result ≡ pool_rule }
-    ensures own { result.global ≡ false }
+    ensures { IsArgOf pool_rule result }
 {
     let parser = value_parser!(u64).range(i64::from(UNIT)..=i64::from(GREATEST_SIZE));
     Arg::new(alloc, "pool")
@@ -75,8 +73,7 @@ fn pool_option<'a>(alloc: Global) -> Arg<'a>
 
 /// The option of the number of pools.
 fn pools_option<'a>(alloc: Global) -> Arg<'a>
-    ensures rule { rule_of result ≡ pools_rule }
-    ensures own { result.global ≡ false }
+    ensures { IsArgOf pools_rule result }
 {
     let parser = value_parser!(u32).range(1..=8);
     Arg::new(alloc, "pools")
@@ -89,8 +86,7 @@ fn pools_option<'a>(alloc: Global) -> Arg<'a>
 
 /// The option of the number of records.
 fn records_option<'a>(alloc: Global) -> Arg<'a>
-    ensures rule { rule_of result ≡ records_rule }
-    ensures own { result.global ≡ false }
+    ensures { IsArgOf records_rule result }
 {
     let parser = value_parser!(u32).range(1..=65_535);
     Arg::new(alloc, "records")
@@ -103,8 +99,7 @@ fn records_option<'a>(alloc: Global) -> Arg<'a>
 
 /// The option of the bytes between two sizes.
 fn step_option<'a>(alloc: Global) -> Arg<'a>
-    ensures rule { rule_of result ≡ step_rule }
-    ensures own { result.global ≡ false }
+    ensures { IsArgOf step_rule result }
 {
     let parser = value_parser!(u64).range(i64::from(UNIT)..=i64::from(GREATEST_SIZE));
     Arg::new(alloc, "step")
@@ -118,8 +113,7 @@ fn step_option<'a>(alloc: Global) -> Arg<'a>
 
 /// The log's name.
 fn log_word<'a>(alloc: Global) -> Arg<'a>
-    ensures rule { rule_of result ≡ log_rule }
-    ensures own { result.global ≡ false }
+    ensures { IsArgOf log_rule result }
 {
     Arg::new(alloc, "LOG").required(true).help(
         "File of the log; leaks, peak, walk and save take - for standard input",
@@ -128,8 +122,7 @@ fn log_word<'a>(alloc: Global) -> Arg<'a>
 
 /// The image's name.
 fn image_word<'a>(alloc: Global) -> Arg<'a>
-    ensures rule { rule_of result ≡ image_rule }
-    ensures own { result.global ≡ false }
+    ensures { IsArgOf image_rule result }
 {
     Arg::new(alloc, "IMAGE")
         .required(true)
@@ -142,8 +135,7 @@ fn report_command<'a>(
     name: &'a str,
     about: &'a str,
 ) -> Result<Command<'a>, AllocError>
-    ensures line { IfOk result (λ command. app_of command ≡ report_line name.entry.now) }
-    ensures own { IfOk result (λ command. (out-Command command).has_globals ≡ false) }
+    ensures { IfOk result (IsCommandOf (report_line name.entry.now)) }
 {
     Command::new(alloc, name)
         .about(about)
@@ -156,8 +148,7 @@ fn report_command<'a>(
 
 /// The subcommand that tries sizes.
 fn fit_command<'a>(alloc: Global) -> Result<Command<'a>, AllocError>
-    ensures line { IfOk result (λ command. app_of command ≡ fit_line) }
-    ensures own { IfOk result (λ command. (out-Command command).has_globals ≡ false) }
+    ensures { IfOk result (IsCommandOf fit_line) }
 {
     Command::new(alloc, "fit")
         .about(FIT)
@@ -168,16 +159,14 @@ fn fit_command<'a>(alloc: Global) -> Result<Command<'a>, AllocError>
 
 /// The subcommand that saves.
 fn save_command<'a>(alloc: Global) -> Result<Command<'a>, AllocError>
-    ensures line { IfOk result (λ command. app_of command ≡ save_line) }
-    ensures own { IfOk result (λ command. (out-Command command).has_globals ≡ false) }
+    ensures { IfOk result (IsCommandOf save_line) }
 {
     report_command(alloc, "save", SAVE)?.arg(image_word(alloc))
 }
 
 /// The subcommand that checks.
 fn check_command<'a>(alloc: Global) -> Result<Command<'a>, AllocError>
-    ensures line { IfOk result (λ command. app_of command ≡ check_line) }
-    ensures own { IfOk result (λ command. (out-Command command).has_globals ≡ false) }
+    ensures { IfOk result (IsCommandOf check_line) }
 {
     Command::new(alloc, "check")
         .about(CHECK)

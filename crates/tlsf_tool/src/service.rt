@@ -1,10 +1,6 @@
 //! One run, with its status.
 
-ghost use Rattle.std.specs.Prelude.{◌≡◌, ◌⊎◌, ◌↔◌, ◌≤◌, IsTrue};
-ghost use Rattle.mtrace_replay.specs.Settings.{are_bad};
-ghost use Rattle.mtrace_log.specs.Trace.{HasGivenAll, HasNotFailed, HasTakenAndFlushed, HasFailedToWrite, FlushWasAsked};
-ghost use Rattle.mtrace_replay.specs.Run.{Reports, Runs, FailsToRead, FailsToWrite};
-ghost use Rattle.mtrace_replay.specs.declared.status.Status.TheVariants.{Clean, Found};
+ghost use Rattle.mtrace_replay.specs.Run.{Runs};
 ghost use Rattle.mtrace_replay.specs.RunSites.{RunsSites};
 ghost use Rattle.mtrace_replay.specs.RunFit.{RunsFit};
 ghost use Rattle.mtrace_replay.specs.Saving.{RunsAndSaves};
@@ -60,19 +56,8 @@ pub fn serve<R: Source, W: Sink, E: Sink>(
     writer: &mut W,
     errors: &mut E,
 ) -> u8
-    ensures clean { result ≡ 0 → Reports (report_of name) settings Clean (R.left reader.old) (R.left reader.new) (W.taken writer.old) (W.taken writer.new) }
-    ensures found { result ≡ 1 → Reports (report_of name) settings Found (R.left reader.old) (R.left reader.new) (W.taken writer.old) (W.taken writer.new) }
-    ensures reader_ended { result ≤ 1 → HasGivenAll (R.trace reader.old) (R.trace reader.new) }
-    ensures writer_flushed { result ≤ 1 → HasTakenAndFlushed (W.trace writer.old) (W.trace writer.new) }
-    ensures no_errors { result ≤ 1 → errors.new ≡ errors.old }
-    ensures bad_settings { result ≡ 2 ↔ IsTrue (are_bad settings) }
-    ensures nothing_done { result ≡ 2 → (reader.new ≡ reader.old) × (writer.new ≡ writer.old) }
-    ensures failed { result ≡ 3
-        → FailsToRead R.left R.trace W.taken W.trace settings reader.old reader.new writer.old writer.new
-        ⊎ FailsToWrite (report_of name) R.left R.trace W.taken W.trace settings reader.old reader.new writer.old writer.new }
-    ensures memory { result ≡ 4 → (reader.new ≡ reader.old) × (writer.new ≡ writer.old) }
-    ensures reader_not_failed { result ≡ 4 → HasNotFailed (R.trace reader.old) (R.trace reader.new) }
-    ensures known { result ≤ 4 }
+    ensures { EndsAs (λ outcome. Runs (report_of name) settings R.left R.trace W.taken W.trace outcome reader.old reader.new writer.old writer.new)
+        result errors.old errors.new }
 {
     match run_named(alloc, name, settings, reader, writer) {
         Ok(status) => end_status(status),
@@ -94,8 +79,8 @@ pub fn serve_sites<R: Again, W: Sink, E: Sink>(
     writer: &mut W,
     errors: &mut E,
 ) -> u8
-    ensures told { EndsAs (λ outcome. RunsSites settings R.left R.whole R.trace W.taken W.trace outcome reader.old reader.new writer.old writer.new) result }
-    ensures no_errors { result ≤ 1 → errors.new ≡ errors.old }
+    ensures { EndsAs (λ outcome. RunsSites settings R.left R.whole R.trace W.taken W.trace outcome reader.old reader.new writer.old writer.new)
+        result errors.old errors.new }
 {
     match run_sites(alloc, reader, writer, settings) {
         Ok(status) => end_status(status),
@@ -116,8 +101,8 @@ pub fn serve_fit<R: Again, W: Sink, E: Sink>(
     writer: &mut W,
     errors: &mut E,
 ) -> u8
-    ensures told { EndsAs (λ outcome. RunsFit step R.left R.whole R.trace W.taken W.trace outcome reader.old reader.new writer.old writer.new) result }
-    ensures no_errors { result ≤ 1 → errors.new ≡ errors.old }
+    ensures { EndsAs (λ outcome. RunsFit step R.left R.whole R.trace W.taken W.trace outcome reader.old reader.new writer.old writer.new)
+        result errors.old errors.new }
 {
     match run_fit(alloc, reader, writer, step) {
         Ok(status) => end_status(status),
@@ -140,9 +125,8 @@ pub fn serve_save<R: Source, W: Sink, I: Sink, E: Sink>(
     image: &mut I,
     errors: &mut E,
 ) -> u8
-    ensures saved { EndsAs (λ outcome. RunsAndSaves settings R.left R.trace W.taken W.trace I.taken I.trace outcome
-        reader.old reader.new writer.old writer.new image.old image.new) result }
-    ensures no_errors { result ≤ 1 → errors.new ≡ errors.old }
+    ensures { EndsAs (λ outcome. RunsAndSaves settings R.left R.trace W.taken W.trace I.taken I.trace outcome
+        reader.old reader.new writer.old writer.new image.old image.new) result errors.old errors.new }
 {
     match run_save(alloc, reader, writer, image, settings) {
         Ok(status) => end_status(status),

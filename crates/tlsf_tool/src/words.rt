@@ -1,9 +1,10 @@
 //! The words of the command line.
 
-ghost use Rattle.std.specs.Prelude.{◌≡◌, ◌⊎◌, ℕ, codes, string_bytes, Some, None, IfOk, IfErr, IfSome, IfNone};
+ghost use Rattle.std.specs.Prelude.{◌≡◌, ◌⊎◌, codes, string_bytes, Some, None};
 ghost use Rattle.clap.specs.Words.{first_of, found_of, kind_of, rows_of, subcommand_rows_of};
-ghost use Rattle.tlsf_tool.specs.CommandLine.{AskFor, HasNumber, HasSettings, HasNoLog, MatchesAskFor, name_text};
-ghost use Rattle.tlsf_tool.specs.Faults.{ExplainsKind, ExplainsWords, IsUsage};
+ghost use Rattle.tlsf_tool.specs.CommandLine.{HasNumber, HasSettings, HasNoLog, name_text};
+ghost use Rattle.tlsf_tool.specs.Faults.{ExplainsKind};
+ghost use Rattle.tlsf_tool.specs.Asks.{Picks, Asks, MatchesGive, WordsGive};
 
 use crate::asked::{Command, Name, ToolFault};
 use crate::command_line::tlsf_command;
@@ -20,8 +21,7 @@ const NO_COMMAND: &str = "tlsf: no command; for more, try 'tlsf --help'\n";
 
 /// The report of this name.
 fn named(text: &str) -> Option<Name>
-    ensures found { IfSome result (λ name. text.now ≡ name_text name) }
-    ensures other { IfNone result ((name : _) → text.now ≡ name_text name → ⊥) }
+    ensures { Picks (λ name. text.now ≡ name_text name) result }
 {
     match text {
         "leaks" => Some(Name::Leaks),
@@ -33,34 +33,25 @@ fn named(text: &str) -> Option<Name>
 
 /// The size of this id, in bytes, that a subcommand's matches have.
 fn size_of(found: &ArgMatches<'_>, id: &str) -> Option<u64>
-    ensures given { IfSome result (HasNumber (rows_of (found_of found.now)) id.now 64) }
-    ensures other { IfNone result ((number : ℕ) → HasNumber (rows_of (found_of found.now)) id.now 64 number → ⊥) }
+    ensures { Picks (HasNumber (rows_of (found_of found.now)) id.now 64) result }
 {
     found.get_one::<u64>(id)
 }
 
 /// The number of this id that a subcommand's matches have.
 fn number_of(found: &ArgMatches<'_>, id: &str) -> Option<u32>
-    ensures given { IfSome result (HasNumber (rows_of (found_of found.now)) id.now 32) }
-    ensures other { IfNone result ((number : ℕ) → HasNumber (rows_of (found_of found.now)) id.now 32 number → ⊥) }
+    ensures { Picks (HasNumber (rows_of (found_of found.now)) id.now 32) result }
 {
     found.get_one::<u32>(id)
 }
 
 /// The settings that a subcommand's matches have.
 fn settings_of(found: &ArgMatches<'_>) -> Option<Settings>
-    ensures given { IfSome result (HasSettings (rows_of (found_of found.now))) }
-    ensures other { IfNone result ((settings : _) → HasSettings (rows_of (found_of found.now)) settings → ⊥) }
+    ensures { Picks (HasSettings (rows_of (found_of found.now))) result }
 {
-    let Some(pool) = size_of(found, "pool") else {
-        return None;
-    };
-    let Some(pools) = number_of(found, "pools") else {
-        return None;
-    };
-    let Some(records) = number_of(found, "records") else {
-        return None;
-    };
+    let pool = size_of(found, "pool")?;
+    let pools = number_of(found, "pools")?;
+    let records = number_of(found, "records")?;
     Some(Settings {
         pool,
         pools,
@@ -70,9 +61,8 @@ fn settings_of(found: &ArgMatches<'_>) -> Option<Settings>
 
 /// The word of this id, which a subcommand's matches have.
 fn word_of(alloc: Global, found: &ArgMatches<'_>, id: &str) -> Result<String, ToolFault>
-    ensures given { IfOk result (λ word. first_of id.now (rows_of (found_of found.now)) ≡ Some (string_bytes word)) }
-    ensures faults { IfErr result (λ fault. (fault ≡ ToolFault.Run RunFault.OutOfMemory)
-        ⊎ (IsUsage fault × (first_of id.now (rows_of (found_of found.now)) ≡ None))) }
+    ensures { Asks (λ word. first_of id.now (rows_of (found_of found.now)) ≡ Some (string_bytes word))
+        (first_of id.now (rows_of (found_of found.now)) ≡ None) result }
 {
     let Some(word) = found.get_str(id) else {
         return Err(ToolFault::usage(alloc, NO_COMMAND));
@@ -85,98 +75,70 @@ fn word_of(alloc: Global, found: &ArgMatches<'_>, id: &str) -> Result<String, To
 
 /// The settings and the log that a subcommand's matches have.
 fn log_of(alloc: Global, found: &ArgMatches<'_>) -> Result<(Settings, String), ToolFault>
-    ensures given { IfOk result (λ given. HasSettings (rows_of (found_of found.now)) given.0
-        × (first_of (codes "LOG") (rows_of (found_of found.now)) ≡ Some (string_bytes given.1))) }
-    ensures faults { IfErr result (λ fault. (fault ≡ ToolFault.Run RunFault.OutOfMemory)
-        ⊎ (IsUsage fault × HasNoLog (rows_of (found_of found.now)))) }
+    ensures { Asks (λ given. HasSettings (rows_of (found_of found.now)) given.0
+        × (first_of (codes "LOG") (rows_of (found_of found.now)) ≡ Some (string_bytes given.1)))
+        (HasNoLog (rows_of (found_of found.now))) result }
 {
     let Some(settings) = settings_of(found) else {
         return Err(ToolFault::usage(alloc, NO_COMMAND));
     };
-    match word_of(alloc, found, "LOG") {
-        Ok(log) => Ok((settings, log)),
-        Err(fault) => Err(fault),
-    }
+    let log = word_of(alloc, found, "LOG")?;
+    Ok((settings, log))
 }
 
 /// What the matches of the subcommand that tells who holds the memory ask for.
 fn asked_sites(alloc: Global, found: &ArgMatches<'_>) -> Result<Command, ToolFault>
-    ensures asked { IfOk result (MatchesAskFor (Some (codes "sites", rows_of (found_of found.now)))) }
-    ensures faults { IfErr result (λ fault. (fault ≡ ToolFault.Run RunFault.OutOfMemory)
-        ⊎ (IsUsage fault × ((command : _) → MatchesAskFor (Some (codes "sites", rows_of (found_of found.now))) command → ⊥))) }
+    ensures { MatchesGive (Some (codes "sites", rows_of (found_of found.now))) result }
 {
-    match log_of(alloc, found) {
-        Ok((settings, log)) => Ok(Command::Sites { settings, log }),
-        Err(fault) => Err(fault),
-    }
+    let (settings, log) = log_of(alloc, found)?;
+    Ok(Command::Sites { settings, log })
 }
 
 /// What the matches of the subcommand that tries sizes ask for.
 fn asked_fit(alloc: Global, found: &ArgMatches<'_>) -> Result<Command, ToolFault>
-    ensures asked { IfOk result (MatchesAskFor (Some (codes "fit", rows_of (found_of found.now)))) }
-    ensures faults { IfErr result (λ fault. (fault ≡ ToolFault.Run RunFault.OutOfMemory)
-        ⊎ (IsUsage fault × ((command : _) → MatchesAskFor (Some (codes "fit", rows_of (found_of found.now))) command → ⊥))) }
+    ensures { MatchesGive (Some (codes "fit", rows_of (found_of found.now))) result }
 {
     let step = size_of(found, "step");
-    match word_of(alloc, found, "LOG") {
-        Ok(log) => Ok(Command::Fit { step, log }),
-        Err(fault) => Err(fault),
-    }
+    let log = word_of(alloc, found, "LOG")?;
+    Ok(Command::Fit { step, log })
 }
 
 /// What the matches of the subcommand that saves ask for.
 fn asked_save(alloc: Global, found: &ArgMatches<'_>) -> Result<Command, ToolFault>
-    ensures asked { IfOk result (MatchesAskFor (Some (codes "save", rows_of (found_of found.now)))) }
-    ensures faults { IfErr result (λ fault. (fault ≡ ToolFault.Run RunFault.OutOfMemory)
-        ⊎ (IsUsage fault × ((command : _) → MatchesAskFor (Some (codes "save", rows_of (found_of found.now))) command → ⊥))) }
+    ensures { MatchesGive (Some (codes "save", rows_of (found_of found.now))) result }
 {
-    let (settings, log) = match log_of(alloc, found) {
-        Ok(given) => given,
-        Err(fault) => return Err(fault),
-    };
-    match word_of(alloc, found, "IMAGE") {
-        Ok(image) => Ok(Command::Save {
-            settings,
-            log,
-            image,
-        }),
-        Err(fault) => Err(fault),
-    }
+    let (settings, log) = log_of(alloc, found)?;
+    let image = word_of(alloc, found, "IMAGE")?;
+    Ok(Command::Save {
+        settings,
+        log,
+        image,
+    })
 }
 
 /// What the matches of the subcommand that checks ask for.
 fn asked_check(alloc: Global, found: &ArgMatches<'_>) -> Result<Command, ToolFault>
-    ensures asked { IfOk result (MatchesAskFor (Some (codes "check", rows_of (found_of found.now)))) }
-    ensures faults { IfErr result (λ fault. (fault ≡ ToolFault.Run RunFault.OutOfMemory)
-        ⊎ (IsUsage fault × ((command : _) → MatchesAskFor (Some (codes "check", rows_of (found_of found.now))) command → ⊥))) }
+    ensures { MatchesGive (Some (codes "check", rows_of (found_of found.now))) result }
 {
-    match word_of(alloc, found, "IMAGE") {
-        Ok(image) => Ok(Command::Check { image }),
-        Err(fault) => Err(fault),
-    }
+    let image = word_of(alloc, found, "IMAGE")?;
+    Ok(Command::Check { image })
 }
 
 /// What the matches of a report's subcommand ask for.
 fn asked_report(alloc: Global, name: Name, found: &ArgMatches<'_>) -> Result<Command, ToolFault>
-    ensures asked { IfOk result (MatchesAskFor (Some (name_text name, rows_of (found_of found.now)))) }
-    ensures faults { IfErr result (λ fault. (fault ≡ ToolFault.Run RunFault.OutOfMemory)
-        ⊎ (IsUsage fault × ((command : _) → MatchesAskFor (Some (name_text name, rows_of (found_of found.now))) command → ⊥))) }
+    ensures { MatchesGive (Some (name_text name, rows_of (found_of found.now))) result }
 {
-    match log_of(alloc, found) {
-        Ok((settings, log)) => Ok(Command::Report {
-            name,
-            settings,
-            log,
-        }),
-        Err(fault) => Err(fault),
-    }
+    let (settings, log) = log_of(alloc, found)?;
+    Ok(Command::Report {
+        name,
+        settings,
+        log,
+    })
 }
 
 /// What the matches ask for.
 fn asked(alloc: Global, matches: &ArgMatches<'_>) -> Result<Command, ToolFault>
-    ensures asked { IfOk result (MatchesAskFor (subcommand_rows_of matches.now)) }
-    ensures faults { IfErr result (λ fault. (fault ≡ ToolFault.Run RunFault.OutOfMemory)
-        ⊎ (IsUsage fault × ((command : _) → MatchesAskFor (subcommand_rows_of matches.now) command → ⊥))) }
+    ensures { MatchesGive (subcommand_rows_of matches.now) result }
 {
     let Some((text, found)) = matches.subcommand() else {
         return Err(ToolFault::usage(alloc, NO_COMMAND));
@@ -214,10 +176,7 @@ fn fault_of(alloc: Global, error: &Error) -> ToolFault
 /// `Help` where they ask for help or for the version, `Usage` for words that ask for nothing that there
 /// is, each with its text; `Run` of `OutOfMemory` where memory is refused.
 pub fn command(alloc: Global, words: &[String]) -> Result<Command, ToolFault>
-    ensures asked { IfOk result (AskFor words.now) }
-    ensures faults { IfErr result (λ fault. (fault ≡ ToolFault.Run RunFault.OutOfMemory) ⊎ ExplainsWords words.now fault) }
-    ensures nothing_asked { IfErr result (λ fault. (fault ≡ ToolFault.Run RunFault.OutOfMemory)
-        ⊎ ((command : _) → AskFor words.now command → ⊥)) }
+    ensures { WordsGive words.now result }
 {
     let Ok(line) = tlsf_command(alloc) else {
         return Err(NO_MEMORY);

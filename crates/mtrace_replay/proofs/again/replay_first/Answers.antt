@@ -4,32 +4,43 @@ use Rattle.mtrace_replay.proofs.ReplayingLemmas.{replaying_line, replaying_end, 
 use Rattle.mtrace_replay.proofs.AgainLemmas.{first_at_end, first_at_most, failed_in_piece}
 use Rattle.mtrace_replay.proofs.again.replay_first.Goals as goal
 
-pub returns-in-Ok-None-clause-done : goal.returns-in-Ok-None-clause-done
-returns-in-Ok-None-clause-done g c = λ settings stands.
+pub returns-in-Ok-None : goal.returns-in-Ok-None
+returns-in-Ok-None g c =
     let left = g.R.Source.left in
-    let so_far = c.loop.invariant.so_far settings stands in
+    let kept = c.loop.invariant in
     let found = rw c.in-Ok-None.field-0-is at c.in-Ok-None.ensures.end in
-    first_at_end c.args.most settings c.loop.lines c.loop.replay (left c.args.reader.now) (left c.loop.reader) (left c.advance.new.reader) so_far (omega (arith, c.loop.invariant.many, c.loop-test.true))
-    (replaying_end left settings c.loop.lines c.advance.new.self c.loop.replay (left c.args.reader.now) c.loop.reader c.advance.new.reader so_far found.1)
+    record {
+      done = λ settings stands.
+          let so_far = kept.so_far settings stands in
+          first_at_end c.args.most settings c.loop.lines c.loop.replay (left c.args.reader.now) (left c.loop.reader) (left c.advance.new.reader) so_far (omega (arith, kept.many, c.loop-test.true))
+          (replaying_end left settings c.loop.lines c.advance.new.self c.loop.replay (left c.args.reader.now) c.loop.reader c.advance.new.reader so_far found.1);
+      not_failed = inr (calls_to_end g.R.Source.trace (g.R.Source.trace c.args.reader.now) c.loop.lines c.advance.new.self c.loop.reader c.advance.new.reader _ _
+          kept.gave c.in-Ok-None.ensures.calls found.0 found.1);
+      read = tt;
+      whole = c.advance.ensures.whole ∙ kept.whole;
+      records = kept.records;
+    }
 
-pub returns-in-Ok-None-clause-not_failed : goal.returns-in-Ok-None-clause-not_failed
-returns-in-Ok-None-clause-not_failed g c =
-    let found = rw c.in-Ok-None.field-0-is at c.in-Ok-None.ensures.end in
-    inr (calls_to_end g.R.Source.trace (g.R.Source.trace c.args.reader.now) c.loop.lines c.advance.new.self c.loop.reader c.advance.new.reader _ _
-    c.loop.invariant.gave c.in-Ok-None.ensures.calls found.0 found.1)
-
-pub returns-in-Err-clause-read : goal.returns-in-Err-clause-read
-returns-in-Err-clause-read g c = λ _ settings stands.
-    let left = g.R.Source.left in
-    let so_far = c.loop.invariant.so_far settings stands in
-    let came = calls_to_fault g.R.Source.trace (g.R.Source.trace c.args.reader.now) c.loop.lines c.advance.new.self c.loop.reader c.advance.new.reader _ _ c.in-Err.field-0
-    c.loop.invariant.gave c.in-Err.ensures.calls c.in-Err.ensures.fault in
-    let why = replaying_fault left settings c.loop.lines c.advance.new.self c.loop.replay (left c.args.reader.now) c.loop.reader c.advance.new.reader _ _ c.in-Err.field-0
-    so_far c.in-Err.ensures.fault c.in-Err.ensures.nothing_held came in (
-      so_far.lines,
-      failed_in_piece (left c.args.reader.now) (left c.advance.new.reader) _ _ so_far.lines
-          (omega (arith, so_far.count, c.loop.invariant.many, c.loop-test.true, c.ranges.most.fits)) why,
-    )
+pub returns-in-Err : goal.returns-in-Err
+returns-in-Err g c =
+    let kept = c.loop.invariant in
+    record {
+      done = tt;
+      not_failed = tt;
+      read = λ settings stands.
+          let left = g.R.Source.left in
+          let so_far = kept.so_far settings stands in
+          let came = calls_to_fault g.R.Source.trace (g.R.Source.trace c.args.reader.now) c.loop.lines c.advance.new.self c.loop.reader c.advance.new.reader _ _ c.in-Err.field-0
+          kept.gave c.in-Err.ensures.calls c.in-Err.ensures.fault in
+          let why = replaying_fault left settings c.loop.lines c.advance.new.self c.loop.replay (left c.args.reader.now) c.loop.reader c.advance.new.reader _ _ c.in-Err.field-0
+          so_far c.in-Err.ensures.fault c.in-Err.ensures.nothing_held came in (
+            so_far.lines,
+            failed_in_piece (left c.args.reader.now) (left c.advance.new.reader) _ _ so_far.lines
+                (omega (arith, so_far.count, kept.many, c.loop-test.true, c.ranges.most.fits)) why,
+          );
+      whole = c.advance.ensures.whole ∙ kept.whole;
+      records = kept.records;
+    }
 
 pub loop-preserved : goal.loop-preserved
 loop-preserved g c =
@@ -51,10 +62,15 @@ loop-preserved g c =
       records = c.feed_lent.ensures.records ∙ c.loop.invariant.records;
     }
 
-pub returns-clause-done : goal.returns-clause-done
-returns-clause-done g c = λ settings stands.
-    first_at_most c.args.most settings c.loop.lines c.loop.replay (g.R.Source.left c.args.reader.now) (g.R.Source.left c.loop.reader) (c.loop.invariant.so_far settings stands)
-    (omega (arith, c.loop.invariant.many, c.loop-test.false, c.loop.auto.counter-end))
-
-pub returns-clause-not_failed : goal.returns-clause-not_failed
-returns-clause-not_failed g c = c.loop.invariant.not_failed
+pub returns : goal.returns
+returns g c =
+    let kept = c.loop.invariant in
+    record {
+      done = λ settings stands.
+          first_at_most c.args.most settings c.loop.lines c.loop.replay (g.R.Source.left c.args.reader.now) (g.R.Source.left c.loop.reader) (kept.so_far settings stands)
+          (omega (arith, kept.many, c.loop-test.false, c.loop.auto.counter-end));
+      not_failed = kept.not_failed;
+      read = tt;
+      whole = kept.whole;
+      records = kept.records;
+    }

@@ -33,14 +33,18 @@ with-fitted-requires-clause-refused g c =
     let few = few_tried c.args.records _ c.args.step c.max-first.result (number - c.max-first.result) so_far.0 so_far.1 in
     omega (arith, below, c.min-last.ensures, few_steps c.args.step (omega (arith, c.requires.some)), few.1, ap (λ (f : Fitted). f.refused) so_far.2)
 
-pub returns-in-Err-clause-read : goal.returns-in-Err-clause-read
-returns-in-Err-clause-read g c =
+pub returns-in-Err : goal.returns-in-Err
+returns-in-Err g c =
     let F : Bytes → Type 0 = λ whole. FailsIn whole (g.R.Source.left c.loop-number.reader) (g.R.Source.left c.try_size.new.reader) (g.R.Source.trace c.loop-number.reader) (g.R.Source.trace c.try_size.new.reader) in
     record {
-      left_middle = g.R.Source.left c.loop-number.reader;
-      calls_middle = g.R.Source.trace c.loop-number.reader;
-      none_failed = c.loop-number.invariant.none_failed;
-      fails = subst F c.loop-number.invariant.whole c.in-Err.ensures.read;
+      tells = tt;
+      not_failed = tt;
+      read = record {
+        left_middle = g.R.Source.left c.loop-number.reader;
+        calls_middle = g.R.Source.trace c.loop-number.reader;
+        none_failed = c.loop-number.invariant.none_failed;
+        fails = subst F c.loop-number.invariant.whole c.in-Err.ensures.read;
+      };
     }
 
 pub loop-number-preserved : goal.loop-number-preserved
@@ -65,16 +69,20 @@ loop-number-preserved g c =
       within = omega (arith, below);
     }
 
-pub returns-clause-tried : goal.returns-clause-tried
-returns-clause-tried g c =
+pub returns : goal.returns
+returns g c =
     let so_far = c.loop-number.invariant.so_far in
     let first = c.max-first.result in
     let last = c.min-last.result in
     let fresh = few_steps c.args.step (omega (arith, c.requires.some)) in
     let first_is : first ≡ first_number c.args.step c.args.peak = c.max-first.ensures ∙ ap (λ n. max n 1) c.div_ceil.ensures in
-    let last_is : last ≡ last_number c.args.step c.args.peak = omega (arith, c.min-last.ensures, c.saturating_mul.ensures, fresh, first_is) in (
-      so_far.0,
-      all_tried c.args.records (g.R.Source.whole c.args.reader.now) c.args.step c.args.peak first last (c.loop-number.number - first) so_far.0 first_is last_is
-          (omega (arith, c.loop-number.invariant.within, c.loop-number-test.false, c.loop-number.auto.number)) so_far.1,
-      so_far.2,
-    )
+    let last_is : last ≡ last_number c.args.step c.args.peak = omega (arith, c.min-last.ensures, c.saturating_mul.ensures, fresh, first_is) in record {
+      not_failed = c.loop-number.invariant.none_failed;
+      read = tt;
+      tells = (
+        so_far.0,
+        all_tried c.args.records (g.R.Source.whole c.args.reader.now) c.args.step c.args.peak first last (c.loop-number.number - first) so_far.0 first_is last_is
+            (omega (arith, c.loop-number.invariant.within, c.loop-number-test.false, c.loop-number.auto.number)) so_far.1,
+        so_far.2,
+      );
+    }

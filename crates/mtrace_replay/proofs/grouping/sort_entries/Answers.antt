@@ -4,5 +4,9 @@ use Rattle.mtrace_replay.proofs.SiteLemmas.Origins.{origin_total}
 use Rattle.mtrace_replay.proofs.SiteLemmas.Sorting.{sorted-from_sort_by}
 use Rattle.mtrace_replay.proofs.grouping.sort_entries.Goals as goal
 
-pub returns-clause-sorted : goal.returns-clause-sorted
-returns-clause-sorted c = sorted-from_sort_by origin_total lent_origin _ c.sort_unstable_by.ensures.sorted (λ a r f k. search rules)
+pub returns : goal.returns
+returns c = record {
+  moved = search rules;
+  sorted = sorted-from_sort_by origin_total lent_origin _ c.sort_unstable_by.ensures.sorted (λ a r f k. search rules);
+  capacity = search rules;
+}

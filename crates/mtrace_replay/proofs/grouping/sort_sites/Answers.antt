@@ -4,5 +4,9 @@ use Rattle.mtrace_replay.proofs.SiteLemmas.Exact.{site_total}
 use Rattle.mtrace_replay.proofs.SiteLemmas.Sorting.{sorted-from_sort_by}
 use Rattle.mtrace_replay.proofs.grouping.sort_sites.Goals as goal
 
-pub returns-clause-sorted : goal.returns-clause-sorted
-returns-clause-sorted c = sorted-from_sort_by site_total (λ (s : Site). s) _ c.sort_unstable_by.ensures.sorted (λ a r f k. search rules)
+pub returns : goal.returns
+returns c = record {
+  moved = search rules;
+  sorted = sorted-from_sort_by site_total (λ (s : Site). s) _ c.sort_unstable_by.ensures.sorted (λ a r f k. search rules);
+  capacity = search rules;
+}

@@ -1,6 +1,6 @@
 use Rattle.std.proofs.Common.{List, sym, subst, ap, ◌∙◌, not}
 use Rattle.mtrace_replay.specs.declared.diagnostic.Diagnostic.{Diagnostic}
-use Rattle.mtrace_log.specs.Output.{Wrote}
+use Rattle.mtrace_log.specs.Output.{Wrote, Begins}
 use Rattle.mtrace_replay.specs.Texts.{notes_text}
 use Rattle.mtrace_replay.specs.Run.{is_some_note}
 use Rattle.mtrace_replay.proofs.RunLemmas.{some_note-is, no_note-is}
@@ -9,26 +9,57 @@ use Rattle.mtrace_log.specs.declared.call.Call.TheVariants.{Took}
 use Rattle.mtrace_log.proofs.TraceLemmas.{moved_none}
 use Rattle.mtrace_replay.proofs.run.replay_line.Goals as goal
 
-pub returns-then-is_empty-clause-done : goal.returns-then-is_empty-clause-done
-returns-then-is_empty-clause-done g c = λ settings past stands.
-    let is = c.in-Ok.ensures.note settings past stands in
-    let none = sym (no_note-is c.feed_lent.new.findings (sym c.is_empty.ensures ∙ c.if-is_empty.true)) ∙ is in
+pub returns-then-is_empty : goal.returns-then-is_empty
+returns-then-is_empty g c =
     let taken = g.W.Sink.taken c.args.writer.now in
+    let empty = no_note-is c.feed_lent.new.findings (sym c.is_empty.ensures ∙ c.if-is_empty.true) in
     record {
-      stands = c.in-Ok.ensures.stands settings past stands;
-      wrote = subst (λ notes. Wrote taken taken (notes_text notes)) none (Wrote-nothing taken);
-      noted_is = ap is_some_note none;
+      done = λ settings past stands.
+          let none = sym empty ∙ c.in-Ok.ensures.note settings past stands in
+          record {
+            stands = c.in-Ok.ensures.stands settings past stands;
+            wrote = subst (λ notes. Wrote taken taken (notes_text notes)) none (Wrote-nothing taken);
+            noted_is = ap is_some_note none;
+          };
+      counted = c.in-Ok.ensures.counted;
+      cleared = empty;
+      records = c.feed_lent.ensures.records;
+      took = moved_none Took (g.W.Sink.trace c.args.writer.now);
+      write = tt;
+      failed = tt;
     }
 
-pub returns-then-is_empty-clause-took : goal.returns-then-is_empty-clause-took
-returns-then-is_empty-clause-took g c = λ other. moved_none Took (g.W.Sink.trace c.args.writer.now)
-
-pub returns-in-Ok-put_findings-clause-done : goal.returns-in-Ok-put_findings-clause-done
-returns-in-Ok-put_findings-clause-done g c = λ settings past stands.
-    let is = c.in-Ok.ensures.note settings past stands in
+pub returns-in-Ok-put_findings : goal.returns-in-Ok-put_findings
+returns-in-Ok-put_findings g c =
     let P : List Diagnostic → Type 0 = λ notes. Wrote (g.W.Sink.taken c.args.writer.now) (g.W.Sink.taken c.put_findings.new.writer) (notes_text notes) in
     record {
-      stands = c.in-Ok.ensures.stands settings past stands;
-      wrote = subst P is c.in-Ok-put_findings.ensures.put.wrote;
-      noted_is = sym (ap not (sym c.is_empty.ensures ∙ c.if-is_empty.false)) ∙ some_note-is c.feed_lent.new.findings ∙ ap is_some_note is;
+      done = λ settings past stands.
+          let is = c.in-Ok.ensures.note settings past stands in
+          record {
+            stands = c.in-Ok.ensures.stands settings past stands;
+            wrote = subst P is c.in-Ok-put_findings.ensures.put.wrote;
+            noted_is = sym (ap not (sym c.is_empty.ensures ∙ c.if-is_empty.false)) ∙ some_note-is c.feed_lent.new.findings ∙ ap is_some_note is;
+          };
+      counted = c.in-Ok.ensures.counted;
+      cleared = c.put_findings.ensures.cleared;
+      records = c.feed_lent.ensures.records;
+      took = c.in-Ok-put_findings.ensures.put.took;
+      write = tt;
+      failed = tt;
+    }
+
+pub returns-in-Err : goal.returns-in-Err
+returns-in-Err g c =
+    let P : List Diagnostic → Type 0 = λ notes. Begins (g.W.Sink.taken c.args.writer.now) (g.W.Sink.taken c.put_findings.new.writer) (notes_text notes) in
+    record {
+      done = tt;
+      counted = tt;
+      cleared = tt;
+      records = c.feed_lent.ensures.records;
+      took = tt;
+      write = λ settings past stands. record {
+        stands = c.in-Ok.ensures.stands settings past stands;
+        begun = subst P (c.in-Ok.ensures.note settings past stands) c.in-Err.ensures.put.begun;
+      };
+      failed = c.in-Err.ensures.put.failed;
     }

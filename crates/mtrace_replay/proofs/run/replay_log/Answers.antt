@@ -53,8 +53,8 @@ returns-in-Ok-replay_lines-clause-ran g c =
       read_fault = search rules;
       flush_asked = search rules;
       write_fault = λ e. report_write c.args.report c.args.settings c.replay_lines.new.replay c.in-Ok-replay_lines.noted (left c.args.reader.now) (left c.replay_lines.new.reader)
-          (taken c.args.writer.now) (taken c.replay_lines.new.writer) (taken c.finish.new.writer) done c.in-Err-finish.ensures.beginning;
-      writer_failed = λ e. failed_after _ _ _ took c.in-Err-finish.ensures.failed;
+          (taken c.args.writer.now) (taken c.replay_lines.new.writer) (taken c.finish.new.writer) done c.in-Err.ensures.beginning;
+      writer_failed = λ e. failed_after _ _ _ took c.in-Err.ensures.failed;
       no_memory = search rules;
       reader_not_failed = search rules;
       bad_settings = search rules;
@@ -62,13 +62,13 @@ returns-in-Ok-replay_lines-clause-ran g c =
       no_image_fault = search rules;
     }
 
-pub returns-in-Err-Read-clause-ran : goal.returns-in-Err-Read-clause-ran
-returns-in-Err-Read-clause-ran g c = record {
+pub returns-clause-ran : goal.returns-clause-ran
+returns-clause-ran g c = record {
   finished = search rules;
   reader_ended = search rules;
   writer_flushed = search rules;
   read_fault = search rules;
-  flush_asked = λ e. flush_after _ _ _ (c.in-Err-Read.ensures.writer_took (λ is. cc)) c.ask_flush.ensures.asked;
+  flush_asked = λ e. flush_after _ _ _ (c.in-Err-Reader.ensures.writer_took (λ is. cc)) c.ask_flush.ensures.asked;
   write_fault = search rules;
   writer_failed = search rules;
   no_memory = search rules;
@@ -78,8 +78,8 @@ returns-in-Err-Read-clause-ran g c = record {
   no_image_fault = search rules;
 }
 
-pub returns-in-Err-Write-clause-ran : goal.returns-in-Err-Write-clause-ran
-returns-in-Err-Write-clause-ran g c = record {
+pub returns-in-Err-Writer-clause-ran : goal.returns-in-Err-Writer-clause-ran
+returns-in-Err-Writer-clause-ran g c = record {
   finished = search rules;
   reader_ended = search rules;
   writer_flushed = search rules;

@@ -59,7 +59,7 @@ returns-in-Ok-tell_sites g c =
     let settings = c.args.settings in
     let ended = c.in-Ok-replay_log.ended in
     let last = c.in-Ok-replay_log.ensures.last refl in
-    let follow = c.in-Ok-tell_sites.ensures settings last.reports.lines last.stands c.in-Ok.ensures.replay in
+    let follow = c.in-Ok-tell_sites.ensures settings last.reports.lines last.stands c.in-Ok.ensures.made.replay in
     again_ended settings (λ lines. SitesFollow settings lines left whole pulls taken puts) left whole pulls taken puts ended.status (Ok ended.status)
     c.args.reader.now c.replay_log.new.reader c.tell_sites.new.reader c.args.writer.now c.replay_log.new.writer c.tell_sites.new.writer c.in-Ok-replay_log.ensures.ran
     (record {
@@ -80,7 +80,7 @@ returns g c =
     let ended = c.in-Ok-replay_log.ended in
     let last = c.in-Ok-replay_log.ensures.last refl in
     let fault = c.in-Err-tell_sites.fault in
-    let follow = c.in-Err-tell_sites.ensures settings last.reports.lines last.stands c.in-Ok.ensures.replay in
+    let follow = c.in-Err-tell_sites.ensures settings last.reports.lines last.stands c.in-Ok.ensures.made.replay in
     again_ended settings (λ lines. SitesFollow settings lines left whole pulls taken puts) left whole pulls taken puts ended.status (Err fault)
     c.args.reader.now c.replay_log.new.reader c.tell_sites.new.reader c.args.writer.now c.replay_log.new.writer c.tell_sites.new.writer c.in-Ok-replay_log.ensures.ran
     (record {

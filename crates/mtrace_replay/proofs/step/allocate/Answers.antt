@@ -41,7 +41,7 @@ insert-requires g c =
       bytes = omega (arith, most, fits, asked, is, ap held_bytes same);
       room = omega (arith, room, records, c.requires.room, c.find_again-found.ensures.looked.room, ap (length {A = Holding}) same);
       slot = omega (arith, c.in-Ok.ensures.slot_below, c.requires.room, c.find_again-found.ensures.looked.room);
-      new = subst (IsNewSlot c.in-Ok.block.ptr.slot c.args.entry.now.addr) (sym same) (new_slot held old c.requires.live c.in-Ok.block.ptr.slot c.args.entry.now.addr c.in-Ok.ensures.slot_new);
+      new = subst (IsNewSlot c.in-Ok.block.ptr.slot c.args.entry.now.addr) (sym same) (new_slot held old c.requires.live c.in-Ok.block.ptr.slot c.args.entry.now.addr (c.in-Ok.ensures.slot_new (λ old. old)));
     }
 
 -- the heap is asked, where the address isn't held

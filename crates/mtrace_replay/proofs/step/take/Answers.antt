@@ -19,19 +19,22 @@ unreachable-requires g c =
     let served = free_of_live (λ slot. slot == c.args.ptr.slot) c.args.ptr.place content live in
     cc
 
-pub returns-in-Ok-clause-content : goal.returns-in-Ok-clause-content
-returns-in-Ok-clause-content g c =
-    let content = g.H.Heaped.content c.args.heap.now in
-    let under = c.requires.held in
-    let P : Pointer → Type 0 = λ ptr. is_live (λ slot. slot == ptr.slot) ptr.place (blocks_of content.pools) ≡ true in
-    let live = subst P under.2 (c.requires.live.live c.args.found.now.address under.0 under.1) in
-    bare_freed content (g.H.Heaped.content c.free.new.self) c.args.ptr.place c.args.ptr.slot live c.in-Ok.ensures.ok
-
-pub returns-in-Ok-clause-live : goal.returns-in-Ok-clause-live
-returns-in-Ok-clause-live g c =
+pub returns-in-Ok : goal.returns-in-Ok
+returns-in-Ok g c =
     let content = g.H.Heaped.content c.args.heap.now in
     let after = g.H.Heaped.content c.free.new.self in
     let under = c.requires.held in
-    let P : Pointer → Type 0 = λ ptr. free (λ slot. slot == ptr.slot) ptr.place content ≡ Ok after in
-    live_after_free c.args.held.now.all c.remove.new.self.all content after c.keeps_good.ensures.good c.requires.live c.args.found.now.address under.0 under.1
-    (subst P (sym under.2) c.in-Ok.ensures.ok) c.remove.ensures.held
+    let P : Pointer → Type 0 = λ ptr. is_live (λ slot. slot == ptr.slot) ptr.place (blocks_of content.pools) ≡ true in
+    let Q : Pointer → Type 0 = λ ptr. free (λ slot. slot == ptr.slot) ptr.place content ≡ Ok after in
+    let live = subst P under.2 (c.requires.live.live c.args.found.now.address under.0 under.1) in
+    record {
+      content = bare_freed content after c.args.ptr.place c.args.ptr.slot live c.in-Ok.ensures.ok;
+      held = c.remove.ensures.held;
+      live = live_after_free c.args.held.now.all c.remove.new.self.all content after c.keeps_good.ensures.good c.requires.live c.args.found.now.address under.0 under.1
+          (subst Q (sym under.2) c.in-Ok.ensures.ok) c.remove.ensures.held;
+      memory = tt;
+      unchanged = tt;
+      records = search rules;
+      looked = c.remove.ensures.looked;
+      bound = search rules;
+    }

@@ -1,4 +1,4 @@
-use Rattle.std.proofs.Common.{ℕ, List, subst, ◌∙◌, flat_map, codes}
+use Rattle.std.proofs.Common.{ℕ, List, subst, ◌∙◌, flat_map, codes, refl}
 use Rattle.mtrace_log.specs.Output.{PutsAll, PutsPart, Puts}
 use Rattle.mtrace_log.proofs.Writing.{puts_then, fails_early, puts_exit}
 use Rattle.mtrace_replay.specs.Texts.{pair_line, row_text}
@@ -6,24 +6,32 @@ use Rattle.mtrace_replay.specs.Rows.{rows_at}
 use Rattle.mtrace_replay.proofs.RowLemmas.{rows_text-is}
 use Rattle.mtrace_replay.proofs.walk.put_pool.Goals as goal
 
-pub returns-in_err-put_all-clause-puts : goal.returns-in_err-put_all-clause-puts
-returns-in_err-put_all-clause-puts g c =
-    let taken = g.W.Sink.taken in
-    let trace = g.W.Sink.trace in
-    let rows = rows_at (g.H.Heaped.content c.args.heap.now).pools c.args.range.0 in
-    let line = pair_line (codes "pool ") c.args.range.0 (codes ": ") c.args.range.1 (codes " bytes") in
-    let P : List ℕ → Type 0 = λ text. PutsPart taken trace text c.args.writer.now c.put_all.new.writer in
-    puts_exit taken trace c.from_residual.result _ c.from_residual.ensures.1 _ c.args.writer.now c.put_all.new.writer
-    (subst P (rows_text-is c.args.range rows) (fails_early taken trace c.args.writer.now c.put_all.new.writer line (flat_map row_text rows)
-    (subst P (c.as_slice.ensures.value ∙ c.pool_text.ensures) c.in_err-put_all.ensures)))
+pub returns-in_err-put_all : goal.returns-in_err-put_all
+returns-in_err-put_all g c =
+    record {
+      puts =
+          let taken = g.W.Sink.taken in
+          let trace = g.W.Sink.trace in
+          let rows = rows_at (g.H.Heaped.content c.args.heap.now).pools c.args.range.0 in
+          let line = pair_line (codes "pool ") c.args.range.0 (codes ": ") c.args.range.1 (codes " bytes") in
+          let P : List ℕ → Type 0 = λ text. PutsPart taken trace text c.args.writer.now c.put_all.new.writer in
+          puts_exit taken trace c.from_residual.result _ c.from_residual.ensures.1 _ c.args.writer.now c.put_all.new.writer
+          (subst P (rows_text-is c.args.range rows) (fails_early taken trace c.args.writer.now c.put_all.new.writer line (flat_map row_text rows)
+          (subst P (c.as_slice.ensures.value ∙ c.pool_text.ensures) c.in_err-put_all.ensures)));
+      unchanged = refl;
+    }
 
-pub returns-clause-puts : goal.returns-clause-puts
-returns-clause-puts g c =
-    let taken = g.W.Sink.taken in
-    let trace = g.W.Sink.trace in
-    let rows = rows_at (g.H.Heaped.content c.args.heap.now).pools c.args.range.0 in
-    let line = pair_line (codes "pool ") c.args.range.0 (codes ": ") c.args.range.1 (codes " bytes") in
-    let P : List ℕ → Type 0 = λ text. PutsAll taken trace text c.args.writer.now c.put_all.new.writer in
-    let Q : List ℕ → Type 0 = λ text. Puts taken trace c.put_rows_at.result text c.args.writer.now c.put_rows_at.new.writer in
-    subst Q (rows_text-is c.args.range rows) (puts_then taken trace c.put_rows_at.result c.args.writer.now c.put_all.new.writer c.put_rows_at.new.writer line (flat_map row_text rows)
-    (subst P (c.as_slice.ensures.value ∙ c.pool_text.ensures) c.in_ok-put_all.ensures) c.put_rows_at.ensures.puts)
+pub returns : goal.returns
+returns g c =
+    record {
+      puts =
+          let taken = g.W.Sink.taken in
+          let trace = g.W.Sink.trace in
+          let rows = rows_at (g.H.Heaped.content c.args.heap.now).pools c.args.range.0 in
+          let line = pair_line (codes "pool ") c.args.range.0 (codes ": ") c.args.range.1 (codes " bytes") in
+          let P : List ℕ → Type 0 = λ text. PutsAll taken trace text c.args.writer.now c.put_all.new.writer in
+          let Q : List ℕ → Type 0 = λ text. Puts taken trace c.put_rows_at.result text c.args.writer.now c.put_rows_at.new.writer in
+          subst Q (rows_text-is c.args.range rows) (puts_then taken trace c.put_rows_at.result c.args.writer.now c.put_all.new.writer c.put_rows_at.new.writer line (flat_map row_text rows)
+          (subst P (c.as_slice.ensures.value ∙ c.pool_text.ensures) c.in_ok-put_all.ensures) c.put_rows_at.ensures.puts);
+      unchanged = c.put_rows_at.ensures.unchanged;
+    }

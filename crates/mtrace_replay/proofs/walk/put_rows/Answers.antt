@@ -1,4 +1,4 @@
-use Rattle.std.proofs.Common.{ℕ, List, subst, ap, ◌∙◌, flat_map}
+use Rattle.std.proofs.Common.{ℕ, List, subst, ap, ◌∙◌, flat_map, rules}
 use Rattle.mtrace_log.specs.Output.{PutsAll, PutsPart}
 use Rattle.mtrace_log.proofs.Writing.{putting_more, putting_fails, puts_exit}
 use Rattle.mtrace_replay.specs.Texts.{row_text}
@@ -17,12 +17,16 @@ loop-next-preserved g c =
       same = c.in-Some.ensures.unchanged.content ∙ c.loop-next.invariant.same;
     }
 
-pub returns-in_err-put_all-clause-puts : goal.returns-in_err-put_all-clause-puts
-returns-in_err-put_all-clause-puts g c =
-    let taken = g.W.Sink.taken in
-    let trace = g.W.Sink.trace in
-    let P : List ℕ → Type 0 = λ text. PutsPart taken trace text c.loop-next.writer c.put_all.new.writer in
-    puts_exit taken trace c.from_residual.result _ c.from_residual.ensures.1 _ c.args.writer.now c.put_all.new.writer
-    (putting_fails taken trace c.args.writer.now c.loop-next.writer c.put_all.new.writer (flat_map row_text (g.H.Heaped.rest c.args.heap.now c.args.cursor)) _ _
-    (flat_map row_text (g.H.Heaped.rest c.row.new.self c.in-Some.next.1))
-    c.loop-next.invariant.put (ap (flat_map row_text) c.in-Some.ensures.some) (subst P (c.as_slice.ensures.value ∙ c.row_text.ensures) c.in_err-put_all.ensures))
+pub returns-in_err-put_all : goal.returns-in_err-put_all
+returns-in_err-put_all g c =
+    record {
+      puts =
+          let taken = g.W.Sink.taken in
+          let trace = g.W.Sink.trace in
+          let P : List ℕ → Type 0 = λ text. PutsPart taken trace text c.loop-next.writer c.put_all.new.writer in
+          puts_exit taken trace c.from_residual.result _ c.from_residual.ensures.1 _ c.args.writer.now c.put_all.new.writer
+          (putting_fails taken trace c.args.writer.now c.loop-next.writer c.put_all.new.writer (flat_map row_text (g.H.Heaped.rest c.args.heap.now c.args.cursor)) _ _
+          (flat_map row_text (g.H.Heaped.rest c.row.new.self c.in-Some.next.1))
+          c.loop-next.invariant.put (ap (flat_map row_text) c.in-Some.ensures.some) (subst P (c.as_slice.ensures.value ∙ c.row_text.ensures) c.in_err-put_all.ensures));
+      unchanged = search rules;
+    }

@@ -1,4 +1,4 @@
-use Rattle.std.proofs.Common.{ℕ, ◌+◌, ◌≤◌, List, length, map, drop, flat_map, subst, ap, ◌∙◌, arith}
+use Rattle.std.proofs.Common.{ℕ, ◌+◌, ◌≤◌, List, length, map, drop, flat_map, subst, ap, ◌∙◌, arith, rules}
 use Rattle.std.proofs.Math.ListN.{get_or}
 use Rattle.std.proofs.lemmas.List.{drop_all}
 use Rattle.mtrace_log.specs.Output.{PutsAll, PutsPart}
@@ -29,34 +29,42 @@ loop-range-preserved g c =
       same = c.in_ok-put_pool.ensures.unchanged ∙ kept.same;
     }
 
-pub returns-in_err-put_pool-clause-puts : goal.returns-in_err-put_pool-clause-puts
-returns-in_err-put_pool-clause-puts g c =
-    let taken = g.W.Sink.taken in
-    let trace = g.W.Sink.trace in
-    let kept = c.loop-range.invariant in
-    let content = g.H.Heaped.content c.args.heap.now in
-    let all = map range_of content.pools in
-    let items = c.as_slice-range-items.result.now in
-    let index = c.loop-range.range-index in
-    let item = get_or items index (0, 0) in
-    let f = by_base rows_text content.pools in
-    let P : Content ℕ → Type 0 = λ content. PutsPart taken trace (rows_text item (rows_at content.pools item.0)) c.loop-range.writer c.put_pool.new.writer in
-    let Q : List ℕ → Type 0 = λ text. PutsPart taken trace text c.args.writer.now c.put_pool.new.writer in
-    let next = next_of f items all index (0, 0) (c.as_slice-range-items.ensures.value ∙ c.pools-pools.ensures.value) c.loop-range-test.true in
-    puts_exit taken trace c.from_residual.result _ c.from_residual.ensures.1 _ c.args.writer.now c.put_pool.new.writer (subst Q (walk_is content c.keeps_good.ensures.good)
-    (putting_fails taken trace c.args.writer.now c.loop-range.writer c.put_pool.new.writer (flat_map f all) (flat_map f (drop index all)) (f item) (flat_map f (drop (index + 1) all))
-    kept.put next (subst P kept.same c.in_err-put_pool.ensures.puts)))
+pub returns-in_err-put_pool : goal.returns-in_err-put_pool
+returns-in_err-put_pool g c =
+    record {
+      puts =
+          let taken = g.W.Sink.taken in
+          let trace = g.W.Sink.trace in
+          let kept = c.loop-range.invariant in
+          let content = g.H.Heaped.content c.args.heap.now in
+          let all = map range_of content.pools in
+          let items = c.as_slice-range-items.result.now in
+          let index = c.loop-range.range-index in
+          let item = get_or items index (0, 0) in
+          let f = by_base rows_text content.pools in
+          let P : Content ℕ → Type 0 = λ content. PutsPart taken trace (rows_text item (rows_at content.pools item.0)) c.loop-range.writer c.put_pool.new.writer in
+          let Q : List ℕ → Type 0 = λ text. PutsPart taken trace text c.args.writer.now c.put_pool.new.writer in
+          let next = next_of f items all index (0, 0) (c.as_slice-range-items.ensures.value ∙ c.pools-pools.ensures.value) c.loop-range-test.true in
+          puts_exit taken trace c.from_residual.result _ c.from_residual.ensures.1 _ c.args.writer.now c.put_pool.new.writer (subst Q (walk_is content c.keeps_good.ensures.good)
+          (putting_fails taken trace c.args.writer.now c.loop-range.writer c.put_pool.new.writer (flat_map f all) (flat_map f (drop index all)) (f item) (flat_map f (drop (index + 1) all))
+          kept.put next (subst P kept.same c.in_err-put_pool.ensures.puts)));
+      unchanged = search rules;
+    }
 
-pub returns-clause-puts : goal.returns-clause-puts
-returns-clause-puts g c =
-    let taken = g.W.Sink.taken in
-    let trace = g.W.Sink.trace in
-    let content = g.H.Heaped.content c.args.heap.now in
-    let all = map range_of content.pools in
-    let index = c.loop-range.range-index in
-    let f = by_base rows_text content.pools in
-    let many = ap (λ (ones : List (ℕ × ℕ)). length ones) (c.as_slice-range-items.ensures.value ∙ c.pools-pools.ensures.value) in
-    let past : length all ≤ index = omega (arith, many, c.loop-range-test.false) in
-    let Q : List ℕ → Type 0 = λ text. PutsAll taken trace text c.args.writer.now c.loop-range.writer in
-    subst Q (walk_is content c.keeps_good.ensures.good)
-    (putting_ends taken trace c.args.writer.now c.loop-range.writer (flat_map f all) (flat_map f (drop index all)) c.loop-range.invariant.put (ap (flat_map f) (drop_all index all past)))
+pub returns : goal.returns
+returns g c =
+    record {
+      puts =
+          let taken = g.W.Sink.taken in
+          let trace = g.W.Sink.trace in
+          let content = g.H.Heaped.content c.args.heap.now in
+          let all = map range_of content.pools in
+          let index = c.loop-range.range-index in
+          let f = by_base rows_text content.pools in
+          let many = ap (λ (ones : List (ℕ × ℕ)). length ones) (c.as_slice-range-items.ensures.value ∙ c.pools-pools.ensures.value) in
+          let past : length all ≤ index = omega (arith, many, c.loop-range-test.false) in
+          let Q : List ℕ → Type 0 = λ text. PutsAll taken trace text c.args.writer.now c.loop-range.writer in
+          subst Q (walk_is content c.keeps_good.ensures.good)
+          (putting_ends taken trace c.args.writer.now c.loop-range.writer (flat_map f all) (flat_map f (drop index all)) c.loop-range.invariant.put (ap (flat_map f) (drop_all index all past)));
+      unchanged = search rules;
+    }

@@ -5,8 +5,8 @@ use Rattle.tlsf_tool.proofs.CheckLemmas.{none_where_loaded, some_where_broken}
 use Rattle.tlsf_tool.proofs.check.broken.Goals as goal
 use Rattle.tlsf_tool.proofs.check.broken.Goals.{in-Ok, in-Err-Broken, in-Err}
 
-pub returns-clause-rule : goal.returns-clause-rule
-returns-clause-rule c =
+pub returns : goal.returns
+returns c =
     let first : Option Rule = first_broken c.args.bytes.now in
     elim c.match-load_image.branch [
       | in-Ok w ↦ rw w.result-is (sym (none_where_loaded first c.load_image.result _ c.load_image.ensures.broken w.in-Ok.is))

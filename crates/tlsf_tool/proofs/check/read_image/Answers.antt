@@ -1,4 +1,4 @@
-use Rattle.std.proofs.Common.{◌≡◌, ℕ, List, ◌++◌, length, take, length-take, length-append, sym, ap, ◌∙◌, arith, inl}
+use Rattle.std.proofs.Common.{◌≡◌, ℕ, List, ◌++◌, length, take, length-take, length-append, sym, ap, ◌∙◌, arith, inl, inr, refl}
 use Rattle.std.specs.Io.KnownBytes.{prepend_known}
 use Rattle.mtrace_log.proofs.TextLemmas.{prepend_known-append}
 use Rattle.mtrace_log.proofs.TraceLemmas.{gave_more}
@@ -20,7 +20,12 @@ loop-piece-preserved g c =
       few = omega (arith, ap length grown, length-append bytes more, length-take count c.pull_some.new.piece, c.in-Ok-pull_some.ensures.bound, c.min-room.ensures, c.len.ensures, c.len-in-loop-piece.ensures, c.loop-piece-test.true);
     }
 
-pub returns-then-is_err-clause-not_failed : goal.returns-then-is_err-clause-not_failed
-returns-then-is_err-clause-not_failed g c =
+pub returns-then-is_err : goal.returns-then-is_err
+returns-then-is_err g c =
     let trace = g.R.Source.trace in
-    λ other. inl (gave_more c.in-Ok-pull_some.count (trace c.args.reader.now) (trace c.loop-piece.reader) (trace c.pull_some.new.reader) (omega arith) c.loop-piece.invariant.given c.in-Ok-pull_some.ensures.told)
+    record {
+      read = tt;
+      failed = λ is. absurd (cc);
+      not_failed = λ other. inl (gave_more c.in-Ok-pull_some.count (trace c.args.reader.now) (trace c.loop-piece.reader) (trace c.pull_some.new.reader) (omega arith) c.loop-piece.invariant.given c.in-Ok-pull_some.ensures.told);
+      faults = inr refl;
+    }

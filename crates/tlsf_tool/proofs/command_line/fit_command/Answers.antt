@@ -7,17 +7,16 @@ use Rattle.clap.specs.declared.builder.command.Command.TheOpen.{Command-F}
 use Rattle.clap.specs.declared.builder.command.Command.TheViews.{out-Command}
 use Rattle.tlsf_tool.proofs.command_line.fit_command.Goals as goal
 
-pub returns-clause-line : goal.returns-clause-line
-returns-clause-line c =
+pub returns : goal.returns
+returns c =
+    let globals : Command-F Command → Bool = λ f. f.has_globals in
     let bare : app_of c.after_help.result ≡ new_app (codes "fit") =
     ap app_of_fields c.after_help.ensures ∙ ap app_of_fields c.about.ensures ∙ c.new.ensures.app in
-    let one = c.in_ok-arg.ensures.shape c.step_option.ensures.own ∙ ap₂ with_rule bare c.step_option.ensures.rule in
-    IfOk-weaker c.arg-2.result _ _ (λ r h. h.shape c.log_word.ensures.own ∙ ap₂ with_rule one c.log_word.ensures.rule) c.arg-2.ensures
-
-pub returns-clause-own : goal.returns-clause-own
-returns-clause-own c =
-    let globals : Command-F Command → Bool = λ f. f.has_globals in
-    let bare : (out-Command c.after_help.result).has_globals ≡ false =
+    let one = c.in_ok-arg.ensures.shape c.step_option.ensures.own ∙ ap₂ with_rule bare c.step_option.ensures.rule_is in
+    let own : (out-Command c.after_help.result).has_globals ≡ false =
     ap globals c.after_help.ensures ∙ ap globals c.about.ensures ∙ c.new.ensures.local in
-    let one = c.in_ok-arg.ensures.globals ∙ ap₂ ◌||◌ bare c.step_option.ensures.own in
-    IfOk-weaker c.arg-2.result _ _ (λ r h. h.globals ∙ ap₂ ◌||◌ one c.log_word.ensures.own) c.arg-2.ensures
+    let own_one = c.in_ok-arg.ensures.globals ∙ ap₂ ◌||◌ own c.step_option.ensures.own in
+    IfOk-weaker c.arg-2.result _ _ (λ r h. record {
+      line_is = h.shape c.log_word.ensures.own ∙ ap₂ with_rule one c.log_word.ensures.rule_is;
+      own = h.globals ∙ ap₂ ◌||◌ own_one c.log_word.ensures.own;
+    }) c.arg-2.ensures

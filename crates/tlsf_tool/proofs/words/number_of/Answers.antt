@@ -4,7 +4,5 @@ use Rattle.tlsf_tool.proofs.CommandLineLemmas.{number_read}
 use Rattle.tlsf_tool.proofs.words.number_of.Goals as goal
 
 pub returns : goal.returns
-returns c =
-    let read = number_read (λ bs r. ParsesUnsigned 32 10 bs r × ExplainsUnsignedError 10 bs r × HasUnsignedDigitsIfOk bs r)
-    (found_of c.args.found.now) c.args.id.now 32 c.get_one.result (λ t x g. g.0) c.get_one.ensures.none c.get_one.ensures.value in
-    record { given = read.0; other = read.1 }
+returns c = number_read (λ bs r. ParsesUnsigned 32 10 bs r × ExplainsUnsignedError 10 bs r × HasUnsignedDigitsIfOk bs r)
+    (found_of c.args.found.now) c.args.id.now 32 c.get_one.result (λ t x g. g.0) c.get_one.ensures.none c.get_one.ensures.value

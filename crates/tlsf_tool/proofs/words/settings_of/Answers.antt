@@ -1,10 +1,10 @@
 use Rattle.tlsf_tool.proofs.words.settings_of.Goals as goal
 
-pub returns-in_default-clause-other : goal.returns-in_default-clause-other
-returns-in_default-clause-other c = λ settings has. c.in_default.ensures.other settings.pool has.0
+pub returns-in_err-pool : goal.returns-in_err-pool
+returns-in_err-pool c = rw c.from_residual.ensures (record { given = tt; other = λ settings has. c.in_err-pool.ensures.other settings.pool has.0 })
 
-pub returns-in_default-number_of-clause-other : goal.returns-in_default-number_of-clause-other
-returns-in_default-number_of-clause-other c = λ settings has. c.in_default-number_of.ensures.other settings.pools has.1
+pub returns-in_err-pools : goal.returns-in_err-pools
+returns-in_err-pools c = rw c.from_residual-in_err-pools.ensures (record { given = tt; other = λ settings has. c.in_err-pools.ensures.other settings.pools has.1 })
 
-pub returns-in_default-number_of-2-clause-other : goal.returns-in_default-number_of-2-clause-other
-returns-in_default-number_of-2-clause-other c = λ settings has. c.in_default-number_of-2.ensures.other settings.records has.2
+pub returns-in_err-records : goal.returns-in_err-records
+returns-in_err-records c = rw c.from_residual-in_err-records.ensures (record { given = tt; other = λ settings has. c.in_err-records.ensures.other settings.records has.2 })

@@ -5,6 +5,7 @@ use Rattle.mtrace_replay.specs.Started.{Bare, started}
 use Rattle.mtrace_replay.specs.Totals.{AreTotals, IsMost}
 use Rattle.mtrace_replay.specs.declared.totals.Totals.{Totals}
 use Rattle.mtrace_replay.specs.Holding.{Holding}
+use Rattle.mtrace_replay.specs.Index.{Indexed}
 use Rattle.mtrace_replay.specs.Step.{all_given, AreLive}
 use Rattle.mtrace_replay.proofs.Moments.{moments-none}
 use Rattle.mtrace_replay.proofs.FoundLemmas.{none_held}
@@ -20,12 +21,12 @@ invariant_of-self c =
     let few = started_records c.args.settings c.requires.good in
     let same = ap (λ (content : Bare). content.records) c.restart_heap.ensures in
     let P : List Holding → Type 0 = λ all. AreLive all heap in
-    let empty = c.restart.ensures.empty in
+    let empty = ap (λ (index : Indexed). index.all) c.restart.ensures in
     record {
       live = (λ works. subst P (sym empty) (none_live heap (omega (arith, few, same))));
       lacks = (λ refused. absurd (cc));
       few = omega (arith, ap (λ (all : List Holding). length all) empty);
-      room = c.restart.ensures.room ∙ sym (same ∙ started_room c.args.settings c.requires.good);
+      room = ap (λ (index : Indexed). index.room) c.restart.ensures ∙ sym (same ∙ started_room c.args.settings c.requires.good);
       served = omega (arith, ap (λ (totals : Totals). totals.served) c.new-self-inside.ensures);
       refused = omega (arith, ap (λ (totals : Totals). totals.refused) c.new-self-inside.ensures);
     }
@@ -42,7 +43,7 @@ returns-clause-made c =
       lines_are = ap (λ (totals : Totals). totals.lines) fresh.ensures;
       pending_is = refl;
       content_is = c.restart_heap.ensures ∙ ap (content_after start) (sym none);
-      held = subst (P (all_given c.restart.new.self.all)) (sym none) (subst (λ (all : List Holding). P (all_given all) []) (sym c.restart.ensures.empty) none_held);
+      held = subst (P (all_given c.restart.new.self.all)) (sym none) (subst (λ (all : List Holding). P (all_given all) []) (sym (ap (λ (index : Indexed). index.all) c.restart.ensures)) none_held);
       totals = subst (λ past. T past fresh.result) (sym none) (subst (T []) (sym fresh.ensures) (totals_none c.args.settings));
       most = subst (λ past. IsMost past 0) (sym none) most_none;
     }
