@@ -48,17 +48,17 @@ returns-in_default c = record {
 }
 
 -- the cells and the slot, once it was taken
-taken : (old one two : Cells) (result : Option ℕ) (slot first : ℕ) (stands : Stands old) → one ≡ old → result ≡ Some slot → two ≡ with_taken one result → first ≡ slot → slot < length one.records → record_at one.records slot ≡ blank
-    → Represents two (record stands.layout { taken = first ∷ stands.layout.taken }) × (slot < length old.records) × (record_at old.records slot ≡ blank)
-taken old one two result slot first stands read is took same within vacant =
+taken : (old one two : Cells) (result : Option ℕ) (slot : ℕ) (stands : Stands old) → one ≡ old → result ≡ Some slot → two ≡ with_taken one result → slot < length one.records → record_at one.records slot ≡ blank
+    → Represents two (record stands.layout { taken = slot ∷ stands.layout.taken }) × (slot < length old.records) × (record_at old.records slot ≡ blank)
+taken old one two result slot stands read is took within vacant =
     let below = rw read at within in
     let empty = rw read at vacant in
-    (rw (took, is, read, same) (slot_taken old stands.layout slot stands.represented below empty), below, empty)
+    (rw (took, is, read) (slot_taken old stands.layout slot stands.represented below empty), below, empty)
 
 pub put_pool-requires-clause-taken : goal.put_pool-requires-clause-taken
 put_pool-requires-clause-taken c = (
   c.requires.layout,
-  (taken c.args.store.now.cells c.entries-entries.new.store.cells c.take_vacant.new.self.cells c.take_vacant.result c.in-Some.slot _ c.requires c.entries-entries.ensures.left.cells c.in-Some.is c.take_vacant.ensures.taken c.slot.view_is c.in-Some.ensures.within c.in-Some.ensures.vacant).0,
+  (taken c.args.store.now.cells c.entries-entries.new.store.cells c.take_vacant.new.self.cells c.take_vacant.result c.in-Some.slot c.requires c.entries-entries.ensures.left.cells c.in-Some.is c.take_vacant.ensures.taken c.in-Some.ensures.within c.in-Some.ensures.vacant).0,
 )
 
 added : (c : goal.After-put_pool) → Stands c.put_pool.new.store.cells × (add_pool c.args.base c.args.bytes (content_of c.args.store.now.cells) ≡ Ok (content_of c.put_pool.new.store.cells))
@@ -66,8 +66,8 @@ added c =
     let old : Cells = c.args.store.now.cells in
     let allowed = sym (c.can_enter.ensures ∙ ap (is_allowed c.args.base c.args.bytes) (c.as_slice.ensures.value ∙ c.entries-entries.ensures.value)) ∙ c.if-not-can_enter.false in
     let few = few_entries c.is_full.result (length c.entries-entries.result.items) (length (entries_of old.pools)) c.is_full.ensures.value c.if-is_full.false c.is_full.ensures.fits (ap length c.entries-entries.ensures.value) in
-    let at = taken old c.entries-entries.new.store.cells c.take_vacant.new.self.cells c.take_vacant.result c.in-Some.slot _ c.requires c.entries-entries.ensures.left.cells c.in-Some.is c.take_vacant.ensures.taken c.slot.view_is c.in-Some.ensures.within c.in-Some.ensures.vacant in
-    let laid = rw c.slot.view_is at (c.put_pool.ensures.leads c.requires.layout at.0) in
+    let at = taken old c.entries-entries.new.store.cells c.take_vacant.new.self.cells c.take_vacant.result c.in-Some.slot c.requires c.entries-entries.ensures.left.cells c.in-Some.is c.take_vacant.ensures.taken c.in-Some.ensures.within c.in-Some.ensures.vacant in
+    let laid = c.put_pool.ensures.leads c.requires.layout at.0 in
     pool_added old c.requires c.args.base c.args.bytes allowed few c.in-Some.slot at.1 at.2 c.put_pool.new.store.cells laid
 
 pub returns : goal.returns
