@@ -7,7 +7,8 @@ ghost use Rattle.tlsf_heap.specs.Pools.{end_of_places};
 ghost use Rattle.tlsf_heap.specs.Inner.Edits.{IsUsed};
 ghost use Rattle.tlsf_heap.specs.Inner.Chains.{with_prev, with_state};
 ghost use Rattle.tlsf_heap.specs.Inner.Spans.{IsRead, split_by, absorbed_by};
-ghost use Rattle.tlsf_heap.specs.Inner.Answers.{Leaves, LeavesAfter};
+ghost use Rattle.tlsf_store.specs.CountedCells.{LeavesAfter};
+ghost use Rattle.tlsf_heap.specs.Inner.Answers.{Leaves};
 
 use crate::span::Span;
 use tlsf_store::{Record, Slot, State, Store};

@@ -7,7 +7,7 @@ ghost use Rattle.tlsf_store.specs.Cells.{most_pools};
 ghost use Rattle.tlsf_heap.specs.Inner.Entries.{entries_of, padded_at};
 ghost use Rattle.tlsf_heap.specs.Pools.{end_of_places};
 ghost use Rattle.tlsf_heap.specs.Inner.Entries.{entry_place, with_entries, is_entry_apart, entry_range};
-ghost use Rattle.tlsf_heap.specs.Inner.Answers.{LeavesAfter};
+ghost use Rattle.tlsf_store.specs.CountedCells.{LeavesAfter};
 
 use arrayvec::ArrayVec;
 use tlsf_store::{MOST_POOLS, Pool, Store};

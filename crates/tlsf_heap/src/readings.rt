@@ -10,7 +10,8 @@ ghost use Rattle.tlsf_heap.specs.Pointer.{block_size_ptr};
 ghost use Rattle.tlsf_heap.specs.Readings.{FindsRows, GivesRow, TouchesForRow};
 ghost use Rattle.tlsf_heap.specs.Cursors.{rows_by, rows_behind, is_at_row, slot_for, begins_below, slot_if, AreInOrder, IsNarrowed};
 ghost use Rattle.tlsf_heap.specs.Inner.States.{is_state_live};
-ghost use Rattle.tlsf_heap.specs.Inner.Answers.{Leaves, LeavesAfter};
+ghost use Rattle.tlsf_store.specs.CountedCells.{LeavesAfter};
+ghost use Rattle.tlsf_heap.specs.Inner.Answers.{Leaves};
 
 use crate::free::live;
 use crate::{Cursor, Ptr, Refusal, Row};

@@ -5,6 +5,7 @@ ghost use Rattle.tlsf_class.specs.Classes.{unit, levels, classes};
 ghost use Rattle.tlsf_store.specs.declared.errors.StoreError.TheVariants.{BadCount};
 ghost use Rattle.tlsf_store.specs.declared.records.State.TheVariants.{Vacant};
 ghost use Rattle.tlsf_store.specs.Records.{most_records, blank, record_at, vacant_count, IsBelow, IsKept};
+ghost use Rattle.tlsf_store.specs.CountedCells.{LeavesAfter};
 ghost use Rattle.tlsf_store.specs.Cells.{with_record, with_head, with_level_word, with_step_word, with_pool, with_taken, head_at, pool_at, most_pools, empty_cells, IsPoolBelow};
 
 use super::ghost_count::GhostCount;
@@ -119,8 +120,7 @@ impl Store {
         ensures value { result ≡ record_at self.old.cells.records slot }
         ensures kept { IsKept (length self.old.cells.records) result }
         ensures vacant { result.state ≡ Vacant → result ≡ blank }
-        ensures cells { self.new.cells ≡ self.old.cells }
-        ensures touch { self.new.touches ≡ self.old.touches + 1 }
+        ensures left { LeavesAfter self.old.cells 1 self.old self.new }
     {
         self.touches.tick();
         self.table.read(slot)
@@ -132,8 +132,7 @@ impl Store {
         requires used { (record_at self.old.cells.records slot).state ≢ Vacant }
         ensures value { result ≡ record_at self.old.cells.records slot }
         ensures kept { IsKept (length self.old.cells.records) result }
-        ensures cells { self.new.cells ≡ self.old.cells }
-        ensures touch { self.new.touches ≡ self.old.touches + 1 }
+        ensures left { LeavesAfter self.old.cells 1 self.old self.new }
     {
         self.touches.tick();
         self.table.read_used(slot)
@@ -146,8 +145,7 @@ impl Store {
         requires used { (record_at self.old.cells.records slot).state ≢ Vacant }
         requires new_used { value.state ≢ Vacant }
         requires kept { IsKept (length self.old.cells.records) value }
-        ensures written { self.new.cells ≡ with_record self.old.cells slot value }
-        ensures touch { self.new.touches ≡ self.old.touches + 1 }
+        ensures left { LeavesAfter (with_record self.old.cells slot value) 1 self.old self.new }
     {
         self.touches.tick();
         self.table.write(slot, value);
@@ -159,8 +157,7 @@ impl Store {
         requires within { slot < length self.old.cells.records }
         requires used { (record_at self.old.cells.records slot).state ≢ Vacant }
         requires new_used { state ≢ Vacant }
-        ensures written { self.new.cells ≡ with_record self.old.cells slot (record (record_at self.old.cells.records slot) { state = state }) }
-        ensures touch { self.new.touches ≡ self.old.touches + 2 }
+        ensures left { LeavesAfter (with_record self.old.cells slot (record (record_at self.old.cells.records slot) { state = state })) 2 self.old self.new }
     {
         self.touches.tick();
         self.touches.tick();
@@ -175,8 +172,7 @@ impl Store {
         requires new_used { state ≢ Vacant }
         requires in_units { size % unit ≡ 0 }
         requires below { IsBelow (length self.old.cells.records) next }
-        ensures written { self.new.cells ≡ with_record self.old.cells slot (record (record_at self.old.cells.records slot) { size = size; state = state; next = next }) }
-        ensures touch { self.new.touches ≡ self.old.touches + 1 }
+        ensures left { LeavesAfter (with_record self.old.cells slot (record (record_at self.old.cells.records slot) { size = size; state = state; next = next })) 1 self.old self.new }
     {
         self.touches.tick();
         self.table.set_block(slot, size, state, next);
@@ -187,8 +183,7 @@ impl Store {
         requires within { slot < length self.old.cells.records }
         requires used { (record_at self.old.cells.records slot).state ≢ Vacant }
         requires below { IsBelow (length self.old.cells.records) prev }
-        ensures written { self.new.cells ≡ with_record self.old.cells slot (record (record_at self.old.cells.records slot) { prev = prev }) }
-        ensures touch { self.new.touches ≡ self.old.touches + 1 }
+        ensures left { LeavesAfter (with_record self.old.cells slot (record (record_at self.old.cells.records slot) { prev = prev })) 1 self.old self.new }
     {
         self.touches.tick();
         self.table.set_prev(slot, prev);
@@ -199,8 +194,7 @@ impl Store {
         requires within { slot < length self.old.cells.records }
         requires used { (record_at self.old.cells.records slot).state ≢ Vacant }
         requires below { IsBelow (length self.old.cells.records) prev }
-        ensures written { self.new.cells ≡ with_record self.old.cells slot (record (record_at self.old.cells.records slot) { prev_free = prev }) }
-        ensures touch { self.new.touches ≡ self.old.touches + 1 }
+        ensures left { LeavesAfter (with_record self.old.cells slot (record (record_at self.old.cells.records slot) { prev_free = prev })) 1 self.old self.new }
     {
         self.touches.tick();
         self.table.set_prev_free(slot, prev);
@@ -211,8 +205,7 @@ impl Store {
         requires within { slot < length self.old.cells.records }
         requires used { (record_at self.old.cells.records slot).state ≢ Vacant }
         requires below { IsBelow (length self.old.cells.records) next }
-        ensures written { self.new.cells ≡ with_record self.old.cells slot (record (record_at self.old.cells.records slot) { next_free = next }) }
-        ensures touch { self.new.touches ≡ self.old.touches + 1 }
+        ensures left { LeavesAfter (with_record self.old.cells slot (record (record_at self.old.cells.records slot) { next_free = next })) 1 self.old self.new }
     {
         self.touches.tick();
         self.table.set_next_free(slot, next);
@@ -224,8 +217,7 @@ impl Store {
         ensures count { length self.old.cells.heads ≡ classes }
         ensures value { result ≡ head_at self.old.cells.heads class }
         ensures below { IsBelow (length self.old.cells.records) result }
-        ensures cells { self.new.cells ≡ self.old.cells }
-        ensures touch { self.new.touches ≡ self.old.touches + 1 }
+        ensures left { LeavesAfter self.old.cells 1 self.old self.new }
     {
         self.touches.tick();
         link_of(self.heads[class.number() as usize])
@@ -235,8 +227,7 @@ impl Store {
     pub fn set_head(&mut self, class: Class, first: Option<Slot>)
         requires { IsBelow (length self.old.cells.records) first }
         ensures within { class < length self.old.cells.heads }
-        ensures written { self.new.cells ≡ with_head self.old.cells class first }
-        ensures touch { self.new.touches ≡ self.old.touches + 1 }
+        ensures left { LeavesAfter (with_head self.old.cells class first) 1 self.old self.new }
     {
         self.touches.tick();
         self.heads[class.number() as usize] = link_word(first);
@@ -246,8 +237,7 @@ impl Store {
     pub fn level_word(&mut self) -> u32
         ensures value { result ≡ self.old.cells.level_word }
         ensures below { result < 2 ^ levels }
-        ensures cells { self.new.cells ≡ self.old.cells }
-        ensures touch { self.new.touches ≡ self.old.touches + 1 }
+        ensures left { LeavesAfter self.old.cells 1 self.old self.new }
     {
         self.touches.tick();
         self.level_word
@@ -256,8 +246,7 @@ impl Store {
     /// Writes the level word, which has no bit at or above the number of first levels. One touch.
     pub fn set_level_word(&mut self, word: u32)
         requires { word < 2 ^ levels }
-        ensures written { self.new.cells ≡ with_level_word self.old.cells word }
-        ensures touch { self.new.touches ≡ self.old.touches + 1 }
+        ensures left { LeavesAfter (with_level_word self.old.cells word) 1 self.old self.new }
     {
         self.touches.tick();
         self.level_word = word;
@@ -268,8 +257,7 @@ impl Store {
         requires { level < levels }
         ensures within { level < length self.old.cells.step_words }
         ensures value { result ≡ slice_index self.old.cells.step_words level }
-        ensures cells { self.new.cells ≡ self.old.cells }
-        ensures touch { self.new.touches ≡ self.old.touches + 1 }
+        ensures left { LeavesAfter self.old.cells 1 self.old self.new }
     {
         self.touches.tick();
         self.step_words[level as usize]
@@ -279,8 +267,7 @@ impl Store {
     pub fn set_step_word(&mut self, level: u32, word: u32)
         requires { level < levels }
         ensures within { level < length self.old.cells.step_words }
-        ensures written { self.new.cells ≡ with_step_word self.old.cells level word }
-        ensures touch { self.new.touches ≡ self.old.touches + 1 }
+        ensures left { LeavesAfter (with_step_word self.old.cells level word) 1 self.old self.new }
     {
         self.touches.tick();
         self.step_words[level as usize] = word;
@@ -293,8 +280,7 @@ impl Store {
         ensures count { length self.old.cells.pools ≡ most_pools }
         ensures value { result ≡ pool_at self.old.cells.pools number }
         ensures below { IsPoolBelow (length self.old.cells.records) result }
-        ensures cells { self.new.cells ≡ self.old.cells }
-        ensures touch { self.new.touches ≡ self.old.touches + 1 }
+        ensures left { LeavesAfter self.old.cells 1 self.old self.new }
     {
         self.touches.tick();
         self.pools[number as usize]
@@ -305,8 +291,7 @@ impl Store {
         requires within { number < most_pools }
         requires below { IsPoolBelow (length self.old.cells.records) pool }
         ensures within { number < length self.old.cells.pools }
-        ensures written { self.new.cells ≡ with_pool self.old.cells number pool }
-        ensures touch { self.new.touches ≡ self.old.touches + 1 }
+        ensures left { LeavesAfter (with_pool self.old.cells number pool) 1 self.old self.new }
     {
         self.touches.tick();
         self.pools[number as usize] = pool;
@@ -315,8 +300,7 @@ impl Store {
     /// How many records are vacant. One touch.
     pub fn vacant(&mut self) -> u32
         ensures value { result ≡ vacant_count self.old.cells.records }
-        ensures cells { self.new.cells ≡ self.old.cells }
-        ensures touch { self.new.touches ≡ self.old.touches + 1 }
+        ensures left { LeavesAfter self.old.cells 1 self.old self.new }
     {
         self.touches.tick();
         self.table.vacant()
@@ -327,8 +311,7 @@ impl Store {
     /// vacant one.
     pub fn has_whole_vacant_chain(&mut self) -> bool
         ensures whole { result ≡ true }
-        ensures cells { self.new.cells ≡ self.old.cells }
-        ensures touch { self.new.touches ≡ self.old.touches + 1 + length self.old.cells.records + vacant_count self.old.cells.records }
+        ensures left { LeavesAfter self.old.cells (1 + length self.old.cells.records + vacant_count self.old.cells.records) self.old self.new }
     {
         self.touches.tick();
         self.table.has_whole_chain(&mut self.touches)
@@ -341,8 +324,7 @@ impl Store {
         ensures none { IfNone result (vacant_count self.old.cells.records ≡ 0) }
         ensures within { IfSome result (λ slot. slot < length self.old.cells.records) }
         ensures vacant { IfSome result (λ slot. record_at self.old.cells.records slot ≡ blank) }
-        ensures taken { self.new.cells ≡ with_taken self.old.cells result }
-        ensures touch { self.new.touches ≡ self.old.touches + 2 }
+        ensures left { LeavesAfter (with_taken self.old.cells result) 2 self.old self.new }
     {
         self.touches.tick();
         self.touches.tick();
@@ -354,8 +336,7 @@ impl Store {
     pub fn give_vacant(&mut self, slot: Slot)
         requires within { slot < length self.old.cells.records }
         requires used { (record_at self.old.cells.records slot).state ≢ Vacant }
-        ensures written { self.new.cells ≡ with_record self.old.cells slot blank }
-        ensures touch { self.new.touches ≡ self.old.touches + 3 }
+        ensures left { LeavesAfter (with_record self.old.cells slot blank) 3 self.old self.new }
     {
         self.touches.tick();
         self.touches.tick();

@@ -1,5 +1,5 @@
 -- What steps over a store promise: the cells that they leave, and how often they touch it.
-use Rattle.std.specs.Prelude.{◌≡◌, ℕ, ◌+◌, Result, IfOk, IfErr, OnErr}
+use Rattle.std.specs.Prelude.{◌≡◌, ℕ, Result, IfOk, IfErr, OnErr}
 use Rattle.tlsf_store.specs.Cells.{Cells}
 use Rattle.tlsf_store.specs.CountedCells.{CountedCells}
 use Rattle.tlsf_heap.specs.declared.refusal.Refusal.{Refusal}
@@ -11,11 +11,6 @@ use Rattle.tlsf_heap.specs.Inner.Following.{Stands, content_of}
 pub record Leaves (left : Cells) (n : ℕ) (old new : CountedCells) : Type 0 where
   pub cells : new.cells ≡ left
   pub touches : AtMost n old.touches new.touches
-
--- these cells are left, after n touches
-pub record LeavesAfter (left : Cells) (n : ℕ) (old new : CountedCells) : Type 0 where
-  pub cells : new.cells ≡ left
-  pub touches : new.touches ≡ old.touches + n
 
 -- a call over a store that stands: what it gives, or why it is refused, by the content; refused, it leaves the cells as they
 -- were; and at most n touches

@@ -58,7 +58,7 @@ taken old one two result slot stands read is took within vacant =
 pub put_pool-requires-clause-taken : goal.put_pool-requires-clause-taken
 put_pool-requires-clause-taken c = (
   c.requires.layout,
-  (taken c.args.store.now.cells c.entries-entries.new.store.cells c.take_vacant.new.self.cells c.take_vacant.result c.in-Some.slot c.requires c.entries-entries.ensures.left.cells c.in-Some.is c.take_vacant.ensures.taken c.in-Some.ensures.within c.in-Some.ensures.vacant).0,
+  (taken c.args.store.now.cells c.entries-entries.new.store.cells c.take_vacant.new.self.cells c.take_vacant.result c.in-Some.slot c.requires c.entries-entries.ensures.left.cells c.in-Some.is c.take_vacant.ensures.left.cells c.in-Some.ensures.within c.in-Some.ensures.vacant).0,
 )
 
 added : (c : goal.After-put_pool) → Stands c.put_pool.new.store.cells × (add_pool c.args.base c.args.bytes (content_of c.args.store.now.cells) ≡ Ok (content_of c.put_pool.new.store.cells))
@@ -66,7 +66,7 @@ added c =
     let old : Cells = c.args.store.now.cells in
     let allowed = sym (c.can_enter.ensures ∙ ap (is_allowed c.args.base c.args.bytes) (c.as_slice.ensures.value ∙ c.entries-entries.ensures.value)) ∙ c.if-not-can_enter.false in
     let few = few_entries c.is_full.result (length c.entries-entries.result.items) (length (entries_of old.pools)) c.is_full.ensures.value c.if-is_full.false c.is_full.ensures.fits (ap length c.entries-entries.ensures.value) in
-    let at = taken old c.entries-entries.new.store.cells c.take_vacant.new.self.cells c.take_vacant.result c.in-Some.slot c.requires c.entries-entries.ensures.left.cells c.in-Some.is c.take_vacant.ensures.taken c.in-Some.ensures.within c.in-Some.ensures.vacant in
+    let at = taken old c.entries-entries.new.store.cells c.take_vacant.new.self.cells c.take_vacant.result c.in-Some.slot c.requires c.entries-entries.ensures.left.cells c.in-Some.is c.take_vacant.ensures.left.cells c.in-Some.ensures.within c.in-Some.ensures.vacant in
     let laid = c.put_pool.ensures.leads c.requires.layout at.0 in
     pool_added old c.requires c.args.base c.args.bytes allowed few c.in-Some.slot at.1 at.2 c.put_pool.new.store.cells laid
 

@@ -15,7 +15,7 @@ put c =
     let items : List StoredPool = c.args.entries.items in
     let all : c.as_slice-2.result.now ≡ with_entry c.args.entry (entries_of c.args.store.now.cells.pools) =
     rw (c.as_slice-2.ensures.value, c.insert.ensures.items, c.place_for-place.ensures.place, c.as_slice.ensures.value, insert_is c.args.entry items, c.requires.entries) in
-    rw (c.set_entries.ensures.cells, c.write.ensures.written, c.free_block.ensures, all)
+    rw (c.set_entries.ensures.cells, c.write.ensures.left.cells, c.free_block.ensures, all)
 
 enters : (c : goal.After-class_of) → Enters c.args.entry c.requires.taken.0 c.args.store.now.cells
 enters c = pool_is_laid c.args.store.now.cells c.args.entry c.requires.taken.0 c.requires.taken.1
@@ -31,5 +31,5 @@ set_entries-requires-clause-below c =
     let n : ℕ = c.place_for-place.result in
     let items : List StoredPool = c.args.entries.items in
     let P : StoredPool → Type 0 = λ e. e.first < length c.args.store.now.cells.records in
-    rw (c.write.ensures.written, length-set c.args.store.now.cells.records c.args.entry.first c.free_block.result, c.as_slice-2.ensures.value, c.insert.ensures.items)
+    rw (c.write.ensures.left.cells, length-set c.args.store.now.cells.records c.args.entry.first c.free_block.result, c.as_slice-2.ensures.value, c.insert.ensures.items)
     (All-append P (take n items) (c.args.entry ∷ drop n items) (All-take P n items c.requires.below) (All-cons P c.args.entry (drop n items) c.requires.slot_used.0 (All-drop P n items c.requires.below)))

@@ -14,6 +14,6 @@ loop-number-preserved c =
       items = rw (c.push_entry.ensures.items, c.loop-number.invariant.items, c.pool.ensures.value, c.loop-number.invariant.cells) (sym (entries_of_more pools n within));
       few = omega (arith, ap length c.push_entry.ensures.items, length-entries_more c.loop-number.entries.items c.pool.result, c.loop-number.invariant.few);
       below = rw c.push_entry.ensures.items (entries_below_more count c.loop-number.entries.items c.pool.result c.loop-number.invariant.below below);
-      cells = c.pool.ensures.cells ∙ c.loop-number.invariant.cells;
-      touches = omega (arith, c.pool.ensures.touch, c.loop-number.invariant.touches);
+      cells = c.pool.ensures.left.cells ∙ c.loop-number.invariant.cells;
+      touches = omega (arith, c.pool.ensures.left.touches, c.loop-number.invariant.touches);
     }

@@ -33,7 +33,7 @@ pub returns-then-not-is_free-clause-leads : goal.returns-then-not-is_free-clause
 returns-then-not-is_free-clause-leads c status at unlisted stands =
     let old : Cells = c.args.store.now.cells in
     let live : is_state_free (record_at old.records c.in-Some.next_slot).state ≡ false = sym (ap (λ (r : Record). is_state_free r.state) c.read_used-next.ensures.value) ∙ sym c.is_free.ensures ∙ c.if-not-is_free.true in
-    rw c.read_used-next.ensures.cells
+    rw c.read_used-next.ensures.left.cells
     (subst (λ (a : At). StandsAt c.args.block.slot status old a) (sym (back_is_live old at c.args.block.slot status unlisted stands c.in-Some.next_slot (sym c.requires.read.next ∙ c.in-Some.is) live)) stands)
 
 -- the two that join
@@ -62,17 +62,17 @@ overflow_add-merged c =
 
 pub join-requires-clause-can : goal.join-requires-clause-can
 join-requires-clause-can c =
-    rw c.read_used-next.ensures.cells
+    rw c.read_used-next.ensures.left.cells
     (joined c.args.store.now.cells c.args.block c.args.state c.in-Some.next_slot c.requires.stands.0 c.requires.stands.1 c.read_used-next.result c.requires.stands.2 c.requires.stands.3 c.requires.read c.in-Some.is c.read_used-next.ensures.value (sym c.is_free.ensures ∙ c.if-not-is_free.false) c.requires.state).ready
 
 pub returns-clause-leads : goal.returns-clause-leads
 returns-clause-leads c status at unlisted stands =
-    rw (c.join.ensures.cells, c.read_used-next.ensures.cells)
+    rw (c.join.ensures.cells, c.read_used-next.ensures.left.cells)
     (joined c.args.store.now.cells c.args.block c.args.state c.in-Some.next_slot status at c.read_used-next.result unlisted stands c.requires.read c.in-Some.is c.read_used-next.ensures.value (sym c.is_free.ensures ∙ c.if-not-is_free.false) c.requires.state).leads
 
 pub returns-clause-read : goal.returns-clause-read
 returns-clause-read c =
-    rw (c.join.ensures.cells, c.read_used-next.ensures.cells)
+    rw (c.join.ensures.cells, c.read_used-next.ensures.left.cells)
     (joined c.args.store.now.cells c.args.block c.args.state c.in-Some.next_slot c.requires.stands.0 c.requires.stands.1 c.read_used-next.result c.requires.stands.2 c.requires.stands.3 c.requires.read c.in-Some.is c.read_used-next.ensures.value (sym c.is_free.ensures ∙ c.if-not-is_free.false) c.requires.state).read
 
 pub join-requires-clause-new_used : goal.join-requires-clause-new_used

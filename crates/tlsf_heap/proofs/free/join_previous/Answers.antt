@@ -32,7 +32,7 @@ pub returns-then-not-is_free-clause-leads : goal.returns-then-not-is_free-clause
 returns-then-not-is_free-clause-leads c at stands =
     let old : Cells = c.args.store.now.cells in
     let live : is_state_free (record_at old.records c.in-Some.previous_slot).state ≡ false = sym (ap (λ (r : Record). is_state_free r.state) c.read_used-front.ensures.value) ∙ sym c.is_free.ensures ∙ c.if-not-is_free.true in
-    rw c.read_used-front.ensures.cells
+    rw c.read_used-front.ensures.left.cells
     (subst (λ (a : At). StandsAt c.args.block.slot Loose old a) (sym (front_is_live old at c.args.block.slot stands c.in-Some.previous_slot (sym c.requires.previous ∙ c.in-Some.is) live)) stands)
 
 -- the two that join
@@ -61,17 +61,17 @@ overflow_add-merged c =
 
 pub join-requires-clause-can : goal.join-requires-clause-can
 join-requires-clause-can c =
-    rw c.read_used-front.ensures.cells
+    rw c.read_used-front.ensures.left.cells
     (joined c.args.store.now.cells c.args.block c.in-Some.previous_slot c.requires.stands.0 c.args.previous c.read_used-front.result c.requires.stands.1 c.requires.read c.requires.previous c.in-Some.is c.read_used-front.ensures.value (sym c.is_free.ensures ∙ c.if-not-is_free.false) c.read_used-front.ensures.kept.place).ready
 
 pub returns-clause-leads : goal.returns-clause-leads
 returns-clause-leads c at stands =
-    rw (c.join.ensures.cells, c.read_used-front.ensures.cells)
+    rw (c.join.ensures.cells, c.read_used-front.ensures.left.cells)
     (joined c.args.store.now.cells c.args.block c.in-Some.previous_slot at c.args.previous c.read_used-front.result stands c.requires.read c.requires.previous c.in-Some.is c.read_used-front.ensures.value (sym c.is_free.ensures ∙ c.if-not-is_free.false) c.read_used-front.ensures.kept.place).leads
 
 pub returns-clause-read : goal.returns-clause-read
 returns-clause-read c =
-    rw (c.join.ensures.cells, c.read_used-front.ensures.cells)
+    rw (c.join.ensures.cells, c.read_used-front.ensures.left.cells)
     (joined c.args.store.now.cells c.args.block c.in-Some.previous_slot c.requires.stands.0 c.args.previous c.read_used-front.result c.requires.stands.1 c.requires.read c.requires.previous c.in-Some.is c.read_used-front.ensures.value (sym c.is_free.ensures ∙ c.if-not-is_free.false) c.read_used-front.ensures.kept.place).read
 
 pub join-requires-clause-new_used : goal.join-requires-clause-new_used

@@ -5,7 +5,7 @@ use Rattle.tlsf_heap.proofs.free_lists.set_free_links.Goals as goal
 
 pub returns : goal.returns
 returns c = record {
-  cells = rw (c.set_next_free.ensures.written, c.set_prev_free.ensures.written, record_at-set_same c.args.store.now.cells.records c.args.slot _ c.requires.used.0)
+  cells = rw (c.set_next_free.ensures.left.cells, c.set_prev_free.ensures.left.cells, record_at-set_same c.args.store.now.cells.records c.args.slot _ c.requires.used.0)
       (ap (λ records. record c.args.store.now.cells { records = records }) (set-set c.args.store.now.cells.records c.args.slot _ _));
   touches = search rules;
 }

@@ -29,12 +29,12 @@ loop-number-preserved g c =
     elim c.match-head.branch [
       | in-Some w ↦
           let new : c.match-head.store.cells ≡ with_class_bit number (with_head was number (Some w.in-Some.first)) =
-          subst (λ (n : ℕ). c.match-head.store.cells ≡ with_class_bit n (with_head was n (Some w.in-Some.first))) c.new-class.ensures (ap (λ (s : CountedCells). s.cells) w.store-is ∙ w.set_class_bit.ensures.cells ∙ ap (with_class_bit c.new-class.result) w.set_head.ensures.written) in
+          subst (λ (n : ℕ). c.match-head.store.cells ≡ with_class_bit n (with_head was n (Some w.in-Some.first))) c.new-class.ensures (ap (λ (s : CountedCells). s.cells) w.store-is ∙ w.set_class_bit.ensures.cells ∙ ap (with_class_bit c.new-class.result) w.set_head.ensures.left.cells) in
           record {
             same = c.head.ensures.read.same ∙ all.same;
             whole = λ some. whole;
             so_far = subst (HasHeadsBelow parts.heads c.args.store.now.cells (number + 1)) (sym new) (heads_on parts.heads c.args.store.now.cells number was c.loop-number-test.true all.so_far w.in-Some.first (sym read ∙ w.in-Some.is));
-            touches = rw w.store-is (omega (arith, all.touches, w.set_class_bit.ensures.touches, w.set_head.ensures.touch));
+            touches = rw w.store-is (omega (arith, all.touches, w.set_class_bit.ensures.touches, w.set_head.ensures.left.touches));
           }
       | in_default w ↦
           record {

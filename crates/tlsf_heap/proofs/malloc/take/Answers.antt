@@ -45,7 +45,7 @@ read_used-block-requires-clause-used c =
 
 pub take_whole-requires-clause-stands : goal.take_whole-requires-clause-stands
 take_whole-requires-clause-stands c =
-    let by = free_at c.args.store.now.cells c.requires.stands c.args.slot c.requires.free in (by.at, rw c.read_used-block.ensures.cells by.stands)
+    let by = free_at c.args.store.now.cells c.requires.stands c.args.slot c.requires.free in (by.at, rw c.read_used-block.ensures.left.cells by.stands)
 
 -- where a block is picked, what is said of it is said of the bytes asked
 picked : (owner asked place : ℕ) (content : Content ℕ) → pick asked content.lists ≡ Some place → (answer : Result (ℕ × Content ℕ) Refusal) → malloc_picked owner asked (Some place) content ≡ answer → malloc_rounded owner (Some asked) content ≡ answer
@@ -58,7 +58,7 @@ whole c =
     let by = free_at old c.requires.stands c.args.slot c.requires.free in
     let size = sym c.if-block-asked.true ∙ size_is old c.args.slot by.at c.read_used-block.result by.stands c.read_used-block.ensures.value in
     whole_stands old c.requires.stands (record_at old.records c.args.slot).place c.args.slot c.args.asked by c.requires.some c.requires.whole c.requires.found c.take_whole.new.store.cells
-    (c.take_whole.ensures.leads by.at (rw c.read_used-block.ensures.cells by.stands)) size
+    (c.take_whole.ensures.leads by.at (rw c.read_used-block.ensures.left.cells by.stands)) size
 
 pub returns-then-block-asked : goal.returns-then-block-asked
 returns-then-block-asked c = record {
@@ -81,7 +81,7 @@ returns-in_default c = record {
       let old : Cells = c.args.store.now.cells in
       let by = free_at old c.requires.stands c.args.slot c.requires.free in
       let place : ℕ = (record_at old.records c.args.slot).place in
-      let none = rw c.read_used-block.ensures.cells at c.in_default.ensures.none in
+      let none = rw c.read_used-block.ensures.left.cells at c.in_default.ensures.none in
       let size = size_is old c.args.slot by.at c.read_used-block.result by.stands c.read_used-block.ensures.value in
       let least = holds old c.requires.stands place c.args.slot c.args.asked by c.requires.some c.requires.whole c.requires.found in
       picked owner c.args.asked place (content_of old) c.requires.found _ (full_refused old c.requires.stands place c.args.slot c.args.asked by c.requires.some c.requires.whole c.requires.found none (omega (arith, least, size, c.if-block-asked.false)) owner);
@@ -94,12 +94,12 @@ take_part-requires-clause-stands c =
     let old : Cells = c.args.store.now.cells in
     let by = free_at old c.requires.stands c.args.slot c.requires.free in (
       by.at,
-      spared old c.read_used-block.new.self.cells c.take_vacant.new.self.cells c.take_vacant.result c.args.slot c.in-Some.rest by.at by.stands c.read_used-block.ensures.cells c.in-Some.is c.take_vacant.ensures.taken c.in-Some.ensures.within c.in-Some.ensures.vacant,
+      spared old c.read_used-block.new.self.cells c.take_vacant.new.self.cells c.take_vacant.result c.args.slot c.in-Some.rest by.at by.stands c.read_used-block.ensures.left.cells c.in-Some.is c.take_vacant.ensures.left.cells c.in-Some.ensures.within c.in-Some.ensures.vacant,
     )
 
 pub take_part-requires-clause-read : goal.take_part-requires-clause-read
 take_part-requires-clause-read c =
-    kept c.args.store.now.cells c.read_used-block.new.self.cells c.take_vacant.new.self.cells c.take_vacant.result c.args.slot c.in-Some.rest c.read_used-block.result c.requires.free c.read_used-block.ensures.cells c.in-Some.is c.take_vacant.ensures.taken c.in-Some.ensures.vacant c.read_used-block.ensures.value
+    kept c.args.store.now.cells c.read_used-block.new.self.cells c.take_vacant.new.self.cells c.take_vacant.result c.args.slot c.in-Some.rest c.read_used-block.result c.requires.free c.read_used-block.ensures.left.cells c.in-Some.is c.take_vacant.ensures.left.cells c.in-Some.ensures.vacant c.read_used-block.ensures.value
 
 pub take_part-requires-clause-less : goal.take_part-requires-clause-less
 take_part-requires-clause-less c =
@@ -117,8 +117,8 @@ part c =
     let place : ℕ = (record_at old.records c.args.slot).place in
     let size = size_is old c.args.slot by.at c.read_used-block.result by.stands c.read_used-block.ensures.value in
     let least = holds old c.requires.stands place c.args.slot c.args.asked by c.requires.some c.requires.whole c.requires.found in
-    let stands = spared old c.read_used-block.new.self.cells c.take_vacant.new.self.cells c.take_vacant.result c.args.slot c.in-Some.rest by.at by.stands c.read_used-block.ensures.cells c.in-Some.is c.take_vacant.ensures.taken c.in-Some.ensures.within c.in-Some.ensures.vacant in
-    let room = room_left old c.requires.stands c.in-Some.rest (rw c.read_used-block.ensures.cells at c.in-Some.ensures.within) (rw c.read_used-block.ensures.cells at c.in-Some.ensures.vacant) in
+    let stands = spared old c.read_used-block.new.self.cells c.take_vacant.new.self.cells c.take_vacant.result c.args.slot c.in-Some.rest by.at by.stands c.read_used-block.ensures.left.cells c.in-Some.is c.take_vacant.ensures.left.cells c.in-Some.ensures.within c.in-Some.ensures.vacant in
+    let room = room_left old c.requires.stands c.in-Some.rest (rw c.read_used-block.ensures.left.cells at c.in-Some.ensures.within) (rw c.read_used-block.ensures.left.cells at c.in-Some.ensures.vacant) in
     part_stands old c.requires.stands place c.args.slot c.args.asked by c.requires.some c.requires.whole c.requires.found c.take_part.new.store.cells c.in-Some.rest
     (c.take_part.ensures.leads by.at stands) (omega (arith, least, size, c.if-block-asked.false)) room
 

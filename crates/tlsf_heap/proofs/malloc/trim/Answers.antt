@@ -33,14 +33,14 @@ unreachable-requires c =
 pub cut-requires-clause-stands : goal.cut-requires-clause-stands
 cut-requires-clause-stands c =
     let at : At = c.requires.stands.0 in
-    (InUse, at, refl, spared c.args.store.now.cells c.take_vacant.new.self.cells c.take_vacant.result c.args.block.now.slot c.in-Some.rest at c.requires.stands.1 c.in-Some.is c.take_vacant.ensures.taken c.in-Some.ensures.within c.in-Some.ensures.vacant)
+    (InUse, at, refl, spared c.args.store.now.cells c.take_vacant.new.self.cells c.take_vacant.result c.args.block.now.slot c.in-Some.rest at c.requires.stands.1 c.in-Some.is c.take_vacant.ensures.left.cells c.in-Some.ensures.within c.in-Some.ensures.vacant)
 
 pub cut-requires-clause-read : goal.cut-requires-clause-read
 cut-requires-clause-read c =
     let at : At = c.requires.stands.0 in
     let known = by_node c.args.store.now.cells InUse at c.args.block.now c.requires.stands.1 c.requires.read in
     by_record c.take_vacant.new.self.cells InUse (with_slot c.in-Some.rest at) c.args.block.now
-    (spared c.args.store.now.cells c.take_vacant.new.self.cells c.take_vacant.result c.args.block.now.slot c.in-Some.rest at c.requires.stands.1 c.in-Some.is c.take_vacant.ensures.taken c.in-Some.ensures.within c.in-Some.ensures.vacant)
+    (spared c.args.store.now.cells c.take_vacant.new.self.cells c.take_vacant.result c.args.block.now.slot c.in-Some.rest at c.requires.stands.1 c.in-Some.is c.take_vacant.ensures.left.cells c.in-Some.ensures.within c.in-Some.ensures.vacant)
     (record { slot = known.slot; place = known.place; size = known.size; next = known.next; in_units = known.in_units })
 
 pub returns-clause-leads : goal.returns-clause-leads
@@ -48,7 +48,7 @@ returns-clause-leads c at stands =
     let old : Cells = c.args.store.now.cells in
     let rest : ℕ = c.in-Some.rest in
     let size = size_is old c.args.block.now at stands c.requires.read in
-    let taken = spared old c.take_vacant.new.self.cells c.take_vacant.result c.args.block.now.slot rest at stands c.in-Some.is c.take_vacant.ensures.taken c.in-Some.ensures.within c.in-Some.ensures.vacant in
+    let taken = spared old c.take_vacant.new.self.cells c.take_vacant.result c.args.block.now.slot rest at stands c.in-Some.is c.take_vacant.ensures.left.cells c.in-Some.ensures.within c.in-Some.ensures.vacant in
     let P : At → Type 0 = λ a. StandsAt rest Listed c.cut.new.store.cells (at_cut rest c.args.bytes a) in
     let same : at_turned InUse at ≡ at = ap (λ s. at_turned s at) (sym stands.1.status_is) in
     (rest, trimmed_stands old c.cut.new.store.cells c.args.block.now.slot rest c.args.bytes at stands (omega (arith, c.requires.most, c.if-block-bytes.false, size)) (subst P same (c.cut.ensures.leads InUse at refl taken)))

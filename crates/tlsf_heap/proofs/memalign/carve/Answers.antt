@@ -43,7 +43,7 @@ returns-then-vacant-records_for c = record {
       let gap_is : c.start_of-start.result - c.read_used-block.result.place ≡ next_multiple_of (record_at c.args.store.now.cells.records c.args.slot).place c.args.align - (record_at c.args.store.now.cells.records c.args.slot).place =
       ap (λ s. s - c.read_used-block.result.place) c.start_of-start.ensures ∙ ap (λ p. next_multiple_of p c.args.align - p) k.place_is in
       let few : vacant_count c.args.store.now.cells.records < gap_records (c.start_of-start.result - c.read_used-block.result.place) + gap_records ((c.read_used-block.result.size - (c.start_of-start.result - c.read_used-block.result.place)) - c.args.asked) =
-      omega (arith, c.if-vacant-records_for.true, c.vacant.ensures.value, ap (λ (s : Cells). vacant_count s.records) c.read_used-block.ensures.cells, c.records_for.ensures, c.records_for-2.ensures) in
+      omega (arith, c.if-vacant-records_for.true, c.vacant.ensures.value, ap (λ (s : Cells). vacant_count s.records) c.read_used-block.ensures.left.cells, c.records_for.ensures, c.records_for-2.ensures) in
       let P : ℕ → ℕ → Type 0 = λ g n. vacant_count c.args.store.now.cells.records < gap_records g + gap_records ((n - g) - c.args.asked) in
       picked owner c.args.align c.args.asked (record_at c.args.store.now.cells.records c.args.slot).place (content_of c.args.store.now.cells) c.requires.found _
       (carved_full c.args.store.now.cells c.requires.stands (record_at c.args.store.now.cells.records c.args.slot).place c.args.slot c.args.align c.args.asked k.by c.requires.is c.requires.some c.requires.whole c.requires.found (subst (λ n. P (next_multiple_of (record_at c.args.store.now.cells.records c.args.slot).place c.args.align - (record_at c.args.store.now.cells.records c.args.slot).place) n) k.size_is (subst (λ g. P g c.read_used-block.result.size) gap_is few)) owner);
@@ -60,10 +60,10 @@ read_used-block-requires-clause-used c =
     let by = free_at c.args.store.now.cells c.requires.stands c.args.slot c.requires.free in (slot_used c.args.store.now.cells c.args.slot Listed by.at by.stands).1
 
 pub take_whole-requires-clause-stands : goal.take_whole-requires-clause-stands
-take_whole-requires-clause-stands c = let k = known c.args.store.now.cells c.requires.stands c.args.slot c.args.align c.args.asked c.requires.is c.requires.some c.requires.whole c.requires.free c.requires.found c.read_used-block.result c.read_used-block.ensures.value in (k.by.at, rw (c.vacant.ensures.cells, c.read_used-block.ensures.cells) k.by.stands)
+take_whole-requires-clause-stands c = let k = known c.args.store.now.cells c.requires.stands c.args.slot c.args.align c.args.asked c.requires.is c.requires.some c.requires.whole c.requires.free c.requires.found c.read_used-block.result c.read_used-block.ensures.value in (k.by.at, rw (c.vacant.ensures.left.cells, c.read_used-block.ensures.left.cells) k.by.stands)
 
 pub take_whole-requires-clause-read : goal.take_whole-requires-clause-read
-take_whole-requires-clause-read c = rw (c.vacant.ensures.cells, c.read_used-block.ensures.cells) c.read_used-block.ensures.value
+take_whole-requires-clause-read c = rw (c.vacant.ensures.left.cells, c.read_used-block.ensures.left.cells) c.read_used-block.ensures.value
 
 -- the block as it is known once it was taken
 taken_known : (old new : Cells) (slot : ℕ) (at : At) (block : Record) → StandsAt slot Listed old at → StandsAt slot InUse new (at_taken at) → block ≡ record_at old.records slot → block.place % unit ≡ 0 → IsSpanOf (span_of slot block) (at_taken at)
@@ -74,13 +74,13 @@ taken_known old new slot at block was stands read in_units =
 pub leave_gap-live-requires-clause-stands : goal.leave_gap-live-requires-clause-stands
 leave_gap-live-requires-clause-stands c =
     let k = known c.args.store.now.cells c.requires.stands c.args.slot c.args.align c.args.asked c.requires.is c.requires.some c.requires.whole c.requires.free c.requires.found c.read_used-block.result c.read_used-block.ensures.value in
-    let taken : StandsAt c.args.slot InUse c.take_whole.new.store.cells (at_taken k.by.at) = c.take_whole.ensures.leads k.by.at (rw (c.vacant.ensures.cells, c.read_used-block.ensures.cells) k.by.stands) in
+    let taken : StandsAt c.args.slot InUse c.take_whole.new.store.cells (at_taken k.by.at) = c.take_whole.ensures.leads k.by.at (rw (c.vacant.ensures.left.cells, c.read_used-block.ensures.left.cells) k.by.stands) in
     rw c.of-whole.ensures (at_taken k.by.at, taken)
 
 pub leave_gap-live-requires-clause-read : goal.leave_gap-live-requires-clause-read
 leave_gap-live-requires-clause-read c =
     let k = known c.args.store.now.cells c.requires.stands c.args.slot c.args.align c.args.asked c.requires.is c.requires.some c.requires.whole c.requires.free c.requires.found c.read_used-block.result c.read_used-block.ensures.value in
-    let taken : StandsAt c.args.slot InUse c.take_whole.new.store.cells (at_taken k.by.at) = c.take_whole.ensures.leads k.by.at (rw (c.vacant.ensures.cells, c.read_used-block.ensures.cells) k.by.stands) in
+    let taken : StandsAt c.args.slot InUse c.take_whole.new.store.cells (at_taken k.by.at) = c.take_whole.ensures.leads k.by.at (rw (c.vacant.ensures.left.cells, c.read_used-block.ensures.left.cells) k.by.stands) in
     rw c.of-whole.ensures (by_record c.take_whole.new.store.cells InUse (at_taken k.by.at) (span_of c.args.slot c.read_used-block.result) taken
     (taken_known c.args.store.now.cells c.take_whole.new.store.cells c.args.slot k.by.at c.read_used-block.result k.by.stands taken c.read_used-block.ensures.value c.read_used-block.ensures.kept.place))
 
@@ -92,21 +92,21 @@ leave_gap-live-requires-clause-less c =
 pub leave_gap-live-requires-clause-room : goal.leave_gap-live-requires-clause-room
 leave_gap-live-requires-clause-room c some =
     let k = known c.args.store.now.cells c.requires.stands c.args.slot c.args.align c.args.asked c.requires.is c.requires.some c.requires.whole c.requires.free c.requires.found c.read_used-block.result c.read_used-block.ensures.value in
-    let taken : StandsAt c.args.slot InUse c.take_whole.new.store.cells (at_taken k.by.at) = c.take_whole.ensures.leads k.by.at (rw (c.vacant.ensures.cells, c.read_used-block.ensures.cells) k.by.stands) in
+    let taken : StandsAt c.args.slot InUse c.take_whole.new.store.cells (at_taken k.by.at) = c.take_whole.ensures.leads k.by.at (rw (c.vacant.ensures.left.cells, c.read_used-block.ensures.left.cells) k.by.stands) in
     let enough : gap_records (c.start_of-start.result - c.read_used-block.result.place) + gap_records ((c.read_used-block.result.size - (c.start_of-start.result - c.read_used-block.result.place)) - c.args.asked) ≤ vacant_count c.args.store.now.cells.records =
-    omega (arith, c.if-vacant-records_for.false, c.vacant.ensures.value, ap (λ (s : Cells). vacant_count s.records) c.read_used-block.ensures.cells, c.records_for.ensures, c.records_for-2.ensures) in
+    omega (arith, c.if-vacant-records_for.false, c.vacant.ensures.value, ap (λ (s : Cells). vacant_count s.records) c.read_used-block.ensures.left.cells, c.records_for.ensures, c.records_for-2.ensures) in
     omega (arith, enough, gap_of_some (c.start_of-start.result - c.read_used-block.result.place) some, vacant_taken c.args.store.now.cells c.requires.stands (record_at c.args.store.now.cells.records c.args.slot).place c.args.slot c.args.align c.args.asked k.by c.requires.is c.requires.some c.requires.whole c.requires.found c.take_whole.new.store.cells taken)
 
 pub trim-requires-clause-stands : goal.trim-requires-clause-stands
 trim-requires-clause-stands c =
     let k = known c.args.store.now.cells c.requires.stands c.args.slot c.args.align c.args.asked c.requires.is c.requires.some c.requires.whole c.requires.free c.requires.found c.read_used-block.result c.read_used-block.ensures.value in
-    let taken : StandsAt c.args.slot InUse c.take_whole.new.store.cells (at_taken k.by.at) = c.take_whole.ensures.leads k.by.at (rw (c.vacant.ensures.cells, c.read_used-block.ensures.cells) k.by.stands) in
+    let taken : StandsAt c.args.slot InUse c.take_whole.new.store.cells (at_taken k.by.at) = c.take_whole.ensures.leads k.by.at (rw (c.vacant.ensures.left.cells, c.read_used-block.ensures.left.cells) k.by.stands) in
     (at_gapped c.leave_gap-live.result (c.start_of-start.result - c.read_used-block.result.place) (at_taken k.by.at), c.leave_gap-live.ensures.leads (at_taken k.by.at) (rw c.of-whole.ensures taken))
 
 pub trim-requires-clause-read : goal.trim-requires-clause-read
 trim-requires-clause-read c =
     let k = known c.args.store.now.cells c.requires.stands c.args.slot c.args.align c.args.asked c.requires.is c.requires.some c.requires.whole c.requires.free c.requires.found c.read_used-block.result c.read_used-block.ensures.value in
-    let taken : StandsAt c.args.slot InUse c.take_whole.new.store.cells (at_taken k.by.at) = c.take_whole.ensures.leads k.by.at (rw (c.vacant.ensures.cells, c.read_used-block.ensures.cells) k.by.stands) in
+    let taken : StandsAt c.args.slot InUse c.take_whole.new.store.cells (at_taken k.by.at) = c.take_whole.ensures.leads k.by.at (rw (c.vacant.ensures.left.cells, c.read_used-block.ensures.left.cells) k.by.stands) in
     let known_there = taken_known c.args.store.now.cells c.take_whole.new.store.cells c.args.slot k.by.at c.read_used-block.result k.by.stands taken c.read_used-block.ensures.value c.read_used-block.ensures.kept.place in
     let gap : ℕ = c.start_of-start.result - c.read_used-block.result.place in
     let gapped = c.leave_gap-live.ensures.leads (at_taken k.by.at) (rw c.of-whole.ensures taken) in
@@ -131,9 +131,9 @@ trim-requires-clause-room c less =
     let k = known c.args.store.now.cells c.requires.stands c.args.slot c.args.align c.args.asked c.requires.is c.requires.some c.requires.whole c.requires.free c.requires.found c.read_used-block.result c.read_used-block.ensures.value in
     let gap_is : c.start_of-start.result - c.read_used-block.result.place ≡ next_multiple_of (record_at c.args.store.now.cells.records c.args.slot).place c.args.align - (record_at c.args.store.now.cells.records c.args.slot).place =
     ap (λ s. s - c.read_used-block.result.place) c.start_of-start.ensures ∙ ap (λ p. next_multiple_of p c.args.align - p) k.place_is in
-    let taken : StandsAt c.args.slot InUse c.take_whole.new.store.cells (at_taken k.by.at) = c.take_whole.ensures.leads k.by.at (rw (c.vacant.ensures.cells, c.read_used-block.ensures.cells) k.by.stands) in
+    let taken : StandsAt c.args.slot InUse c.take_whole.new.store.cells (at_taken k.by.at) = c.take_whole.ensures.leads k.by.at (rw (c.vacant.ensures.left.cells, c.read_used-block.ensures.left.cells) k.by.stands) in
     let enough : gap_records (c.start_of-start.result - c.read_used-block.result.place) + gap_records ((c.read_used-block.result.size - (c.start_of-start.result - c.read_used-block.result.place)) - c.args.asked) ≤ vacant_count c.args.store.now.cells.records =
-    omega (arith, c.if-vacant-records_for.false, c.vacant.ensures.value, ap (λ (s : Cells). vacant_count s.records) c.read_used-block.ensures.cells, c.records_for.ensures, c.records_for-2.ensures) in
+    omega (arith, c.if-vacant-records_for.false, c.vacant.ensures.value, ap (λ (s : Cells). vacant_count s.records) c.read_used-block.ensures.left.cells, c.records_for.ensures, c.records_for-2.ensures) in
     let gapped = c.leave_gap-live.ensures.leads (at_taken k.by.at) (rw c.of-whole.ensures taken) in
     let P : ℕ → Type 0 = λ g. StandsAt c.leave_gap-live.result InUse c.leave_gap-live.new.store.cells (at_gapped c.leave_gap-live.result g (at_taken k.by.at)) in
     let vacant = vacant_after c.args.store.now.cells c.requires.stands (record_at c.args.store.now.cells.records c.args.slot).place c.args.slot c.args.align c.args.asked k.by c.requires.is c.requires.some c.requires.whole c.requires.found c.leave_gap-live.new.store.cells c.leave_gap-live.result (subst P gap_is gapped) in
@@ -146,9 +146,9 @@ left c =
     let k = known c.args.store.now.cells c.requires.stands c.args.slot c.args.align c.args.asked c.requires.is c.requires.some c.requires.whole c.requires.free c.requires.found c.read_used-block.result c.read_used-block.ensures.value in
     let gap_is : c.start_of-start.result - c.read_used-block.result.place ≡ next_multiple_of (record_at c.args.store.now.cells.records c.args.slot).place c.args.align - (record_at c.args.store.now.cells.records c.args.slot).place =
     ap (λ s. s - c.read_used-block.result.place) c.start_of-start.ensures ∙ ap (λ p. next_multiple_of p c.args.align - p) k.place_is in
-    let taken : StandsAt c.args.slot InUse c.take_whole.new.store.cells (at_taken k.by.at) = c.take_whole.ensures.leads k.by.at (rw (c.vacant.ensures.cells, c.read_used-block.ensures.cells) k.by.stands) in
+    let taken : StandsAt c.args.slot InUse c.take_whole.new.store.cells (at_taken k.by.at) = c.take_whole.ensures.leads k.by.at (rw (c.vacant.ensures.left.cells, c.read_used-block.ensures.left.cells) k.by.stands) in
     let enough : gap_records (c.start_of-start.result - c.read_used-block.result.place) + gap_records ((c.read_used-block.result.size - (c.start_of-start.result - c.read_used-block.result.place)) - c.args.asked) ≤ vacant_count c.args.store.now.cells.records =
-    omega (arith, c.if-vacant-records_for.false, c.vacant.ensures.value, ap (λ (s : Cells). vacant_count s.records) c.read_used-block.ensures.cells, c.records_for.ensures, c.records_for-2.ensures) in
+    omega (arith, c.if-vacant-records_for.false, c.vacant.ensures.value, ap (λ (s : Cells). vacant_count s.records) c.read_used-block.ensures.left.cells, c.records_for.ensures, c.records_for-2.ensures) in
     let end = c.trim.ensures.leads (at_gapped c.leave_gap-live.result (c.start_of-start.result - c.read_used-block.result.place) (at_taken k.by.at)) (c.leave_gap-live.ensures.leads (at_taken k.by.at) (rw c.of-whole.ensures taken)) in
     let P : ℕ → ℕ → Type 0 = λ g n. gap_records g + gap_records ((n - g) - c.args.asked) ≤ vacant_count c.args.store.now.cells.records in
     let Q : ℕ → Type 0 = λ g. StandsAt c.leave_gap-live.result InUse c.trim.new.store.cells (at_trimmed end.0 c.args.asked (at_gapped c.leave_gap-live.result g (at_taken k.by.at))) in
@@ -164,10 +164,10 @@ returns c = record {
         let start = c.start_of-start.ensures ∙ ap (λ p. next_multiple_of p c.args.align) k.place_is in
         rw (c.new.ensures, c.live.view_is, start) (picked c.leave_gap-live.result c.args.align c.args.asked (record_at c.args.store.now.cells.records c.args.slot).place (content_of c.args.store.now.cells) c.requires.found _ (left c).1);
     slot_below = let k = known c.args.store.now.cells c.requires.stands c.args.slot c.args.align c.args.asked c.requires.is c.requires.some c.requires.whole c.requires.free c.requires.found c.read_used-block.result c.read_used-block.ensures.value in
-        let taken : StandsAt c.args.slot InUse c.take_whole.new.store.cells (at_taken k.by.at) = c.take_whole.ensures.leads k.by.at (rw (c.vacant.ensures.cells, c.read_used-block.ensures.cells) k.by.stands) in
+        let taken : StandsAt c.args.slot InUse c.take_whole.new.store.cells (at_taken k.by.at) = c.take_whole.ensures.leads k.by.at (rw (c.vacant.ensures.left.cells, c.read_used-block.ensures.left.cells) k.by.stands) in
         rw (c.new.ensures, c.live.view_is) (omega (arith, c.leave_gap-live.ensures.below, taken.0.count, k.by.stands.0.count, records_are c.args.store.now.cells));
     slot_new = let k = known c.args.store.now.cells c.requires.stands c.args.slot c.args.align c.args.asked c.requires.is c.requires.some c.requires.whole c.requires.free c.requires.found c.read_used-block.result c.read_used-block.ensures.value in
-        let taken : StandsAt c.args.slot InUse c.take_whole.new.store.cells (at_taken k.by.at) = c.take_whole.ensures.leads k.by.at (rw (c.vacant.ensures.cells, c.read_used-block.ensures.cells) k.by.stands) in
+        let taken : StandsAt c.args.slot InUse c.take_whole.new.store.cells (at_taken k.by.at) = c.take_whole.ensures.leads k.by.at (rw (c.vacant.ensures.left.cells, c.read_used-block.ensures.left.cells) k.by.stands) in
         rw (c.new.ensures, c.live.view_is) (elim (cases_lt 0 (c.start_of-start.result - c.read_used-block.result.place)) [
           | inl some ↦ vacant_new c.args.store.now.cells c.requires.stands (record_at c.args.store.now.cells.records c.args.slot).place c.args.slot c.args.align c.args.asked k.by c.requires.is c.requires.some c.requires.whole c.requires.found c.take_whole.new.store.cells taken c.leave_gap-live.result (c.leave_gap-live.ensures.vacant some)
           | inr none ↦

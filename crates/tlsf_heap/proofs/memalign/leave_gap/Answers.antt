@@ -28,12 +28,12 @@ known old new span rest at was stands read =
 pub split-requires-clause-slot_used : goal.split-requires-clause-slot_used
 split-requires-clause-slot_used c =
     let at : At = c.requires.stands.0 in
-    slot_used c.take_vacant.new.self.cells c.args.block.now.slot InUse (with_slot c.in-Some.live at) (spared c.args.store.now.cells c.take_vacant.new.self.cells c.take_vacant.result c.args.block.now.slot c.in-Some.live at c.requires.stands.1 c.in-Some.is c.take_vacant.ensures.taken c.in-Some.ensures.within c.in-Some.ensures.vacant)
+    slot_used c.take_vacant.new.self.cells c.args.block.now.slot InUse (with_slot c.in-Some.live at) (spared c.args.store.now.cells c.take_vacant.new.self.cells c.take_vacant.result c.args.block.now.slot c.in-Some.live at c.requires.stands.1 c.in-Some.is c.take_vacant.ensures.left.cells c.in-Some.ensures.within c.in-Some.ensures.vacant)
 
 pub split-requires-clause-next_used : goal.split-requires-clause-next_used
 split-requires-clause-next_used c =
     let at : At = c.requires.stands.0 in
-    let stands = spared c.args.store.now.cells c.take_vacant.new.self.cells c.take_vacant.result c.args.block.now.slot c.in-Some.live at c.requires.stands.1 c.in-Some.is c.take_vacant.ensures.taken c.in-Some.ensures.within c.in-Some.ensures.vacant in
+    let stands = spared c.args.store.now.cells c.take_vacant.new.self.cells c.take_vacant.result c.args.block.now.slot c.in-Some.live at c.requires.stands.1 c.in-Some.is c.take_vacant.ensures.left.cells c.in-Some.ensures.within c.in-Some.ensures.vacant in
     let P : Option ℕ → Type 0 = λ o. IsUsed c.take_vacant.new.self.cells.records o in
     subst P (sym (known c.args.store.now.cells c.take_vacant.new.self.cells c.args.block.now c.in-Some.live at c.requires.stands.1 stands c.requires.read).next) (last_used c.take_vacant.new.self.cells c.args.block.now.slot c.in-Some.live InUse at stands)
 
@@ -73,14 +73,14 @@ pub set_state-requires-2-clause-used : goal.set_state-requires-2-clause-used
 set_state-requires-2-clause-used c =
     let at : At = c.requires.stands.0 in
     slot_used c.set_state.new.store.cells c.args.block.now.slot InUse (at_front c.args.block.now.slot c.in-Some.live c.args.bytes at)
-    (fronted c.args.store.now.cells c.take_vacant.new.self.cells c.split.new.store.cells c.set_state.new.store.cells c.args.block.now c.take_vacant.result c.in-Some.live c.args.bytes at c.requires.stands.1 c.requires.read c.in-Some.is c.take_vacant.ensures.taken c.in-Some.ensures.within c.in-Some.ensures.vacant (grind (arith, c.if-bytes-eq0.false)) c.requires.less c.requires.whole c.split.ensures.cells c.set_state.ensures.cells)
+    (fronted c.args.store.now.cells c.take_vacant.new.self.cells c.split.new.store.cells c.set_state.new.store.cells c.args.block.now c.take_vacant.result c.in-Some.live c.args.bytes at c.requires.stands.1 c.requires.read c.in-Some.is c.take_vacant.ensures.left.cells c.in-Some.ensures.within c.in-Some.ensures.vacant (grind (arith, c.if-bytes-eq0.false)) c.requires.less c.requires.whole c.split.ensures.cells c.set_state.ensures.cells)
 
 pub enter-requires-clause-stands : goal.enter-requires-clause-stands
 enter-requires-clause-stands c =
     let at : At = c.requires.stands.0 in (
       at_turned Loose (at_front c.args.block.now.slot c.in-Some.live c.args.bytes at),
       freed c.set_state.new.store.cells c.set_state-2.new.store.cells c.args.block.now.slot c.in-Some.live c.args.bytes at
-          (fronted c.args.store.now.cells c.take_vacant.new.self.cells c.split.new.store.cells c.set_state.new.store.cells c.args.block.now c.take_vacant.result c.in-Some.live c.args.bytes at c.requires.stands.1 c.requires.read c.in-Some.is c.take_vacant.ensures.taken c.in-Some.ensures.within c.in-Some.ensures.vacant (grind (arith, c.if-bytes-eq0.false)) c.requires.less c.requires.whole c.split.ensures.cells c.set_state.ensures.cells)
+          (fronted c.args.store.now.cells c.take_vacant.new.self.cells c.split.new.store.cells c.set_state.new.store.cells c.args.block.now c.take_vacant.result c.in-Some.live c.args.bytes at c.requires.stands.1 c.requires.read c.in-Some.is c.take_vacant.ensures.left.cells c.in-Some.ensures.within c.in-Some.ensures.vacant (grind (arith, c.if-bytes-eq0.false)) c.requires.less c.requires.whole c.split.ensures.cells c.set_state.ensures.cells)
           c.set_state-2.ensures.cells,
     )
 
@@ -89,7 +89,7 @@ enter-requires-clause-size c =
     let at : At = c.requires.stands.0 in
     sym (size_read c.set_state-2.new.store.cells c.args.block.now.slot Loose (at_turned Loose (at_front c.args.block.now.slot c.in-Some.live c.args.bytes at))
     (freed c.set_state.new.store.cells c.set_state-2.new.store.cells c.args.block.now.slot c.in-Some.live c.args.bytes at
-    (fronted c.args.store.now.cells c.take_vacant.new.self.cells c.split.new.store.cells c.set_state.new.store.cells c.args.block.now c.take_vacant.result c.in-Some.live c.args.bytes at c.requires.stands.1 c.requires.read c.in-Some.is c.take_vacant.ensures.taken c.in-Some.ensures.within c.in-Some.ensures.vacant (grind (arith, c.if-bytes-eq0.false)) c.requires.less c.requires.whole c.split.ensures.cells c.set_state.ensures.cells)
+    (fronted c.args.store.now.cells c.take_vacant.new.self.cells c.split.new.store.cells c.set_state.new.store.cells c.args.block.now c.take_vacant.result c.in-Some.live c.args.bytes at c.requires.stands.1 c.requires.read c.in-Some.is c.take_vacant.ensures.left.cells c.in-Some.ensures.within c.in-Some.ensures.vacant (grind (arith, c.if-bytes-eq0.false)) c.requires.less c.requires.whole c.split.ensures.cells c.set_state.ensures.cells)
     c.set_state-2.ensures.cells))
 
 pub returns-clause-leads : goal.returns-clause-leads
@@ -97,7 +97,7 @@ returns-clause-leads c at stands =
     let some : 0 < c.args.bytes = grind (arith, c.if-bytes-eq0.false) in
     let end = c.enter.ensures.leads (at_turned Loose (at_front c.args.block.now.slot c.in-Some.live c.args.bytes at))
     (freed c.set_state.new.store.cells c.set_state-2.new.store.cells c.args.block.now.slot c.in-Some.live c.args.bytes at
-    (fronted c.args.store.now.cells c.take_vacant.new.self.cells c.split.new.store.cells c.set_state.new.store.cells c.args.block.now c.take_vacant.result c.in-Some.live c.args.bytes at stands c.requires.read c.in-Some.is c.take_vacant.ensures.taken c.in-Some.ensures.within c.in-Some.ensures.vacant some c.requires.less c.requires.whole c.split.ensures.cells c.set_state.ensures.cells)
+    (fronted c.args.store.now.cells c.take_vacant.new.self.cells c.split.new.store.cells c.set_state.new.store.cells c.args.block.now c.take_vacant.result c.in-Some.live c.args.bytes at stands c.requires.read c.in-Some.is c.take_vacant.ensures.left.cells c.in-Some.ensures.within c.in-Some.ensures.vacant some c.requires.less c.requires.whole c.split.ensures.cells c.set_state.ensures.cells)
     c.set_state-2.ensures.cells) in
     gapped_stands c.args.block.now.slot c.in-Some.live c.args.bytes at c.enter.new.store.cells stands.1.slot_is stands.1.status_is some end
 

@@ -40,14 +40,14 @@ release-requires-clause-stands c =
     let mid : Cells = c.allocate.new.store.cells in
     let live = still c.args.store.now.cells mid c.in-Ok.given.slot c.args.ptr.place c.args.ptr.slot c.args.asked c.in-Ok.given.place c.requires.stands c.requires.live c.in-Ok.ensures.ok.ok in
     let by = live_at mid c.in-Ok.ensures.stands c.args.ptr.place c.args.ptr.slot live in
-    (by.at, rw (c.read_used-block.ensures.cells, c.slot.ensures) by.stands)
+    (by.at, rw (c.read_used-block.ensures.left.cells, c.slot.ensures) by.stands)
 
 left : (c : goal.After-release) → Stands c.release.new.store.cells × (content_of c.release.new.store.cells ≡ after_free c.args.ptr.place (content_of c.allocate.new.store.cells))
 left c =
     let mid : Cells = c.allocate.new.store.cells in
     let live = still c.args.store.now.cells mid c.in-Ok.given.slot c.args.ptr.place c.args.ptr.slot c.args.asked c.in-Ok.given.place c.requires.stands c.requires.live c.in-Ok.ensures.ok.ok in
     let by = live_at mid c.in-Ok.ensures.stands c.args.ptr.place c.args.ptr.slot live in
-    freed_stands mid c.in-Ok.ensures.stands c.args.ptr.place c.args.ptr.slot c.release.new.store.cells by live (c.release.ensures.leads by.at (rw (c.read_used-block.ensures.cells, c.slot.ensures) by.stands))
+    freed_stands mid c.in-Ok.ensures.stands c.args.ptr.place c.args.ptr.slot c.release.new.store.cells by live (c.release.ensures.leads by.at (rw (c.read_used-block.ensures.left.cells, c.slot.ensures) by.stands))
 
 pub returns-in-Ok : goal.returns-in-Ok
 returns-in-Ok c = record {

@@ -17,8 +17,8 @@ give_vacant-requires-clause-used c =
 pub set_entries-requires-clause-count : goal.set_entries-requires-clause-count
 set_entries-requires-clause-count c =
     let taken = c.take_whole.ensures.leads c.requires.stands.0 c.requires.stands.1 in
-    ap (λ (s : Cells). length s.pools) c.give_vacant.ensures.written ∙ ap length (pools_stay c.args.store.now.cells c.take_whole.new.store.cells c.args.slot c.requires.stands.0 c.requires.stands.1 taken).0 ∙ c.requires.count
+    ap (λ (s : Cells). length s.pools) c.give_vacant.ensures.left.cells ∙ ap length (pools_stay c.args.store.now.cells c.take_whole.new.store.cells c.args.slot c.requires.stands.0 c.requires.stands.1 taken).0 ∙ c.requires.count
 
 pub returns-clause-leads : goal.returns-clause-leads
 returns-clause-leads c at stands none_before none_behind entries_are =
-    rw (c.set_entries.ensures.cells, c.give_vacant.ensures.written, entries_are) (area_leaves c.take_whole.new.store.cells c.args.slot at (c.take_whole.ensures.leads at stands) none_before none_behind)
+    rw (c.set_entries.ensures.cells, c.give_vacant.ensures.left.cells, entries_are) (area_leaves c.take_whole.new.store.cells c.args.slot at (c.take_whole.ensures.leads at stands) none_before none_behind)

@@ -69,14 +69,14 @@ drop_pool-requires-clause-stands c =
     let here = stands_there old c.requires c.args.base c.in-Some.number t.is.0 t.is.1 slot t.slot_is unused in
     let node : At = node_there old c.requires c.args.base c.in-Some.number t.is.0 t.is.1 slot t.slot_is unused in
     let P : Cells → Type 0 = λ cells. StandsAt slot Listed cells node in
-    (node, subst P (sym (c.read-block.ensures.cells ∙ c.entries-entries.ensures.left.cells)) here)
+    (node, subst P (sym (c.read-block.ensures.left.cells ∙ c.entries-entries.ensures.left.cells)) here)
 
 pub drop_pool-requires-clause-below : goal.drop_pool-requires-clause-below
 drop_pool-requires-clause-below c =
     let P : StoredPool → Type 0 = λ entry. entry.first < length c.args.store.now.cells.records in
     let items : List StoredPool = c.entries-entries.result.items in
     let n : ℕ = c.in-Some.number in
-    rw (c.as_slice-2.ensures.value, c.remove-entry.ensures.items, c.read-block.ensures.cells, c.entries-entries.ensures.left.cells)
+    rw (c.as_slice-2.ensures.value, c.remove-entry.ensures.items, c.read-block.ensures.left.cells, c.entries-entries.ensures.left.cells)
     (All-append P (take n items) (drop (suc n) items) (All-take P n items c.entries-entries.ensures.below) (All-drop P (suc n) items c.entries-entries.ensures.below))
 
 -- what is left
@@ -91,7 +91,7 @@ left c =
     let node : At = node_there old c.requires c.args.base c.in-Some.number t.is.0 t.is.1 slot t.slot_is unused in
     let entries = c.as_slice-2.ensures.value ∙ c.remove-entry.ensures.items ∙ ap (λ items. remove items c.in-Some.number) c.entries-entries.ensures.value ∙ alone.2 in
     let P : Cells → Type 0 = λ cells. StandsAt slot Listed cells node in
-    let now : StandsAt slot Listed c.read-block.new.self.cells node = subst P (sym (c.read-block.ensures.cells ∙ c.entries-entries.ensures.left.cells)) here in
+    let now : StandsAt slot Listed c.read-block.new.self.cells node = subst P (sym (c.read-block.ensures.left.cells ∙ c.entries-entries.ensures.left.cells)) here in
     removed_stands old c.requires c.args.base c.in-Some.number t.is.0 t.is.1 slot t.slot_is unused c.drop_pool.new.store.cells (c.drop_pool.ensures.leads node now alone.0 alone.1 entries)
 
 pub returns : goal.returns

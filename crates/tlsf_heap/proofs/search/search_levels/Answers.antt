@@ -17,8 +17,8 @@ returns-in_default-lowest_from-clause-value c =
     let old : Cells = c.args.store.now.cells in
     let level : ℕ = c.in-Some.level in
     let below = level_within c.level_word-word.result level c.level_word-word.ensures.below c.in-Some.ensures.found.2 in
-    let fits = rw (c.step_word-word.ensures.value, c.level_word-word.ensures.cells) at c.step_word-word.type_inv in
-    let none = rw (c.in_default-lowest_from.is, c.step_word-word.ensures.value, c.level_word-word.ensures.cells) at c.lowest_from-2.ensures.none in
+    let fits = rw (c.step_word-word.ensures.value, c.level_word-word.ensures.left.cells) at c.step_word-word.type_inv in
+    let none = rw (c.in_default-lowest_from.is, c.step_word-word.ensures.value, c.level_word-word.ensures.left.cells) at c.lowest_from-2.ensures.none in
     let set = rw c.level_word-word.ensures.value at c.in-Some.ensures.found.2 in
     absurd (has_step old.heads old.step_words old.level_word c.requires.bitmaps c.requires.count level below set fits none)
 
@@ -31,6 +31,6 @@ returns-clause-value c =
     let level : ℕ = c.in-Some.level in
     let below = level_within c.level_word-word.result level c.level_word-word.ensures.below c.in-Some.ensures.found.2 in
     let high = rw c.level_word-word.ensures.value at c.in-Some.ensures.found in
-    let low = rw (c.step_word-word.ensures.value, c.level_word-word.ensures.cells) at c.in-Some-lowest_from.ensures.found in
-    rw (c.head.ensures.value, c.step_word-word.ensures.cells, c.level_word-word.ensures.cells, c.new.ensures)
+    let low = rw (c.step_word-word.ensures.value, c.level_word-word.ensures.left.cells) at c.in-Some-lowest_from.ensures.found in
+    rw (c.head.ensures.value, c.step_word-word.ensures.left.cells, c.level_word-word.ensures.left.cells, c.new.ensures)
     (found_above old.heads old.step_words old.level_word c.requires.bitmaps c.requires.count c.args.from level c.in-Some-lowest_from.step below high low)

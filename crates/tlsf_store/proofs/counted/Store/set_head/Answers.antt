@@ -1,4 +1,4 @@
-use Rattle.std.proofs.Common.{◌≤◌, ap, sym, subst, length}
+use Rattle.std.proofs.Common.{◌≤◌, ap, sym, subst, length, rules}
 use Rattle.tlsf_store.specs.Records.{most_records, IsBelow}
 use Rattle.tlsf_store.specs.Cells.{with_head}
 use Rattle.tlsf_store.proofs.RecordLaws.{below_more}
@@ -24,7 +24,9 @@ invariant_of-self c =
       pools_below = old.pools_below;
     }
 
-pub returns-clause-written : goal.returns-clause-written
-returns-clause-written c =
-    rw (c.number.ensures.value, heads_set c.self.inside.heads c.args.class c.link_word.result c.args.first c.link_word.ensures)
-    (ap (λ v. with_head v.cells c.args.class c.args.first) c.self.view_is)
+pub returns-clause-left : goal.returns-clause-left
+returns-clause-left c = record {
+  cells = rw (c.number.ensures.value, heads_set c.self.inside.heads c.args.class c.link_word.result c.args.first c.link_word.ensures)
+      (ap (λ v. with_head v.cells c.args.class c.args.first) c.self.view_is);
+  touches = search rules;
+}
