@@ -5,8 +5,8 @@ use Rattle.tlsf_heap.specs.declared.cursor.Cursor.{Cursor}
 use Rattle.tlsf_heap.specs.declared.refusal.Refusal.{Refusal}
 use Rattle.tlsf_heap.specs.Touches.{AtMost}
 
--- the cursor at the first of these rows, or why there are none; `rest` has the rows from a cursor on, and `stands_at` is where
--- it can be read
+-- the cursor at the first of these rows, or why there are none. `rest` has the rows from a cursor on, and `stands_at` says
+-- that it stands at a row or at the end
 pub record FindsRows (result : Result Cursor Refusal) (rows : Result (List Row) Refusal) (rest : Cursor → List Row) (stands_at : Cursor → Type 0) : Type 0 where
   pub ok : IfOk result (λ cursor. rows ≡ Ok (rest cursor))
   pub stands : IfOk result (λ cursor. stands_at cursor)

@@ -1,7 +1,7 @@
 //! The bitmaps: a bit for each class whose list isn't empty, and one for each first level that has such
 //! a class.
 
-ghost use Rattle.std.specs.Prelude.{◌≡◌, ◌+◌, ◌<◌, ◌≤◌, ◌^◌};
+ghost use Rattle.std.specs.Prelude.{◌≡◌, ◌<◌, ◌≤◌, ◌^◌};
 ghost use Rattle.tlsf_class.specs.Classes.{levels};
 ghost use Rattle.tlsf_heap.specs.Inner.Edits.{with_bit, without_bit, with_class_bit, without_class_bit, with_level_cleared};
 ghost use Rattle.tlsf_store.specs.CountedCells.{LeavesAfter};

@@ -1,6 +1,6 @@
 //! The free lists: for each class its free blocks, linked both ways.
 
-ghost use Rattle.std.specs.Prelude.{◌≡◌, ◌+◌, ◌<◌, length, IfSome, IfNone, Some, None};
+ghost use Rattle.std.specs.Prelude.{◌≡◌, ◌<◌, length, IfSome, IfNone, Some, None};
 ghost use Rattle.tlsf_store.specs.Records.{IsBelow};
 ghost use Rattle.tlsf_store.specs.Cells.{with_head, head_at};
 ghost use Rattle.tlsf_heap.specs.Touches.{AtMost};

@@ -1,4 +1,4 @@
--- A call that comes to another gives what that gives.
+-- Where two calls are equal on a content, what one gives is what the other gives.
 use Rattle.std.proofs.Common.{◌≡◌, ℕ, ◌∙◌, Option, Some, Result}
 use Rattle.std.specs.Prelude.{IfOk}
 use Rattle.tlsf_heap.specs.declared.refusal.Refusal.{Refusal}

@@ -6,5 +6,5 @@ use Rattle.mtrace_replay.proofs.free_blocks.free_in_pool.Goals as goal
 
 pub free_in_rows-requires-clause-few : goal.free_in_rows-requires-clause-few
 free_in_rows-requires-clause-few g c =
-    let same = ap (λ (rows : List Row). length rows) (ap or_none c.in-Ok.ensures.ok) in
+    let same = ap (λ (rows : List Row). length rows) (ap or_none c.in-Ok.ensures.found.ok) in
     omega (arith, same, rows_few (g.H.Heaped.content c.args.heap.now).pools c.args.base, c.requires.few)

@@ -6,12 +6,12 @@ use Rattle.mtrace_replay.proofs.free_blocks.free_in_rows.Goals as goal
 pub loop-next-preserved : goal.loop-next-preserved
 loop-next-preserved g c =
     let kept = c.loop-next.invariant in
-    let some = c.in-Some.ensures.some in
+    let some = c.in-Some.ensures.given.some in
     let count = ap (λ (rows : List Row). length rows) some in
     let size = free_size c.in-Some.next.0 in
     let later = flat_map free_size (g.H.Heaped.rest c.row.new.self c.in-Some.next.1) in
     record {
-      stands = c.in-Some.ensures.next_stands;
+      stands = c.in-Some.ensures.given.next_stands;
       past = kept.past ++ size;
       free = c.joined-free.ensures.free kept.past size kept.free c.free_in_row.ensures.free;
       all = append_assoc kept.past size later ∙ ap (λ sizes. kept.past ++ sizes) (sym (ap (flat_map free_size) some)) ∙ kept.all;

@@ -14,7 +14,7 @@ end_of_block-end-requires g c =
     let new = g.H.Heaped.content c.realloc.new.self in
     let given = c.in-Ok-Some.new in
     let R : Option Pointer → Type 0 = λ o. realloc (λ a b. a == b) (slot_of o) (Some (c.args.ptr.place, c.args.ptr.slot)) c.args.n old ≡ Ok (place_and_slot o, new) in
-    let served : R (Some given) = subst R c.in-Ok-Some.field-0-is c.in-Ok-Some.ensures.ok in
+    let served : R (Some given) = subst R c.in-Ok-Some.field-0-is c.in-Ok-Some.ensures.ok.ok in
     let live = live_moved (λ a b. a == b) given.slot c.args.ptr.slot c.args.ptr.place c.args.n old given.place given.slot new (λ a. eq-eqb a a refl) c.keeps_good.ensures.good served in
     let P : Pointer → Type 0 = λ ptr. is_live (λ slot. slot == ptr.slot) ptr.place (blocks_of new.pools) ≡ true in
     record { live = subst P (sym c.in-Ok-Some.new-is) live }

@@ -15,7 +15,7 @@ unreachable-requires g c =
     let under = c.requires.held in
     let P : Pointer → Type 0 = λ ptr. is_live (λ slot. slot == ptr.slot) ptr.place (blocks_of content.pools) ≡ true in
     let live = subst P under.2 (c.requires.live.live c.args.found.now.address under.0 under.1) in
-    let refused = c.in-Err.ensures.refused (search rules) in
+    let refused = c.in-Err.ensures.refused.refused (search rules) in
     let served = free_of_live (λ slot. slot == c.args.ptr.slot) c.args.ptr.place content live in
     cc
 

@@ -47,7 +47,7 @@ pub take_whole-requires-clause-stands : goal.take_whole-requires-clause-stands
 take_whole-requires-clause-stands c =
     let by = free_at c.args.store.now.cells c.requires.stands c.args.slot c.requires.free in (by.at, rw c.read_used-block.ensures.left.cells by.stands)
 
--- where a block is picked, what is said of it is said of the bytes asked
+-- malloc of the bytes asked is malloc of the block picked for them
 picked : (owner asked place : ℕ) (content : Content ℕ) → pick asked content.lists ≡ Some place → (answer : Result (ℕ × Content ℕ) Refusal) → malloc_picked owner asked (Some place) content ≡ answer → malloc_rounded owner (Some asked) content ≡ answer
 picked owner asked place content found answer is = ap (λ at. malloc_picked owner asked at content) found ∙ is
 

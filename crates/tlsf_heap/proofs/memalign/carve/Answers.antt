@@ -22,7 +22,7 @@ use Rattle.tlsf_heap.proofs.Inner.Spans.{read_of, by_node, by_record}
 use Rattle.tlsf_heap.proofs.Inner.Carving.{known, gap_of_some, carved_full, carved_stands, vacant_new, vacant_taken, vacant_after}
 use Rattle.tlsf_heap.proofs.memalign.carve.Goals as goal
 
--- where a block is picked, what is said of it is said of the bytes asked
+-- memalign of the bytes asked is memalign of the block picked for them
 picked : (owner align asked place : ℕ) (content : Content ℕ) → pick (size_asked align asked) content.lists ≡ Some place → (answer : Result (ℕ × Content ℕ) Refusal) → memalign_picked owner align asked (Some place) content ≡ answer → memalign_rounded owner align (Some asked) content ≡ answer
 picked owner align asked place content found answer is = ap (λ at. memalign_picked owner align asked at content) found ∙ is
 
