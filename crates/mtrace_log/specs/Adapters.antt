@@ -1,5 +1,6 @@
 -- What a clause reads of the adapters of std's readers and writers.
-use Rattle.std.specs.Prelude.{ℕ, ◌-◌, ◌^◌, List}
+use Rattle.std.specs.Prelude.{◌≡◌, ℕ, ◌-◌, ◌^◌, ◌≤◌, List, length, Option, Result, IfOk, IsErr}
+use Rattle.std.specs.Io.KnownBytes.{ReadConsumes}
 use Rattle.mtrace_log.specs.declared.call.Call.{Call}
 use Rattle.mtrace_log.specs.declared.from_read.FromRead.{FromRead}
 use Rattle.mtrace_log.specs.declared.to_write.ToWrite.{ToWrite}
@@ -23,3 +24,17 @@ writer_of sink = sink.writer
 -- what its calls came to
 abbrev pub writer_trace : {W : Type 0} → ToWrite W → List Call
 writer_trace sink = sink.trace.calls
+
+-- the adapter of this reader, which makes at most this many more calls of it, and what they came to
+pub record IsReading {R : Type 0} (inner : R) (most : ℕ) (past : List Call) (source : FromRead R) : Type 0 where
+  pub reader : reader_of source ≡ inner
+  pub calls : calls_left source ≡ most
+  pub trace : reader_trace source ≡ past
+
+-- at most one read, which gave these bytes at the front of a piece, where the reader tells them; none where no call is left
+pub record ReadsOnce {R E : Type 0} (remaining : R → Option (List ℕ)) (past : List Call) (result : Result ℕ E) (piece : List ℕ) (old new : FromRead R) : Type 0 where
+  pub bound : IfOk result (λ n. n ≤ length piece)
+  pub reads : ReadConsumes (remaining (reader_of old)) (remaining (reader_of new)) result piece
+  pub counted : calls_left new ≡ calls_left old - 1
+  pub exhausted : calls_left old ≡ 0 → IsErr result
+  pub told : reader_trace new ≡ past

@@ -1,5 +1,5 @@
 -- What a clause reads of the reader and the writer over memory.
-use Rattle.std.specs.Prelude.{ℕ, zero, suc, List, length, min, Bool, Option, Some, None}
+use Rattle.std.specs.Prelude.{◌≡◌, ◌↔◌, ℕ, zero, suc, List, ◌∷◌, length, min, Bool, Option, Some, None, Result, IsErr, OnErr}
 use Rattle.mtrace_log.specs.declared.call.Call.{Call}
 use Rattle.mtrace_log.specs.declared.memory.memory_source.MemorySource.{MemorySource}
 use Rattle.mtrace_log.specs.declared.memory.memory_sink.MemorySink.{MemorySink}
@@ -35,13 +35,30 @@ one_call_less None = None
 one_call_less (Some zero) = None
 one_call_less (Some (suc calls)) = Some calls
 
--- how many bytes a call gives into so much room
+-- how many bytes a call gives into this much room
 abbrev pub source_count : MemorySource → ℕ → ℕ
 source_count source room = min (min (length (source_left source)) (source_piece source)) room
 
 -- what its calls came to
 abbrev pub source_trace : MemorySource → List Call
 source_trace source = source.trace.calls
+
+-- the reader with these bytes left and in whole, of this greatest piece, that fails after these calls, and what its calls came to
+pub record IsSource (rest all : List ℕ) (most : ℕ) (failing : Option ℕ) (past : List Call) (source : MemorySource) : Type 0 where
+  pub left : source_left source ≡ rest
+  pub whole : source_whole source ≡ all
+  pub piece : source_piece source ≡ most
+  pub calls : calls_before_failure source ≡ failing
+  pub trace : source_trace source ≡ past
+
+-- one call, which fails exactly where it is to; then no byte is lost
+pub record IsCalled {T E : Type 0} (call : Call) (result : Result T E) (old new : MemorySource) : Type 0 where
+  pub kept : OnErr result (known_left new ≡ known_left old)
+  pub whole : known_whole new ≡ known_whole old
+  pub fails : IsErr result ↔ (calls_before_failure old ≡ Some 0)
+  pub calls : calls_before_failure new ≡ one_call_less (calls_before_failure old)
+  pub piece : source_piece new ≡ source_piece old
+  pub told : source_trace new ≡ call ∷ source_trace old
 
 -- the bytes taken
 abbrev pub sink_taken : MemorySink → List ℕ
@@ -67,6 +84,16 @@ flush_fails sink = sink.flush_fails
 abbrev pub sink_trace : MemorySink → List Call
 sink_trace sink = sink.trace.calls
 
--- how many of so many bytes a call takes
+-- how many of the bytes offered a call takes
 abbrev pub sink_count : MemorySink → ℕ → ℕ
 sink_count sink offered = min (min offered (sink_room sink)) (sink_piece sink)
+
+-- the writer that took these bytes, with this greatest piece and this room, what it answers when it is full, whether its flushes
+-- fail, and what its calls came to
+pub record IsSink (bytes : List ℕ) (most left : ℕ) (when_full : WhenFull) (fails : Bool) (past : List Call) (sink : MemorySink) : Type 0 where
+  pub taken : sink_taken sink ≡ bytes
+  pub piece : sink_piece sink ≡ most
+  pub room : sink_room sink ≡ left
+  pub full : sink_full sink ≡ when_full
+  pub flush : flush_fails sink ≡ fails
+  pub trace : sink_trace sink ≡ past

@@ -1,5 +1,5 @@
 -- What `Lines` keeps between two calls, and what one call does.
-use Rattle.std.specs.Prelude.{◌≡◌, ℕ, ◌+◌, ◌-◌, ◌^◌, ◌<◌, List, [], ◌∷◌, ◌++◌, length, Option, Some, None, Result, Ok, Err}
+use Rattle.std.specs.Prelude.{◌≡◌, ℕ, ◌+◌, ◌-◌, ◌^◌, ◌<◌, List, [], ◌∷◌, ◌++◌, length, Option, Some, None, Result, Ok, Err, IfOk, IfErr, IfSome, IfNone}
 use Rattle.std.specs.Io.KnownBytes.{prepend_known, IsAtEnd}
 use Rattle.mtrace_log.specs.Bytes.{Lacks, newline}
 use Rattle.mtrace_log.specs.Reading.{Reads}
@@ -103,3 +103,21 @@ ReadsOn left trace old new reader_old reader_new (Ok None) = (new.status ≡ End
 ReadsOn left trace old new reader_old reader_new (Err fault) = GivesFault Reading fault old new reader_old reader_new
     (to_come old (left reader_old)) (to_come new (left reader_new))
     × CallsFor new.status (trace reader_old) (trace reader_new)
+
+-- a call while lines are read, after which the reader has the same bytes in whole; where it failed, nothing is held
+pub record Passes {R : Type 0} (left bytes : R → Option (List ℕ)) (trace : R → List Call) (result : Result (Option ℕ) ReadFault) (old new : Progress) (reader_old reader_new : R) : Type 0 where
+  pub reads : ReadsOn left trace old new reader_old reader_new result
+  pub nothing_held : IfErr result (λ fault. fault ≡ ReaderFailed → new.held ≡ [])
+  pub whole : bytes reader_new ≡ bytes reader_old
+
+-- A call at any status: it gives the next line, finds the end, or gives a fault. The calls of the reader are told, where lines were
+-- read; where it failed, all that it gave is taken, and the text to come is what it has left.
+pub record Advances {R T : Type 0} (Gives : (old new : Progress) (before after : Option (List ℕ)) → T → Type 0) (left bytes : R → Option (List ℕ)) (trace : R → List Call)
+    (result : Result (Option T) ReadFault) (old new : Progress) (reader_old reader_new : R) : Type 0 where
+  pub line : IfOk result (λ found. IfSome found (λ line. Gives old new (to_come old (left reader_old)) (to_come new (left reader_new)) line))
+  pub end : IfOk result (λ found. IfNone found ((new.status ≡ Ended)
+      × FindsEnd old.status old new reader_old reader_new (to_come old (left reader_old)) (to_come new (left reader_new))))
+  pub fault : IfErr result (λ fault. GivesFault old.status fault old new reader_old reader_new (to_come old (left reader_old)) (to_come new (left reader_new)))
+  pub calls : old.status ≡ Reading → CallsFor new.status (trace reader_old) (trace reader_new)
+  pub nothing_held : IfErr result (λ fault. fault ≡ ReaderFailed → new.held ≡ [])
+  pub whole : bytes reader_new ≡ bytes reader_old

@@ -1,8 +1,8 @@
-ghost use Rattle.std.specs.Prelude.{◌≡◌, ℕ, ◌-◌, ◌^◌, ◌<◌, ◌≤◌, List, [], ◌∷◌, length, take, Option, None, IfOk, OnErr, IsErr};
-ghost use Rattle.std.specs.Io.KnownBytes.{ReadConsumes, Keeps};
+ghost use Rattle.std.specs.Prelude.{◌≡◌, ℕ, ◌-◌, ◌^◌, ◌<◌, List, [], ◌∷◌, length, Option, None};
+ghost use Rattle.std.specs.Io.KnownBytes.{Keeps};
 ghost use Rattle.std.specs.Io.Seek.{MovesTo};
 ghost use Rattle.mtrace_log.specs.declared.call.Call.{Call};
-ghost use Rattle.mtrace_log.specs.Adapters.{reader_of, calls_left, reader_trace};
+ghost use Rattle.mtrace_log.specs.Adapters.{reader_of, calls_left, reader_trace, IsReading, ReadsOnce};
 ghost use Rattle.mtrace_log.specs.Trace.{pulled, began};
 
 use crate::again::Again;
@@ -26,9 +26,7 @@ pub struct FromRead<R> {
 impl<R: Read> FromRead<R> {
     /// The reader as a `Source`.
     pub fn new(reader: R) -> Self
-        ensures reader { reader_of result ≡ reader }
-        ensures calls { calls_left result ≡ 2 ^ 64 - 1 }
-        ensures trace { reader_trace result ≡ [] }
+        ensures { IsReading reader (2 ^ 64 - 1) [] result }
     {
         FromRead {
             reader,
@@ -39,11 +37,7 @@ impl<R: Read> FromRead<R> {
 
     /// Reads once, where a read is left. What it came to is not told yet.
     fn read_once(&mut self, buf: &mut [u8]) -> Result<usize, Failed>
-        ensures bound { IfOk result (λ n. n ≤ length buf.new) }
-        ensures reads { ReadConsumes (R.remaining (reader_of self.old)) (R.remaining (reader_of self.new)) result buf.new }
-        ensures counted { calls_left self.new ≡ calls_left self.old - 1 }
-        ensures exhausted { calls_left self.old ≡ 0 → IsErr result }
-        ensures trace { reader_trace self.new ≡ reader_trace self.old }
+        ensures { ReadsOnce R.remaining (reader_trace self.old) result buf.new self.old self.new }
     {
         if self.calls == u64::MAX {
             return Err(Failed);
@@ -70,12 +64,8 @@ impl<R: Read> Source for FromRead<R> {
     /// `Failed` where the read answered an error, and where 2^64 - 1 reads were asked before.
     fn pull(&mut self, buf: &mut [u8]) -> Result<usize, Failed>
         requires { 0 < length buf.old }
-        ensures bound { IfOk result (λ n. n ≤ length buf.new) }
         // The bytes are those that the reader gave, where it tells them, and 0 is its end.
-        ensures reads { ReadConsumes (R.remaining (reader_of self.old)) (R.remaining (reader_of self.new)) result buf.new }
-        ensures told { reader_trace self.new ≡ pulled result ∷ reader_trace self.old }
-        ensures counted { calls_left self.new ≡ calls_left self.old - 1 }
-        ensures exhausted { calls_left self.old ≡ 0 → IsErr result }
+        ensures { ReadsOnce R.remaining (pulled result ∷ reader_trace self.old) result buf.new self.old self.new }
     {
         let answer = self.read_once(buf);
         self.trace.add(Call::pulled(&answer));

@@ -1,6 +1,5 @@
-ghost use Rattle.std.specs.Prelude.{◌≡◌, ◌<◌, [], Some, IfOk, IfErr, IfSome, IfNone};
-ghost use Rattle.mtrace_log.specs.Progress.{Reading, Ended, to_come, greatest_number, Says, GivesLine, PassesLine, FindsEnd, GivesFault, ReadsOn, CallsFor};
-ghost use Rattle.mtrace_log.specs.declared.line.ReadFault.TheVariants.{ReaderFailed};
+ghost use Rattle.std.specs.Prelude.{◌≡◌, ◌<◌, [], Some};
+ghost use Rattle.mtrace_log.specs.Progress.{Reading, greatest_number, Says, GivesLine, PassesLine, Advances, Passes};
 
 use crate::buffer::Buffer;
 use crate::event::{Event, LineFault};
@@ -88,19 +87,7 @@ impl Lines {
     /// `ReaderFailed` where the reader failed in this call: the unfinished piece is lost.
     /// `TooManyLines` where there are 2^64 - 1 lines and one more would come.
     pub fn next<R: Source>(&mut self, reader: &mut R) -> Result<Option<Line>, ReadFault>
-        ensures line { IfOk result (λ found. IfSome found (λ line. GivesLine self.old self.new
-            (to_come self.old (R.left reader.old)) (to_come self.new (R.left reader.new)) line)) }
-        ensures end { IfOk result (λ found. IfNone found ((self.new.status ≡ Ended)
-            × FindsEnd self.old.status self.old self.new reader.old reader.new
-            (to_come self.old (R.left reader.old)) (to_come self.new (R.left reader.new)))) }
-        ensures fault { IfErr result (λ fault. GivesFault self.old.status fault self.old self.new reader.old reader.new
-            (to_come self.old (R.left reader.old)) (to_come self.new (R.left reader.new))) }
-        // What came of the calls of the reader: pieces alone, or pieces and then, once and last, its end
-        // or its failure.
-        ensures calls { self.old.status ≡ Reading → CallsFor self.new.status (R.trace reader.old) (R.trace reader.new) }
-        // Where the reader failed, all that it gave is taken: the text to come is what it has left.
-        ensures nothing_held { IfErr result (λ fault. fault ≡ ReaderFailed → self.new.held ≡ []) }
-        ensures whole { R.whole reader.new ≡ R.whole reader.old }
+        ensures { Advances GivesLine R.left R.whole R.trace result self.old self.new reader.old reader.new }
     {
         match self.advance(reader) {
             Ok(Some(number)) => {
@@ -120,16 +107,7 @@ impl Lines {
     /// As [`Lines::next`].
     #[inline(always)]
     pub fn advance<R: Source>(&mut self, reader: &mut R) -> Result<Option<u64>, ReadFault>
-        ensures line { IfOk result (λ found. IfSome found (λ number. PassesLine self.old self.new
-            (to_come self.old (R.left reader.old)) (to_come self.new (R.left reader.new)) number)) }
-        ensures end { IfOk result (λ found. IfNone found ((self.new.status ≡ Ended)
-            × FindsEnd self.old.status self.old self.new reader.old reader.new
-            (to_come self.old (R.left reader.old)) (to_come self.new (R.left reader.new)))) }
-        ensures fault { IfErr result (λ fault. GivesFault self.old.status fault self.old self.new reader.old reader.new
-            (to_come self.old (R.left reader.old)) (to_come self.new (R.left reader.new))) }
-        ensures calls { self.old.status ≡ Reading → CallsFor self.new.status (R.trace reader.old) (R.trace reader.new) }
-        ensures nothing_held { IfErr result (λ fault. fault ≡ ReaderFailed → self.new.held ≡ []) }
-        ensures whole { R.whole reader.new ≡ R.whole reader.old }
+        ensures { Advances PassesLine R.left R.whole R.trace result self.old self.new reader.old reader.new }
     {
         match self.state {
             State::Reading => self.read_next(reader),
@@ -166,9 +144,7 @@ impl Lines {
     #[inline(always)]
     fn read_next<R: Source>(&mut self, reader: &mut R) -> Result<Option<u64>, ReadFault>
         requires { self.old.status ≡ Reading }
-        ensures reads { ReadsOn R.left R.trace self.old self.new reader.old reader.new result }
-        ensures nothing_held { IfErr result (λ fault. fault ≡ ReaderFailed → self.new.held ≡ []) }
-        ensures whole { R.whole reader.new ≡ R.whole reader.old }
+        ensures { Passes R.left R.whole R.trace result self.old self.new reader.old reader.new }
     {
         if self.count == u64::MAX {
             return self.find_end(reader);
@@ -187,9 +163,7 @@ impl Lines {
     fn read_other<R: Source>(&mut self, reader: &mut R) -> Result<Option<u64>, ReadFault>
         requires reading { self.old.status ≡ Reading }
         requires room { self.old.count < greatest_number }
-        ensures reads { ReadsOn R.left R.trace self.old self.new reader.old reader.new result }
-        ensures nothing_held { IfErr result (λ fault. fault ≡ ReaderFailed → self.new.held ≡ []) }
-        ensures whole { R.whole reader.new ≡ R.whole reader.old }
+        ensures { Passes R.left R.whole R.trace result self.old self.new reader.old reader.new }
     {
         self.frequent = None;
         if !self.buffer.take_line() {
@@ -205,9 +179,7 @@ impl Lines {
     fn read_across<R: Source>(&mut self, reader: &mut R) -> Result<Option<u64>, ReadFault>
         requires reading { self.old.status ≡ Reading }
         requires room { self.old.count < greatest_number }
-        ensures reads { ReadsOn R.left R.trace self.old self.new reader.old reader.new result }
-        ensures nothing_held { IfErr result (λ fault. fault ≡ ReaderFailed → self.new.held ≡ []) }
-        ensures whole { R.whole reader.new ≡ R.whole reader.old }
+        ensures { Passes R.left R.whole R.trace result self.old self.new reader.old reader.new }
     {
         self.frequent = None;
         let (line, stop) = read_piece(&mut self.buffer, reader);
@@ -235,9 +207,7 @@ impl Lines {
     fn find_end<R: Source>(&mut self, reader: &mut R) -> Result<Option<u64>, ReadFault>
         requires reading { self.old.status ≡ Reading }
         requires full { self.old.count ≡ greatest_number }
-        ensures reads { ReadsOn R.left R.trace self.old self.new reader.old reader.new result }
-        ensures nothing_held { IfErr result (λ fault. fault ≡ ReaderFailed → self.new.held ≡ []) }
-        ensures whole { R.whole reader.new ≡ R.whole reader.old }
+        ensures { Passes R.left R.whole R.trace result self.old self.new reader.old reader.new }
     {
         self.frequent = None;
         if !self.buffer.is_empty() {

@@ -1,7 +1,7 @@
 ghost use Rattle.std.specs.Prelude.{◌≡◌, ◌≢◌, ℕ, ◌<◌, ◌≤◌, ◌++◌, ◌∷◌, List, length, not, slice_index, MatchOption, SomeIff};
 ghost use Rattle.std.specs.List.{prefix_len};
 ghost use Rattle.mtrace_log.specs.Bytes.{space};
-ghost use Rattle.mtrace_log.specs.Location.{IsLocation, IsLocationByte, is_blank};
+ghost use Rattle.mtrace_log.specs.Location.{IsLocation, IsLocationByte, EndsLocation, is_blank};
 
 use arrayvec::ArrayVec;
 use std::marker::Model;
@@ -48,9 +48,7 @@ fn first_blank(lanes: u8x16) -> Option<usize>
 fn location_rest(bytes: &[u8], seen: usize) -> usize
     requires within { seen ≤ length bytes.now }
     requires allowed { (k : ℕ) → k < seen → IsLocationByte (slice_index bytes.now k) }
-    ensures within { result ≤ length bytes.now }
-    ensures allowed { (k : ℕ) → k < result → IsLocationByte (slice_index bytes.now k) }
-    ensures ended { result < length bytes.now → ¬ IsLocationByte (slice_index bytes.now result) }
+    ensures { EndsLocation bytes.now result }
 {
     for at in seen..bytes.len() {
         if bytes[at] <= b' ' || bytes[at] == 0x7F {
@@ -63,9 +61,7 @@ fn location_rest(bytes: &[u8], seen: usize) -> usize
 /// How many bytes at the front can stand in a location. They are looked at 16 at a time.
 #[inline(always)]
 fn location_end(bytes: &[u8]) -> usize
-    ensures within { result ≤ length bytes.now }
-    ensures allowed { (k : ℕ) → k < result → IsLocationByte (slice_index bytes.now k) }
-    ensures ended { result < length bytes.now → ¬ IsLocationByte (slice_index bytes.now result) }
+    ensures { EndsLocation bytes.now result }
 {
     let mut at = 0;
     while bytes.len() - at >= 16 {

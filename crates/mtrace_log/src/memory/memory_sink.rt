@@ -1,5 +1,5 @@
 ghost use Rattle.std.specs.Prelude.{◌≡◌, [], ℕ, ◌+◌, ◌<◌, ◌≤◌, ◌↔◌, ◌++◌, ◌∷◌, List, length, take, true, false, Some, IfOk, OnErr, IsErr, IsTrue};
-ghost use Rattle.mtrace_log.specs.Memory.{sink_taken, sink_piece, sink_room, sink_full, sink_count, flush_fails, sink_trace};
+ghost use Rattle.mtrace_log.specs.Memory.{sink_taken, sink_piece, sink_room, sink_full, sink_count, flush_fails, sink_trace, IsSink};
 ghost use Rattle.mtrace_log.specs.Trace.{offered, flushed};
 ghost use Rattle.mtrace_log.specs.declared.memory.memory_sink.Full.TheVariants.{Fails};
 
@@ -33,23 +33,14 @@ impl MemorySink {
     /// A writer that takes all bytes, at most `piece` of them a call. It fails only where memory is
     /// refused.
     pub fn in_pieces(alloc: Global, piece: usize) -> Self
-        ensures taken { sink_taken result ≡ [] }
-        ensures piece { sink_piece result ≡ piece }
-        ensures room { sink_room result ≡ usize.MAX }
-        ensures flush { flush_fails result ≡ false }
-        ensures trace { sink_trace result ≡ [] }
+        ensures { IsSink [] piece usize.MAX Fails false [] result }
     {
         MemorySink::with_room(alloc, piece, usize::MAX, Full::Fails)
     }
 
     /// A writer that takes `room` bytes, at most `piece` of them a call, and then is full.
     pub fn with_room(alloc: Global, piece: usize, room: usize, full: Full) -> Self
-        ensures taken { sink_taken result ≡ [] }
-        ensures piece { sink_piece result ≡ piece }
-        ensures room { sink_room result ≡ room }
-        ensures full { sink_full result ≡ full }
-        ensures flush { flush_fails result ≡ false }
-        ensures trace { sink_trace result ≡ [] }
+        ensures { IsSink [] piece room full false [] result }
     {
         MemorySink {
             bytes: Vec::new(alloc),
@@ -63,12 +54,7 @@ impl MemorySink {
 
     /// The same writer, whose every flush fails.
     pub fn failing_flush(self) -> Self
-        ensures taken { sink_taken result ≡ sink_taken self }
-        ensures piece { sink_piece result ≡ sink_piece self }
-        ensures room { sink_room result ≡ sink_room self }
-        ensures full { sink_full result ≡ sink_full self }
-        ensures flush { flush_fails result ≡ true }
-        ensures trace { sink_trace result ≡ sink_trace self }
+        ensures { IsSink (sink_taken self) (sink_piece self) (sink_room self) (sink_full self) true (sink_trace self) result }
     {
         let MemorySink {
             bytes,
@@ -115,10 +101,7 @@ impl Sink for MemorySink {
             → IsErr result ↔ (sink_full self.old ≡ Fails) }
         ensures kept { OnErr result (sink_taken self.new ≡ sink_taken self.old) }
         ensures kept_room { OnErr result (sink_room self.new ≡ sink_room self.old) }
-        ensures piece { sink_piece self.new ≡ sink_piece self.old }
-        ensures kept_full { sink_full self.new ≡ sink_full self.old }
-        ensures flush { flush_fails self.new ≡ flush_fails self.old }
-        ensures told { sink_trace self.new ≡ offered (length bytes.now) result ∷ sink_trace self.old }
+        ensures so { IsSink (sink_taken self.new) (sink_piece self.old) (sink_room self.new) (sink_full self.old) (flush_fails self.old) (offered (length bytes.now) result ∷ sink_trace self.old) self.new }
     {
         let count = bytes.len().min(self.room).min(self.piece);
         if count == 0 && !bytes.is_empty() {
@@ -148,12 +131,7 @@ impl Sink for MemorySink {
     /// `Failed` where it is to fail.
     fn flush(&mut self) -> Result<(), Failed>
         ensures fails { IsErr result ↔ IsTrue (flush_fails self.old) }
-        ensures kept { sink_taken self.new ≡ sink_taken self.old }
-        ensures kept_room { sink_room self.new ≡ sink_room self.old }
-        ensures piece { sink_piece self.new ≡ sink_piece self.old }
-        ensures kept_full { sink_full self.new ≡ sink_full self.old }
-        ensures flush { flush_fails self.new ≡ flush_fails self.old }
-        ensures told { sink_trace self.new ≡ flushed result ∷ sink_trace self.old }
+        ensures kept { IsSink (sink_taken self.old) (sink_piece self.old) (sink_room self.old) (sink_full self.old) (flush_fails self.old) (flushed result ∷ sink_trace self.old) self.new }
     {
         if self.flush_fails {
             self.trace.add(Call::FlushFailed);

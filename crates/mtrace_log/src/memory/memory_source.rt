@@ -1,4 +1,4 @@
-ghost use Rattle.std.specs.Prelude.{◌≡◌, ℕ, ◌<◌, ◌≤◌, ◌↔◌, List, [], ◌∷◌, length, take, Some, None, IfOk, OnOk, OnErr, IsErr, IsTrue};
+ghost use Rattle.std.specs.Prelude.{◌≡◌, ℕ, ◌<◌, ◌≤◌, ◌↔◌, List, [], length, take, Some, None, IfOk, OnOk, OnErr, IsTrue};
 ghost use Rattle.std.specs.Io.KnownBytes.{prepend_known, IsAtEnd};
 ghost use Rattle.mtrace_log.specs.Trace.{pulled, began};
 
@@ -20,16 +20,12 @@ pub struct MemorySource<'a> {
 }
 
 impl<'a> MemorySource<'a> {
-    ghost use Rattle.mtrace_log.specs.Memory.{source_left, source_whole, source_piece, calls_before_failure, one_call_less, source_trace};
+    ghost use Rattle.mtrace_log.specs.Memory.{source_left, source_whole, source_piece, calls_before_failure, one_call_less, source_trace, IsSource};
 
     /// A reader that gives these bytes in pieces of at most `piece` bytes, and doesn't fail.
     pub fn in_pieces(bytes: &'a [u8], piece: usize) -> Self
         requires { 0 < piece }
-        ensures left { source_left result ≡ bytes.now }
-        ensures whole { source_whole result ≡ bytes.now }
-        ensures piece { source_piece result ≡ piece }
-        ensures calls { calls_before_failure result ≡ None }
-        ensures trace { source_trace result ≡ [] }
+        ensures { IsSource bytes.now bytes.now piece None [] result }
     {
         MemorySource {
             whole: bytes,
@@ -44,11 +40,7 @@ impl<'a> MemorySource<'a> {
     /// `calls` calls; the calls after it go on giving bytes.
     pub fn failing_after(bytes: &'a [u8], piece: usize, calls: u64) -> Self
         requires { 0 < piece }
-        ensures left { source_left result ≡ bytes.now }
-        ensures whole { source_whole result ≡ bytes.now }
-        ensures piece { source_piece result ≡ piece }
-        ensures calls { calls_before_failure result ≡ Some calls }
-        ensures trace { source_trace result ≡ [] }
+        ensures { IsSource bytes.now bytes.now piece (Some calls) [] result }
     {
         let mut source = MemorySource::in_pieces(bytes, piece);
         source.calls_before_failure = Some(calls);
@@ -58,11 +50,7 @@ impl<'a> MemorySource<'a> {
     /// Whether this call is the one that fails. It is counted, and not told yet.
     fn fails(&mut self) -> bool
         ensures fails { IsTrue result ↔ (calls_before_failure self.old ≡ Some 0) }
-        ensures calls { calls_before_failure self.new ≡ one_call_less (calls_before_failure self.old) }
-        ensures left { source_left self.new ≡ source_left self.old }
-        ensures whole { source_whole self.new ≡ source_whole self.old }
-        ensures piece { source_piece self.new ≡ source_piece self.old }
-        ensures trace { source_trace self.new ≡ source_trace self.old }
+        ensures counted { IsSource (source_left self.old) (source_whole self.old) (source_piece self.old) (one_call_less (calls_before_failure self.old)) (source_trace self.old) self.new }
     {
         match self.calls_before_failure {
             Some(0) => {
@@ -79,7 +67,7 @@ impl<'a> MemorySource<'a> {
 }
 
 impl Source for MemorySource<'_> {
-    ghost use Rattle.mtrace_log.specs.Memory.{source_left, known_left, known_whole, source_piece, source_count, calls_before_failure, one_call_less, source_trace};
+    ghost use Rattle.mtrace_log.specs.Memory.{source_left, known_left, known_whole, source_count, source_trace, IsCalled};
 
     ghost left = { known_left };
 
@@ -102,12 +90,7 @@ impl Source for MemorySource<'_> {
         ensures falls { IfOk result (λ n. 0 < n → length (source_left self.new) < length (source_left self.old)) }
         ensures never_rises { length (source_left self.new) ≤ length (source_left self.old) }
         ensures count { IfOk result (λ n. n ≡ source_count self.old (length buf.old)) }
-        ensures kept { OnErr result (known_left self.new ≡ known_left self.old) }
-        ensures whole { known_whole self.new ≡ known_whole self.old }
-        ensures fails { IsErr result ↔ (calls_before_failure self.old ≡ Some 0) }
-        ensures calls { calls_before_failure self.new ≡ one_call_less (calls_before_failure self.old) }
-        ensures piece { source_piece self.new ≡ source_piece self.old }
-        ensures told { source_trace self.new ≡ pulled result ∷ source_trace self.old }
+        ensures called { IsCalled (pulled result) result self.old self.new }
     {
         if self.fails() {
             self.trace.add(Call::Failed);
@@ -124,7 +107,7 @@ impl Source for MemorySource<'_> {
 }
 
 impl Again for MemorySource<'_> {
-    ghost use Rattle.mtrace_log.specs.Memory.{source_left, known_left, known_whole, source_piece, calls_before_failure, one_call_less, source_trace};
+    ghost use Rattle.mtrace_log.specs.Memory.{source_left, known_left, known_whole, IsCalled};
 
     /// Begins again. This counts as a call.
     ///
@@ -133,13 +116,8 @@ impl Again for MemorySource<'_> {
     /// `Failed` at the call that is to fail.
     fn begin(&mut self) -> Result<(), Failed>
         ensures left { OnOk result (known_left self.new ≡ known_whole self.old) }
-        ensures kept { OnErr result (known_left self.new ≡ known_left self.old) }
         ensures kept_budget { OnErr result (length (source_left self.new) ≡ length (source_left self.old)) }
-        ensures whole { known_whole self.new ≡ known_whole self.old }
-        ensures fails { IsErr result ↔ (calls_before_failure self.old ≡ Some 0) }
-        ensures calls { calls_before_failure self.new ≡ one_call_less (calls_before_failure self.old) }
-        ensures piece { source_piece self.new ≡ source_piece self.old }
-        ensures told { source_trace self.new ≡ began result ∷ source_trace self.old }
+        ensures called { IsCalled (began result) result self.old self.new }
     {
         if self.fails() {
             self.trace.add(Call::Failed);

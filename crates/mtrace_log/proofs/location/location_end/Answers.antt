@@ -7,15 +7,15 @@ use Rattle.mtrace_log.proofs.location.location_end.Goals as goal
 abbrev blank_behind : List ℕ → ℕ
 blank_behind bytes = prefix_len (λ byte. not (is_blank byte)) bytes
 
-pub returns-in-Some-clause-allowed : goal.returns-in-Some-clause-allowed
-returns-in-Some-clause-allowed c =
+pub returns-in-Some : goal.returns-in-Some
+returns-in-Some c =
     let room : c.loop-at.at + 16 ≤ length c.args.bytes.now = omega arith in
-    allowed-more c.args.bytes.now c.loop-at.at c.in-Some.lane room c.loop-at.invariant.1 (c.in-Some.ensures.1 ∙ ap blank_behind (loaded c.args.bytes.now c.loop-at.at room))
-
-pub returns-in-Some-clause-ended : goal.returns-in-Some-clause-ended
-returns-in-Some-clause-ended c = λ _.
-    let room : c.loop-at.at + 16 ≤ length c.args.bytes.now = omega arith in
-    ended-there c.args.bytes.now c.loop-at.at c.in-Some.lane room c.in-Some.ensures.0 (c.in-Some.ensures.1 ∙ ap blank_behind (loaded c.args.bytes.now c.loop-at.at room))
+    let blank = c.in-Some.ensures.1 ∙ ap blank_behind (loaded c.args.bytes.now c.loop-at.at room) in
+    record {
+      within = omega (arith, c.in-Some.ensures.0);
+      allowed = allowed-more c.args.bytes.now c.loop-at.at c.in-Some.lane room c.loop-at.invariant.1 blank;
+      ended = λ _. ended-there c.args.bytes.now c.loop-at.at c.in-Some.lane room c.in-Some.ensures.0 blank;
+    }
 
 pub loop-at-preserved : goal.loop-at-preserved
 loop-at-preserved c =
