@@ -2,7 +2,6 @@
 //! the pool entries. Each read and write of one counts as a touch, which contracts alone see.
 #![tactic(auto)]
 
-mod counted;
 mod errors;
 mod ghost_count;
 mod packed;
@@ -10,13 +9,14 @@ mod pools;
 mod ranges;
 mod records;
 mod slots;
+mod store;
 mod table;
 mod vacant_chain;
 
-pub use counted::{MOST_POOLS, MOST_RECORDS, Store};
 pub use errors::StoreError;
 pub use ghost_count::GhostCount;
 pub use pools::Pool;
 pub use ranges::{END_OF_PLACES, can_be_pool};
 pub use records::{Record, State};
 pub use slots::{MISSING, Slot, link_of};
+pub use store::{MOST_POOLS, MOST_RECORDS, Store};

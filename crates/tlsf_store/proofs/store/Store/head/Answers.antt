@@ -2,7 +2,7 @@ use Rattle.std.proofs.Common.{ap, subst, length, slice_index_or, arith}
 use Rattle.tlsf_store.specs.Records.{IsBelow}
 use Rattle.tlsf_store.specs.Slots.{link_of}
 use Rattle.tlsf_store.proofs.Heads.{head_below}
-use Rattle.tlsf_store.proofs.counted.Store.head.Goals as goal
+use Rattle.tlsf_store.proofs.store.Store.head.Goals as goal
 
 pub returns-clause-below : goal.returns-clause-below
 returns-clause-below c =

@@ -3,7 +3,7 @@ use Rattle.tlsf_store.specs.Records.{most_records, IsBelow}
 use Rattle.tlsf_store.specs.Cells.{with_head}
 use Rattle.tlsf_store.proofs.RecordLaws.{below_more}
 use Rattle.tlsf_store.proofs.Heads.{heads_set, heads_set_below}
-use Rattle.tlsf_store.proofs.counted.Store.set_head.Goals as goal
+use Rattle.tlsf_store.proofs.store.Store.set_head.Goals as goal
 
 pub link_word-requires : goal.link_word-requires
 link_word-requires c =

@@ -4,7 +4,7 @@ use Rattle.std.proofs.lemmas.List.Elements.{All-replicate}
 use Rattle.tlsf_class.specs.Classes.{classes}
 use Rattle.tlsf_store.specs.Records.{blank, IsBelow}
 use Rattle.tlsf_store.specs.Cells.{most_pools, IsPoolBelow}
-use Rattle.tlsf_store.proofs.counted.Store.create.Goals as goal
+use Rattle.tlsf_store.proofs.store.Store.create.Goals as goal
 
 pub invariant_of-result : goal.invariant_of-result
 invariant_of-result c =
