@@ -1,4 +1,4 @@
--- Digits in base 16, sixteen lanes at a time: what each lane comes to, how many write digits, and the number of these.
+-- Digits in base 16, sixteen lanes at a time: what each lane holds, how many write digits, and the number of these.
 use Rattle.std.proofs.Common.{◌≡◌, ◌≢◌, ℕ, zero, suc, ◌+◌, ◌-◌, ◌*◌, ◌/◌, ◌%◌, ◌^◌, ◌<◌, ◌≤◌, List, [], ◌∷◌, length, map, get_or, take, replicate, Bool, true, false, not, cond, ltb, eqb, ◌==◌, ◌&&◌, refl, sym, ap, ◌∙◌, arith, inl, inr}
 use Rattle.std.specs.Char.{digit_char}
 use Rattle.std.specs.List.{prefix_len}
@@ -129,7 +129,7 @@ module _ (bytes : List ℕ) (room : 16 ≤ length bytes) (count : ℕ) (counted 
   pub sixteen-most : count ≤ 16
   sixteen-most = run_in_chunk_le is_other bytes 0 16 count 0 room counted
 
-  -- the first so many bytes write the number of the first so many digits
+  -- the first `n` bytes write the number of the first `n` digits
   front : get_or bytes 0 0 ≢ 48 → (k : ℕ) → k ≤ count → take k bytes ≡ hex_digits (value (map lane_digit (chunk 0 16 bytes)) k)
   front first zero within = refl
   front first (suc k) within =

@@ -17,7 +17,7 @@ abbrev pub EndsField : List ℕ → Type 0
 EndsField [] = ⊤
 EndsField (b ∷ rest) = b ≡ space
 
--- so many digits are read at the front, at most 16; behind fewer no digit stands
+-- this many digits are read at the front, at most 16; behind fewer no digit stands
 pub record ReadsDigits (bytes : List ℕ) (number count : ℕ) : Type 0 where
   pub within : count ≤ length bytes
   pub most : count ≤ 16

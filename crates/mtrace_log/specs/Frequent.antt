@@ -8,7 +8,7 @@ use Rattle.mtrace_log.specs.Event.{Event}
 use Rattle.mtrace_log.specs.declared.event.Event.TheVariants.{Alloc, Free}
 use Rattle.mtrace_log.specs.declared.frequent.Frequent.{Frequent}
 
--- a block is freed at this place; or one of so many bytes was asked for there, and given
+-- a block is freed at this place; or one of this many bytes was asked for there, and given
 abbrev pub event_at : List ℕ → ℕ → Option ℕ → Event
 event_at place address None = Free (Some place) address
 event_at place address (Some size) = Alloc (Some place) (Some address) size
@@ -23,7 +23,7 @@ pub record BeginsFields (bytes : List ℕ) (address : ℕ) (size : Option ℕ) (
   pub valid : (place : List ℕ) → IsLocation place → IsEvent (event_at place address size)
   pub split : bytes ≡ fields_of address size ++ newline ∷ rest
 
--- the line is the one of such an event, whose place has so many bytes
+-- the line is the one of such an event, whose place has this many bytes
 pub record IsFrequent (line : List ℕ) (frequent : Frequent) : Type 0 where
   pub place : List ℕ
   pub is_place : IsLocation place
@@ -31,7 +31,7 @@ pub record IsFrequent (line : List ℕ) (frequent : Frequent) : Type 0 where
   pub valid : IsEvent (event_at place frequent.addr frequent.size)
   pub spelled : line ≡ spell (event_at place frequent.addr frequent.size)
 
--- such a line of so many bytes is at the front, with its newline
+-- such a line of this many bytes is at the front, with its newline
 pub record BeginsFrequent (bytes : List ℕ) (frequent : Frequent) (count : ℕ) : Type 0 where
   pub line : List ℕ
   pub rest : List ℕ

@@ -17,7 +17,7 @@ lane_byte digit = (digit + offset 9 digit) % 2 ^ 8
 abbrev pub is_other : ℕ → Bool
 is_other byte = not (lane_byte (lane_digit byte) == byte)
 
--- the number that the first so many digits write
+-- the number that the first this many digits write
 abbrev pub value : List ℕ → ℕ → ℕ
 value digits zero = 0
 value digits (suc k) = value digits k * 16 + slice_index digits k

@@ -15,7 +15,7 @@ abbrev pub began : Result (Unit {0}) Failure → Call
 began (Ok done) = Began
 began (Err failure) = Failed
 
--- a writer's answer to so many bytes: to take no byte of some is a failure
+-- a writer's answer to this many bytes: to take no byte of some is a failure
 abbrev pub offered : ℕ → Result ℕ Failure → Call
 offered zero (Ok count) = Took count
 offered (suc bytes) (Ok zero) = Failed
@@ -27,7 +27,7 @@ abbrev pub flushed : Result (Unit {0}) Failure → Call
 flushed (Ok done) = Flushed
 flushed (Err failure) = FlushFailed
 
--- each call since the old trace moved bytes, so many each
+-- each call since the old trace moved bytes, this many each
 pub record Moved (by : ℕ → Call) (old new : List Call) : Type 0 where
   pub counts : List ℕ
   pub calls : new ≡ map by counts ++ old

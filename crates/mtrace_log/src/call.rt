@@ -6,13 +6,13 @@ use crate::failed::Failed;
 /// What one call of a reader or of a writer came to.
 #[derive(Clone, Copy, Debug, PartialEq, Eq)]
 pub enum Call {
-    /// The reader gave so many bytes, at least one.
+    /// The reader gave this many bytes, at least one.
     Gave(usize),
     /// The reader told its end.
     Ended,
     /// The reader began again.
     Began,
-    /// The writer took so many bytes: none only where none was offered.
+    /// The writer took this many bytes: none only where none was offered.
     Took(usize),
     /// The writer flushed.
     Flushed,
@@ -44,7 +44,7 @@ impl Call {
         }
     }
 
-    /// What a `put` of so many bytes, with this answer, came to.
+    /// What a `put` of this many bytes did, by its answer.
     pub(crate) fn offered(bytes: usize, answer: &Result<usize, Failed>) -> Call
         ensures { result ≡ put_came_to bytes answer.now }
     {

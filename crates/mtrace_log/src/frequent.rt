@@ -48,7 +48,7 @@ fn behind_newline(bytes: &[u8]) -> Option<&[u8]>
     Some(rest)
 }
 
-/// What `- ADDR` or `+ ADDR SIZE` with its newline at the front says behind a place of so many bytes, and what stands behind it.
+/// What `- ADDR` or `+ ADDR SIZE` with its newline at the front says behind a place of this many bytes, and what stands behind it.
 #[inline(always)]
 fn front_fields(place: usize, bytes: &[u8]) -> Option<(Frequent, &[u8])>
     ensures { IfSome result (λ front. (front.0.place ≡ place) × BeginsFields bytes.now front.0.addr front.0.size front.1.now) }

@@ -43,7 +43,7 @@ fn first_blank(lanes: u8x16) -> Option<usize>
     Some(mask.trailing_zeros() as usize)
 }
 
-/// How many bytes at the front can stand in a location, of which so many are seen to.
+/// How many bytes at the front can stand in a location, of which `seen` are known to.
 #[inline(never)]
 fn location_rest(bytes: &[u8], seen: usize) -> usize
     requires within { seen ≤ length bytes.now }

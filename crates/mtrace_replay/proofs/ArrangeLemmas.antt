@@ -134,7 +134,7 @@ module _ (old now new : List Key) (held left end : ℕ) (key : Key) (some : 0 < 
   end_is : suc (end - 1) ≡ end
   end_is = omega (arith, some)
 
-  -- so many first ones stay, and the key stands before the others
+  -- this many first ones stay, and the key stands before the others
   parts : (many : ℕ) → many ≤ end - 1 → take many new ++ drop (end - 1) new ≡ take many now ++ key ∷ drop end now
   parts many few =
       ap (λ (all : List Key). take many all ++ drop (end - 1) all) new_is

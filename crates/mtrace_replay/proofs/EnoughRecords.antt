@@ -280,7 +280,7 @@ module _ (content : Bare) (good : IsGood content) (held : ℕ → Option Given) 
   leaves_outcome number (Ok (Failed at address size)) pending = left_so [] tt
   leaves_outcome number (Ok (Aligned at address align size)) pending = leaves_allocation number at address size (Some align) (held address) refl
 
-  -- what a line comes to, with what it tells of the line before
+  -- what a line leaves, with what it tells of the line before
   pub leaves_moment : (before : ℕ) (line : Reading) (pending : Option ℕ) → Leaves content held (moment before line pending held content)
   leaves_moment before line pending =
       leaves_noted (if is_new line then [] else half before pending) (outcome (suc before) line pending held content) (half_never (is_new line)) (leaves_outcome (suc before) line pending)

@@ -91,7 +91,7 @@ pub fitted-no : (verdicts : List Verdict) (size : ℕ)
 fitted-no verdicts size =
     rw (least-no verdicts size, safe-no verdicts size, refused-no verdicts size, length-append verdicts (serving size false)) refl
 
--- so many sizes were tried, and no more are refused
+-- this many sizes were tried, and no more are refused
 pub few_tried : (records : ℕ) (whole : Bytes) (step first count : ℕ) (verdicts : List Verdict)
     → AreVerdicts records whole (map (λ number. number * step) (range_with_len first count)) verdicts
     → (length verdicts ≡ count) × (refused_sizes verdicts ≤ count)

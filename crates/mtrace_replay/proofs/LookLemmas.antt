@@ -1,4 +1,4 @@
--- So many look-ups, one after the other.
+-- Look-ups, one after the other, and their number.
 use Rattle.std.proofs.Common.{ℕ, ◌+◌, arith, ◌∙◌}
 use Rattle.mtrace_replay.specs.Index.{Indexed, LooksUp}
 

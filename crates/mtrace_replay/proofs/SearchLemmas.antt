@@ -8,7 +8,7 @@ use Rattle.mtrace_replay.specs.Key.{least_behind, RiseFrom, AreBelow, AreAbove}
 use Rattle.mtrace_replay.specs.Search.{StandsAt}
 use Rattle.mtrace_replay.proofs.KeyLemmas.{above_behind, not_higher, not_below_one_before, below_up_to, above_from}
 
--- so many comparisons were made of those that the digits allow, and the rest is enough for what is left
+-- this many comparisons were made of those that the digits allow, and the rest is enough for what is left
 pub record Afford (digits before count left : ℕ) : Type 0 where
   pub rest : ℕ
   pub spent : count + rest ≤ before + digits
@@ -26,13 +26,13 @@ half_left digits before count left less can some fewer = by_rest can.rest refl
       enough = omega (arith, fewer, subst (λ r. left < 2 ^ r) is can.enough);
     }
 
--- the last of the first so many keys has the address
+-- the last of the first this many keys has the address
 pub record IsLast (keys : List Key) (address low : ℕ) : Type 0 where
   pub some : 0 < low
   pub there : (default : Key) → (slice_index_or keys (low - 1) default).address ≡ address
 
 -- The last key before `low` has the address, where that was seen, or else the address is above all that stands there; and it is
--- below what stands from so many keys on behind that are left.
+-- below what stands from this many keys on behind that are left.
 pub record Searching (keys : List Key) (address low left : ℕ) (is_seen : Bool) (before count : ℕ) : Type 0 where
   pub within : low + left ≤ length keys
   pub below : MatchBool is_seen (IsLast keys address low) (AreBelow address (take low keys))

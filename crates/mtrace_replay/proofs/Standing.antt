@@ -32,7 +32,7 @@ use Rattle.mtrace_replay.proofs.TotalsStep.{totals_of_line}
 use Rattle.mtrace_replay.proofs.Moments.{moments-line}
 use Rattle.mtrace_replay.proofs.SortedLemmas.{addresses}
 
--- a line comes to the same by two look-ups that agree
+-- a line leaves the same by two look-ups that agree
 same_renewal : (number : ℕ) (at : Option (List ℕ)) (line : Option ℕ) (address size : ℕ) (one other : ℕ → Option Given) (content : Bare) → ((q : ℕ) → one q ≡ other q)
     → renewal number at line address size one content ≡ renewal number at line address size other content
 same_renewal number at None address size one other content same = refl

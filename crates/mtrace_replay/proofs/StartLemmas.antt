@@ -52,7 +52,7 @@ are_good settings h =
       ends = ltb-false _ _ i.1;
     }
 
--- so many pools are left to add, all below those that stand
+-- this many pools are left to add, all below those that stand
 record IsReady (settings : Settings) (left : ℕ) (content : Bare) : Type 0 where
   above : AllByRecursion (λ (pool : Pool (Unit {0})). left * settings.pool ≤ pool.base) content.pools
   count : left + length content.pools ≡ settings.pools

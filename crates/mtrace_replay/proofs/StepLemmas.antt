@@ -1,4 +1,4 @@
--- What each case of a line comes to, told of what is held by its look-ups.
+-- What each case of a line leaves, told of what is held by its look-ups.
 use Rattle.std.proofs.Common.{◌<◌, ◌≤◌, arith, ◌≡◌, ℕ, Bool, true, false, cond, not, ◌+◌, List, [], ◌∷◌, is_some, option_map, Option, Some, None, inl, inr, refl, sym, ap, ◌∙◌, subst, Ok, Err}
 use Rattle.std.specs.Prelude.{◌==◌, ◌&&◌}
 use Rattle.std.proofs.lemmas.Bool.{cases_Bool, eqb-true, eqb-false}

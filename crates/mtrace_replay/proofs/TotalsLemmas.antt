@@ -25,7 +25,7 @@ first_moments_before k moment past within =
     let more : length (moment ∷ past) - k ≡ suc (length past - k) = omega (arith, within) in
     ap (λ n. drop n (moment ∷ past)) more
 
--- so many lines, or more, are all
+-- this many lines, or more, are all
 pub first_moments_most : (k : ℕ) (past : List Moment) → length past ≤ k → first_moments k past ≡ past
 first_moments_most k past beyond =
     let none : length past - k ≡ 0 = omega (arith, beyond) in

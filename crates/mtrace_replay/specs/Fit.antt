@@ -7,7 +7,7 @@ use Rattle.tlsf_heap.specs.Pools.{most_records}
 use Rattle.mtrace_replay.specs.declared.settings.Settings.{Settings}
 use Rattle.mtrace_replay.specs.declared.fitted.Fitted.{Fitted}
 
--- one pool of so many bytes, and so many records
+-- one pool of this many bytes, and this many records
 abbrev pub one_pool : (bytes records : ℕ) → Settings
 one_pool bytes records = record { pool = bytes; pools = 1; records = records }
 
@@ -15,7 +15,7 @@ one_pool bytes records = record { pool = bytes; pools = 1; records = records }
 abbrev pub greatest_settings : Settings
 greatest_settings = one_pool greatest_size most_records
 
--- the records that are enough where so many addresses are held at most
+-- the records that are enough where this many addresses are held at most
 abbrev pub enough_records : ℕ → ℕ
 enough_records most = min (2 * most + 3) most_records
 

@@ -25,7 +25,7 @@ abbrev pub PutsAndFlushes : {W T E : Type 0} → (taken : W → Bytes) (trace : 
 PutsAndFlushes taken trace (Ok done) text old new = Wrote (taken old) (taken new) text × HasTakenAndFlushed (trace old) (trace new)
 PutsAndFlushes taken trace (Err failure) text old new = Begins (taken old) (taken new) text × HasFailedToWrite (trace old) (trace new)
 
--- the same of an image of a content that is this one, slots left out
+-- what a call leaves that puts an image of this content, slots left out, and flushes
 pub record SavesLast {W T E : Type 0} (taken : W → Bytes) (trace : W → List Call) (result : Result T E) (content : Bare) (old new : W) : Type 0 where
   pub whole : Content ℕ
   pub content_is : bare whole ≡ content

@@ -12,7 +12,7 @@ StandsAt keys address at = (at < length keys) × ((default : Key) → (slice_ind
 abbrev pub FitsAt : List Key → ℕ → ℕ → Type 0
 FitsAt keys address at = (at ≤ length keys) × AreBelow address (take at keys) × AreAbove address (drop at keys)
 
--- a search among so many made at most as many comparisons as their number has binary digits
+-- a search among this many made at most as many comparisons as their number has binary digits
 abbrev pub Compares : ℕ → (before after : ℕ) → Type 0
 Compares most before after = (digits : ℕ) → most < 2 ^ digits → after ≤ before + digits
 

@@ -115,7 +115,7 @@ held_lines totals =
     ++ greatest_line totals
     ++ number_line (codes "high place: ") totals.high_place
 
--- what is free: so many bytes, in so many blocks, the largest of so many bytes
+-- what is free: how many bytes, in how many blocks, and the bytes of the largest
 abbrev pub free_lines : (bytes blocks largest : ℕ) → List ℕ
 free_lines bytes blocks largest =
     pair_line (codes "free: ") bytes (codes " bytes in ") blocks (codes " blocks")

@@ -26,7 +26,7 @@ impl Came {
         }
     }
 
-    /// One more came, at the end or between, and so many moved for it.
+    /// One more came, at the end or between, and this many keys moved for it.
     pub(crate) fn add(&mut self, is_end: bool, moved: usize) {
         self.moved = self.moved.saturating_add(moved);
         if is_end {
@@ -82,7 +82,7 @@ fn is_its_place(left: usize, held: usize, end: usize, all: usize) -> bool
     left > 0 && left.saturating_mul(all) > (end - 1).saturating_mul(held)
 }
 
-/// Spreads the first so many keys over all places, with vacant ones before each.
+/// Spreads the first this many keys over all places, with vacant ones before each.
 fn spread(keys: &mut Keys, held: usize)
     requires some { 0 < held }
     requires within { held ≤ length keys.old.keys }

@@ -190,7 +190,7 @@ impl Keys {
         }
     }
 
-    /// Comes to have this many keys. What the ones behind those that there were are means nothing.
+    /// Takes this many keys. What the ones behind those that there were are means nothing.
     #[inline(never)]
     pub(crate) fn resize(&mut self, len: usize)
         requires { len ≤ self.old.rows.room }
@@ -202,7 +202,7 @@ impl Keys {
         self.len = len;
     }
 
-    /// The entry comes to be the row of this slot, with its location kept.
+    /// Makes the entry the row of this slot, with its location kept.
     #[inline(always)]
     fn set_row(&mut self, slot: u16, entry: &Entry<LentLocation<'_>>)
         requires { slot < self.old.rows.room }
@@ -214,7 +214,7 @@ impl Keys {
         self.chunks[number / CHUNK].rows[number % CHUNK].set(entry);
     }
 
-    /// The place of the key at `gap` comes to be at `at`: what lies between moves by one.
+    /// Moves the key at `gap` to `at`: the keys between move by one.
     #[inline(always)]
     fn move_gap(&mut self, gap: usize, at: usize)
         requires gap { gap < length self.old.keys }
@@ -232,7 +232,7 @@ impl Keys {
         }
     }
 
-    /// The entry comes to be held under the block, by a key that stands at `at` in place of the one at `gap`.
+    /// Holds the entry under the block, by a key that stands at `at` in place of the one at `gap`.
     #[inline(always)]
     pub(crate) fn put(&mut self, gap: usize, at: usize, entry: &Entry<LentLocation<'_>>, ptr: Ptr)
         requires gap { gap < length self.old.keys }

@@ -10,7 +10,7 @@ use crate::keys::Keys;
 use mtrace_log::Addr;
 use tlsf_store::GhostCount;
 
-/// So many, where this is 1, or none, where it is 0. Without a test, and quicker than to multiply.
+/// The number where the flag is 1, and 0 where it is 0. Without a test, and quicker than to multiply.
 fn so_many_if(many: usize, one: usize) -> usize
     requires { one ≤ 1 }
     ensures { result ≡ many * one }
@@ -94,7 +94,7 @@ fn nearest_gap(keys: &Keys, at: usize) -> usize
     unreachable!()
 }
 
-/// A key to give up, and where a new one comes to stand among the others.
+/// A key to give up, and where a new one will stand among the others.
 #[derive(Clone, Copy)]
 pub(crate) struct Gap {
     pub from: usize,

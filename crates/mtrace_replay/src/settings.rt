@@ -9,8 +9,8 @@ pub(crate) const UNIT: u64 = tlsf_class::UNIT as u64;
 
 pub(crate) const GREATEST_POOL: u64 = GREATEST_SIZE as u64;
 
-/// The heap that a log is replayed on: so many pools of `pool` bytes each, one behind the other from
-/// place 0 on, and so many records, one for each block.
+/// The heap that a log is replayed on: `pools` pools of `pool` bytes each, one behind the other from
+/// place 0 on, and `records` records, one for each block.
 #[derive(Clone, Copy, Debug, PartialEq, Eq)]
 pub struct Settings {
     /// Bytes of each pool.

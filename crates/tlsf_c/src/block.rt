@@ -15,7 +15,7 @@ pub struct Block {
 impl Block {
     ghost use Rattle.std.specs.Prelude.{◌≡◌};
 
-    /// The same of a pointer of the heap.
+    /// The block that a pointer of the heap names.
     pub(crate) fn of(ptr: Ptr) -> Block
         ensures place { result.place ≡ ptr.place }
         ensures slot { result.slot ≡ ptr.slot }

@@ -18,7 +18,7 @@ impl Row {
     ghost use Rattle.std.specs.Prelude.{◌≡◌};
     ghost use Rattle.tlsf_c.specs.Rows.{row_for};
 
-    /// The same of a row of the heap.
+    /// A row of the heap, as C sees it.
     pub(crate) fn of(row: HeapRow) -> Row
         ensures { result ≡ row_for row }
     {

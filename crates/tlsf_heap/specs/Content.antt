@@ -13,7 +13,7 @@ pub record Pool (A : Type 0) : Type 0 where
   pub bytes : ℕ
   pub blocks : List (Block A)
 
--- a heap of so many records: its pools in order of base, and for each class the places of its free list, first one first
+-- a heap of this many records: its pools in order of base, and for each class the places of its free list, first one first
 pub record Content (A : Type 0) : Type 0 where
   pub records : ℕ
   pub pools : List (Pool A)

@@ -12,7 +12,7 @@ pub record Counted : Type 0 where
   pub touches : ℕ
   pub rows : List (List Row)
 
--- the same of a store
+-- a store, as contracts of a heap see it
 abbrev pub counted : CountedCells → Counted
 counted store = record { content = content_of store.cells; touches = store.touches; rows = rows_by store.cells.records }
 

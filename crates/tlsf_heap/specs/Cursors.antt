@@ -28,7 +28,7 @@ abbrev pub stands_at : List (List Row) → Option ℕ → Type 0
 stands_at rows None = ⊤
 stands_at rows (Some slot) = slice_index_or rows slot [] ≢ []
 
--- the same of a cursor
+-- the rows from a cursor on
 abbrev pub rows_behind : List (List Row) → Cursor → List Row
 rows_behind rows cursor = rest_of rows cursor.next
 

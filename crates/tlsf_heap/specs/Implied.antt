@@ -31,7 +31,7 @@ ListsFreeBlocks content = All (λ block. IsTrue (is_free block) → times block.
 abbrev pub ListsNothingElse : {A : Type 0} → Content A → Type 0
 ListsNothingElse content = (number place : ℕ) → number < classes → 0 < times place (list_of number content.lists) → Any (λ block. IsTrue (is_listed number place block)) (blocks_of content.pools)
 
--- each free block is smaller than so many bytes
+-- each free block is smaller than this many bytes
 abbrev pub AreFreeBelow : {A : Type 0} → ℕ → List (Block A) → Type 0
 AreFreeBelow bytes blocks = All (λ block. IsTrue (is_free block) → block.size < bytes) blocks
 
@@ -39,7 +39,7 @@ AreFreeBelow bytes blocks = All (λ block. IsTrue (is_free block) → block.size
 abbrev pub NoneFits : {A : Type 0} → ℕ → Content A → Type 0
 NoneFits n content = (m c : ℕ) → round n ≡ Some m → need m ≡ Some c → AreFreeBelow (low c) (blocks_of content.pools)
 
--- the same of the bytes that are asked of the lists for an alignment
+-- where there is such a class for the bytes that an alignment asks of the lists, each free block is smaller than its lowest size
 abbrev pub NoneFitsAligned : {A : Type 0} → ℕ → ℕ → Content A → Type 0
 NoneFitsAligned align n content = (m c : ℕ) → round n ≡ Some m → need (size_asked align m) ≡ Some c → AreFreeBelow (low c) (blocks_of content.pools)
 

@@ -10,7 +10,7 @@ use Rattle.tlsf_heap.specs.Content.{Block, Content, blocks_of, size_at, used_rec
 use Rattle.tlsf_heap.specs.Lists.{unlink, pick}
 use Rattle.tlsf_heap.specs.Malloc.{gap, link_gap, replaced_in, cut}
 
--- so many alignments: the powers of two from 1 to 2^29
+-- how many alignments there are: the powers of two from 1 to 2^29
 abbrev pub alignments : ℕ
 alignments = 30
 

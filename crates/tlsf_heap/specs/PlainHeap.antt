@@ -42,7 +42,7 @@ pub record IsPlain (content : Content ℕ) : Type 0 where
   pub slots : HasGoodSlots content
   pub records_few : content.records ≤ most_records
 
--- the blocks of a pool from one on, which has so many blocks in front of it, in all pools
+-- the blocks of a pool from one on, which has this many blocks in front of it, in all pools
 abbrev pub blocks_from : ℕ → List (Pool ℕ) → List (Block ℕ)
 blocks_from number [] = []
 blocks_from number (pool ∷ pools) = if nat_lt number (length pool.blocks) then drop number pool.blocks else blocks_from (number - length pool.blocks) pools

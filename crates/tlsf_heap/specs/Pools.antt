@@ -11,7 +11,7 @@ use Rattle.tlsf_heap.specs.Content.{Pool, Content, is_free, used_records}
 use Rattle.tlsf_heap.specs.Lists.{link, unlink}
 use Rattle.tlsf_heap.specs.Malloc.{gap}
 
--- a heap of so many records, with no pool
+-- a heap of this many records, with no pool
 abbrev pub created : {A : Type 0} → ℕ → Content A
 created records = record { records = records; pools = []; lists = replicate classes [] }
 

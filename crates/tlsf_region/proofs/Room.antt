@@ -59,7 +59,7 @@ module _ {A : Type 0} (same : A → A → Bool) (owner known : A) (place n end :
       of None = tt
       of (Some m) = sized_room m
 
--- the same of a region, whose heap read the block's size first
+-- a region has room for the block that moves: its heap read the block's size first
 pub room_there : (old new : Pointer) (n size : ℕ) (first second after : Content ℕ) (bytes : List ℕ) → second ≡ first → IsGood first → IsWithin second bytes
     → block_size (λ slot. slot == old.slot) old.place first ≡ Ok size → (pointer given : Option Pointer) → pointer ≡ Some old → given ≡ Some new
     → realloc (λ a b. a == b) (slot_of given) (place_and_slot pointer) n second ≡ Ok (place_and_slot given, after) → new.place ≢ old.place → new.place + size ≤ length bytes

@@ -34,7 +34,7 @@ size_is_within ptr content bytes size good within e =
     let is = size_is ptr content size e in
     omega (arith, is.1, live_is_below (length bytes) (λ slot. slot == ptr.slot) ptr.place (blocks_of content.pools) (below_in_pools (length bytes) 0 content.pools good.pools_good within.pools) is.0)
 
--- the same of what is left of a result
+-- the size of a live block, where the answer is kept as an option
 pub size_told : (result : Result ℕ Refusal) (ptr : Pointer) (content : Content ℕ) → IfOk result (λ size. block_size (λ slot. slot == ptr.slot) ptr.place content ≡ Ok size) → (size : Option ℕ) → size ≡ result_ok result
     → IfSome size (λ size. block_size (λ slot. slot == ptr.slot) ptr.place content ≡ Ok size)
 size_told result ptr content ok size is = subst (λ o. IfSome o (λ size. block_size (λ slot. slot == ptr.slot) ptr.place content ≡ Ok size)) (sym is) (of result ok)

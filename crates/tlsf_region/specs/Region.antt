@@ -13,7 +13,7 @@ pub record CountedRegion : Type 0 where
   pub rows : List (List Row)
   pub bytes : List ℕ
 
--- the same of a heap and bytes
+-- a heap and its bytes, as contracts see them
 abbrev pub counted_region : Counted → List ℕ → CountedRegion
 counted_region heap bytes = record { content = heap.content; touches = heap.touches; rows = heap.rows; bytes = bytes }
 
@@ -37,7 +37,7 @@ pub record IsUnchanged (old new : CountedRegion) : Type 0 where
   pub content : new.content ≡ old.content
   pub rows : new.rows ≡ old.rows
 
--- its heap was read, in at most so many touches
+-- its heap was read, in at most this many touches
 pub record WasRead (most : ℕ) (old new : CountedRegion) : Type 0 where
   pub content : new.content ≡ old.content
   pub rows : new.rows ≡ old.rows

@@ -16,7 +16,7 @@ pub(crate) fn expect_eq<T: PartialEq + Debug + Drop>(rt: &impl Abort, found: T, 
     assert_eq!(rt; found, wanted);
 }
 
-/// A region of so many bytes and records, where memory isn't refused.
+/// A region of this many bytes and records, where memory isn't refused.
 fn made(rt: &impl Abort, alloc: Global, len: u64, records: u32) -> Region {
     match Region::create(alloc, len, records) {
         Ok(region) => region,
@@ -92,7 +92,7 @@ fn counts_up_to(block: &[u8], count: usize) -> bool {
     true
 }
 
-/// Fills the block of a pointer, which has so many bytes, with bytes that count up.
+/// Fills the block of a pointer, which has this many bytes, with bytes that count up.
 fn fill(rt: &impl Abort, region: &mut Region, ptr: Ptr, bytes: usize) {
     let Some(block) = region.bytes_mut(ptr) else {
         panic!(rt; "no bytes");
@@ -101,7 +101,7 @@ fn fill(rt: &impl Abort, region: &mut Region, ptr: Ptr, bytes: usize) {
     count_up(block);
 }
 
-/// Compares how many bytes the block of a pointer has, and that so many of them count up.
+/// Compares how many bytes the block of a pointer has, and that this many of them count up.
 fn expect_filled(rt: &impl Abort, region: &mut Region, ptr: Ptr, bytes: usize, filled: usize) {
     let Some(block) = region.bytes(ptr) else {
         panic!(rt; "no bytes");

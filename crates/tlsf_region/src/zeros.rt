@@ -4,7 +4,7 @@ ghost use Rattle.std.specs.Prelude.{◌≡◌, ◌<◌, ◌^◌, IfOk, replicate
 
 use std::alloc::{AllocError, Global};
 
-/// So many bytes, all 0, in memory with room for them and no more.
+/// This many bytes, all 0, in memory with room for them and no more.
 ///
 /// # Errors
 ///

@@ -6,7 +6,7 @@ use Rattle.tlsf_store.specs.declared.records.State.TheVariants.{Free}
 use Rattle.tlsf_store.specs.declared.pools.Pool.{Pool}
 use Rattle.tlsf_store.specs.Records.{most_records, blank, blank_in, IsBelow}
 
--- at most so many pools: there is an entry for each
+-- the most pools: there is an entry for each
 abbrev pub most_pools : ℕ
 most_pools = 8
 

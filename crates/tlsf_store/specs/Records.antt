@@ -5,7 +5,7 @@ use Rattle.tlsf_store.specs.declared.records.State.{State}
 use Rattle.tlsf_store.specs.declared.records.State.TheVariants.{Vacant, Free, Live}
 use Rattle.tlsf_store.specs.declared.records.Record.{Record}
 
--- at most so many records
+-- the most records that a table has
 abbrev pub most_records : ℕ
 most_records = 65535
 

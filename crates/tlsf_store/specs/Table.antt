@@ -21,7 +21,7 @@ IsVacantAt records slot = (slot < length records) × (is_vacant (record_at recor
 abbrev pub next_at : List Record → ℕ → Option ℕ
 next_at records slot = (record_at records slot).next
 
--- each vacant record is on the chain once, and they are so many: a chain that ends has no slot twice
+-- each vacant record is on the chain once, and it has that many: a chain that ends has no slot twice
 pub record IsWholeChain (records : List Record) (first : Option ℕ) (vacant : ℕ) : Type 0 where
   pub counted : vacant_count records ≡ vacant
   pub chained : IsChain (IsVacantAt records) (next_at records) vacant first

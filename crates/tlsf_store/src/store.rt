@@ -16,10 +16,10 @@ use std::alloc::Global;
 use std::marker::Model;
 use tlsf_class::{CLASSES, Class, LEVELS};
 
-/// At most so many records.
+/// The most records that a table has.
 pub const MOST_RECORDS: u32 = 65_535;
 
-/// At most so many pools: there is an entry for each.
+/// The most pools: there is an entry for each.
 pub const MOST_POOLS: usize = 8;
 
 /// How many class heads there are.

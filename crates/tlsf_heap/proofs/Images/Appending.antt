@@ -10,7 +10,7 @@ pub appended : {X : Type 0} (f : X → List ℕ) (xs : List X) (d : X) (k : ℕ)
 appended f xs d k now all within so_far =
     append_assoc now (f (slice_index_or xs k d)) (flat_map f (drop (k + 1) xs)) ∙ ap (λ text. now ++ text) (sym (at_drop_more (flat_map f) xs k d within)) ∙ so_far
 
--- the same of a text to which that of the next member was pushed
+-- a text to which the next member's was pushed, and those that are left
 pub pushed : {X : Type 0} (f : X → List ℕ) (xs : List X) (d : X) (k : ℕ) (now next all : List ℕ) (x : X) → k < length xs → x ≡ slice_index_or xs k d → next ≡ now ++ f x → now ++ flat_map f (drop k xs) ≡ all
     → next ++ flat_map f (drop (k + 1) xs) ≡ all
 pushed f xs d k now next all x within read is so_far =

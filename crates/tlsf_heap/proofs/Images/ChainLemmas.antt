@@ -48,7 +48,7 @@ module _ (parts : Parts) where
     is_merged = tally.is_merged && are_merged parts front.is_free rest;
   }
 
-  -- the same where at most so many slots are left, from the next one on
+  -- the same where at most this many slots are left, from the next one on
   abbrev found_with : ℕ → ℕ → Tally → Front → Option ℕ → Option Tally
   found_with end n tally front next = if is_chain_from n front.block next then Some (seen_with end tally front (follow n next_of next)) else None
 

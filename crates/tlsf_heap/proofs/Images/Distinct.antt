@@ -13,7 +13,7 @@ same_link (Some a) None e = absurd (cc)
 same_link (Some a) (Some b) e = ap (λ n. Some n) (eqb-true a b e)
 
 module _ (back : ℕ → Option ℕ) where
-  -- so many links back from a slot stands the first one, which is linked to none
+  -- that many links back from a slot stands the first one, which is linked to none
   abbrev pub IsBehind : ℕ → ℕ → ℕ → Type 0
   IsBehind first zero slot = (slot ≡ first) × (back slot ≡ None)
   IsBehind first (suc n) slot = (before : ℕ) × (back slot ≡ Some before) × IsBehind first n before

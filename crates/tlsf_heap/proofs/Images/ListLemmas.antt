@@ -35,7 +35,7 @@ module _ (parts : Parts) where
   is_list_from number n before first =
       is_linked (λ slot. is_free (at parts slot).state && (class (at parts slot).size == number)) next_of (λ slot. (at parts slot).prev_free) n before first
 
-  -- what is found of a list of which so many blocks were seen, where at most so many are left
+  -- what is found of a list of which some blocks were seen, where at most `n` are left
   abbrev found_with : ℕ → ℕ → ℕ → (before next : Option ℕ) → Option ℕ
   found_with number n blocks before next = if is_list_from number n before next then Some (blocks + length (follow n next_of next)) else None
 

@@ -27,7 +27,7 @@ module _ (cells : Cells) (stands : Stands cells) (others : List Record) (alike :
   pub saved_content : content_from others (entries_of cells.pools) cells.heads ≡ content_of cells
   saved_content = content_read ∙ alike_content cells others alike stands
 
--- the same of what an image tells of their records
+-- what an image tells of the records of cells that stand
 module _ (cells : Cells) (stands : Stands cells) where
   pub told_unbroken : first_of (rules_of_parts (told_parts cells)) ≡ None
   told_unbroken = saved_unbroken cells stands (map told cells.records) (told_alike cells.records) (told_alone cells.records)

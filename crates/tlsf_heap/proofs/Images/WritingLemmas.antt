@@ -56,7 +56,7 @@ size_in Live r = refl
 record_size : (r : Record) → length (record_bytes r) ≡ 16
 record_size r = size_in r.state r
 
--- what stands behind a beginning of so many bytes
+-- what stands behind a beginning of this many bytes
 behind : (front rest : List ℕ) (size at i : ℕ) → length front ≡ size → size + i ≡ at → slice_index (front ++ rest) at ≡ slice_index rest i
 behind front rest size at i long is =
     let there : at ≡ length front + i = omega (arith, long, is) in

@@ -28,7 +28,7 @@ map-replicate : {A B : Type 0} (f : A → B) (n : ℕ) (a : A) → map f (replic
 map-replicate f zero a = refl
 map-replicate f (suc n) a = ap (λ xs. f a ∷ xs) (map-replicate f n a)
 
--- the layout of so many records with no pool
+-- the layout of this many records with no pool
 abbrev pub empty : ℕ → Layout
 empty count = record { count = count; areas = []; lists = replicate classes []; taken = [] }
 

@@ -34,7 +34,7 @@ map-inserted f key new_key same item (other ∷ items) =
       | inr after ↦ rw (after, tests, after) (ap (λ xs. f other ∷ xs) (map-inserted f key new_key same item items))
     ]
 
--- where the entry's area comes to stand: the areas in front of it, nearest first, and those behind
+-- where the entry's area will stand: the areas in front of it, nearest first, and those behind
 pub record Place (entry : StoredPool) (passed areas : List Area) : Type 0 where
   pub front : List Area
   pub behind : List Area

@@ -1,4 +1,4 @@
--- What the plain heap's free comes to.
+-- What the plain heap's free leaves.
 use Rattle.std.proofs.Common.{◌≡◌, ℕ, ◌+◌, Bool, true, cond, [], ◌∷◌, map, ap, ◌∙◌, subst, arith, Option}
 use Rattle.std.specs.Prelude.{Ok, Err}
 use Rattle.tlsf_heap.specs.declared.refusal.Refusal.TheVariants.{BadPointer}

@@ -1,4 +1,4 @@
--- What the plain heap's malloc comes to.
+-- What the plain heap's malloc leaves.
 use Rattle.std.proofs.Common.{◌≡◌, ℕ, ◌+◌, ◌-◌, ◌%◌, ◌<◌, ◌≤◌, true, false, cond, [], ◌∷◌, map, refl, sym, ap, ◌∙◌, subst, arith, Option, Some, None, count_by}
 use Rattle.std.specs.Prelude.{◌==◌}
 use Rattle.tlsf_class.specs.Classes.{unit}

@@ -1,4 +1,4 @@
--- What the plain heap's memalign comes to.
+-- What the plain heap's memalign leaves.
 use Rattle.std.proofs.Common.{◌≡◌, ℕ, ◌+◌, ◌-◌, ◌%◌, ◌<◌, ◌≤◌, Bool, true, false, cond, ◌++◌, [], ◌∷◌, map, refl, sym, ap, ◌∙◌, subst, arith, Option, Some, None, count_by, Result, Ok, Err}
 use Rattle.std.specs.Prelude.{◌==◌, nat_lt}
 use Rattle.std.specs.Int.{next_multiple_of}

@@ -1,4 +1,4 @@
--- What the plain heap's remove_pool comes to.
+-- What the plain heap's remove_pool leaves.
 use Rattle.std.proofs.Common.{◌≡◌, ℕ, ◌<◌, Bool, true, cond, not, refl, sym, ap, ◌∙◌, subst, arith, filter, find, Option, Some, None, option_map, Ok, Err}
 use Rattle.tlsf_heap.specs.declared.refusal.Refusal.TheVariants.{PoolInUse}
 use Rattle.tlsf_heap.specs.Content.{Pool, Content}

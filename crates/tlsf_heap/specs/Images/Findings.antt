@@ -65,7 +65,7 @@ is_before front block = is_used block.state && option_eq nat_eq block.prev front
 abbrev pub list_found : Parts → ℕ → Option ℕ → Option ℕ
 list_found parts number first = if is_list parts number first then Some (length (list_of parts first)) else None
 
--- the lists of the classes from this number on, where each is one, with so many blocks before
+-- the lists of the classes from this number on, where each is one, with this many blocks before
 abbrev pub lists_with : Parts → ℕ → ℕ → List (Option ℕ) → Option ℕ
 lists_with parts blocks number heads = if are_lists parts number heads then Some (blocks + length (flat_map (list_of parts) heads)) else None
 

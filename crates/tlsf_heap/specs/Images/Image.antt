@@ -17,7 +17,7 @@ two_at offset bytes = slice_index bytes offset + 256 * slice_index bytes (offset
 abbrev pub four_at : ℕ → List ℕ → ℕ
 four_at offset bytes = two_at offset bytes + 65536 * two_at (offset + 2) bytes
 
--- whether so many bytes from an offset on are zero
+-- whether this many bytes from an offset on are zero
 abbrev pub are_zero : ℕ → ℕ → List ℕ → Bool
 are_zero offset count bytes = list_all (λ k. slice_index bytes k == 0) (range_with_len offset count)
 

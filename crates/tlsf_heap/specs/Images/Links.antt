@@ -5,7 +5,7 @@ use Rattle.std.specs.List.{list_all}
 use Rattle.tlsf_store.specs.declared.records.Record.{Record}
 use Rattle.tlsf_store.specs.Records.{record_at}
 
--- what the links give from a slot on, if there is one, for at most so many slots
+-- what the links give from a slot on, if there is one, for at most this many slots
 abbrev pub follow : ℕ → (ℕ → Option ℕ) → Option ℕ → List ℕ
 follow zero next first = []
 follow (suc n) next None = []
@@ -18,7 +18,7 @@ chain_from records first = follow (length records) (λ slot. (record_at records 
 abbrev pub list_from : List Record → Option ℕ → List ℕ
 list_from records first = follow (length records) (λ slot. (record_at records slot).next_free) first
 
--- whether the links end after at most so many slots
+-- whether the links end after at most this many slots
 abbrev pub ends_within : ℕ → (ℕ → Option ℕ) → Option ℕ → Bool
 ends_within n next None = true
 ends_within zero next (Some slot) = false
@@ -29,7 +29,7 @@ abbrev pub are_linked_back : (ℕ → Option ℕ) → Option ℕ → List ℕ �
 are_linked_back back before [] = true
 are_linked_back back before (slot ∷ slots) = option_eq nat_eq (back slot) before && are_linked_back back (Some slot) slots
 
--- whether links end after at most so many slots, each of which passes a test and is linked back, the first to `before`
+-- whether links end after at most this many slots, each of which passes a test and is linked back, the first to `before`
 abbrev pub is_linked : (ℕ → Bool) → (next back : ℕ → Option ℕ) → ℕ → (before first : Option ℕ) → Bool
 is_linked test next back n before first =
     ends_within n next first && (list_all test (follow n next first) && are_linked_back back before (follow n next first))

@@ -29,7 +29,7 @@ has_length bytes =
 abbrev pub present : List (Option Pool) → List Pool
 present pools = filter_map (λ pool. pool) pools
 
--- a pool can be at its range, from a place on, and its first record is one of so many
+-- a pool can be at its range, from a place on, and its first record is one of this many
 abbrev pub is_pool : ℕ → ℕ → Pool → Bool
 is_pool count from pool = can_be_pool pool.base pool.bytes && (nat_le from pool.base && nat_lt pool.first count)
 
@@ -69,7 +69,7 @@ pub record IsReadable (bytes : List ℕ) : Type 0 where
 
 -- ---- of what they describe
 
--- a link is none, or one of so many records
+-- a link is none, or one of this many records
 abbrev pub is_below : ℕ → Option ℕ → Bool
 is_below count None = true
 is_below count (Some slot) = nat_lt slot count
@@ -177,7 +177,7 @@ rules_of_parts parts =
     (Links, has_links parts) ∷ (Chains, has_chains parts) ∷ (Cover, has_cover parts) ∷ (OnChains, has_all_on_chains parts)
     ∷ (Merged, has_merged parts) ∷ (Lists, has_lists parts) ∷ (OnLists, has_all_on_lists parts) ∷ []
 
--- the same of parts that stand in no bytes: their pools come first
+-- the rules of parts that stand in no bytes: their pools come first
 abbrev pub rules_of_table : Parts → List (Rule × Bool)
 rules_of_table parts = (Pools, has_ordered_pools parts) ∷ rules_of_parts parts
 

@@ -5,7 +5,7 @@ use Rattle.tlsf_store.specs.Cells.{Cells, with_record}
 use Rattle.tlsf_store.specs.declared.pools.Pool.{Pool as StoredPool}
 use Rattle.tlsf_heap.specs.Inner.Entries.{with_entries, free_record}
 
--- the bound between the slot's block and the one behind it is moved, so that the first has so many bytes
+-- the bound between the slot's block and the one behind it is moved, so that the first has this many bytes
 abbrev pub bound_moved : ℕ → ℕ → ℕ → Cells → Cells
 bound_moved slot behind bytes cells =
     let first = record_at cells.records slot in

@@ -24,7 +24,7 @@ pub(crate) fn four_at(bytes: &[u8], offset: usize) -> u32
     ])
 }
 
-/// Whether so many bytes from an offset on are zero.
+/// Whether this many bytes from an offset on are zero.
 pub(crate) fn are_zero(bytes: &[u8], offset: usize, count: usize) -> bool
     requires { offset + count ≤ length bytes.now }
     ensures { result ≡ are_zero offset count bytes.now }

@@ -39,7 +39,7 @@ impl Blocks {
     }
 }
 
-/// Whether the link is none, or of one of so many records.
+/// Whether the link is none, or of one of this many records.
 fn is_below(slot: Option<Slot>, count: u32) -> bool
     ensures { result ≡ is_below count slot }
 {
@@ -49,7 +49,7 @@ fn is_below(slot: Option<Slot>, count: u32) -> bool
     }
 }
 
-/// Whether a block has bytes and links of so many records, and a live one none to free ones.
+/// Whether a block has bytes and links of this many records, and a live one none to free ones.
 fn has_links(block: &Record, count: u32) -> bool
     ensures { result ≡ has_record_links count block.now }
 {

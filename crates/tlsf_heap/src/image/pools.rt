@@ -7,7 +7,7 @@ ghost use Rattle.tlsf_heap.specs.Images.Table.{OnlyReads};
 use super::Table;
 use tlsf_store::{MOST_POOLS, Pool, can_be_pool};
 
-/// Whether the pool can be at its range, from a place on, and its first record is one of so many.
+/// Whether the pool can be at its range, from a place on, and its first record is one of this many.
 pub(crate) fn is_pool(count: u32, from: u64, pool: &Pool) -> bool
     ensures { result ≡ can_be_pool_from count from pool.now }
 {

@@ -37,7 +37,7 @@ impl Content {
     ghost use Rattle.tlsf_heap.specs.GoodSlots.{is_slot, slot_times};
     ghost use Rattle.tlsf_heap.specs.PlainHeap.{IsSize, link_block, blocks_among, blocks_from, first_of};
 
-    /// The content of so many records, with no pool.
+    /// The content of this many records, with no pool.
     pub fn create(alloc: Global, records: u16) -> Result<Self, AllocError>
         ensures { IfOk result (λ content. content ≡ created records) }
     {
@@ -282,7 +282,7 @@ impl Content {
         Ok(())
     }
 
-    /// The blocks of a pool from one on, which has so many in front of it, in all pools.
+    /// The blocks of a pool from one on, which has this many in front of it, in all pools.
     pub fn blocks_from(&self, number: u32) -> &[Block]
         ensures { result.now ≡ blocks_from number self.now.pools }
     {

@@ -21,7 +21,7 @@ fn has_pools<H: Heaped>(heap: &mut H, ranges: &[(u64, u64)]) -> bool {
     heap.pools().as_slice() == ranges
 }
 
-/// A heap of so many records, where memory isn't refused.
+/// A heap of this many records, where memory isn't refused.
 fn made<H: Heaped>(rt: &impl Abort, alloc: Global, records: u32) -> H {
     match H::create(alloc, records) {
         Ok(heap) => heap,

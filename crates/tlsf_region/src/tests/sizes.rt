@@ -5,7 +5,7 @@ use crate::Region;
 use crate::tests::expect_eq;
 use std::process::Abort;
 
-/// A pool of so many bytes from the start on has a block of this size, and all bytes of it are 0.
+/// A pool of this many bytes from the start on has a block of this size, and all bytes of it are 0.
 fn lends_zeros(rt: &impl Abort, region: &mut Region, bytes: u64, size: u64) {
     expect_eq(rt, region.add_pool(0, bytes), Ok(()));
     let ptr = region.malloc(size).expect(rt, "a block");

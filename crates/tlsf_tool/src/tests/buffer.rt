@@ -9,7 +9,7 @@ use std::alloc::{AllocError, Global};
 use std::process::Abort;
 use std::test::Fail;
 
-/// So many lines of eight bytes, and what stands behind them.
+/// A number of lines of eight bytes, and what stands behind them.
 fn starts(alloc: Global, lines: usize, behind: &[u8]) -> Result<Vec<u8>, AllocError> {
     let mut log = Vec::new(alloc);
     for _line in 0..lines {

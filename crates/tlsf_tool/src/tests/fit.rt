@@ -100,7 +100,7 @@ const TEXT: &[u8] =
 /// The diagnostic of that log.
 const NOTES: &[u8] = b"line 1: not a line\n";
 
-/// Runs that log with a reader that fails at its call behind so many.
+/// Runs that log with a reader that fails at its call behind this many.
 fn expect_read_fault(rt: &impl Abort, alloc: Global, calls: u64, wanted: &[u8]) {
     let mut reader = MemorySource::failing_after(SHORT, 4096, calls);
     let mut writer = MemorySink::in_pieces(alloc, 4096);
@@ -124,7 +124,7 @@ fn reader_of_fit_fails(rt: HostRuntime) {
     expect_eq(&rt, writer.bytes(), TEXT);
 }
 
-/// Runs that log with a writer that has room for so many bytes.
+/// Runs that log with a writer that has room for this many bytes.
 fn expect_write_fault(rt: &impl Abort, alloc: Global, room: usize) {
     let mut reader = MemorySource::in_pieces(SHORT, 4096);
     let mut writer = MemorySink::with_room(alloc, 4096, room, Full::Fails);

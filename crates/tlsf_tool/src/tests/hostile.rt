@@ -30,7 +30,7 @@ const TEXTS: [(Name, &[u8]); 3] = [
 const REPORTS: [Name; 3] = [Name::Leaks, Name::Peak, Name::Walk];
 
 /// What the first bytes of the log come to, where the reader fails behind them: the first number of bytes that
-/// comes to a text, and the text.
+/// gives a text, and the text.
 const READ: [(u64, &[u8]); 3] = [
     (0, b""),
     (15, b"line 1: not a line\n"),

@@ -18,7 +18,7 @@ pub(super) struct Bytes {
 }
 
 impl Bytes {
-    /// So many records below 5, one pool from 0 on of so many bytes below 256, and no list.
+    /// This many records below 5, one pool from 0 on of this many bytes below 256, and no list.
     pub(super) fn new(records: u8, pool: u8) -> Bytes {
         let mut image = Bytes {
             bytes: [0; ROOM],

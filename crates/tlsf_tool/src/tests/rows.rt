@@ -31,7 +31,7 @@ const FOUR_RECORDS: Settings = Settings {
     ..ONE_RECORD
 };
 
-/// A log, with what it comes to.
+/// A log with its reports.
 struct Row {
     name: &'static str,
     settings: Settings,
@@ -276,7 +276,7 @@ fn rows_in_one_piece_and_in_pieces(rt: HostRuntime) {
     }
 }
 
-/// A line of `@ `, so many times `a`, and what stands behind the location.
+/// A line of `@ `, this many times `a`, and what stands behind the location.
 fn long_line(alloc: Global, location: usize, behind: &[u8]) -> Result<Vec<u8>, AllocError> {
     let mut line = Vec::from_slice(alloc, b"@ ")?;
     for _ in 0..location {
@@ -374,11 +374,11 @@ fn greatest_pools(rt: HostRuntime) {
 /// A log with a line that has no effect, a block that is not freed, and a half at its end.
 const NOTED_AND_HELD: &[u8] = b"- 0x1\n+ 0x10 0x8\n< 0x10\n";
 
-/// What it comes to.
+/// Its reports.
 const TEXT_OF_BOTH: &[u8] =
     b"line 1: 0x1 is not held\nline 3: half of a reallocation\nMemory not freed:\n0x10 8 line 2\nTotal: 1 blocks, 8 bytes.\n";
 
-/// A log, with what it comes to, to be served to a writer that fails.
+/// A log with its reports, to be served to a writer that fails.
 const TO_WRITE: [(&[u8], &[u8]); 2] = [
     (b"", b"No memory leaks.\n"),
     (NOTED_AND_HELD, TEXT_OF_BOTH),

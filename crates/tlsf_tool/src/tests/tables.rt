@@ -50,7 +50,7 @@ fn blocks() -> [(Slot, Record); 4] {
     ]
 }
 
-/// Whether the link is none, or of one of so many records.
+/// Whether the link is none, or of one of this many records.
 fn is_below(slot: Option<Slot>, count: u32) -> bool
     ensures { result ≡ true → IsBelow count slot }
 {
@@ -60,7 +60,7 @@ fn is_below(slot: Option<Slot>, count: u32) -> bool
     }
 }
 
-/// Whether a store of so many records can hold the record of a block.
+/// Whether a store of this many records can hold the record of a block.
 fn can_be_kept(block: &Record, count: u32) -> bool
     ensures used { result ≡ true → block.now.state ≢ Vacant }
     ensures kept { result ≡ true → IsKept count block.now }

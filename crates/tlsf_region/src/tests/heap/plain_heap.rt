@@ -65,7 +65,7 @@ fn made_at_last(rt: &impl Abort, alloc: Global) -> PlainHeap {
     heap
 }
 
-/// A block of so many bytes.
+/// A block of this many bytes.
 fn given_at_last(rt: &impl Abort, heap: &mut PlainHeap, n: u64) -> Ptr {
     match heap.malloc(n) {
         Ok(ptr) => ptr,
@@ -92,7 +92,7 @@ fn refused_memory(rt: HostRuntime) {
     assert!(rt; has_row(&mut heap, 0, 1024, false));
 }
 
-/// The same of memalign, of realloc in place, and of a pool that goes.
+/// Each call that changes the heap is made again where memory was refused: memalign, realloc in place, remove_pool.
 #[test]
 fn refused_memory_of_others(rt: HostRuntime) {
     let mut heap = made_at_last(&rt, rt.alloc());

@@ -4,7 +4,7 @@ use std::alloc::{AllocError, Global};
 use tlsf_class::{CLASSES, Class, low};
 use tlsf_heap::*;
 
-/// A heap of so many records, where its pools begin and how many bytes they have, and how many runs are made.
+/// A heap of this many records, where its pools begin and how many bytes they have, and how many runs are made.
 #[derive(Clone, Copy)]
 struct Setup {
     runs: u32,

@@ -11,19 +11,19 @@ use tlsf_heap::*;
 /// What is asked of a heap.
 #[derive(Clone, Copy)]
 enum Ask {
-    /// A pool from a place on, of so many bytes.
+    /// A pool from a place on, of this many bytes.
     Pool(u64, u64),
     /// That the pool from a place on is gone.
     RemovePool(u64),
-    /// A block of so many bytes.
+    /// A block of this many bytes.
     Malloc(u64),
-    /// A block at a multiple of an alignment, of so many bytes.
+    /// A block at a multiple of an alignment, of this many bytes.
     Memalign(u64, u64),
     /// The block that was given last at this place becomes free, live or not.
     Free(u32),
-    /// The block that was given last at this place gets so many bytes.
+    /// The block that was given last at this place gets this many bytes.
     Realloc(u32, u64),
-    /// A new block of so many bytes, by realloc.
+    /// A new block of this many bytes, by realloc.
     ReallocNone(u64),
     /// The size of the block that was given last at this place.
     Size(u32),
@@ -74,7 +74,7 @@ impl Seen {
 /// A block of a pool: its place, its size, and whether it is live.
 pub(crate) type Block = (u32, u32, bool);
 
-/// A heap of so many records, what is asked of it with what it answers, and its pools in the end, in order of base,
+/// A heap of this many records, what is asked of it with what it answers, and its pools in the end, in order of base,
 /// each with its rows.
 #[derive(Clone, Copy)]
 struct Case {

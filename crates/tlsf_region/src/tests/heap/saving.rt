@@ -10,7 +10,7 @@ use std::alloc::Global;
 use std::process::Abort;
 use tlsf_heap::*;
 
-/// A heap of so many records with a pool of 64 bytes.
+/// A heap of this many records with a pool of 64 bytes.
 fn small<A: Abort>(rt: &A, alloc: Global, records: u32) -> Heap {
     let mut heap: Heap = made(rt, alloc, records);
     heap.add_pool(0, 64).expect(rt, "a pool");

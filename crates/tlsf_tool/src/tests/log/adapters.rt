@@ -166,7 +166,7 @@ fn fails_to_begin_where_std_fails_to_seek(rt: HostRuntime) {
     }
 }
 
-/// Pulls so many times; each call comes to what the reader's call comes to.
+/// Pulls this many times; each call answers what the reader's call answers.
 fn expect_pulls(rt: &impl Abort, kind: ErrorKind, failing: u32, calls: u32) {
     let mut reader = FailsOnce {
         kind,
@@ -188,7 +188,7 @@ fn expect_pulls(rt: &impl Abort, kind: ErrorKind, failing: u32, calls: u32) {
     expect_eq_at(rt, kind, reader.calls, calls);
 }
 
-/// Puts bytes and flushes in turn, so many times; each call comes to what the writer's call comes to.
+/// Puts bytes and flushes in turn, this many times; each call answers what the writer's call answers.
 fn expect_puts_and_flushes(rt: &impl Abort, kind: ErrorKind, failing: u32, calls: u32) {
     let mut writer = FailsOnce {
         kind,
@@ -225,7 +225,7 @@ fn fails_where_std_fails_and_calls_it_once(rt: HostRuntime) {
     }
 }
 
-/// A reader of so many bytes, one a call, each the last digit of its number.
+/// A reader of this many bytes, one a call, each the last digit of its number.
 #[derive(Drop)]
 struct Digits {
     given: u32,
@@ -257,7 +257,7 @@ fn reads_many_bytes_from_std(rt: HostRuntime) {
     assert!(rt; reader.pull(&mut byte) == Ok(0));
 }
 
-/// Pulls and puts so many bytes, each at once.
+/// Pulls and puts this many bytes, each at once.
 fn expect_one_call(rt: &impl Abort, alloc: Global, count: u32) -> Result<(), Fail> {
     let bytes = vec![in alloc; b'a'; count as usize]?;
     let mut read = vec![in alloc; b'b'; count as usize + 1]?;

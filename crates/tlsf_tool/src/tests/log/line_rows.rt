@@ -349,7 +349,7 @@ fn refuses_other_lines_behind_a_place(rt: HostRuntime) {
     expect_no_event(&rt, &lines);
 }
 
-/// `@ `, so many times `a`, and then what stands behind the place.
+/// `@ `, this many times `a`, and then what stands behind the place.
 fn long_line(line: &mut Vec<u8>, count: usize, behind: &[u8], rt: &impl Abort) {
     line.extend_from_slice(b"@ ").expect(rt, "memory");
     for _ in 0..count {

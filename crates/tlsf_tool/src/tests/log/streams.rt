@@ -17,7 +17,7 @@ enum Said {
     NotALine,
 }
 
-/// Appends a part so many times.
+/// Appends a part this many times.
 fn append(rt: &impl Abort, text: &mut Vec<u8>, part: &[u8], times: usize) {
     for _ in 0..times {
         text.extend_from_slice(part).expect(rt, "memory");
@@ -66,14 +66,14 @@ fn expect_line<R: Source>(
     }
 }
 
-/// The next lines are so many starts, from the first on.
+/// The next lines are this many starts, from the first on.
 fn expect_starts<R: Source>(rt: &impl Abort, lines: &mut Lines, reader: &mut R, starts: u64) {
     for before in 0..starts {
         expect_line(rt, lines, reader, before.wrapping_add(1), &Said::Start);
     }
 }
 
-/// The lines of a text are so many starts, and then these.
+/// The lines of a text are this many starts, and then these.
 fn expect_lines(rt: &impl Abort, text: &[u8], piece: usize, starts: u64, rows: &[Said]) {
     let mut reader = MemorySource::in_pieces(text, piece.max(1));
     let mut lines = Lines::new();
@@ -119,7 +119,7 @@ fn cuts_a_text_into_lines(rt: HostRuntime) {
 
 #[test]
 fn cuts_a_text_at_the_buffers_end(rt: HostRuntime) {
-    // The rows begin so many bytes before the buffer's end.
+    // The rows begin this many bytes before the buffer's end.
     for inside in 0..26usize {
         let mut text = Vec::new(rt.alloc());
         append(&rt, &mut text, b"a", 4095 - inside);

@@ -113,7 +113,7 @@ fn expect_same_line(
         .any(|d| matches!(d.kind, Kind::Refused(_, Refusal::BadAlign)))
 }
 
-/// Feeds so many lines to each heap, and answers how many were refused for their alignment.
+/// Feeds this many lines to each heap, and answers how many were refused for their alignment.
 fn expect_same(rt: &impl Abort, alloc: Global, seed: u64, count: u64) -> u64 {
     let (Ok(mut one), Ok(mut other)) = (
         Fed::<Heap>::create(alloc, SETTINGS),

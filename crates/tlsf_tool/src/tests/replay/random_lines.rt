@@ -49,7 +49,7 @@ fn expect_lines<H: Heaped>(rt: &impl Abort, replay: &Replay<H>, lines: &[u64; AD
     assert!(rt; held.next().is_none(), "too many are held");
 }
 
-/// Feeds so many random lines, half of them free an address and half ask for one.
+/// Feeds this many random lines, half of them free an address and half ask for one.
 fn random_lines<H: Heaped>(rt: &impl Abort, alloc: Global, seed: u64, count: u64) {
     let Ok(mut fed) = Fed::<H>::create(alloc, SETTINGS) else {
         panic!(rt; "no memory");

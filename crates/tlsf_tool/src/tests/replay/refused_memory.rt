@@ -43,7 +43,7 @@ fn expect_next(rt: &impl Abort, held: &mut Entries<'_>, line: u64) {
     }
 }
 
-/// Compares what is held after so many of the lines.
+/// Compares what is held after this many of the lines.
 fn expect_held_after<H: Heaped>(rt: &impl Abort, replay: &Replay<H>, lines: u64) {
     let mut held = replay.held();
     let first = match lines {
