@@ -101,7 +101,7 @@ impl Sink for MemorySink {
             → IsErr result ↔ (sink_full self.old ≡ Fails) }
         ensures kept { OnErr result (sink_taken self.new ≡ sink_taken self.old) }
         ensures kept_room { OnErr result (sink_room self.new ≡ sink_room self.old) }
-        ensures so { IsSink (sink_taken self.new) (sink_piece self.old) (sink_room self.new) (sink_full self.old) (flush_fails self.old) (offered (length bytes.now) result ∷ sink_trace self.old) self.new }
+        ensures rest { IsSink (sink_taken self.new) (sink_piece self.old) (sink_room self.new) (sink_full self.old) (flush_fails self.old) (offered (length bytes.now) result ∷ sink_trace self.old) self.new }
     {
         let count = bytes.len().min(self.room).min(self.piece);
         if count == 0 && !bytes.is_empty() {
