@@ -1,4 +1,4 @@
--- What one line of a log comes to, by the line before it, by what is held, and on what the heap holds.
+-- What one line of a log does, by the line before it, by what is held, and on what the heap holds.
 use Rattle.std.specs.Prelude.{ℕ, suc, Bool, true, false, not, ◌&&◌, List, [], ◌∷◌, ◌++◌, is_some, Option, Some, None, Result, Ok, Err, if◌then◌else◌, ◌==◌}
 use Rattle.mtrace_log.specs.Event.{Event}
 use Rattle.mtrace_log.specs.declared.event.Event.TheVariants.{Start, End, Alloc, Free, Old, New, Failed, Aligned}
@@ -92,7 +92,7 @@ abbrev pub renewal : ℕ → Option (List ℕ) → Option ℕ → (address size 
 renewal number at None address size held content = unserved (note number Stray) content
 renewal number at (Some old) address size held content = reallocation number at old (held old) address size (held address) content
 
--- what the line of this number comes to, but for what it tells of the line before
+-- what the line of this number does, but for what it tells of the line before
 abbrev pub outcome : ℕ → Reading → Option ℕ → (ℕ → Option Given) → Bare → Moment
 outcome number (Err fault.TooLong) pending held content = unserved (note number TooLong) content
 outcome number (Err fault.NotALine) pending held content = unserved (note number NotALine) content
@@ -135,6 +135,6 @@ abbrev pub half : ℕ → Option ℕ → List Diagnostic
 half number None = []
 half number (Some address) = note number Half
 
--- what the line behind so many lines comes to
+-- what the line behind this many lines does
 abbrev pub moment : ℕ → Reading → Option ℕ → (ℕ → Option Given) → Bare → Moment
 moment before line pending held content = noted_after (if is_new line then [] else half before pending) (outcome (suc before) line pending held content)

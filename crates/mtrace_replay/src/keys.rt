@@ -202,7 +202,7 @@ impl Keys {
         self.len = len;
     }
 
-    /// The entry comes to be the row of this slot, with its location kept.
+    /// The entry becomes the row of this slot, with its location kept.
     #[inline(always)]
     fn set_row(&mut self, slot: u16, entry: &Entry<LentLocation<'_>>)
         requires { slot < self.old.rows.room }
@@ -214,7 +214,7 @@ impl Keys {
         self.chunks[number / CHUNK].rows[number % CHUNK].set(entry);
     }
 
-    /// The place of the key at `gap` comes to be at `at`: what lies between moves by one.
+    /// The place of the key at `gap` moves to `at`: what lies between moves by one.
     #[inline(always)]
     fn move_gap(&mut self, gap: usize, at: usize)
         requires gap { gap < length self.old.keys }
@@ -232,7 +232,7 @@ impl Keys {
         }
     }
 
-    /// The entry comes to be held under the block, by a key that stands at `at` in place of the one at `gap`.
+    /// The entry is held under the block from now on, by a key that stands at `at` in place of the one at `gap`.
     #[inline(always)]
     pub(crate) fn put(&mut self, gap: usize, at: usize, entry: &Entry<LentLocation<'_>>, ptr: Ptr)
         requires gap { gap < length self.old.keys }
