@@ -1,5 +1,5 @@
 -- Lines of the two frequent forms, read from the front of the unread bytes.
-use Rattle.std.proofs.Common.{◌≡◌, ℕ, zero, suc, ◌+◌, ◌-◌, ◌≤◌, List, [], ◌∷◌, ◌++◌, length, take, drop, Option, Some, None, codes, refl, sym, ap, ◌∙◌, subst, append_assoc, length-append, arith}
+use Rattle.std.proofs.Common.{◌≡◌, ℕ, zero, suc, ◌+◌, ◌-◌, List, [], ◌∷◌, ◌++◌, length, take, drop, Option, Some, None, codes, refl, sym, ap, ◌∙◌, subst, append_assoc, length-append, arith}
 use Rattle.std.specs.Prelude.{slice_range}
 use Rattle.std.proofs.lemmas.List.{drop-drop}
 use Rattle.mtrace_log.specs.Bytes.{Lacks, space, newline}
@@ -67,7 +67,3 @@ frequent-taken bytes start end frequent count found =
       (subst Q (sym first.0) lacks, found.split ∙ ap (λ text. text ++ newline ∷ found.rest) (sym first.0) ∙ ap (λ text. line ++ newline ∷ text) (sym second.1)),
       subst P (sym first.0) found.says,
     )
-
--- it lies within the unread bytes
-pub frequent-within : (bytes : List ℕ) (frequent : Frequent) (count : ℕ) → BeginsFrequent bytes frequent count → count + 1 ≤ length bytes
-frequent-within bytes frequent count found = omega (arith, found.long, ap length found.split, length-append found.line (newline ∷ found.rest))

@@ -1,5 +1,5 @@
 -- What many calls of `next` took: none yet, one more line, the end, a fault.
-use Rattle.std.proofs.Common.{◌≡◌, ℕ, List, [], ◌∷◌, ◌++◌, Option, Some, None, Result, refl, sym, ap, ◌∙◌, subst, append-nil}
+use Rattle.std.proofs.Common.{◌≡◌, ℕ, List, [], ◌∷◌, ◌++◌, Option, Result, sym, ap, ◌∙◌, subst, append-nil}
 use Rattle.std.specs.Io.KnownBytes.{prepend_known, IsAtEnd}
 use Rattle.std.proofs.KnownBytes.{prepend_known-nil}
 use Rattle.mtrace_log.specs.Bytes.{Lacks, newline}
@@ -129,15 +129,6 @@ HasReadSo-fault {R} left start old new reader_old reader_new fault events so_far
     by_status (Faulted first) before stop = subst (λ text. HasReadBefore start text events) (unchanged left old new reader_old reader_new stop.1 stop.2) before
 
 -- ---- the text to come and what the reader has left
-
--- at the end of the text nothing is held
-pub to_come-end : (lines : Progress) (left : Option (List ℕ)) → IsAtEnd (to_come lines left) → to_come lines left ≡ left
-to_come-end lines None at_end = refl
-to_come-end lines (Some bytes) at_end = held_nothing lines.held at_end
-  where
-    held_nothing : (held : List ℕ) → held ++ bytes ≡ [] → prepend_known held (Some bytes) ≡ Some bytes
-    held_nothing [] none = refl
-    held_nothing (b ∷ held) none = cc
 
 -- where nothing is held
 pub to_come-nothing_held : (lines : Progress) (left : Option (List ℕ)) → lines.held ≡ [] → to_come lines left ≡ left

@@ -52,11 +52,6 @@ offered_some bytes zero some = absurd (omega arith)
 offered_some zero (suc count) some = refl
 offered_some (suc bytes) (suc count) some = refl
 
--- a writer that took none of some
-pub offered_none : (bytes : ℕ) → 0 < bytes → offered bytes (Ok 0) ≡ Failed
-offered_none zero some = absurd (omega arith)
-offered_none (suc bytes) some = refl
-
 -- a flush was asked
 pub flush_asked : (old new : List Call) (answer : Result (Unit {0}) Failure) → new ≡ flushed answer ∷ old → FlushWasAsked old new
 flush_asked old new (Ok done) told = inl (moved_then_last Took Flushed old old new (moved_none Took old) told)

@@ -43,7 +43,7 @@ source_count source room = min (min (length (source_left source)) (source_piece 
 abbrev pub source_trace : MemorySource → List Call
 source_trace source = source.trace.calls
 
--- the reader with these bytes left and in whole, of this greatest piece, that fails after these calls, and what its calls came to
+-- the reader with these bytes left and in whole, of this greatest piece; after how many calls one fails, if one does; and its calls
 pub record IsSource (rest all : List ℕ) (most : ℕ) (failing : Option ℕ) (past : List Call) (source : MemorySource) : Type 0 where
   pub left : source_left source ≡ rest
   pub whole : source_whole source ≡ all
@@ -88,8 +88,8 @@ sink_trace sink = sink.trace.calls
 abbrev pub sink_count : MemorySink → ℕ → ℕ
 sink_count sink offered = min (min offered (sink_room sink)) (sink_piece sink)
 
--- the writer that took these bytes, with this greatest piece and this room, what it answers when it is full, whether its flushes
--- fail, and what its calls came to
+-- the writer that took these bytes, with this greatest piece and this room; what it answers when it is full, and whether its flushes
+-- fail; and its calls
 pub record IsSink (bytes : List ℕ) (most left : ℕ) (when_full : WhenFull) (fails : Bool) (past : List Call) (sink : MemorySink) : Type 0 where
   pub taken : sink_taken sink ≡ bytes
   pub piece : sink_piece sink ≡ most

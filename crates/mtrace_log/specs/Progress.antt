@@ -110,8 +110,8 @@ pub record Passes {R : Type 0} (left bytes : R → Option (List ℕ)) (trace : R
   pub nothing_held : IfErr result (λ fault. fault ≡ ReaderFailed → new.held ≡ [])
   pub whole : bytes reader_new ≡ bytes reader_old
 
--- A call at any status: it gives the next line, finds the end, or gives a fault. The calls of the reader are told, where lines were
--- read; where it failed, all that it gave is taken, and the text to come is what it has left.
+-- A call at any status: it gives the next line, finds the end, or gives a fault. What came of the calls of
+-- the reader is told where lines were read. Where it failed, all that it gave is taken: the text to come is what it has left.
 pub record Advances {R T : Type 0} (Gives : (old new : Progress) (before after : Option (List ℕ)) → T → Type 0) (left bytes : R → Option (List ℕ)) (trace : R → List Call)
     (result : Result (Option T) ReadFault) (old new : Progress) (reader_old reader_new : R) : Type 0 where
   pub line : IfOk result (λ found. IfSome found (λ line. Gives old new (to_come old (left reader_old)) (to_come new (left reader_new)) line))

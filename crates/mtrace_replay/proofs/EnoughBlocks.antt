@@ -5,7 +5,7 @@ use Rattle.std.specs.List.{Contains}
 use Rattle.std.proofs.lemmas.Bool.{cases_Bool, eq-eqb}
 use Rattle.std.proofs.lemmas.List.Elements.{Contains-append_cases, Contains-push_cases}
 use Rattle.tlsf_heap.specs.declared.refusal.Refusal.{Refusal}
-use Rattle.tlsf_heap.specs.declared.refusal.Refusal.TheVariants.{BadPointer, TableFull}
+use Rattle.tlsf_heap.specs.declared.refusal.Refusal.TheVariants.{TableFull}
 use Rattle.tlsf_heap.specs.Content.{Block, Pool, Content, blocks_of, is_free, is_at, size_at}
 use Rattle.tlsf_heap.specs.Malloc.{replaced}
 use Rattle.tlsf_heap.specs.Free.{free, after_free, free_block, free_previous, free_next, start_of, size_of, without_block, is_live, is_owned_by}
@@ -76,16 +76,7 @@ module _ {A : Type 0} where
         | inr other ↦ rw (other, there) refl
       ]
 
-  -- after a free of any owner none is live there
-  pub left_elsewhere : (place : ℕ) (content new : Content A) (b : Block A) → free (λ owner. true) place content ≡ Ok new → Contains (blocks_of new.pools) b → is_free b ≡ false → b.place ≢ place
-  left_elsewhere place content new b freed has live = elim (cases_Bool (is_live (λ (owner : A). true) place (blocks_of content.pools))) [
-    | inl there ↦
-        let is : free (λ owner. true) place content ≡ Ok (after_free place content) = rw there refl in
-        let same : after_free place content ≡ new = cc in
-        freed_elsewhere place content b (subst (λ (c : Content A). Contains (blocks_of c.pools) b) (sym same) has) live
-    | inr stale ↦ let is : free (λ owner. true) place content ≡ Err BadPointer = rw stale refl in absurd (cc)
-  ]
-
+  -- where a free of any owner fails, no block is live there
   pub stale_elsewhere : (place : ℕ) (content : Content A) (refusal : Refusal) (b : Block A) → free (λ owner. true) place content ≡ Err refusal → Contains (blocks_of content.pools) b → is_free b ≡ false → b.place ≢ place
   stale_elsewhere place content refusal b refused has live at =
       let there : is_live (λ (owner : A). true) place (blocks_of content.pools) ≡ true = subst (λ n. is_live (λ (owner : A). true) n (blocks_of content.pools) ≡ true) at (live_there (blocks_of content.pools) b has live) in

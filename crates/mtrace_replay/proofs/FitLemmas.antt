@@ -100,10 +100,6 @@ few_tried records whole step first count verdicts are =
     sym (length-map verdicts (λ (v : Verdict). v.size)) ∙ ap (length {A = ℕ}) are.sizes_are ∙ length-map-range_with_len (λ number. number * step) first count in
     (all, omega (arith, all, count_by-le-length (λ (v : Verdict). not v.serves) verdicts))
 
--- no size
-pub none_tried : (records : ℕ) (whole : Bytes) → AreVerdicts records whole [] []
-none_tried records whole = record { sizes_are = refl; each = tt }
-
 -- one size more
 pub one_tried : (records : ℕ) (whole : Bytes) (step first number count : ℕ) (verdicts : List Verdict) (verdict : Verdict) → first + count ≡ number
     → AreVerdicts records whole (map (λ i. i * step) (range_with_len first count)) verdicts

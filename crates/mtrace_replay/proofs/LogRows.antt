@@ -30,190 +30,123 @@ one_record = record { pool = 64; pools = 1; records = 1 }
 abbrev first_leak : List Reading
 first_leak = Ok Start ∷ Ok (Alloc (Some (codes "a")) (Some 16) 100) ∷ Ok End ∷ []
 
-first_leak-text : leaks_text (diagnostics default_settings first_leak) (record { addr = 16; size = 100; line = 2; at = Some (codes "a") } ∷ [])
-    ≡ codes "Memory not freed:\n0x10 100 line 2 at a\nTotal: 1 blocks, 100 bytes.\n"
+first_leak-rows : (leaks_text (diagnostics default_settings first_leak) (record { addr = 16; size = 100; line = 2; at = Some (codes "a") } ∷ []) ≡ codes "Memory not freed:\n0x10 100 line 2 at a\nTotal: 1 blocks, 100 bytes.\n")
+    × (held (history default_settings first_leak) 16 ≡ Some (record { entry = record { addr = 16; size = 100; line = 2; at = Some (codes "a") }; place = 0 }))
 unfolding started moments class need low rounded digits
-first_leak-text = refl
-
-first_leak-held : held (history default_settings first_leak) 16 ≡ Some (record { entry = record { addr = 16; size = 100; line = 2; at = Some (codes "a") }; place = 0 })
-unfolding started moments class need low rounded digits
-first_leak-held = refl
+first_leak-rows = (refl, refl)
 
 -- first-path-diagnostics (one pool of 1024 bytes, 16 records): `= Start`, `+ 0x10 0x64`, `+ 0x10 0x1`, `- 0x10`, `+ 0x20 0x400`
 abbrev first_path_diagnostics : List Reading
 first_path_diagnostics = Ok Start ∷ Ok (Alloc None (Some 16) 100) ∷ Ok (Alloc None (Some 16) 1) ∷ Ok (Free None 16) ∷ Ok (Alloc None (Some 32) 1024) ∷ []
 
-first_path_diagnostics-text : leaks_text (diagnostics small first_path_diagnostics) (record { addr = 32; size = 1024; line = 5; at = None } ∷ [])
-    ≡ codes "line 3: 0x10 is already held\nMemory not freed:\n0x20 1024 line 5\nTotal: 1 blocks, 1024 bytes.\n"
+first_path_diagnostics-rows : (leaks_text (diagnostics small first_path_diagnostics) (record { addr = 32; size = 1024; line = 5; at = None } ∷ []) ≡ codes "line 3: 0x10 is already held\nMemory not freed:\n0x20 1024 line 5\nTotal: 1 blocks, 1024 bytes.\n")
+    × (held (history small first_path_diagnostics) 32 ≡ Some (record { entry = record { addr = 32; size = 1024; line = 5; at = None }; place = 0 }))
+    × (held (history small first_path_diagnostics) 16 ≡ None)
 unfolding started moments class need low rounded digits
-first_path_diagnostics-text = refl
-
-first_path_diagnostics-held : held (history small first_path_diagnostics) 32 ≡ Some (record { entry = record { addr = 32; size = 1024; line = 5; at = None }; place = 0 })
-unfolding started moments class need low rounded digits
-first_path_diagnostics-held = refl
-
-first_path_diagnostics-gone : held (history small first_path_diagnostics) 16 ≡ None
-unfolding started moments class need low rounded digits
-first_path_diagnostics-gone = refl
+first_path_diagnostics-rows = (refl, refl, refl)
 
 -- half-reallocation (one pool of 1024 bytes, 16 records): `+ 0x01000 0x10` (not a line), `+ 0x1000 0`, `- 0x2000`, `< 0x1000`
 abbrev half_reallocation : List Reading
 half_reallocation = Err fault.NotALine ∷ Ok (Alloc None (Some 4096) 0) ∷ Ok (Free None 8192) ∷ Ok (Old None 4096) ∷ []
 
-half_reallocation-text : leaks_text (diagnostics small half_reallocation) (record { addr = 4096; size = 0; line = 2; at = None } ∷ [])
-    ≡ codes "line 1: not a line\nline 3: 0x2000 is not held\nline 4: half of a reallocation\nMemory not freed:\n0x1000 0 line 2\nTotal: 1 blocks, 0 bytes.\n"
+half_reallocation-rows : (leaks_text (diagnostics small half_reallocation) (record { addr = 4096; size = 0; line = 2; at = None } ∷ []) ≡ codes "line 1: not a line\nline 3: 0x2000 is not held\nline 4: half of a reallocation\nMemory not freed:\n0x1000 0 line 2\nTotal: 1 blocks, 0 bytes.\n")
+    × (held (history small half_reallocation) 4096 ≡ Some (record { entry = record { addr = 4096; size = 0; line = 2; at = None }; place = 0 }))
 unfolding started moments class need low rounded digits
-half_reallocation-text = refl
-
-half_reallocation-held : held (history small half_reallocation) 4096 ≡ Some (record { entry = record { addr = 4096; size = 0; line = 2; at = None }; place = 0 })
-unfolding started moments class need low rounded digits
-half_reallocation-held = refl
+half_reallocation-rows = (refl, refl)
 
 -- reallocation-pair (one pool of 1024 bytes, 16 records): `@ a + 0x10 0x64`, `@ b < 0x10`, `@ b > 0x30 0xc8`
 abbrev reallocation_pair : List Reading
 reallocation_pair = Ok (Alloc (Some (codes "a")) (Some 16) 100) ∷ Ok (Old (Some (codes "b")) 16) ∷ Ok (New (Some (codes "b")) 48 200) ∷ []
 
-reallocation_pair-text : leaks_text (diagnostics small reallocation_pair) (record { addr = 48; size = 200; line = 3; at = Some (codes "b") } ∷ [])
-    ≡ codes "Memory not freed:\n0x30 200 line 3 at b\nTotal: 1 blocks, 200 bytes.\n"
+reallocation_pair-rows : (leaks_text (diagnostics small reallocation_pair) (record { addr = 48; size = 200; line = 3; at = Some (codes "b") } ∷ []) ≡ codes "Memory not freed:\n0x30 200 line 3 at b\nTotal: 1 blocks, 200 bytes.\n")
+    × (held (history small reallocation_pair) 48 ≡ Some (record { entry = record { addr = 48; size = 200; line = 3; at = Some (codes "b") }; place = 0 }))
+    × (held (history small reallocation_pair) 16 ≡ None)
 unfolding started moments class need low rounded digits
-reallocation_pair-text = refl
-
-reallocation_pair-held : held (history small reallocation_pair) 48 ≡ Some (record { entry = record { addr = 48; size = 200; line = 3; at = Some (codes "b") }; place = 0 })
-unfolding started moments class need low rounded digits
-reallocation_pair-held = refl
-
-reallocation_pair-gone : held (history small reallocation_pair) 16 ≡ None
-unfolding started moments class need low rounded digits
-reallocation_pair-gone = refl
+reallocation_pair-rows = (refl, refl, refl)
 
 -- one-record-log (one pool of 64 bytes, 1 record): `+ 0x10 0x8`, `- 0x10`, `+ 0x10 0x40`, `+ 0x10 0x8`, `- 0x10`
 abbrev one_record_log : List Reading
 one_record_log = Ok (Alloc None (Some 16) 8) ∷ Ok (Free None 16) ∷ Ok (Alloc None (Some 16) 64) ∷ Ok (Alloc None (Some 16) 8) ∷ Ok (Free None 16) ∷ []
 
-one_record_log-text : leaks_text (diagnostics one_record one_record_log) []
-    ≡ codes "line 1: 0x10 refused: table full\nline 2: 0x10 is not held\nline 4: 0x10 is already held\nNo memory leaks.\n"
+one_record_log-rows : (leaks_text (diagnostics one_record one_record_log) [] ≡ codes "line 1: 0x10 refused: table full\nline 2: 0x10 is not held\nline 4: 0x10 is already held\nNo memory leaks.\n")
+    × (held (history one_record one_record_log) 16 ≡ None)
 unfolding started moments class need low rounded digits
-one_record_log-text = refl
-
-one_record_log-gone : held (history one_record one_record_log) 16 ≡ None
-unfolding started moments class need low rounded digits
-one_record_log-gone = refl
+one_record_log-rows = (refl, refl)
 
 -- refused-reallocation (one pool of 64 bytes, 4 records): `+ 0x10 0x8`, `< 0x10`, `> 0x20 0x80`
 abbrev refused_reallocation : List Reading
 refused_reallocation = Ok (Alloc None (Some 16) 8) ∷ Ok (Old None 16) ∷ Ok (New None 32 128) ∷ []
 
-refused_reallocation-text : leaks_text (diagnostics tiny refused_reallocation) []
-    ≡ codes "line 3: 0x20 refused: no fit\nNo memory leaks.\n"
+refused_reallocation-rows : (leaks_text (diagnostics tiny refused_reallocation) [] ≡ codes "line 3: 0x20 refused: no fit\nNo memory leaks.\n")
+    × (held (history tiny refused_reallocation) 16 ≡ None)
+    × (held (history tiny refused_reallocation) 32 ≡ None)
 unfolding started moments class need low rounded digits
-refused_reallocation-text = refl
-
-refused_reallocation-old_gone : held (history tiny refused_reallocation) 16 ≡ None
-unfolding started moments class need low rounded digits
-refused_reallocation-old_gone = refl
-
-refused_reallocation-new_gone : held (history tiny refused_reallocation) 32 ≡ None
-unfolding started moments class need low rounded digits
-refused_reallocation-new_gone = refl
+refused_reallocation-rows = (refl, refl, refl)
 
 -- repeated-half (one pool of 64 bytes, 4 records): `+ 0x10 0x8`, `< 0x10`, `< 0x10`, `> 0x10 0x10`
 abbrev repeated_half : List Reading
 repeated_half = Ok (Alloc None (Some 16) 8) ∷ Ok (Old None 16) ∷ Ok (Old None 16) ∷ Ok (New None 16 16) ∷ []
 
-repeated_half-text : leaks_text (diagnostics tiny repeated_half) (record { addr = 16; size = 16; line = 4; at = None } ∷ [])
-    ≡ codes "line 2: half of a reallocation\nMemory not freed:\n0x10 16 line 4\nTotal: 1 blocks, 16 bytes.\n"
+repeated_half-rows : (leaks_text (diagnostics tiny repeated_half) (record { addr = 16; size = 16; line = 4; at = None } ∷ []) ≡ codes "line 2: half of a reallocation\nMemory not freed:\n0x10 16 line 4\nTotal: 1 blocks, 16 bytes.\n")
+    × (held (history tiny repeated_half) 16 ≡ Some (record { entry = record { addr = 16; size = 16; line = 4; at = None }; place = 0 }))
 unfolding started moments class need low rounded digits
-repeated_half-text = refl
-
-repeated_half-held : held (history tiny repeated_half) 16 ≡ Some (record { entry = record { addr = 16; size = 16; line = 4; at = None }; place = 0 })
-unfolding started moments class need low rounded digits
-repeated_half-held = refl
+repeated_half-rows = (refl, refl)
 
 -- stray-new (one pool of 1024 bytes, 16 records): `> 0x20 0x8`, `< 0x10`, `> 0x20 0x8`
 abbrev stray_new : List Reading
 stray_new = Ok (New None 32 8) ∷ Ok (Old None 16) ∷ Ok (New None 32 8) ∷ []
 
-stray_new-text : leaks_text (diagnostics small stray_new) (record { addr = 32; size = 8; line = 3; at = None } ∷ [])
-    ≡ codes "line 1: no < before >\nline 3: 0x10 is not held\nMemory not freed:\n0x20 8 line 3\nTotal: 1 blocks, 8 bytes.\n"
+stray_new-rows : (leaks_text (diagnostics small stray_new) (record { addr = 32; size = 8; line = 3; at = None } ∷ []) ≡ codes "line 1: no < before >\nline 3: 0x10 is not held\nMemory not freed:\n0x20 8 line 3\nTotal: 1 blocks, 8 bytes.\n")
+    × (held (history small stray_new) 32 ≡ Some (record { entry = record { addr = 32; size = 8; line = 3; at = None }; place = 0 }))
+    × (held (history small stray_new) 16 ≡ None)
 unfolding started moments class need low rounded digits
-stray_new-text = refl
-
-stray_new-held : held (history small stray_new) 32 ≡ Some (record { entry = record { addr = 32; size = 8; line = 3; at = None }; place = 0 })
-unfolding started moments class need low rounded digits
-stray_new-held = refl
-
-stray_new-gone : held (history small stray_new) 16 ≡ None
-unfolding started moments class need low rounded digits
-stray_new-gone = refl
+stray_new-rows = (refl, refl, refl)
 
 -- end-between-halves (one pool of 1024 bytes, 16 records): `< 0x10`, `= End`, `> 0x10 0x8`
 abbrev end_between_halves : List Reading
 end_between_halves = Ok (Old None 16) ∷ Ok End ∷ Ok (New None 16 8) ∷ []
 
-end_between_halves-text : leaks_text (diagnostics small end_between_halves) []
-    ≡ codes "line 1: half of a reallocation\nline 3: no < before >\nNo memory leaks.\n"
+end_between_halves-rows : (leaks_text (diagnostics small end_between_halves) [] ≡ codes "line 1: half of a reallocation\nline 3: no < before >\nNo memory leaks.\n")
+    × (held (history small end_between_halves) 16 ≡ None)
 unfolding started moments class need low rounded digits
-end_between_halves-text = refl
-
-end_between_halves-gone : held (history small end_between_halves) 16 ≡ None
-unfolding started moments class need low rounded digits
-end_between_halves-gone = refl
+end_between_halves-rows = (refl, refl)
 
 -- old-not-held-new-held (one pool of 1024 bytes, 16 records): `+ 0x20 0x8`, `< 0x10`, `> 0x20 0x8`
 abbrev old_not_held_new_held : List Reading
 old_not_held_new_held = Ok (Alloc None (Some 32) 8) ∷ Ok (Old None 16) ∷ Ok (New None 32 8) ∷ []
 
-old_not_held_new_held-text : leaks_text (diagnostics small old_not_held_new_held) (record { addr = 32; size = 8; line = 1; at = None } ∷ [])
-    ≡ codes "line 3: 0x10 is not held\nline 3: 0x20 is already held\nMemory not freed:\n0x20 8 line 1\nTotal: 1 blocks, 8 bytes.\n"
+old_not_held_new_held-rows : (leaks_text (diagnostics small old_not_held_new_held) (record { addr = 32; size = 8; line = 1; at = None } ∷ []) ≡ codes "line 3: 0x10 is not held\nline 3: 0x20 is already held\nMemory not freed:\n0x20 8 line 1\nTotal: 1 blocks, 8 bytes.\n")
+    × (held (history small old_not_held_new_held) 16 ≡ None)
+    × (held (history small old_not_held_new_held) 32 ≡ Some (record { entry = record { addr = 32; size = 8; line = 1; at = None }; place = 0 }))
 unfolding started moments class need low rounded digits
-old_not_held_new_held-text = refl
-
-old_not_held_new_held-gone : held (history small old_not_held_new_held) 16 ≡ None
-unfolding started moments class need low rounded digits
-old_not_held_new_held-gone = refl
-
-old_not_held_new_held-held : held (history small old_not_held_new_held) 32 ≡ Some (record { entry = record { addr = 32; size = 8; line = 1; at = None }; place = 0 })
-unfolding started moments class need low rounded digits
-old_not_held_new_held-held = refl
+old_not_held_new_held-rows = (refl, refl, refl)
 
 -- lines-without-effect (one pool of 1024 bytes, 16 records): `! 0x10 0x8`, `! (nil) 0`, `+ (nil) 0x8`, `= End`
 abbrev lines_without_effect : List Reading
 lines_without_effect = Ok (Failed None (Some 16) 8) ∷ Ok (Failed None None 0) ∷ Ok (Alloc None None 8) ∷ Ok End ∷ []
 
-lines_without_effect-text : leaks_text (diagnostics small lines_without_effect) []
-    ≡ codes "No memory leaks.\n"
+lines_without_effect-rows : (leaks_text (diagnostics small lines_without_effect) [] ≡ codes "No memory leaks.\n")
+    × (held (history small lines_without_effect) 16 ≡ None)
 unfolding started moments class need low rounded digits
-lines_without_effect-text = refl
-
-lines_without_effect-gone : held (history small lines_without_effect) 16 ≡ None
-unfolding started moments class need low rounded digits
-lines_without_effect-gone = refl
+lines_without_effect-rows = (refl, refl)
 
 -- aligned-line (one pool of 1024 bytes, 16 records): `+ 0x10 0x8`, `* 0x20 0x40 0x20`
 abbrev aligned_line : List Reading
 aligned_line = Ok (Alloc None (Some 16) 8) ∷ Ok (Aligned None 32 64 32) ∷ []
 
-aligned_line-text : leaks_text (diagnostics small aligned_line) (record { addr = 16; size = 8; line = 1; at = None } ∷ record { addr = 32; size = 32; line = 2; at = None } ∷ [])
-    ≡ codes "Memory not freed:\n0x10 8 line 1\n0x20 32 line 2\nTotal: 2 blocks, 40 bytes.\n"
+aligned_line-rows : (leaks_text (diagnostics small aligned_line) (record { addr = 16; size = 8; line = 1; at = None } ∷ record { addr = 32; size = 32; line = 2; at = None } ∷ []) ≡ codes "Memory not freed:\n0x10 8 line 1\n0x20 32 line 2\nTotal: 2 blocks, 40 bytes.\n")
+    × (held (history small aligned_line) 32 ≡ Some (record { entry = record { addr = 32; size = 32; line = 2; at = None }; place = 64 }))
 unfolding started moments class need low rounded digits
-aligned_line-text = refl
-
-aligned_line-held : held (history small aligned_line) 32 ≡ Some (record { entry = record { addr = 32; size = 32; line = 2; at = None }; place = 64 })
-unfolding started moments class need low rounded digits
-aligned_line-held = refl
+aligned_line-rows = (refl, refl)
 
 -- bad-alignment (one pool of 1024 bytes, 16 records): `* 0x10 0x3 0x8`, `* 0x10 0 0x8` (not a line), `* 0x10 0x1 0`
 abbrev bad_alignment : List Reading
 bad_alignment = Ok (Aligned None 16 3 8) ∷ Err fault.NotALine ∷ Ok (Aligned None 16 1 0) ∷ []
 
-bad_alignment-text : leaks_text (diagnostics small bad_alignment) (record { addr = 16; size = 0; line = 3; at = None } ∷ [])
-    ≡ codes "line 1: 0x10 refused: bad alignment\nline 2: not a line\nMemory not freed:\n0x10 0 line 3\nTotal: 1 blocks, 0 bytes.\n"
+bad_alignment-rows : (leaks_text (diagnostics small bad_alignment) (record { addr = 16; size = 0; line = 3; at = None } ∷ []) ≡ codes "line 1: 0x10 refused: bad alignment\nline 2: not a line\nMemory not freed:\n0x10 0 line 3\nTotal: 1 blocks, 0 bytes.\n")
+    × (held (history small bad_alignment) 16 ≡ Some (record { entry = record { addr = 16; size = 0; line = 3; at = None }; place = 0 }))
 unfolding started moments class need low rounded digits
-bad_alignment-text = refl
-
-bad_alignment-held : held (history small bad_alignment) 16 ≡ Some (record { entry = record { addr = 16; size = 0; line = 3; at = None }; place = 0 })
-unfolding started moments class need low rounded digits
-bad_alignment-held = refl
+bad_alignment-rows = (refl, refl)
 
 -- aligned-behind-half (one pool of 1024 bytes, 16 records): `< 0x10`, `* 0x10 0x40 0x8`, `> 0x10 0x8`
 abbrev aligned_behind_half : List Reading

@@ -34,8 +34,8 @@ FailsAgain whole left_old left_new calls_old calls_new =
     ((left_new ≡ left_old) × (calls_new ≡ Failed ∷ calls_old))
     ⊎ ((first : List Reading) × FailedInPiece whole left_new (Began ∷ calls_old) calls_new first)
 
--- What a call leaves that reads and replays the first lines of a text, from this start on and behind these calls: they were replayed,
--- or the reader failed.
+-- What a call leaves that reads and replays the first lines of a text, from this start on, behind these calls. They were replayed, or
+-- the reader failed.
 pub record ReplaysFirst {R E : Type 0} (left bytes : R → Bytes) (pulls : R → List Call) (start : Bytes) (calls : List Call) (Fails : Type 0) (most : ℕ)
     (result : Result (Unit {0}) E) (replay_old replay_new : Replayed) (reader_old reader_new : R) : Type 0 where
   pub done : OnOk result ((settings : Settings) → StandsFor replay_old settings [] → HasReplayedFirst most settings replay_new start (left reader_new))

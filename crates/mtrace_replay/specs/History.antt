@@ -1,4 +1,4 @@
--- What the lines of a log come to, one after the other. The latest line comes first, but for `history` and `diagnostics`.
+-- What the lines of a log do, one after the other. The latest line comes first, but for `history` and `diagnostics`.
 use Rattle.std.specs.Prelude.{◌≡◌, ℕ, List, [], ◌∷◌, ◌++◌, length, map, reverse, ◌↔◌, Option, Some, None, Ok, if◌then◌else◌, ◌==◌}
 use Rattle.std.specs.List.{Contains}
 use Rattle.std.specs.List.Sorted.{IsStrictlyIncreasing}

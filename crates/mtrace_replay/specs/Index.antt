@@ -42,7 +42,7 @@ pub record IsFound (keys : List Key) (found : Found) : Type 0 where
   pub absent : IfErr found.place (FitsAt keys found.address)
 
 -- look-ups found where the address stands, and changed nothing
-pub record Finds (times wanted : ℕ) (answer : Found) (old new : Indexed) : Type 0 where
+pub record FindsAddress (times wanted : ℕ) (answer : Found) (old new : Indexed) : Type 0 where
   pub found : IsFound old.keys answer
   pub address : answer.address ≡ wanted
   pub unchanged : new.all ≡ old.all
@@ -50,7 +50,7 @@ pub record Finds (times wanted : ℕ) (answer : Found) (old new : Indexed) : Typ
   pub looked : LooksUp times old new
 
 -- look-ups told whether this is so, and changed nothing
-pub record Tells (times : ℕ) (is_so answer : Bool) (old new : Indexed) : Type 0 where
+pub record TellsWhether (times : ℕ) (is_so answer : Bool) (old new : Indexed) : Type 0 where
   pub value : answer ≡ is_so
   pub unchanged : new.all ≡ old.all
   pub keys : new.keys ≡ old.keys

@@ -74,7 +74,7 @@ pub record Replays {H E : Type 0} (content : H → Content ℕ) (touches : H →
   pub idle : asks ≡ false → touches heap_new ≡ touches heap_old
 
 -- What a call leaves that asks the heap for a block, by the request under each slot. The block that it gives has a slot that no block
--- had, but where that is an old one; where the heap refuses it stays as it is. At most this many touches are made.
+-- had, or an old one. Where the heap refuses, it stays as it is. At most this many touches are made.
 pub record AsksBlock {H A T : Type 0} (content : H → Content ℕ) (touches : H → ℕ) (lacks : H → Type 0) (most : ℕ) (request : ℕ → Result (A × Content ℕ) Refusal)
     (answer : Pointer → A) (IsOld : ℕ → Type 0) (ptr_of : T → Pointer) (result : Result T Refusal) (old new : H) : Type 0 where
   pub ok : IfOk result (λ given. request (ptr_of given).slot ≡ Ok (answer (ptr_of given), content new))

@@ -3,7 +3,7 @@
 ghost use Rattle.std.specs.Prelude.{◌≡◌, ◌≢◌, ℕ, ◌+◌, ◌<◌, ◌≤◌, ◌^◌, option_map, option_to_list, [], length, map, None, Some, IfOk, if◌then◌else◌, ◌==◌, is_some, true};
 ghost use Rattle.mtrace_replay.specs.Keys.{Rows};
 ghost use Rattle.mtrace_replay.specs.Key.{holding_of, IsRow};
-ghost use Rattle.mtrace_replay.specs.Index.{held_at, held_bytes, AreInOrder, LooksUp, Finds, Tells, Counts, IsFound, IsNewSlot};
+ghost use Rattle.mtrace_replay.specs.Index.{held_at, held_bytes, AreInOrder, LooksUp, FindsAddress, TellsWhether, Counts, IsFound, IsNewSlot};
 
 use crate::arrange::{Came, arrange};
 use crate::entry::Entry;
@@ -105,7 +105,7 @@ impl Index {
     /// Where the address stands. That is where a key of it stood last, if it still does, or else as `find` says.
     #[inline(always)]
     pub fn find_again(&mut self, address: Addr) -> Found
-        ensures { Finds 2 address result self.old self.new }
+        ensures { FindsAddress 2 address result self.old self.new }
     {
         let at = self.keys.hint(address);
         if is_last_of(&self.keys, &mut self.comparisons, at, address) {
@@ -119,7 +119,7 @@ impl Index {
 
     /// Where the address stands: the one look-up, for what is read and changed there.
     pub fn find(&mut self, address: Addr) -> Found
-        ensures { Finds 1 address result self.old self.new }
+        ensures { FindsAddress 1 address result self.old self.new }
     {
         let place = search(&self.keys, &mut self.comparisons, address);
         if let Ok(at) = place {
@@ -149,7 +149,7 @@ impl Index {
 
     /// Whether the address is held.
     pub fn contains(&mut self, address: Addr) -> bool
-        ensures { Tells 1 (is_some (held_at self.old.all address)) result self.old self.new }
+        ensures { TellsWhether 1 (is_some (held_at self.old.all address)) result self.old self.new }
     {
         let found = self.find(address);
         self.is_held(&found)

@@ -5,7 +5,7 @@ ghost use Rattle.tlsf_heap.specs.Bare.{bare};
 ghost use Rattle.tlsf_heap.specs.Content.{blocks_of, size_at};
 ghost use Rattle.tlsf_heap.specs.Free.{is_live};
 ghost use Rattle.tlsf_heap.specs.Realloc.{realloc as reallocated};
-ghost use Rattle.mtrace_replay.specs.Index.{held_at, IsFound, Tells};
+ghost use Rattle.mtrace_replay.specs.Index.{held_at, IsFound, TellsWhether};
 ghost use Rattle.mtrace_replay.specs.Moment.{asked_size as size_asked, asked_block, allocation, release as released, moved, renewal, renewal_asks, asks, outcome as outcome_of};
 ghost use Rattle.mtrace_replay.specs.Step.{found, all_given, Replays, AsksBlock, GivesBlock, Takes, IsUnder, AreLive};
 
@@ -215,7 +215,7 @@ fn reallocate<H: Heaped>(
 
 /// Whether the address is another one than the old one, and held.
 fn is_held_too(held: &mut Index, address: Addr, old: Addr) -> bool
-    ensures { Tells 1 (not (address == old) && is_some (held_at held.old.all address)) result held.old held.new }
+    ensures { TellsWhether 1 (not (address == old) && is_some (held_at held.old.all address)) result held.old held.new }
 {
     address != old && held.contains(address)
 }

@@ -1,18 +1,15 @@
 -- The command line's description, and what a parse by it gives.
-use Rattle.std.proofs.Common.{arith, ◌≡◌, ◌∙◌, ◌⊎◌, ◌<◌, ◌^◌, ◌+◌, ◌*◌, ℕ, List, [], ◌∷◌, Option, Some, None, Result, Ok, Err, inl, inr, refl, sym, ap, ap₂, subst, true, codes, unwrap_or, option_map}
-use Rattle.std.specs.Prelude.{Box, IfSome, IfNone, String, string_bytes}
+use Rattle.std.proofs.Common.{arith, ◌≡◌, ◌∙◌, ◌⊎◌, ◌<◌, ◌^◌, ◌+◌, ◌*◌, ℕ, List, [], ◌∷◌, Option, Some, None, Result, Ok, Err, inl, inr, refl, sym, ap, ap₂, subst, true, codes}
+use Rattle.std.specs.Prelude.{String, string_bytes}
 use Rattle.std.specs.Result.{IsErrAnd}
 use Rattle.std.specs.declared.alloc.Global.{Global}
 use Rattle.std.specs.Str.Parse.{ParsesUnsigned, digits_value, without_leading_plus}
-use Rattle.clap.specs.Words.{App, HasMatchesOf, HasKind, IsAmong, Kinds, ReadsOne, Row, Text, fault_of, first_of, is_simple, is_simple_and_free, kind_of, one_text, rows_of, with_subcommand, subcommand_name_of, subcommand_of, subcommand_rows, subcommand_rows_of}
+use Rattle.clap.specs.Words.{App, HasMatchesOf, HasKind, IsAmong, Kinds, ReadsOne, Row, Text, fault_of, first_of, is_simple, is_simple_and_free, kind_of, one_text, rows_of, with_subcommand, subcommand_of, subcommand_rows_of}
 use Rattle.clap.specs.declared.parser.matches.ArgMatches.{ArgMatches}
-use Rattle.clap.specs.declared.parser.matches.ArgMatches.TheViews.{out-ArgMatches, out-SubCommand}
-use Rattle.clap.specs.declared.parser.matches.SubCommand.{SubCommand}
 use Rattle.clap.specs.declared.parser.matches.Found.{Found}
 use Rattle.clap.specs.declared.error.Error.{Error}
 use Rattle.clap.specs.declared.error.kind.ErrorKind.{ErrorKind}
 use Rattle.clap.specs.declared.error.kind.ErrorKind.TheVariants as kind
-use Rattle.std.specs.Box.{box_value}
 use Rattle.clap.proofs.OnLiterals.{clap_on_literals}
 use Rattle.clap.proofs.WalkLemmas.{one_text-rows}
 use Rattle.mtrace_replay.specs.declared.status.RunFault.TheVariants.{OutOfMemory}
@@ -82,40 +79,10 @@ pub number_read : {E : Type 0} (gives : Text → Result ℕ E → Type 0) (f : F
 number_read gives f id bits None parses none value = record { given = tt; other = number_none gives f id bits None parses value refl }
 number_read gives f id bits (Some n) parses none value = record { given = number_some gives f id bits n parses none value; other = tt }
 
--- ---- the subcommand
-
-module _ {Z : Type 0} where
-  subcommand_of_parts : (o : Option (Box SubCommand Z)) (name : Text) (rows : List Row)
-      → Some name ≡ option_map (λ b. (out-SubCommand (box_value b)).name.now) o
-      → Some rows ≡ option_map (λ p. p.1) (subcommand_rows o) → subcommand_rows o ≡ Some (name, rows)
-  subcommand_of_parts None name rows named found = absurd (let e : Some name ≡ None = named in cc)
-  subcommand_of_parts (Some b) name rows named found =
-      let same_name = ap (λ (x : Option Text). unwrap_or x name) named in
-      let same_rows = ap (λ (x : Option (List Row)). unwrap_or x rows) found in
-      ap₂ (λ (n : Text) (rs : List Row). Some (n, rs)) (sym same_name) (sym same_rows)
-
-pub subcommand_is : (m : ArgMatches) (name : Text) (rows : List Row)
-    → Some name ≡ subcommand_name_of m → Some rows ≡ option_map (λ p. p.1) (subcommand_rows_of m)
-    → subcommand_rows_of m ≡ Some (name, rows)
-subcommand_is m name rows = subcommand_of_parts (out-ArgMatches m).subcommand name rows
-
 -- ---- what matches ask for
 
 abbrev pub AsksNothing : Option (Text × List Row) → Type 0
 AsksNothing found = (command : Command) → MatchesAskFor found command → ⊥
-
-pub none_asks_nothing : (found : Option (Text × List Row)) → option_map (λ p. p.1) found ≡ None → AsksNothing found
-none_asks_nothing None is command asks = asks
-none_asks_nothing (Some p) is command asks = absurd (let e : Some p.1 ≡ None = is in cc)
-
--- no command has another name
-pub unnamed_asks_nothing : (found : Option (Text × List Row)) (name : Text) (rows : List Row) → found ≡ Some (name, rows) → ((n : Name) → name ≡ name_text n → ⊥)
-    → (name ≡ codes "sites" → ⊥) → (name ≡ codes "fit" → ⊥) → (name ≡ codes "save" → ⊥) → (name ≡ codes "check" → ⊥) → AsksNothing found
-unnamed_asks_nothing found name rows is never no_sites no_fit no_save no_check (Report n settings log) asks = never n (subst (λ f. MatchesAskFor f (Report n settings log)) is asks).0
-unnamed_asks_nothing found name rows is never no_sites no_fit no_save no_check (Sites settings log) asks = no_sites (subst (λ f. MatchesAskFor f (Sites settings log)) is asks).0
-unnamed_asks_nothing found name rows is never no_sites no_fit no_save no_check (Fit step log) asks = no_fit (subst (λ f. MatchesAskFor f (Fit step log)) is asks).0
-unnamed_asks_nothing found name rows is never no_sites no_fit no_save no_check (Save settings log image) asks = no_save (subst (λ f. MatchesAskFor f (Save settings log image)) is asks).0
-unnamed_asks_nothing found name rows is never no_sites no_fit no_save no_check (Check image) asks = no_check (subst (λ f. MatchesAskFor f (Check image)) is asks).0
 
 no_such : (one : Option Text) (text : Text) → one ≡ None → one ≡ Some text → ⊥
 no_such one text none some = let e : None ≡ Some text = sym none ∙ some in cc

@@ -1,4 +1,4 @@
-use Rattle.std.proofs.Common.{◌∙◌, refl, subst, List, ◌∷◌, inl, inr}
+use Rattle.std.proofs.Common.{◌∙◌, refl, subst, List, inl, inr}
 use Rattle.std.proofs.lemmas.Result.{err_from_is_err_and, on_ok_weaker, on_err_weaker}
 use Rattle.mtrace_log.specs.Trace.{HasNotFailed}
 use Rattle.mtrace_log.specs.declared.call.Call.{Call}
