@@ -35,9 +35,7 @@ pub record IsFewFree (most : ℕ) (sizes : List ℕ) (answer : Free) : Type 0 wh
 
 -- the free ones are counted, and the heap stays as it is
 pub record ReadsFree {H : Type 0} (content : H → Content ℕ) (most : ℕ) (sizes : List ℕ) (answer : Free) (old new : H) : Type 0 where
-  pub free : IsFree answer sizes
-  pub blocks : answer.blocks ≤ most
-  pub bytes : answer.bytes ≤ 2 ^ 32 * most
+  pub few : IsFewFree most sizes answer
   pub unchanged : content new ≡ content old
 
 -- a text is put of what is read of a heap, which stays as it is

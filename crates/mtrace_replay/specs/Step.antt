@@ -88,14 +88,8 @@ pub record AsksBlock {H A T : Type 0} (content : H → Content ℕ) (touches : H
 -- a call of that kind which also tells where the block ends
 pub record GivesBlock {H A : Type 0} (content : H → Content ℕ) (touches : H → ℕ) (lacks : H → Type 0) (most : ℕ) (request : ℕ → Result (A × Content ℕ) Refusal)
     (answer : Pointer → A) (IsOld : ℕ → Type 0) (result : Result Block Refusal) (old new : H) : Type 0 where
-  pub ok : IfOk result (λ given. request given.ptr.slot ≡ Ok (answer given.ptr, content new))
-  pub slot_below : IfOk result (λ given. given.ptr.slot < (content old).records)
-  pub slot_new : IfOk result (λ given. (IsOld given.ptr.slot → ⊥) → slot_times given.ptr.slot (blocks_of (content old).pools) ≡ 0)
+  pub asks : AsksBlock content touches lacks most request answer IsOld (λ given. given.ptr) result old new
   pub end : IfOk result (λ given. given.end ≡ given.ptr.place + size_at given.ptr.place (blocks_of (content new).pools))
-  pub refused : IfErr result (λ refusal. refusal ≢ OutOfMemory → (slot : ℕ) → request slot ≡ Err refusal)
-  pub memory : IfErr result (λ refusal. refusal ≡ OutOfMemory → MayLack lacks)
-  pub unchanged : OnErr result (content new ≡ content old)
-  pub bound : touches new ≤ touches old + most
 
 -- what a call leaves that frees the block which an address is held under, and holds the address no more
 pub record Takes {H E : Type 0} (content_of : H → Content ℕ) (touches : H → ℕ) (lacks : H → Type 0) (most address : ℕ) (ptr : Pointer)

@@ -20,10 +20,10 @@ loop-range-preserved g c =
     let next = next_of f items all index (0, 0) (c.as_slice-range-items.ensures.value ∙ c.pools-pools.ensures.value) c.loop-range-test.true in
     record {
       past = kept.past ++ f item;
-      free = c.joined-free.ensures.free kept.past (f item) kept.free (subst P kept.same c.free_in_pool.ensures.free);
+      free = c.joined-free.ensures.free kept.past (f item) kept.free (subst P kept.same c.free_in_pool.ensures.few.free);
       all = append_assoc kept.past (f item) (flat_map f (drop (index + 1) all)) ∙ ap (λ sizes. kept.past ++ sizes) (sym next) ∙ kept.all;
-      blocks = omega (arith, kept.blocks, c.joined-free.ensures.blocks, c.free_in_pool.ensures.blocks);
-      bytes = omega (arith, kept.bytes, c.joined-free.ensures.bytes, c.free_in_pool.ensures.bytes);
+      blocks = omega (arith, kept.blocks, c.joined-free.ensures.blocks, c.free_in_pool.ensures.few.blocks);
+      bytes = omega (arith, kept.bytes, c.joined-free.ensures.bytes, c.free_in_pool.ensures.few.bytes);
       same = c.free_in_pool.ensures.unchanged ∙ kept.same;
     }
 

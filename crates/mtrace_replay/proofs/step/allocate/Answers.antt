@@ -25,13 +25,13 @@ insert-requires g c =
     let held = c.args.held.now.all in
     let same = c.find_again-found.ensures.unchanged in
     let ordered = subst AreInOrder same c.keeps_order.ensures in
-    let most = asked_small c.in-Ok.block.ptr.slot c.args.align c.asked_size.result old (c.in-Ok.block.ptr.place, new) c.in-Ok.ensures.ok in
+    let most = asked_small c.in-Ok.block.ptr.slot c.args.align c.asked_size.result old (c.in-Ok.block.ptr.place, new) c.in-Ok.ensures.asks.ok in
     let fits = held_fits held old ordered c.keeps_good.ensures.good c.requires.live in
     let asked = asked_least c.args.entry.now.size in
     let is = c.asked_size.ensures in
     let more : Holding = record { entry = c.args.entry.now; ptr = c.in-Ok.block.ptr } in
-    let live = live_after_asked held (more ∷ held) old new c.keeps_good.ensures.good c.requires.live more c.args.align c.asked_size.result c.in-Ok.ensures.ok (omega (arith, asked, is)) (λ other. refl) in
-    let records = asked_records c.in-Ok.block.ptr.slot c.args.align c.asked_size.result old (c.in-Ok.block.ptr.place, new) c.in-Ok.ensures.ok in
+    let live = live_after_asked held (more ∷ held) old new c.keeps_good.ensures.good c.requires.live more c.args.align c.asked_size.result c.in-Ok.ensures.asks.ok (omega (arith, asked, is)) (λ other. refl) in
+    let records = asked_records c.in-Ok.block.ptr.slot c.args.align c.asked_size.result old (c.in-Ok.block.ptr.place, new) c.in-Ok.ensures.asks.ok in
     let absent = none_is (held_at held c.args.entry.now.addr) (sym (seen_held c.find_again-found.new.self.all c.args.held.now.all c.find_again-found.result.address c.args.entry.now.addr c.is_held.result c.is_held.ensures.value c.find_again-found.ensures.unchanged c.find_again-found.ensures.address) ∙ c.if-is_held.false) in
     let room = held_room held new ordered c.keeps_good-in-Ok.ensures.good more absent live in
     record {
@@ -40,8 +40,8 @@ insert-requires g c =
       free = ap (λ all. held_at all c.args.entry.now.addr) same ∙ absent;
       bytes = omega (arith, most, fits, asked, is, ap held_bytes same);
       room = omega (arith, room, records, c.requires.room, c.find_again-found.ensures.looked.room, ap (length {A = Holding}) same);
-      slot = omega (arith, c.in-Ok.ensures.slot_below, c.requires.room, c.find_again-found.ensures.looked.room);
-      new = subst (IsNewSlot c.in-Ok.block.ptr.slot c.args.entry.now.addr) (sym same) (new_slot held old c.requires.live c.in-Ok.block.ptr.slot c.args.entry.now.addr (c.in-Ok.ensures.slot_new (λ old. old)));
+      slot = omega (arith, c.in-Ok.ensures.asks.slot_below, c.requires.room, c.find_again-found.ensures.looked.room);
+      new = subst (IsNewSlot c.in-Ok.block.ptr.slot c.args.entry.now.addr) (sym same) (new_slot held old c.requires.live c.in-Ok.block.ptr.slot c.args.entry.now.addr (c.in-Ok.ensures.asks.slot_new (λ old. old)));
     }
 
 -- the heap is asked, where the address isn't held
@@ -81,19 +81,19 @@ returns-in-Ok g c =
     let moment = allocation entry.line entry.at entry.addr c.args.align entry.size (found (all_given held) entry.addr) (bare old) in
     let P : List Diagnostic → Option ℕ → Type 0 = λ notes end. Comes (bare old) (bare new) (all_given held) (all_given after) notes end moment in
     let absent = sym (seen_held c.find_again-found.new.self.all c.args.held.now.all c.find_again-found.result.address c.args.entry.now.addr c.is_held.result c.is_held.ensures.value c.find_again-found.ensures.unchanged c.find_again-found.ensures.address) ∙ c.if-is_held.false in
-    let served = bare_served old new ptr.slot c.args.align c.asked_size.result ptr.place c.in-Ok.ensures.ok in
+    let served = bare_served old new ptr.slot c.args.align c.asked_size.result ptr.place c.in-Ok.ensures.asks.ok in
     let end = ap (λ (n : ℕ). Some n) (c.in-Ok.ensures.end ∙ ap (λ (n : ℕ). ptr.place + n) (sym (size_at-renamed (λ owner. tt) ptr.place new.pools))) in
     let changed = (λ (other : ℕ). c.insert.ensures.held other ∙ ap (λ all. cond (entry.addr == other) (Some more) (held_at all other)) c.find_again-found.ensures.unchanged) in
     let asked = asked_least entry.size in
     record {
       comes = subst (λ notes. P notes (Some c.in-Ok.block.end)) (sym c.requires.none) (subst (P []) (sym end)
           (comes_served held after (bare old) (bare new) more c.args.align absent (ap (λ n. asked_block tt c.args.align n (bare old)) (sym c.asked_size.ensures) ∙ served) changed));
-      live = live_after_asked held after old new c.keeps_good.ensures.good c.requires.live more c.args.align c.asked_size.result c.in-Ok.ensures.ok (omega (arith, asked, c.asked_size.ensures)) changed;
+      live = live_after_asked held after old new c.keeps_good.ensures.good c.requires.live more c.args.align c.asked_size.result c.in-Ok.ensures.asks.ok (omega (arith, asked, c.asked_size.ensures)) changed;
       memory = tt;
       unchanged = tt;
-      records = asked_records ptr.slot c.args.align c.asked_size.result old (ptr.place, new) c.in-Ok.ensures.ok;
+      records = asked_records ptr.slot c.args.align c.asked_size.result old (ptr.place, new) c.in-Ok.ensures.asks.ok;
       looked = look_on 2 0 c.args.held.now c.find_again-found.new.self c.insert.new.self c.find_again-found.ensures.looked c.insert.ensures.looked;
-      bound = omega (arith, c.new_block.ensures.bound);
+      bound = omega (arith, c.new_block.ensures.asks.bound);
       idle = λ idle. absurd (let is = is_asked held entry.addr absent in cc);
     }
 
@@ -105,7 +105,7 @@ returns-in-Err-OutOfMemory g c = record {
   unchanged = c.find_again-found.ensures.unchanged;
   records = search rules;
   looked = c.find_again-found.ensures.looked;
-  bound = omega (arith, c.new_block.ensures.bound);
+  bound = omega (arith, c.new_block.ensures.asks.bound);
   idle = λ idle. absurd (let is = is_asked c.args.held.now.all c.args.entry.now.addr (sym (seen_held c.find_again-found.new.self.all c.args.held.now.all c.find_again-found.result.address c.args.entry.now.addr c.is_held.result c.is_held.ensures.value c.find_again-found.ensures.unchanged c.find_again-found.ensures.address) ∙ c.if-is_held.false) in cc);
 }
 
@@ -118,8 +118,8 @@ returns-in-Err g c =
     let moment = allocation entry.line entry.at entry.addr c.args.align entry.size (found (all_given held) entry.addr) (bare old) in
     let P : List Diagnostic → Type 0 = λ notes. Comes (bare old) (bare old) (all_given held) (all_given held) notes None moment in
     let Q : List Diagnostic → Content ℕ → List Holding → Type 0 = λ notes content all. Comes (bare old) (bare content) (all_given held) (all_given all) notes None moment in
-    let refused = bare_refused old new 0 c.args.align c.asked_size.result c.in-Err.refusal (c.in-Err.ensures.refused (search rules) 0) in
-    let same = c.in-Err.ensures.unchanged in
+    let refused = bare_refused old new 0 c.args.align c.asked_size.result c.in-Err.refusal (c.in-Err.ensures.asks.refused (search rules) 0) in
+    let same = c.in-Err.ensures.asks.unchanged in
     let told : P (note entry.line (Refused entry.addr c.in-Err.refusal)) =
     comes_refused held held (bare old) (bare new) entry c.args.align c.in-Err.refusal (sym (seen_held c.find_again-found.new.self.all c.args.held.now.all c.find_again-found.result.address c.args.entry.now.addr c.is_held.result c.is_held.ensures.value c.find_again-found.ensures.unchanged c.find_again-found.ensures.address) ∙ c.if-is_held.false) (ap (λ n. asked_block tt c.args.align n (bare old)) (sym c.asked_size.ensures) ∙ refused) in
     record {
@@ -130,6 +130,6 @@ returns-in-Err g c =
       unchanged = tt;
       records = ap (λ (content : Content ℕ). content.records) same;
       looked = c.find_again-found.ensures.looked;
-      bound = omega (arith, c.in-Err.ensures.bound);
+      bound = omega (arith, c.in-Err.ensures.asks.bound);
       idle = λ idle. absurd (let is = is_asked held entry.addr (sym (seen_held c.find_again-found.new.self.all c.args.held.now.all c.find_again-found.result.address c.args.entry.now.addr c.is_held.result c.is_held.ensures.value c.find_again-found.ensures.unchanged c.find_again-found.ensures.address) ∙ c.if-is_held.false) in cc);
     }

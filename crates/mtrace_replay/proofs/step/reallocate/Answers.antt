@@ -22,7 +22,7 @@ pub replace-requires : goal.replace-requires
 replace-requires g c =
     let old = g.H.Heaped.content c.args.heap.now in
     let asked = asked_least c.args.entry.now.size in
-    let most = moved_small (λ a b. a == b) c.in-Ok.block.ptr.slot c.args.ptr.slot c.args.ptr.place c.asked_size.result old (Some (c.in-Ok.block.ptr.place, c.in-Ok.block.ptr.slot), g.H.Heaped.content c.realloc_block.new.heap) (λ none. omega (arith, asked, c.asked_size.ensures, none)) c.in-Ok.ensures.ok in
+    let most = moved_small (λ a b. a == b) c.in-Ok.block.ptr.slot c.args.ptr.slot c.args.ptr.place c.asked_size.result old (Some (c.in-Ok.block.ptr.place, c.in-Ok.block.ptr.slot), g.H.Heaped.content c.realloc_block.new.heap) (λ none. omega (arith, asked, c.asked_size.ensures, none)) c.in-Ok.ensures.asks.ok in
     let fits = held_fits c.args.held.now.all old c.keeps_order.ensures c.keeps_good.ensures.good c.requires.live in
     let few = held_few c.args.held.now.all old c.keeps_order.ensures c.keeps_good.ensures.good c.requires.live in
     let under = c.requires.held in
@@ -32,8 +32,8 @@ replace-requires g c =
       held = ap is_some under.1;
       free = c.requires.free;
       room = omega (arith, few, c.requires.room);
-      slot = omega (arith, c.in-Ok.ensures.slot_below, c.requires.room);
-      new = moved_slot c.args.held.now.all old c.requires.live c.args.ptr c.in-Ok.block.ptr.slot c.args.old.now.address c.keeps_good.ensures.slots under c.in-Ok.ensures.slot_new;
+      slot = omega (arith, c.in-Ok.ensures.asks.slot_below, c.requires.room);
+      new = moved_slot c.args.held.now.all old c.requires.live c.args.ptr c.in-Ok.block.ptr.slot c.args.old.now.address c.keeps_good.ensures.slots under c.in-Ok.ensures.asks.slot_new;
     }
 
 pub returns-in-Ok : goal.returns-in-Ok
@@ -48,7 +48,7 @@ returns-in-Ok g c =
     let under = c.requires.held in
     let P : Pointer → Type 0 = λ p. is_live (λ slot. slot == p.slot) p.place (blocks_of old.pools) ≡ true in
     let live = subst P under.2 (c.requires.live.live c.args.old.now.address under.0 under.1) in
-    let served = bare_moved old new ptr.place ptr.slot live given.slot c.asked_size.result given.place given.slot c.in-Ok.ensures.ok in
+    let served = bare_moved old new ptr.place ptr.slot live given.slot c.asked_size.result given.place given.slot c.in-Ok.ensures.asks.ok in
     let moment = moved entry.line entry.at c.args.old.now.address ptr.place entry.addr entry.size (bare old) (realloc (λ one other. true) tt (Some (ptr.place, tt)) (asked_size entry.size) (bare old)) in
     let Q : List Diagnostic → Option ℕ → Type 0 = λ notes end. Comes (bare old) (bare new) (all_given held) (all_given after) notes end moment in
     let end = ap (λ (n : ℕ). Some n) (c.in-Ok.ensures.end ∙ ap (λ (n : ℕ). given.place + n) (sym (size_at-renamed (λ owner. tt) given.place new.pools))) in
@@ -59,12 +59,12 @@ returns-in-Ok g c =
           (comes_moved held after (bare old) (bare new) c.args.old.now.address ptr.place (record { entry = entry; ptr = given })
           (ap (λ n. realloc (λ one other. true) tt (Some (ptr.place, tt)) n (bare old)) (sym c.asked_size.ensures) ∙ served) c.replace.ensures.held));
       live = live_after_realloc held after old new c.keeps_good.ensures.good c.requires.live c.args.old.now.address under.0 under.1 (record { entry = entry; ptr = given }) c.asked_size.result
-          (subst R (sym under.2) c.in-Ok.ensures.ok) (omega (arith, asked, c.asked_size.ensures)) (omega (arith, asked, c.asked_size.ensures)) c.replace.ensures.held;
+          (subst R (sym under.2) c.in-Ok.ensures.asks.ok) (omega (arith, asked, c.asked_size.ensures)) (omega (arith, asked, c.asked_size.ensures)) c.replace.ensures.held;
       memory = tt;
       unchanged = tt;
-      records = moved_records (λ a b. a == b) given.slot ptr.slot ptr.place c.asked_size.result old (Some (given.place, given.slot), new) c.in-Ok.ensures.ok;
+      records = moved_records (λ a b. a == b) given.slot ptr.slot ptr.place c.asked_size.result old (Some (given.place, given.slot), new) c.in-Ok.ensures.asks.ok;
       looked = c.replace.ensures.looked;
-      bound = omega (arith, c.realloc_block.ensures.bound);
+      bound = omega (arith, c.realloc_block.ensures.asks.bound);
       idle = λ idle. absurd (cc);
     }
 
@@ -81,8 +81,8 @@ returns-in_ok-take-in-Err g c =
     let under = c.requires.held in
     let P : Pointer → Type 0 = λ p. is_live (λ slot. slot == p.slot) p.place (blocks_of old.pools) ≡ true in
     let live = subst P under.2 (c.requires.live.live c.args.old.now.address under.0 under.1) in
-    let refused = bare_not_moved old middle ptr.place ptr.slot live 0 c.asked_size.result c.in-Err.refusal (c.in-Err.ensures.refused (search rules) 0) in
-    let freed : new ≡ without ptr.place (bare old) = c.in_ok-take-in-Err.ensures.content ∙ ap (λ content. without ptr.place (bare content)) c.in-Err.ensures.unchanged in
+    let refused = bare_not_moved old middle ptr.place ptr.slot live 0 c.asked_size.result c.in-Err.refusal (c.in-Err.ensures.asks.refused (search rules) 0) in
+    let freed : new ≡ without ptr.place (bare old) = c.in_ok-take-in-Err.ensures.content ∙ ap (λ content. without ptr.place (bare content)) c.in-Err.ensures.asks.unchanged in
     let moment = moved entry.line entry.at c.args.old.now.address ptr.place entry.addr entry.size (bare old) (realloc (λ one other. true) tt (Some (ptr.place, tt)) (asked_size entry.size) (bare old)) in
     let Q : List Diagnostic → Type 0 = λ notes. Comes (bare old) new (all_given held) (all_given after) notes None moment in
     record {
@@ -92,7 +92,7 @@ returns-in_ok-take-in-Err g c =
       memory = tt;
       unchanged = tt;
       looked = looks_up_fewer 0 1 c.args.held.now c.take.new.held c.take.ensures.looked;
-      records = c.take.ensures.records ∙ ap (λ (content : Content ℕ). content.records) c.in-Err.ensures.unchanged;
-      bound = omega (arith, c.take.ensures.bound, c.realloc_block.ensures.bound);
+      records = c.take.ensures.records ∙ ap (λ (content : Content ℕ). content.records) c.in-Err.ensures.asks.unchanged;
+      bound = omega (arith, c.take.ensures.bound, c.realloc_block.ensures.asks.bound);
       idle = λ idle. absurd (cc);
     }
