@@ -29,12 +29,12 @@ returns-in-Ok g c =
     let live = subst P under.2 (c.requires.live.live c.args.found.now.address under.0 under.1) in
     record {
       content = bare_freed content after c.args.ptr.place c.args.ptr.slot live c.in-Ok.ensures.ok;
-      held = c.remove.ensures.held;
-      live = live_after_free c.args.held.now.all c.remove.new.self.all content after c.keeps_good.ensures.good c.requires.live c.args.found.now.address under.0 under.1
-          (subst Q (sym under.2) c.in-Ok.ensures.ok) c.remove.ensures.held;
+      held = search rules;
+      live = live_after_free c.args.held.now.all _ content after c.keeps_good.ensures.good c.requires.live c.args.found.now.address under.0 under.1
+          (subst Q (sym under.2) c.in-Ok.ensures.ok) (search rules);
       memory = tt;
       unchanged = tt;
       records = search rules;
-      looked = c.remove.ensures.looked;
+      looked = search rules;
       bound = search rules;
     }
