@@ -1,14 +1,13 @@
 /* malloc.c: a malloc over the calls of tlsf.c. Preloaded, as libtlsf_malloc.so, it stands in for
  * that of the C library: LD_PRELOAD=.../libtlsf_malloc.so program. Not proved; the heap is.
  *
- * From the environment: TLSF_POOL, the bytes of its one pool, at most 1,073,741,808; 536,870,912
- * where it isn't set. TLSF_RECORDS, the records of its table, from 1 to 65,535; that many where it
- * isn't set. With TLSF_REPORT=1 a line on standard error at the end of the program.
+ * The environment's TLSF_POOL is the bytes of its one pool: at most 1,073,741,808, without it
+ * 536,870,912. TLSF_RECORDS is the records of its table: from 1 to 65,535, without it 65,535. With
+ * TLSF_REPORT=1 each process writes a line on standard error at its end.
  *
- * One lock lets one call in at a time, and is held over a fork. A heap belongs to the thread that
- * made it, as far as is proved; here each thread of a program calls it, under the lock. A program
- * that wants more than the pool has, or more blocks than the table has records, gets a null
- * pointer, and ENOMEM.
+ * One lock lets one call in at a time, and is held over a fork. The proof is about a heap that one
+ * thread calls; here each thread calls it, under the lock. Beyond the pool or the records a call
+ * gives a null pointer, and ENOMEM.
  */
 #define _GNU_SOURCE
 #include <errno.h>
@@ -35,19 +34,16 @@ static tlsf_t heap;
 static int report_to = -1;
 static unsigned long long held_blocks, held_bytes, most_bytes, refused;
 
-/* ---- how it begins, and the lock ---- */
-
 /* A line on a file descriptor. A stream of the C library would ask for memory. */
 static void say(int to, const char *format, ...)
 {
     char line[200] = "libtlsf_malloc: ";
-    size_t begins = strlen(line);
+    size_t length = strlen(line);
     va_list values;
     va_start(values, format);
-    begins += (size_t)vsnprintf(line + begins, sizeof line - begins, format, values);
+    length += (size_t)vsnprintf(line + length, sizeof line - length, format, values);
     va_end(values);
-    ssize_t written = write(to, line, begins);
-    (void)written;
+    (void)!write(to, line, length);
 }
 
 /* The number that a variable of the environment is, in digits, from 1 to most; else the default. */
@@ -56,18 +52,16 @@ static size_t setting(const char *name, unsigned most, unsigned otherwise)
     const char *text = getenv(name);
     size_t digits = text == NULL ? 0 : strspn(text, "0123456789");
     size_t number = digits > 0 && digits <= 18 && text[digits] == 0 ? strtoul(text, NULL, 10) : 0;
-    if (number >= 1 && number <= most) {
-        return number;
-    }
-    if (text != NULL) {
+    bool good = number >= 1 && number <= most;
+    if (text != NULL && !good) {
         say(STDERR_FILENO, "%s is no number from 1 to %u: it is taken as %u\n", name, most,
             otherwise);
     }
-    return otherwise;
+    return good ? number : otherwise;
 }
 
-/* While a thread forks it has the lock, and calls all the same: handlers of the program come behind
- * before_fork or in front of after_fork, and may ask for memory. */
+/* While a thread forks it has the lock, and may still call: the program's own handlers of a fork
+ * run between these two, and may ask for memory. */
 static void before_fork(void)
 {
     pthread_mutex_lock(&lock);
@@ -117,9 +111,8 @@ static void finish(void)
     }
 }
 
-/* ---- the calls ---- */
-
-/* For the report: a call with an address, whose block had some bytes, that asked for others. */
+/* For the report: a call with this address, or none, whose block had some bytes and that asked for
+ * others. */
 static void count(const void *address, size_t had, size_t asked, void *given)
 {
     if ((address != NULL && had == 0) || (asked != 0 && given == NULL)) {
@@ -131,8 +124,8 @@ static void count(const void *address, size_t had, size_t asked, void *given)
     most_bytes = held_bytes > most_bytes ? held_bytes : most_bytes;
 }
 
-/* No address asks for a block, which has a byte at least; for no bytes a block is given back; else
- * it gets room for these. */
+/* Without an address: a new block, of one byte at least. With one: room for the bytes in its block,
+ * which is given back for no bytes. */
 static void *serve(void *address, size_t align, size_t bytes)
 {
     size_t wanted = address == NULL && bytes == 0 ? 1 : bytes;
@@ -161,7 +154,7 @@ EXPORT void free(void *address)
     }
 }
 
-/* A product that is too much is more than there can be. */
+/* A product above SIZE_MAX is SIZE_MAX, which is refused. */
 static size_t product(size_t count, size_t size)
 {
     size_t bytes;
@@ -181,8 +174,7 @@ EXPORT void *reallocarray(void *address, size_t count, size_t size)
 
 EXPORT void *pvalloc(size_t bytes)
 {
-    size_t pages = bytes / PAGE + (bytes % PAGE != 0);
-    return serve(NULL, PAGE, product(pages, PAGE));
+    return serve(NULL, PAGE, product(bytes / PAGE + (bytes % PAGE != 0), PAGE));
 }
 
 EXPORT void *memalign(size_t align, size_t bytes)
@@ -220,10 +212,10 @@ __attribute__((destructor)) static void report(void)
 {
     if (report_to >= 0) {
         begin();
+        const char *table = tlsf_check(heap) == 0 ? "whole" : "broken";
         say(report_to,
             "%llu blocks held, %llu bytes held, %llu bytes at most, %llu refused, table %s\n",
-            held_blocks, held_bytes, most_bytes, refused,
-            tlsf_check(heap) == 0 ? "whole" : "broken");
+            held_blocks, held_bytes, most_bytes, refused, table);
         finish();
     }
 }

@@ -1,25 +1,21 @@
 /* tlsf.c: the calls of Conte's tlsf over the proved heap of tlsf_heap.h. Not proved.
  *
- * The heap hands out places, from 0 to 2^32 - 1. Here they become addresses: the control part, at
- * the start of the memory handed in, keeps for each pool its addresses and its range of places.
- * Which block goes where, its size, its neighbours, and whether a place and a slot are a live
- * block's, is the heap's to say, and proved. What stands here is the way from a pointer to a place
- * and back. It stands on this:
+ * The heap hands out places, from 0 to 2^32 - 1. It chooses each block, and knows whether a place
+ * and a slot are a live block's: that is proved. This file turns places into addresses and back:
  *
- * - A pool's first place is its address and 16 modulo TLSF_MOST_ALIGN. A block begins 16 bytes in
- *   front of its pointer; so where a place is a multiple of an alignment, the pointer is one too.
+ * - The control part, at the start of the memory handed in, keeps each pool's address and places.
+ * - A pool's first place is its address and 16, modulo TLSF_MOST_ALIGN. A block begins 16 bytes in
+ *   front of its pointer. So where its place is a multiple of an alignment, the pointer is one too.
  * - These 16 bytes keep the control part, the place, the slot and a mark.
- * - A pointer is taken where it lies in a pool of the heap, the 16 bytes in front of it say so, and
- *   the heap has a live block at that place with that slot. So a null, stale or interior pointer,
- *   one of another heap, and one of no pool (which isn't read) is refused.
- * - What can't be seen: a stale pointer where a later block begins, with the same pointer; bytes in
- *   front of a block that the program forges. tlsf_block_size has no heap to ask: it reads the 16
- *   bytes in front of what it is given, and the control part that they name. A pool_t is read too,
- *   but by tlsf_remove_pool.
+ * - A pointer is taken where it lies in a pool of the heap, the 16 bytes in front of it agree, and
+ *   the heap has a live block there. So a null, stale or interior pointer is refused, and one of
+ *   another heap. A pointer into no pool is refused unread.
+ * - Not seen: a stale pointer where a later block begins, and 16 bytes that the program forges.
+ *   tlsf_block_size has no heap: it reads the 16 bytes in front of any pointer, and the control
+ *   part that they name. A pool_t is read by its calls, but not by tlsf_remove_pool.
  */
 #include "tlsf.h"
 
-#include <stdbool.h>
 #include <string.h>
 #if __STDC_HOSTED__
 #include <stdio.h>
@@ -57,8 +53,8 @@ struct pool {
 /* What stands at the start of the memory handed in, in front of the table. */
 struct control {
     uintptr_t magic; /* with its own address in it: a copy is no heap */
-    uint32_t taken; /* with the table behind it */
-    int faults;     /* what a check counts */
+    uint32_t taken;  /* its bytes, with the table's behind it */
+    int faults;      /* what a check counts */
     tlsf_heap heap;
     struct pool pools[POOLS];
 };
@@ -73,14 +69,14 @@ struct front {
 
 typedef char front_has_its_bytes[sizeof(struct front) == FRONT ? 1 : -1];
 
+/* Whether memory that is handed in may begin here. */
+static bool may_begin(const void *mem) { return mem != NULL && (uintptr_t)mem % HANDED_IN == 0; }
+
 static struct control *control_of(void *tlsf)
 {
     struct control *control = (struct control *)tlsf;
-    bool good = control != NULL && (uintptr_t)tlsf % HANDED_IN == 0;
-    return good && control->magic == (MAGIC ^ (uintptr_t)tlsf) ? control : NULL;
+    return may_begin(tlsf) && control->magic == (MAGIC ^ (uintptr_t)tlsf) ? control : NULL;
 }
-
-/* ---- limits ---- */
 
 size_t tlsf_size_records(uint32_t records)
 {
@@ -93,13 +89,8 @@ size_t tlsf_block_size_max(void) { return TLSF_HEAP_GREATEST - FRONT; }
 size_t tlsf_pool_overhead(void) { return FRONT + HANDED_IN; }
 size_t tlsf_alloc_overhead(void) { return FRONT; }
 
-/* ---- pools ---- */
-
-/* How many bytes there are to the next multiple of 16. */
-static size_t skipped(uintptr_t address)
-{
-    return (UNIT - address % UNIT) % UNIT;
-}
+/* The bytes to the next multiple of 16. */
+static size_t skipped(uintptr_t address) { return (UNIT - address % UNIT) % UNIT; }
 
 /* Whether these bytes are neither the heap's own nor a pool's. */
 static bool is_new(const struct control *control, uintptr_t address, size_t bytes)
@@ -113,15 +104,14 @@ static bool is_new(const struct control *control, uintptr_t address, size_t byte
     return good;
 }
 
-/* The pool goes to the first places that the heap takes it at: from 0 on, or behind some pool. */
+/* The places are the first that the heap takes: from 0 on, or behind some pool. */
 pool_t tlsf_add_pool(tlsf_t tlsf, void *mem, size_t bytes)
 {
     struct control *control = control_of(tlsf);
     uintptr_t start = (uintptr_t)mem, address = start + skipped(start);
     size_t usable = (bytes - skipped(start)) / UNIT * UNIT;
-    if (control == NULL || mem == NULL || start % HANDED_IN != 0 || bytes < LEAST_POOL
-        || bytes > UINTPTR_MAX - start || usable < LEAST_POOL
-        || !is_new(control, address, usable)) {
+    if (control == NULL || !may_begin(mem) || bytes < LEAST_POOL || bytes > UINTPTR_MAX - start
+        || usable < LEAST_POOL || !is_new(control, address, usable)) {
         return NULL;
     }
     struct pool *pool = control->pools;
@@ -132,9 +122,8 @@ pool_t tlsf_add_pool(tlsf_t tlsf, void *mem, size_t bytes)
         uint64_t from = k < 0 ? 0 : (uint64_t)control->pools[k].place + control->pools[k].bytes;
         uint64_t place = from + ((address + FRONT - from) & (TLSF_MOST_ALIGN - 1));
         if (tlsf_heap_add_pool(&control->heap, place, usable) == TLSF_OK) {
-            struct pool made = {control, (unsigned char *)mem + skipped(start), (uint32_t)place,
-                                (uint32_t)usable};
-            *pool = made;
+            unsigned char *memory = (unsigned char *)mem + skipped(start);
+            *pool = (struct pool){control, memory, (uint32_t)place, (uint32_t)usable};
             return pool;
         }
     }
@@ -159,28 +148,22 @@ pool_t tlsf_get_pool(tlsf_t tlsf)
     return control != NULL && control->pools[0].bytes != 0 ? &control->pools[0] : NULL;
 }
 
-/* ---- heaps ---- */
-
 tlsf_t tlsf_create_records(void *mem, size_t bytes, uint32_t records)
 {
     struct control *control = (struct control *)mem;
     size_t table = TLSF_HEAP_TABLE_BYTES(records);
     size_t taken = sizeof *control + skipped((uintptr_t)mem + sizeof *control) + table;
-    if (mem == NULL || (uintptr_t)mem % HANDED_IN != 0 || bytes < taken) {
+    if (!may_begin(mem) || bytes < taken) {
         return NULL;
     }
     unsigned char *end = (unsigned char *)mem + taken;
-    memset(control, 0, sizeof *control);
-    if (tlsf_heap_create_in(end - table, table, records, &control->heap) != TLSF_OK) {
-        return NULL;
+    *control = (struct control){.magic = MAGIC ^ (uintptr_t)mem, .taken = (uint32_t)taken};
+    if (tlsf_heap_create_in(end - table, table, records, &control->heap) == TLSF_OK
+        && (bytes - taken < LEAST_POOL || tlsf_add_pool(control, end, bytes - taken) != NULL)) {
+        return control;
     }
-    control->magic = MAGIC ^ (uintptr_t)mem;
-    control->taken = (uint32_t)taken;
-    if (bytes - taken >= LEAST_POOL && tlsf_add_pool(control, end, bytes - taken) == NULL) {
-        tlsf_destroy(control);
-        return NULL;
-    }
-    return control;
+    tlsf_destroy(control);
+    return NULL;
 }
 
 tlsf_t tlsf_create(void *mem) { return tlsf_create_records(mem, tlsf_size(), TLSF_RECORDS); }
@@ -193,15 +176,13 @@ tlsf_t tlsf_create_with_pool(void *mem, size_t bytes)
     return tlsf_get_pool(tlsf) == NULL ? NULL : tlsf;
 }
 
-/* All its memory was handed in, so nothing is to be given back. */
+/* All its memory was handed in: there is nothing to give back. */
 void tlsf_destroy(tlsf_t tlsf)
 {
     if (control_of(tlsf) != NULL) {
         memset(tlsf, 0, sizeof(struct control));
     }
 }
-
-/* ---- blocks ---- */
 
 /* The pointer to a live block, whose front is written. */
 static void *hand_out(struct control *control, tlsf_heap_block block)
@@ -212,12 +193,11 @@ static void *hand_out(struct control *control, tlsf_heap_block block)
         pool++;
     }
     unsigned char *start = pool->memory + (block.place - pool->place);
-    memcpy(start, &front, FRONT);
-    return start + FRONT;
+    return (unsigned char *)memcpy(start, &front, FRONT) + FRONT;
 }
 
-/* Whether a pointer lies in a pool of the heap, and what is in front of it says that it was handed
- * out. The heap is then to say whether the block is live. */
+/* Whether a pointer lies in a pool of the heap, and the bytes in front of it say that it was handed
+ * out. Whether the block is live is then the heap's to say. */
 static bool find(const struct control *control, const void *ptr, tlsf_heap_block *block)
 {
     for (int k = 0; control != NULL && k < POOLS; k++) {
@@ -226,8 +206,7 @@ static bool find(const struct control *control, const void *ptr, tlsf_heap_block
         if (from < pool->bytes && from >= FRONT) {
             struct front front;
             memcpy(&front, (const unsigned char *)ptr - FRONT, FRONT);
-            block->place = pool->place + (uint32_t)from - FRONT;
-            block->slot = front.slot;
+            *block = (tlsf_heap_block){pool->place + (uint32_t)from - FRONT, front.slot};
             return front.control == control && front.place == block->place && front.mark == MARK;
         }
     }
@@ -261,9 +240,9 @@ void *tlsf_memalign(tlsf_t tlsf, size_t align, size_t bytes)
         || align > TLSF_MOST_ALIGN || (align & (align - 1)) != 0) {
         return NULL;
     }
-    size_t whole = bytes + FRONT;
-    uint32_t status = align <= UNIT ? tlsf_heap_malloc(&control->heap, whole, &block)
-                                    : tlsf_heap_memalign(&control->heap, align, whole, &block);
+    uint32_t status = align <= UNIT
+                          ? tlsf_heap_malloc(&control->heap, bytes + FRONT, &block)
+                          : tlsf_heap_memalign(&control->heap, align, bytes + FRONT, &block);
     return status == TLSF_OK ? hand_out(control, block) : NULL;
 }
 
@@ -278,8 +257,8 @@ void tlsf_free(tlsf_t tlsf, void *ptr)
     }
 }
 
-/* The heap gives the new block before the old one is free, and no one has the old one's bytes until
- * the next call. */
+/* The heap gives the new block before the old one is free: so they don't overlap. No one gets the
+ * old one's bytes before the next call. */
 void *tlsf_realloc(tlsf_t tlsf, void *ptr, size_t size)
 {
     struct control *control = control_of(tlsf);
@@ -296,19 +275,13 @@ void *tlsf_realloc(tlsf_t tlsf, void *ptr, size_t size)
         return NULL;
     }
     void *other = hand_out(control, given);
-    if (other != ptr) {
-        memcpy(other, ptr, had < size ? had : size);
-    }
-    return other;
+    return other == ptr ? ptr : memcpy(other, ptr, had < size ? had : size);
 }
 
-/* ---- walks and checks ---- */
-
-/* The pool that this is, or a null pointer where there is none. */
-static struct pool *pool_of(pool_t pool)
+/* The control part of a pool's heap, or a null pointer where the pool isn't there. */
+static struct control *control_of_pool(pool_t pool)
 {
-    struct pool *own = (struct pool *)pool;
-    return own != NULL && control_of(own->control) != NULL ? own : NULL;
+    return pool == NULL ? NULL : control_of(((struct pool *)pool)->control);
 }
 
 static void print(void *ptr, size_t size, int used, void *user)
@@ -322,10 +295,10 @@ static void print(void *ptr, size_t size, int used, void *user)
 /* The walker may free blocks, and so end the pool: each piece is read from where the last ended. */
 void tlsf_walk_pool(pool_t pool, tlsf_walker walker, void *user)
 {
-    struct pool *own = pool_of(pool);
+    struct pool *own = (struct pool *)pool;
     tlsf_heap_row rows[TLSF_WALK_ROWS];
-    uint64_t base = own == NULL ? 0 : own->place, from = 0, left = 1;
-    while (left > 0 && pool_of(pool) != NULL
+    uint64_t base = control_of_pool(pool) == NULL ? 0 : own->place, from = 0, left = 1;
+    while (left > 0 && control_of_pool(pool) != NULL
            && tlsf_heap_walk(&own->control->heap, base, from, rows, TLSF_WALK_ROWS, &left)
                   == TLSF_OK) {
         unsigned char *memory = own->memory;
@@ -360,9 +333,4 @@ static int check(struct control *control, pool_t pool)
 }
 
 int tlsf_check(tlsf_t tlsf) { return check(control_of(tlsf), NULL); }
-
-int tlsf_check_pool(pool_t pool)
-{
-    struct pool *own = pool_of(pool);
-    return check(own == NULL ? NULL : own->control, pool);
-}
+int tlsf_check_pool(pool_t pool) { return check(control_of_pool(pool), pool); }

@@ -2,9 +2,9 @@
  *
  * A program written for his library compiles against this header as it is. docs/C.md has a table of
  * what differs. The heap behind it is proved; these calls, in tlsf.c, aren't: its head says what
- * they stand on. In short: a pointer is a multiple of 16; a block has at most 1,073,741,792 bytes;
- * a heap has at most eight pools; a call that can't be served answers a null pointer; and a pointer
- * that is no live block's is refused and changes nothing.
+ * they rely on. In short: a pointer is a multiple of 16; a block has at most 1,073,741,792 bytes; a
+ * heap has at most eight pools. A call that can't be served answers a null pointer. A pointer that
+ * is no live block's is refused and changes nothing.
  *
  * All memory is what the program hands in. It begins at a multiple of 8, and isn't used by the
  * program until the heap or the pool is gone. One call on a heap at a time.
@@ -27,13 +27,13 @@ typedef void *pool_t;
 tlsf_t tlsf_create(void *mem);
 
 /* A heap and its first pool, in `bytes` bytes, or a null pointer where tlsf_add_pool would refuse
- * the pool. It has a record for each 256 of them, at least 64 and at most 65,535; each block takes
- * one, live or free. */
+ * the pool. It has a record for each 256 bytes, at least 64 and at most 65,535. Each block takes a
+ * record, live or free. */
 tlsf_t tlsf_create_with_pool(void *mem, size_t bytes);
 
-/* The same with `records` records, from 1 to 65,535 (this call isn't Conte's). tlsf_size() counts
- * 1,024 of them, or as many as the library was built with; each one takes 16 bytes. Where nothing
- * is left for a pool there is none. */
+/* A heap with `records` records, from 1 to 65,535, and a pool in what is left of the bytes, where
+ * that is 32 or more; or a null pointer (this call isn't Conte's). tlsf_size() is for 1,024
+ * records, or as many as the library was built with. A record takes 16 bytes. */
 tlsf_t tlsf_create_records(void *mem, size_t bytes, uint32_t records);
 
 /* The heap is gone: its pointers are refused from then on. The memory is the program's again. */
@@ -55,23 +55,23 @@ void tlsf_remove_pool(tlsf_t tlsf, pool_t pool);
  * a block has more only by a realloc that grows it where it is. */
 void *tlsf_malloc(tlsf_t tlsf, size_t bytes);
 
-/* The same at a multiple of align: a power of two up to 2^21. */
+/* As tlsf_malloc, at a multiple of align: a power of two up to 2^21. */
 void *tlsf_memalign(tlsf_t tlsf, size_t align, size_t bytes);
 
-/* The block with room for `size` bytes: where it is, or another with the same bytes in it, at a
- * multiple of 16. Refused with a null pointer, it is as it was. Of a null pointer it is a malloc;
- * for no bytes it is a free, and the answer a null pointer. */
+/* The block with room for `size` bytes: where it is, or another at a multiple of 16, with its bytes
+ * copied. A refused block stays as it was, and the answer is a null pointer. With a null pointer it
+ * is a malloc; for no bytes it is a free, and the answer a null pointer. */
 void *tlsf_realloc(tlsf_t tlsf, void *ptr, size_t size);
 
 /* The block is free. Nothing is done where the pointer is null or no live block's. */
 void tlsf_free(tlsf_t tlsf, void *ptr);
 
-/* How many bytes a live block has; 0 for a null pointer. The 16 bytes in front of any other are
+/* The bytes of a live block; 0 for a null pointer. Of any other pointer the 16 bytes in front are
  * read. */
 size_t tlsf_block_size(void *ptr);
 
-/* The same where it is a live block of this heap; else 0, and nothing in front of a pointer that is
- * in none of its pools is read (this call isn't Conte's). */
+/* The bytes of a live block of this heap, else 0. Nothing is read in front of a pointer into none
+ * of its pools (this call isn't Conte's). */
 size_t tlsf_live_size(tlsf_t tlsf, void *ptr);
 
 /* The bytes that tlsf_create needs; what a block's address and size are multiples of; the least and
@@ -87,10 +87,10 @@ size_t tlsf_alloc_overhead(void);
 /* The bytes that tlsf_create_records needs in front of a pool (this call isn't Conte's). */
 size_t tlsf_size_records(uint32_t records);
 
-/* Calls the walker with each block of the pool, live or free, in order of address; a null pointer
- * stands for one that prints. Blocks are read 64 at a time, each time from the end of the last one
- * on, so the walker may allocate and free. Each 64 read the pool's whole chain: no call for a path
- * that has to be quick. */
+/* Calls the walker with each block of the pool, live or free, in order of address. A null pointer
+ * stands for a walker that prints. Blocks are read 64 at a time, each time from the end of the last
+ * one on. So the walker may allocate and free. Each 64 blocks take a reading of the pool's whole
+ * chain: it is no call for a path that has to be quick. */
 typedef void (*tlsf_walker)(void *ptr, size_t size, int used, void *user);
 void tlsf_walk_pool(pool_t pool, tlsf_walker walker, void *user);
 

@@ -67,8 +67,8 @@ typedef struct tlsf_heap {
     unsigned char *at;
 } tlsf_heap;
 
-/* A live block: the place where it begins, and its slot. A later block may have the same place and
- * another slot, so a stale one is mostly refused; it isn't where both are the same. */
+/* A live block: the place where it begins, and its slot. A stale one is refused, unless a later
+ * block has both its place and its slot. */
 typedef struct tlsf_heap_block {
     uint32_t place;
     uint16_t slot;
@@ -123,8 +123,8 @@ enum tlsf_status {
  * What *out held before is forgotten: a heap in use would be lost. */
 enum tlsf_status tlsf_heap_create(uint32_t records, tlsf_heap *out);
 
-/* The same, with the table in the `bytes` bytes at memory, which are the heap's until it is ended.
- * No other memory is taken. TLSF_HEAP_TABLE_BYTES tells how many are enough.
+/* As tlsf_heap_create, with the table in the `bytes` bytes at memory, which are the heap's until it
+ * is ended. No other memory is taken. TLSF_HEAP_TABLE_BYTES tells how many are enough.
  * 0, TLSF_BAD_COUNT as above, or TLSF_BAD_MEMORY exactly where there are fewer bytes, or they begin
  * at no multiple of 16, or at a null pointer. Not proved. */
 enum tlsf_status tlsf_heap_create_in(void *memory, size_t bytes, uint32_t records, tlsf_heap *out);
@@ -151,8 +151,8 @@ enum tlsf_status tlsf_heap_remove_pool(tlsf_heap *heap, uint64_t base);
  * that none would do. */
 enum tlsf_status tlsf_heap_malloc(tlsf_heap *heap, uint64_t bytes, tlsf_heap_block *out);
 
-/* The same at a place that is a multiple of align, a power of two from 1 to 2^29. At most 42
- * touches.
+/* As tlsf_heap_malloc, at a place that is a multiple of align, a power of two from 1 to 2^29. At
+ * most 42 touches.
  * 0, TLSF_BAD_ALIGN, TLSF_ZERO_SIZE, TLSF_NO_FIT or TLSF_TABLE_FULL. */
 enum tlsf_status tlsf_heap_memalign(tlsf_heap *heap, uint64_t align, uint64_t bytes,
                                     tlsf_heap_block *out);
@@ -211,8 +211,8 @@ enum tlsf_status tlsf_heap_save(tlsf_heap *heap, unsigned char *bytes, size_t ro
  * What *out held before is forgotten where it is filled: a heap in use would be lost. */
 enum tlsf_status tlsf_heap_load(const unsigned char *bytes, size_t length, tlsf_heap *out);
 
-/* The same, with the table in the `bytes` bytes at memory, as tlsf_heap_create_in has it. The image
- * has another place: none of these bytes is one of its own.
+/* As tlsf_heap_load, with the table in the `bytes` bytes at memory, as tlsf_heap_create_in has it.
+ * The image lies elsewhere: none of its bytes is one of these.
  * 0, the first rule that is broken as above, or TLSF_BAD_MEMORY exactly where the bytes are fewer
  * than TLSF_HEAP_TABLE_BYTES of the image's records, or begin at no multiple of 16, or at a null
  * pointer. Not proved. */
@@ -224,8 +224,8 @@ enum tlsf_status tlsf_heap_load_in(void *memory, size_t bytes, const unsigned ch
  * they are in libtlsf_heap.a. A program that has both itself gets its own; then it has no
  * tlsf_heap_create_in and no tlsf_heap_load_in, which stand beside them.
  *
- * rattle_alloc answers memory of `bytes` bytes at a multiple of align, which is at most 16; where
- * there is none, ok is false and p points to some byte all the same. rattle_dealloc gets back what
+ * rattle_alloc answers memory of `bytes` bytes at a multiple of align, which is at most 16. Where
+ * there is none, ok is false, and p still points to some byte. rattle_dealloc gets back what
  * rattle_alloc gave, once. */
 struct rattle_tried {
     bool ok;

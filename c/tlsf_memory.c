@@ -1,12 +1,12 @@
-/* tlsf_memory.c: the memory that a heap's table takes, from malloc or from the program. Not proved.
+/* tlsf_memory.c: the memory of a heap's table, from malloc or from the program. Not proved.
  *
- * The proved library asks for memory by rattle_alloc, and gives it back by rattle_dealloc. Here the
- * first takes it from what tlsf_heap_create_in or tlsf_heap_load_in was handed, while such a call
- * is under way in this thread, and else from malloc. Sixteen bytes in front of each piece keep what
- * free is to get: a null pointer where it is no memory of malloc's.
+ * The proved library asks for memory by rattle_alloc, and gives it back by rattle_dealloc. While
+ * tlsf_heap_create_in or tlsf_heap_load_in is under way in this thread, rattle_alloc takes from the
+ * memory handed in; else from malloc. Sixteen bytes in front of each piece keep what free is to
+ * get: a null pointer where malloc didn't give it.
  *
- * With TLSF_HEAP_NO_MALLOC defined it is never taken from malloc; with TLSF_HEAP_NO_THREADS what is
- * handed in stands in a plain variable. Both are for programs without a C library.
+ * For programs without a C library: with TLSF_HEAP_NO_MALLOC defined nothing comes from malloc;
+ * with TLSF_HEAP_NO_THREADS a plain variable holds what is handed in.
  */
 #include "tlsf_heap.h"
 
@@ -25,8 +25,8 @@
 
 enum { UNIT = 16 };
 
-/* What the call under way was handed, and what is left of it. */
-static OF_THREAD struct {
+/* Whether a call over memory handed in is under way, and what is left of that memory. */
+static OF_THREAD struct handed {
     bool is;
     unsigned char *at;
     size_t left;
@@ -35,25 +35,18 @@ static OF_THREAD struct {
 struct rattle_tried rattle_alloc(size_t bytes, size_t align)
 {
     static unsigned char nothing;
-    struct rattle_tried tried = {false, &nothing};
     size_t whole = UNIT + (bytes + UNIT - 1) / UNIT * UNIT;
-    void **at = NULL;
-    if (align > UNIT || whole < bytes) {
-        return tried;
+    bool fits = align <= UNIT && whole >= bytes && (!handed.is || whole <= handed.left);
+    void *at = !fits ? NULL : handed.is ? handed.at : malloc(whole);
+    if (at == NULL) {
+        return (struct rattle_tried){false, &nothing};
     }
-    if (!handed.is) {
-        at = (void **)malloc(whole);
-    } else if (whole <= handed.left) {
-        at = (void **)(void *)handed.at;
+    if (handed.is) {
         handed.at += whole;
         handed.left -= whole;
     }
-    if (at != NULL) {
-        *at = handed.is ? NULL : at;
-        tried.ok = true;
-        tried.p = (unsigned char *)at + UNIT;
-    }
-    return tried;
+    *(void **)at = handed.is ? NULL : at;
+    return (struct rattle_tried){true, (unsigned char *)at + UNIT};
 }
 
 void rattle_dealloc(unsigned char *p)
@@ -61,15 +54,14 @@ void rattle_dealloc(unsigned char *p)
     free(*(void **)(void *)(p - UNIT));
 }
 
-/* Begins a call over this memory. None of it is taken where it doesn't begin as a table has to. */
+/* Begins a call over this memory. None of it is taken where it begins at no multiple of 16. */
 static void hand_in(void *memory, size_t bytes)
 {
-    handed.is = true;
-    handed.at = (unsigned char *)memory;
-    handed.left = memory != NULL && (uintptr_t)memory % UNIT == 0 ? bytes : 0;
+    bool good = memory != NULL && (uintptr_t)memory % UNIT == 0;
+    handed = (struct handed){true, (unsigned char *)memory, good ? bytes : 0};
 }
 
-/* Ends it. Memory can have been refused for want of what was handed in alone. */
+/* Ends it. Where memory was refused, what was handed in was too little. */
 static enum tlsf_status hand_back(enum tlsf_status status)
 {
     handed.is = false;

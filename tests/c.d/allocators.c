@@ -1,10 +1,11 @@
 /* One allocator at work: some blocks are live, and each step frees one of them and asks for another
- * of 1 to 512 bytes. The choices are the same for each. Built with -DOVER_HEAP it is tlsf_heap.h,
- * with -DOVER_TLSF tlsf.h, else whatever malloc is. The words are a mode and how many are live:
+ * of 1 to 512 bytes. Each allocator gets equal choices. Built with -DOVER_HEAP it is tlsf_heap.h,
+ * with -DOVER_TLSF tlsf.h, with -DOVER_CONTE Conte's own, else whatever malloc is. The words are a
+ * mode and how many blocks are live:
  *   times LIVE   nanoseconds of a pair of free and malloc
  *   calls LIVE   nanoseconds of one call: 50, 99, 99.9 and 99.99 of a hundred take no more
  *   pairs LIVE   pairs alone, for callgrind to count the instructions of counted_pairs
- * What was refused is told behind. No test. */
+ * Behind these it writes how many calls were refused. No test. */
 #define _DEFAULT_SOURCE
 #include <stdbool.h>
 #include <stdint.h>
@@ -17,7 +18,7 @@
 
 #if defined OVER_HEAP
 #include "tlsf_heap.h"
-#elif defined OVER_TLSF
+#elif defined OVER_TLSF || defined OVER_CONTE
 #include "tlsf.h"
 #endif
 
@@ -56,7 +57,10 @@ static inline void give(uint32_t k)
 #else
 static void *blocks[MOST];
 
-#if defined OVER_TLSF
+#if defined OVER_CONTE
+#define tlsf_create_records(memory, bytes, records) tlsf_create_with_pool(memory, bytes)
+#endif
+#if defined OVER_TLSF || defined OVER_CONTE
 static tlsf_t heap;
 
 static void start(void)

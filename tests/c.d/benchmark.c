@@ -1,5 +1,6 @@
-/* Pairs of malloc and free beside the same table design in plain C and beside glibc's: so many blocks are live, and each step
- * frees one of them and asks for another, with the same sizes and choices for all. What is told are ratios of one run. No test. */
+/* Times of pairs of free and malloc: here, on this table design in plain C, and on glibc. Some
+ * blocks are live; each step frees one of them and asks for another. All three get equal sizes and
+ * choices. It writes the ratios of one run. No test. */
 #include <stdio.h>
 #include <stdlib.h>
 #include <time.h>

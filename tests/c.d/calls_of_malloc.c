@@ -1,8 +1,8 @@
-/* Each call of malloc's family, for a program on libtlsf_malloc.so: what it answers, errno, threads,
- * and forks while threads ask. With the word `refused` pointers that are no live block's are freed,
- * which the C library's own malloc wouldn't bear. With the word `served` it tells how many times one
- * byte is served, with `hold` it ends with blocks held, and with `alone` there are no threads and no
- * forks. */
+/* Each call of malloc's family, for a program on libtlsf_malloc.so: what it answers, errno,
+ * threads, and forks while threads ask. With the word `refused` pointers that are no live block's
+ * are freed, which the C library's own malloc wouldn't bear. With `served` it writes how many times
+ * one byte is served. With `hold` it ends with blocks held. With `alone` there are no threads and
+ * no forks. */
 #define _GNU_SOURCE
 #include <errno.h>
 #include <malloc.h>

@@ -136,7 +136,7 @@ static size_t rests(const struct block *block, size_t align, size_t m)
     return (size_t)(start > block->start) + (size_t)(start + m < block->start + block->size);
 }
 
-/* The least class that has a free block, of those from which each block has so many bytes. */
+/* The least class that has a free block, of those whose blocks all have the bytes wanted. */
 static uint64_t best_class(const struct heap *heap, size_t wanted)
 {
     uint64_t best = CLASSES;

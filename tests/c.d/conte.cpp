@@ -1,5 +1,5 @@
 // The calls of tlsf.h as the allocator of C++ containers: a map, strings and vectors over one heap,
-// beside the same over new.
+// beside containers over new.
 #include <cstdint>
 #include <cstdio>
 #include <functional>

@@ -12,7 +12,7 @@ enum { RECORDS = 1024, RECORD = 16, GREATEST_POOL = 1073741808 };
 
 static _Alignas(16) unsigned char memory[1 << 16], other_memory[1 << 16];
 
-/* The bytes of a heap of so many records, at a multiple of 16. */
+/* The bytes of a heap with this number of records, at a multiple of 16. */
 static size_t control_bytes(size_t records)
 {
     return tlsf_size() - RECORD * RECORDS + RECORD * records;
@@ -216,7 +216,7 @@ static void greatest(unsigned char *large)
     tlsf_free(tlsf, whole);
     expect(tlsf_malloc(tlsf, 1056964593) == NULL, "a malloc above 1,056,964,592 bytes is refused");
     one = tlsf_malloc(tlsf, 1056964592);
-    expect(one != NULL, "a malloc of so many is served");
+    expect(one != NULL, "a malloc of 1,056,964,592 bytes is served");
     tlsf_free(tlsf, one);
     expect(tlsf_create_with_pool(large, 2 * GIGABYTE) == NULL,
            "a heap with a pool above the greatest");
@@ -435,7 +435,7 @@ static void end_all(void *ptr, size_t size, int used, void *user)
     }
 }
 
-/* The walker goes on to the end of the blocks that were read, 64 at a time, and then there are none. */
+/* The walker goes on to the end of the 64 blocks that were read. Then there are no more. */
 static void walks_that_end(void)
 {
     for (int whole = 0; whole < 2; whole++) {

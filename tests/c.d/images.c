@@ -1,5 +1,5 @@
-/* Images through tlsf_heap.h: the bytes of one, byte by byte; rooms that are too small; bytes that are no image; and heaps that
- * go on alike once one is saved and loaded. */
+/* Images through tlsf_heap.h: the bytes of one, byte by byte; rooms that are too small; bytes that
+ * are no image; and heaps that go on alike once one is saved and loaded. */
 #include <stdlib.h>
 #include <string.h>
 
@@ -138,7 +138,7 @@ static tlsf_heap heaps[2];
 static tlsf_heap_block live[2][MOST_LIVE];
 static size_t lives;
 
-/* One random request of both heaps: the answers are the same but for slots. */
+/* One random request of both heaps: the answers are equal but for slots. */
 static bool both_answer(unsigned heap_count)
 {
     uint64_t kind = below(5), bytes = below(6) == 0 ? below(30000) : below(400), align = 1ull << below(10), at = lives ? below(lives) : 0;

@@ -1,7 +1,7 @@
-/* Heaps whose table is memory of the program: tlsf_heap_create_in and tlsf_heap_load_in at the bytes
- * that the header tells and at fewer, at each alignment, many side by side; the ends of a heap; and
- * how many records are enough. malloc stands here over that of the C library and counts, so that it
- * is seen where memory was asked for; what it is told to refuse it refuses. */
+/* Heaps whose table is memory of the program. tlsf_heap_create_in and tlsf_heap_load_in get the
+ * bytes that the header tells and fewer, at each alignment, many side by side. Then the ends of a
+ * heap, and how many records are enough. A malloc over that of the C library counts here what is
+ * asked for, and refuses the call that it is told to refuse. */
 #include <stdlib.h>
 #include <string.h>
 
@@ -50,12 +50,12 @@ static uint64_t below(uint64_t bound)
 static _Alignas(64) unsigned char memory[EDGE + TLSF_HEAP_TABLE_BYTES(RECORDS) + EDGE];
 static unsigned char image[TLSF_HEAP_IMAGE_BYTES(RECORDS)];
 
-/* Whether the bytes in front of the table and behind it, so many, are as fill left them. */
 static void fill(void)
 {
     memset(memory, 0xa5, sizeof memory);
 }
 
+/* Whether the bytes in front of the table and behind it are as fill left them. */
 static bool edges_stay(size_t from, size_t bytes)
 {
     for (size_t k = 0; k < sizeof memory; k++) {
@@ -132,7 +132,7 @@ static void other_refusals(void)
     tlsf_heap_destroy(&heap);
 }
 
-/* What a heap of malloc's memory asks for is what the header tells, and each refusal is answered. */
+/* A heap of malloc's memory asks for what the header tells, and each refusal is answered. */
 static void of_malloc(void)
 {
     static const uint32_t counts[] = {1, 2, RECORDS, 1000, 65535};
@@ -224,7 +224,7 @@ static void side_by_side(void)
     expect(takes == 0 && returns == 0, "and malloc is never asked");
 }
 
-/* Random calls with at most so many live blocks in a pool or two: whether one is refused for want
+/* Random calls with at most `most` live blocks in a pool or two: whether none is refused for want
  * of a record. */
 static bool is_enough(uint32_t records, unsigned most, uint32_t pools, bool aligned)
 {

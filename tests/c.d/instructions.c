@@ -1,7 +1,8 @@
-/* Calls to be counted by callgrind, over the library or, with -DPLAIN, over the heap of plain_heap.h. No test.
+/* Calls for callgrind to count, over the library or, with -DPLAIN, over the heap of plain_heap.h.
+ * LIVE is the number of other live blocks. No test.
  *
- *     instructions pairs LIVE        pairs of free and malloc with so many live blocks; what they answered is written
- *     instructions worst LIVE        one call in each of some bad states, and then any calls, with so many live blocks besides; a line a call
+ *     instructions pairs LIVE   pairs of free and malloc; it writes what they answered
+ *     instructions worst LIVE   one call in each of some bad states, then any calls: a line each
  *
  * tests/benchmark_c runs it: each counted call is one of the functions named counted_.. */
 #include <stdio.h>
@@ -20,7 +21,7 @@ static tlsf_heap heap;
 #endif
 
 #define APART __attribute__((noinline))
-#define WORK 1073741824u     /* where the pools of a state begin; below it are the other live blocks */
+#define WORK 1073741824u /* where the pools of a state begin; the other live blocks are below */
 #define GREATEST 1073741808u
 
 enum { MOST = 60000, PAIRS = 20000, MOST_OWN = 400, CALLS = 4000 };
@@ -96,7 +97,7 @@ enum place_in_list { MIDDLE, ALONE, FIRST, LAST, PLACES };
 
 static const char *const names[] = {"in the middle", "alone", "first", "last"};
 
-/* A heap with so many live blocks, which fill their pool. */
+/* A heap with `live` live blocks, which fill their pool. */
 static void begin(uint32_t live)
 {
     must(CALL(create)(65535, &heap));
@@ -113,7 +114,8 @@ static tlsf_heap_block live_block(uint64_t bytes)
     return block;
 }
 
-/* What stands in front of a block and behind it, and whether there is a free block of what they are together. */
+/* What stands in front of a block and behind it, and whether a block of the size of all three is
+ * free. */
 static const char *sides(uint32_t live, int before, int behind, bool full, tlsf_heap_block *middle)
 {
     static char told[128];
@@ -170,7 +172,8 @@ static void frees(uint32_t live)
     }
 }
 
-/* A block that moves: into the first of two of the greatest blocks, or into one alone, whose rest is of another level. */
+/* A block that moves: into the first of two of the greatest blocks, or into one alone, whose rest
+ * is of another level. */
 static void moves(uint32_t live)
 {
     for (int before = 0; before < PLACES; before++) {
@@ -204,8 +207,8 @@ static void grows(uint32_t live)
     }
 }
 
-/* A split of the only block of a class, or of the first of two, each with a live block behind it; the lists that the pieces
- * enter are empty or not. */
+/* A split of the only block of a class, or of the first of two, each with a live block behind it.
+ * The lists that the pieces enter are empty or not. */
 static void splits(uint32_t live, int pools, uint32_t base, uint32_t bytes, uint64_t align, uint64_t wanted, bool full)
 {
     static const uint64_t others[] = {496, 512, (1u << 19) - 32, 1u << 19};

@@ -1,5 +1,6 @@
-/* Memory: tlsf_heap_create and tlsf_heap_load take it twice, no other call takes any, tlsf_heap_destroy gives both back, and where it is
- * refused they say so. The library's two functions stand here over an array, as an embedded program would write them. */
+/* Memory: tlsf_heap_create and tlsf_heap_load take it twice, and say where it is refused. No other
+ * call takes any, and tlsf_heap_destroy gives both pieces back. The library's two functions stand
+ * here over an array, as an embedded program would write them. */
 #include <string.h>
 
 #include "cases.h"
@@ -11,7 +12,7 @@ static _Alignas(16) unsigned char memory[4u << 20];
 static size_t taken, greatest, least;
 static unsigned takes, returns, live, refuse_at;
 
-/* So many bytes at a multiple of align, which is at most 16. */
+/* The bytes asked for, at a multiple of align, which is at most 16. */
 struct rattle_tried rattle_alloc(size_t bytes, size_t align)
 {
     struct rattle_tried none = {false, memory}, some = {true, memory + taken};
@@ -83,7 +84,7 @@ static void loads(void)
     expect(tlsf_heap_load(image, sizeof image, &heap) == TLSF_BROKEN_MAGIC && takes == 0, "bytes that are no image take no memory");
 }
 
-/* The two that a heap takes: a table of so many records, and the heap itself. */
+/* Whether a heap took its two pieces: the table of its records, and the heap itself. */
 static bool has_taken(uint32_t records)
 {
     size_t table = (size_t)RECORD * records;
@@ -91,7 +92,7 @@ static bool has_taken(uint32_t records)
     return takes == 2 && live == 2 && taken == more + less && greatest == more && least == less;
 }
 
-/* Each count of records that there can be: a heap comes of it, takes its memory, and gives it back. */
+/* Each number of records: a heap is made, takes its memory, and gives it back. */
 static void each_count(void)
 {
     bool made = true, whole = true, returned = true;
@@ -112,7 +113,7 @@ static void each_count(void)
     expect(returned, "it gives both back");
 }
 
-/* A heap of so many records with a block, in a pool that it fills, and with other pools. */
+/* A heap with a block, in a pool that it fills, and with other pools. */
 static bool make_saved(tlsf_heap *heap, uint32_t records, uint32_t pools, tlsf_heap_block *block)
 {
     bool served = tlsf_heap_create(records, heap) == TLSF_OK;
@@ -122,8 +123,8 @@ static bool make_saved(tlsf_heap *heap, uint32_t records, uint32_t pools, tlsf_h
     return served && tlsf_heap_malloc(heap, 1024, block) == TLSF_OK;
 }
 
-/* Images of heaps of many counts of records, with up to eight pools: a heap comes of each, and has the
- * same image and the same block. */
+/* An image of a heap with this many records and pools loads. The heap loaded has an equal image,
+ * and the block. */
 static bool loads_what_is_saved(uint32_t records, uint32_t pools)
 {
     static unsigned char image[TLSF_HEAP_IMAGE_BYTES(MOST_RECORDS)];

@@ -1,4 +1,5 @@
-/* The heap of plain_heap.h. Each call does what the library's does, with the same records, class heads and bitmaps. */
+/* The heap of plain_heap.h. Each call does what the library's does, with its records, class heads
+ * and bitmaps. */
 #include "plain_heap.h"
 
 #include <stdlib.h>
@@ -26,7 +27,7 @@ static uint32_t class_of(uint32_t size)
     return (top - 8) * 32 + ((size >> (top - 5)) & 31);
 }
 
-/* The least class from which each block has so many bytes; it may be past the last. */
+/* The least class whose blocks all have this size or more; it may be past the last. */
 static uint32_t class_for(uint32_t size)
 {
     if (size < 512) {
@@ -72,7 +73,7 @@ static void unlink_free(plain_heap *heap, uint16_t slot)
     }
 }
 
-/* The first block of the first list that isn't empty, from the class on from which each block has so many bytes. */
+/* The first block of the first list that isn't empty, from class_for(size) on. */
 static uint16_t find(const plain_heap *heap, uint32_t size)
 {
     uint32_t class = class_for(size);

@@ -1,4 +1,5 @@
-/* The table design of the library in plain C, written by hand and not proved: what tests/benchmark_c compares with. */
+/* The table design of the library in plain C, written by hand and not proved. tests/benchmark_c
+ * compares the library with it. */
 #ifndef PLAIN_HEAP_H
 #define PLAIN_HEAP_H
 

@@ -1,4 +1,4 @@
-// tests/c.d/projects/resource.hpp under containers of C++17, beside the same over new.
+// tests/c.d/projects/resource.hpp under containers of C++17, beside containers over new.
 #include <cstdio>
 #include <map>
 #include <string>

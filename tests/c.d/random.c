@@ -1,4 +1,5 @@
-/* A long random run through tlsf_heap.h beside a plain model: an array of blocks in order of place, searched from end to end. */
+/* A long random run through tlsf_heap.h beside a plain model: an array of blocks in order of place,
+ * searched from end to end. */
 #include <stdlib.h>
 #include <string.h>
 
@@ -9,7 +10,8 @@ enum { CLASSES = 704, MOST_POOLS = 8, MOST_RECORDS = 40, STATUSES = 12 };
 #define GREATEST_SIZE 1073741808u
 #define END_OF_PLACES 4294967296u
 
-/* A block; a free one has the time when it became so: the newest of a class is the first of its list. */
+/* A block. A free one has the time when it was freed: the newest of a class is the first of its
+ * list. */
 struct block {
     uint64_t place, size, freed_at;
     uint64_t pool; /* where its pool begins */
@@ -69,8 +71,8 @@ static void erase(uint64_t at)
     memmove(&blocks[at], &blocks[at + 1], (count - at) * sizeof blocks[0]);
 }
 
-/* The newest free block of the least class that has one, of the classes from which each block has so many bytes; or
- * `count` where there is none. */
+/* The newest free block of the least class that has one, of the classes whose blocks all have these
+ * bytes; or `count` where there is none. */
 static uint64_t pick(uint64_t bytes)
 {
     uint64_t found = count, best = CLASSES;
@@ -87,7 +89,8 @@ static uint64_t pick(uint64_t bytes)
     return found;
 }
 
-/* The block at `at` becomes: what is in front of the start, a live block of `bytes`, and what is left behind. */
+/* The block at `at` is split: what is in front of the start, a live block of `bytes`, and what is
+ * left behind. */
 static void carve(uint64_t at, uint64_t start, uint64_t bytes)
 {
     struct block old = blocks[at], live = old, gap = old, rest = old;
@@ -269,7 +272,7 @@ static bool slot_is_new(uint16_t slot, uint64_t except)
     return slot < records;
 }
 
-/* A block that was given is where the model has it, with a slot of its own, which the model takes. */
+/* A block that was given is where the model has it, with a slot of its own that the model takes. */
 static bool takes(tlsf_heap_block given, uint64_t place)
 {
     for (uint64_t k = 0; k < count; k++) {
@@ -375,7 +378,7 @@ static bool ask_for_pool(void)
     return status == model_remove_pool(base);
 }
 
-/* The same rows are read piece by piece, each from the end of the one before. */
+/* Whether a reading in pieces gives these rows, each piece from the end of the one before. */
 static bool is_in_pieces(uint64_t base, const tlsf_heap_row *rows, uint64_t all)
 {
     tlsf_heap_row piece[5];

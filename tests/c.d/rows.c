@@ -245,9 +245,9 @@ static void wrong_pointers(void)
     end();
 }
 
-/* A heap of so many records, and of 2 * lives + pools blocks: live ones of 16 bytes, each behind a
- * free one of 16, in a pool with a large rest behind them; and free pools of 16 bytes. Answers the
- * first live one. */
+/* A heap of 2 * lives + pools blocks. One pool has live blocks of 16 bytes, each behind a free one
+ * of 16, and a large rest behind them. The other pools are free, of 16 bytes. Answers the first
+ * live block. */
 static tlsf_heap_block between_holes(uint32_t records, uint32_t lives, uint32_t pools)
 {
     tlsf_heap_block blocks[64];
@@ -277,8 +277,8 @@ static void expect_enough(uint32_t status, bool is_enough, const char *call)
     end();
 }
 
-/* The least number of records with which each call is served where there are so many live blocks
- * and pools, and one less. */
+/* The least number of records with which each call is served beside these live blocks and pools,
+ * and one less. */
 static void enough(uint32_t lives, uint32_t pools)
 {
     for (uint32_t more = 0; more <= 2; more++) {

@@ -1,6 +1,7 @@
-/* Tables with one byte spoiled: tlsf_heap_check is false exactly where that byte changed what a record means, and where it didn't
- * every later call answers as without it. The table is the first memory that tlsf_heap_create takes; a record has sixteen bytes:
- * place, size with the state in its low four bits, previous, next, previous free and next free. */
+/* Tables with one byte spoiled. tlsf_heap_check is false exactly where that byte changed what a
+ * record means. Where it didn't, every later call answers as without it. The table is the first
+ * memory that tlsf_heap_create takes. A record has sixteen bytes: place, size with the state in its
+ * low four bits, previous, next, previous free and next free. */
 #include <string.h>
 
 #include "cases.h"
@@ -44,7 +45,7 @@ static void tell(struct run *run, uint32_t status, uint32_t place)
     run->answers = run->answers * 1099511628211u + status * 65537u + place;
 }
 
-/* So many calls by this seed: blocks are asked for and freed. */
+/* Random calls from this seed on: blocks are asked for and freed. */
 static void calls(tlsf_heap *heap, struct run *run, uint32_t from, unsigned many)
 {
     seed = from;
@@ -64,8 +65,8 @@ static void calls(tlsf_heap *heap, struct run *run, uint32_t from, unsigned many
     }
 }
 
-/* The bytes of a record that mean something, the others as zeros: of a vacant one the next, of a live one no links of lists. Each
- * state but vacant and free is live. */
+/* The bytes of a record that mean something, the others as zeros: of a vacant one the next, of a
+ * live one no links of lists. Each state but vacant and free is live. */
 static void meaning(const unsigned char *record, unsigned char told[RECORD])
 {
     unsigned state = record[4] & 15u;
@@ -79,7 +80,8 @@ static void meaning(const unsigned char *record, unsigned char told[RECORD])
     }
 }
 
-/* Spoils a byte in each of nine ways. Whether check told each that means something, and no other, and calls go on alike. */
+/* Spoils a byte in each of nine ways: whether check tells each that means something and no other,
+ * and calls go on alike. */
 static bool byte_is_told(tlsf_heap *heap, const struct run *before, uint64_t wanted, size_t at)
 {
     for (unsigned way = 0; way <= 8; way++) {
