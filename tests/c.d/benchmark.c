@@ -67,7 +67,7 @@ static double of_plain(uint32_t live, uint32_t *refused, uint64_t *places)
         *places = *places * 31 + blocks[k].place;
     }
     double taken = seconds() - start;
-    plain_destroy(plain);
+    plain_destroy(&plain);
     return taken;
 }
 

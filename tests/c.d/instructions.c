@@ -87,7 +87,7 @@ static void pairs(uint32_t live)
     }
     counted_nothing(given);
     printf("%u pairs, answers %llu\n", (unsigned)PAIRS, (unsigned long long)sum);
-    CALL(destroy)(heap);
+    CALL(destroy)(&heap);
 }
 
 /* ---- bad states ---- */
@@ -155,7 +155,7 @@ static void told(const char *call, const char *which)
 {
     CALLGRIND_DUMP_STATS;
     printf("%s: %s: %s\n", call, which, tlsf_heap_status_name(status));
-    CALL(destroy)(heap);
+    CALL(destroy)(&heap);
 }
 
 static void frees(uint32_t live)
@@ -274,7 +274,7 @@ static void anything(uint32_t live)
         CALLGRIND_DUMP_STATS;
         printf("%s: any: %s\n", kind == 0 ? "malloc" : kind == 1 ? "memalign" : kind == 2 ? "free" : "realloc", tlsf_heap_status_name(status));
     }
-    CALL(destroy)(heap);
+    CALL(destroy)(&heap);
 }
 
 static void worst(uint32_t live)

@@ -171,9 +171,9 @@ uint32_t plain_create(uint32_t records, plain_heap *heap)
     return TLSF_OK;
 }
 
-void plain_destroy(plain_heap heap)
+void plain_destroy(plain_heap *heap)
 {
-    free(heap.records);
+    free(heap->records);
 }
 
 uint32_t plain_add_pool(plain_heap *heap, uint64_t base, uint64_t bytes)

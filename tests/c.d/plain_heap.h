@@ -28,7 +28,7 @@ typedef struct plain_heap {
 
 /* The calls of tlsf_heap.h, with its statuses. */
 uint32_t plain_create(uint32_t records, plain_heap *heap);
-void plain_destroy(plain_heap heap);
+void plain_destroy(plain_heap *heap);
 uint32_t plain_add_pool(plain_heap *heap, uint64_t base, uint64_t bytes);
 uint32_t plain_malloc(plain_heap *heap, uint64_t bytes, tlsf_heap_block *out);
 uint32_t plain_memalign(plain_heap *heap, uint64_t align, uint64_t bytes, tlsf_heap_block *out);
