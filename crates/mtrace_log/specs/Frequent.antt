@@ -23,7 +23,7 @@ pub record BeginsFields (bytes : List ℕ) (address : ℕ) (size : Option ℕ) (
   pub valid : (place : List ℕ) → IsLocation place → IsEvent (event_at place address size)
   pub split : bytes ≡ fields_of address size ++ newline ∷ rest
 
--- the line spells the event of a block, whose location has this many bytes
+-- the line spells the event of these fields, at a location of this many bytes
 pub record IsFrequent (line : List ℕ) (frequent : Frequent) : Type 0 where
   pub place : List ℕ
   pub is_place : IsLocation place

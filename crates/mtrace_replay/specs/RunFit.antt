@@ -24,8 +24,8 @@ use Rattle.mtrace_replay.specs.Again.{Follows, RunsAgain}
 abbrev pub refusals : Settings → List Reading → ℕ
 refusals settings lines = count_by is_refused (history settings lines)
 
--- A log was tried on a heap by the settings. All of it was read, and no line is refused; or lines were read of which
--- one is.
+-- A log was tried on a heap by the settings. All of it was read, and no line is refused; or lines were read, and one
+-- or more are refused.
 abbrev pub IsTried : Settings → (serves : Bool) → (whole left : Bytes) → Type 0
 IsTried settings true whole left = (lines : List Reading) × HasReadAll whole left lines × (refusals settings lines ≡ 0)
 IsTried settings false whole left =

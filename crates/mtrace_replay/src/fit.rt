@@ -173,8 +173,8 @@ fn tell_fit<R: Again, W: Sink>(
 }
 
 /// Reads a log of mtrace(3), and replays it on the greatest pool with the most records. Writes what is wrong with its
-/// lines, each as it comes, and flushes the writer. Then it writes how large a pool the log needs: the peak, the most
-/// addresses held, and the records that are always enough. It writes too the least and the safe size among the
+/// lines, each as it comes, and flushes the writer. Then writes how large a pool the log needs: the peak, the most
+/// addresses held, and the records that are always enough. With these come the least and the safe size among the
 /// multiples of the step from the peak to twice the peak. For that the log is read again, once for each size, until a
 /// line is refused. The writer is flushed once more.
 ///

@@ -23,7 +23,7 @@ module _ {A : Type 0} where
         lists = link_gap (place + m) (size - m) (unlink_block next content.lists);
       }
 
-  -- whether the block at the place can have m bytes where it is. To get larger, it needs them with the free block
+  -- whether the block at the place can have m bytes where it is. To get larger, it needs m bytes with the free block
   -- behind it. To get smaller, it needs a free block behind it, or a record for the rest
   abbrev pub fits_in_place : (place m : ℕ) → Content A → Bool
   fits_in_place place m content =

@@ -1,5 +1,5 @@
--- Records that agree on their blocks. Where cells stand with the one records, they stand with the others,
--- for the same content.
+-- Records that agree on their blocks. Where cells stand with the ones, they stand with the others, for
+-- the same content.
 use Rattle.std.proofs.Common.{◌≡◌, ◌≤◌, true, List, refl, sym, ap, ◌∙◌, arith}
 use Rattle.tlsf_store.specs.declared.records.State.{State}
 use Rattle.tlsf_store.specs.declared.records.State.TheVariants.{Vacant, Free, Live}

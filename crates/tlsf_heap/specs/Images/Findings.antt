@@ -81,7 +81,7 @@ HasSizes parts = (slot : ℕ) → slot < length parts.records → is_used (at pa
 abbrev pub is_behind : Option ℕ → ℕ → Record → Bool
 is_behind before number block = (is_free block.state && (class block.size == number)) && option_eq nat_eq block.prev_free before
 
--- the count of blocks before and of these records, where each record passes `has_record_links`
+-- the count of blocks, of those before and of these records, where each record passes `has_record_links`
 abbrev pub blocks_with : ℕ → Blocks → List Record → Option Blocks
 blocks_with count blocks records =
     if list_all (has_record_links count) records

@@ -91,7 +91,7 @@ is_free Vacant = false
 is_free Free = true
 is_free Live = false
 
--- a block has bytes and links of records, a live one none to other free ones
+-- a block has bytes and links of records, a live one no links in a list
 abbrev pub has_record_links : ℕ → Record → Bool
 has_record_links count r = not (is_used r.state) || (nat_lt 0 r.size && ((is_below count r.prev && is_below count r.next) && has_links_in r.state count r))
 

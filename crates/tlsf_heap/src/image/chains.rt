@@ -20,7 +20,7 @@ pub(crate) struct Tally {
     pub(crate) is_merged: bool,
 }
 
-/// What stands in front of a block in its chain: the block before it, if one is; where that ends; whether it is
+/// What stands in front of a block in its chain: the block before it, if any; where that ends; whether it is
 /// free.
 #[derive(Clone, Copy)]
 struct Front {

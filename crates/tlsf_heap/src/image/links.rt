@@ -49,7 +49,7 @@ fn is_below(slot: Option<Slot>, count: u32) -> bool
     }
 }
 
-/// Whether a block has bytes and links of this many records, and a live one none to free ones.
+/// Whether a block has bytes and links of this many records, and a live one no links in a list.
 fn has_links(block: &Record, count: u32) -> bool
     ensures { result ≡ has_record_links count block.now }
 {
