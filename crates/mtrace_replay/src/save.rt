@@ -22,9 +22,8 @@ fn save<I: Sink>(replay: &mut Replay<Heap>, image: &mut I) -> Result<(), Failed>
     image.flush()
 }
 
-/// Reads a log of mtrace(3), and replays it on a heap by the settings. Writes what is wrong with its lines, each as
-/// it comes, and flushes the writer. Then writes an image of the heap at the end of the log, and flushes the image's
-/// writer.
+/// Reads a log of mtrace(3), replays it on a heap by the settings, and writes what is wrong with its lines, each as it
+/// comes. Then flushes the writer, writes an image of the heap at the end of the log, and flushes the image's writer.
 ///
 /// Memory is taken at the start alone, for the heap's records and for what is held.
 ///

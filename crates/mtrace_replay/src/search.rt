@@ -46,8 +46,8 @@ pub(crate) fn search(
     if is_seen { Ok(low - 1) } else { Err(low) }
 }
 
-/// Whether the key there is the last one of the address. It compares that address, and where nothing is held under it
-/// the one behind it. It compares at most as many addresses as the number of keys has binary digits.
+/// Whether the key there is the last one of the address. It compares that address, and where nothing is held under it the one
+/// behind it. It compares at most as many addresses as the number of keys has binary digits.
 #[inline(always)]
 pub(crate) fn is_last_of(
     keys: &Keys,

@@ -165,8 +165,8 @@ fn take_memory<'a>(
     Ok((replay, peak, end))
 }
 
-/// Reads a log of mtrace(3), and replays it on a heap by the settings. Writes what is wrong with its lines, each as
-/// it comes, and flushes the writer. Then reads the log again, up to the line of the peak, and writes who holds its
+/// Reads a log of mtrace(3), replays it on a heap by the settings, and writes what is wrong with its lines, each as
+/// it comes. Then flushes the writer, reads the log again, up to the line of the peak, and writes who holds its
 /// memory. That is what is held at the peak, and what is held at the end, each by the locations that asked for it.
 /// The writer is flushed once more.
 ///
