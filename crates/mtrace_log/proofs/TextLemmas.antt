@@ -9,7 +9,7 @@ pub AllByRecursion-append : {X : Type 0} (P : X → Type 0) (xs ys : List X) →
 AllByRecursion-append P [] ys first second = second
 AllByRecursion-append P (x ∷ xs) ys first second = (first.0, AllByRecursion-append P xs ys first.1 second)
 
--- a piece that lacks the byte ends at the first such byte, whatever follows it
+-- a piece that lacks the byte ends where the byte first stands, whatever follows it
 pub split-same : (b : ℕ) (xs ys rest last : List ℕ) → Lacks b xs → Lacks b ys → xs ++ b ∷ rest ≡ ys ++ b ∷ last → (xs ≡ ys) × (rest ≡ last)
 split-same b [] [] rest last lacks_xs lacks_ys same = (refl, cc)
 split-same b [] (y ∷ ys) rest last lacks_xs lacks_ys same = let head : y ≡ b = cc in absurd (lacks_ys.0 head)

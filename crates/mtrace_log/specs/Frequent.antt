@@ -18,12 +18,12 @@ abbrev pub fields_of : ℕ → Option ℕ → List ℕ
 fields_of address None = codes "- " ++ address_text address
 fields_of address (Some size) = codes "+ " ++ (address_text address ++ space ∷ size_text size)
 
--- such fields are at the front, with their newline
+-- the fields of this address and size are at the front, with their newline
 pub record BeginsFields (bytes : List ℕ) (address : ℕ) (size : Option ℕ) (rest : List ℕ) : Type 0 where
   pub valid : (place : List ℕ) → IsLocation place → IsEvent (event_at place address size)
   pub split : bytes ≡ fields_of address size ++ newline ∷ rest
 
--- the line is the one of such an event, whose place has this many bytes
+-- the line spells the event of these fields, at a location of this many bytes
 pub record IsFrequent (line : List ℕ) (frequent : Frequent) : Type 0 where
   pub place : List ℕ
   pub is_place : IsLocation place
@@ -31,7 +31,7 @@ pub record IsFrequent (line : List ℕ) (frequent : Frequent) : Type 0 where
   pub valid : IsEvent (event_at place frequent.addr frequent.size)
   pub spelled : line ≡ spell (event_at place frequent.addr frequent.size)
 
--- such a line of this many bytes is at the front, with its newline
+-- a frequent line of this many bytes is at the front, with its newline
 pub record BeginsFrequent (bytes : List ℕ) (frequent : Frequent) (count : ℕ) : Type 0 where
   pub line : List ℕ
   pub rest : List ℕ

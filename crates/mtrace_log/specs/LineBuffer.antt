@@ -17,8 +17,8 @@ Holds buffer piece = MatchBool buffer.too_long (longest_line < length piece) (bu
 abbrev pub kept_bytes : LineBuffer → Option (List ℕ)
 kept_bytes buffer = if buffer.too_long then None else Some buffer.bytes.items
 
--- what stood unread before the first newline came onto the line, and the newline was passed over; or,
--- where there was none, all of it, and nothing is unread
+-- what stood unread before the first newline came onto the line, and the newline was passed over.
+-- Where there was none, all of it came, and nothing is unread
 pub record TakesFront (line_old line_new : LineBuffer) (ended : Bool) (old new : List ℕ) : Type 0 where
   pub front : List ℕ
   pub no_newline : Lacks newline front

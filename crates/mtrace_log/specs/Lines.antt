@@ -6,8 +6,8 @@ use Rattle.mtrace_log.specs.Reading.{Reads}
 use Rattle.mtrace_log.specs.Event.{Event}
 use Rattle.mtrace_log.specs.declared.event.LineFault.{LineFault}
 
--- The pieces between newlines, and behind the last newline what is left, if anything is: a newline
--- ends an empty line before the lines of the rest, any other byte comes onto the first of them.
+-- The pieces between newlines, and behind the last newline what is left, if anything is. A newline
+-- ends an empty line before the lines of the rest; any other byte comes onto the first of them.
 abbrev pub lines_of : List ℕ → List (List ℕ)
 lines_of [] = []
 lines_of (b ∷ text) = if b == newline then [] ∷ lines_of text else onto_first b (lines_of text)

@@ -88,8 +88,8 @@ sink_trace sink = sink.trace.calls
 abbrev pub sink_count : MemorySink → ℕ → ℕ
 sink_count sink offered = min (min offered (sink_room sink)) (sink_piece sink)
 
--- the writer that took these bytes, with this greatest piece and this room; what it answers when it is full, and whether its flushes
--- fail; and its calls
+-- the writer that took these bytes, with this greatest piece and this room. Its answer when it is full, whether its
+-- flushes fail, and its calls are these
 pub record IsSink (bytes : List ℕ) (most left : ℕ) (when_full : WhenFull) (fails : Bool) (past : List Call) (sink : MemorySink) : Type 0 where
   pub taken : sink_taken sink ≡ bytes
   pub piece : sink_piece sink ≡ most

@@ -18,8 +18,8 @@ pub data Status : Type 0 where
   Ended : Status
   Faulted : ReadFault → Status
 
--- the bytes asked of a reader that belong to no line yet, how many lines were given, the status, and the bytes of the
--- line that was passed last, unless it was too long to be kept
+-- the bytes asked of a reader that belong to no line yet, how many lines were given, and the status. `last`: the
+-- bytes of the line that was passed last, unless it was too long to be kept
 pub record Progress : Type 0 where
   pub held : List ℕ
   pub count : ℕ
@@ -64,15 +64,15 @@ abbrev pub PassesLine : (old new : Progress) (before after : Option (List ℕ)) 
 PassesLine old new before after number =
     (answer : Result Event LineFault) → Says new.last answer → GivesLine old new before after (record { number = number; event = answer })
 
--- what a call that gave no line found: the end of the text, or that it was told before, and then it
--- asked nothing and changed nothing
+-- a call that gave no line found the end of the text. Where the end was told before, it asked nothing and changed
+-- nothing
 abbrev pub FindsEnd : {R : Type 0} → Status → (old new : Progress) → (reader_old reader_new : R) → Option (List ℕ) → Option (List ℕ) → Type 0
 FindsEnd Reading old new reader_old reader_new before after = (new.count ≡ old.count) × (before ≡ after) × IsAtEnd after
 FindsEnd Ended old new reader_old reader_new before after = (new ≡ old) × (reader_new ≡ reader_old)
 FindsEnd (Faulted fault) old new reader_old reader_new before after = ⊥
 
--- A first fault: the reader failed in this call, within a piece that is lost, or there are as many
--- lines as there are numbers and more is to come.
+-- A first fault. The reader failed in this call, within a piece that is lost. Or there are as many lines as there are
+-- numbers, and more is to come.
 abbrev pub StopsReading : ReadFault → ℕ → Option (List ℕ) → Option (List ℕ) → Type 0
 StopsReading ReaderFailed count before after = (piece : List ℕ) × Lacks newline piece × (before ≡ prepend_known piece after)
 StopsReading TooManyLines count before after = (count ≡ greatest_number) × (before ≡ after) × HasMore after
@@ -85,8 +85,8 @@ GivesFault Ended fault old new reader_old reader_new before after = ⊥
 GivesFault (Faulted first) fault old new reader_old reader_new before after = (fault ≡ first)
     × (new ≡ old) × (reader_new ≡ reader_old)
 
--- What the calls of the reader came to, by the status that they led to: pieces alone, or pieces and then,
--- once and last, its end or its failure. Where no number is left, the reader has not failed.
+-- The calls of the reader, by the status that they led to. They gave pieces alone, or pieces and then, once and last,
+-- its end or its failure. Where no number is left, the reader has not failed.
 abbrev pub CallsFor : Status → List Call → List Call → Type 0
 CallsFor Reading old new = HasGiven old new
 CallsFor Ended old new = HasGivenAll old new

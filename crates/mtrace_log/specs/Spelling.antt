@@ -1,5 +1,5 @@
--- The one line of each event: the forms of glibc's mtrace(3) that this project reads, and one of its own, for an
--- allocation at a multiple of an alignment.
+-- The one line of each event. The forms are those of glibc's mtrace(3) that this project reads, and one of its
+-- own, for an allocation at a multiple of an alignment.
 use Rattle.std.specs.Prelude.{ℕ, ◌^◌, ◌<◌, List, [], ◌∷◌, ◌++◌, codes, Option, Some, None, IfSome}
 use Rattle.mtrace_log.specs.Bytes.{space}
 use Rattle.mtrace_log.specs.Address.{IsAddress, address_text, pointer_text, size_text}

@@ -78,9 +78,9 @@ impl Lines {
         }
     }
 
-    /// The next line of the text to come, which is what was asked of the reader and belongs to no
-    /// line yet, and then what the reader has left. `None` where no line is left; from then on, and
-    /// after a fault, the answer stays the same and the reader isn't asked again.
+    /// The next line of the text to come. That is what was asked of the reader and belongs to no line yet, and then
+    /// what the reader has left. `None` where no line is left; from then on, and after a fault, the answer stays the
+    /// same and the reader isn't asked again.
     ///
     /// # Errors
     ///

@@ -7,8 +7,9 @@ use crate::failed::Failed;
 
 /// A reader that gives bytes piece by piece.
 ///
-/// Contracts alone see the bytes that it has left, where its type tells them, what each of its calls
-/// came to, and a number that falls with each piece, so that every run over a `Source` ends.
+/// Contracts alone see the bytes that it has left, where its type tells them, and the outcome of
+/// each of its calls. They see also a number that falls with each piece, so that every run over a
+/// `Source` ends.
 pub trait Source {
     // The bytes left, where they are known.
     ghost left: { Self → Option (List ℕ) };

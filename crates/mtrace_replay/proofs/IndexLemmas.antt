@@ -178,7 +178,7 @@ fits_apart address (key ∷ keys) (suc at) fits = (
   fits_apart address keys at (omega (arith, fits.0), fits.1.1, fits.2),
 )
 
--- a key among others, by other rows that say the same of these
+-- a key put among others, where new rows keep the rows of the others
 held_put : (old new : Rows) (others : List Key) (at : ℕ) (key : Key) → at ≤ length others → SameRows old new others
     → all_held new (insert others at key) ≡ all_held old (take at others) ++ (option_to_list (holding_of new key) ++ all_held old (drop at others))
 held_put old new others zero key within same = ap (λ all. option_to_list (holding_of new key) ++ all) (same_held old new others same)

@@ -31,8 +31,8 @@ pub record IsLast (keys : List Key) (address low : ℕ) : Type 0 where
   pub some : 0 < low
   pub there : (default : Key) → (slice_index_or keys (low - 1) default).address ≡ address
 
--- The last key before `low` has the address, where that was seen, or else the address is above all that stands there; and it is
--- below what stands from this many keys on behind that are left.
+-- The last key before `low` has the address, where that was seen; else the address is above all keys before `low`.
+-- The address is below the keys behind those that are left from `low` on.
 pub record Searching (keys : List Key) (address low left : ℕ) (is_seen : Bool) (before count : ℕ) : Type 0 where
   pub within : low + left ≤ length keys
   pub below : MatchBool is_seen (IsLast keys address low) (AreBelow address (take low keys))

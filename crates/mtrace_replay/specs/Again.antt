@@ -44,8 +44,8 @@ pub record ReplaysFirst {R E : Type 0} (left bytes : R → Bytes) (pulls : R →
   pub whole : bytes reader_new ≡ bytes reader_old
   pub records : replay_new.content.records ≡ replay_old.content.records
 
--- What follows a first reading: the log was read again, and a text was written, or a beginning where the writer failed, or nothing
--- where the reader did.
+-- What follows a first reading. The log was read again, and a text was written: a beginning where the writer failed,
+-- nothing where the reader did.
 pub record Follows {R W T : Type 0} (Tells : (left_new : Bytes) (text : List ℕ) → Type 0) (HasWorked : (calls_old calls_new : List Call) → Type 0)
     (Fails : (left_old left_new : Bytes) (calls_old calls_new : List Call) → Type 0) (left : R → Bytes) (pulls : R → List Call) (taken : W → Bytes) (puts : W → List Call)
     (result : Result T RunFault) (reader_old reader_new : R) (writer_old writer_new : W) : Type 0 where

@@ -65,8 +65,8 @@ pub record Counts (many answer : ℕ) : Type 0 where
 abbrev pub IsNewSlot : ℕ → ℕ → List Holding → Type 0
 IsNewSlot slot address all = (other : ℕ) (holding : Holding) → held_at all other ≡ Some holding → other ≢ address → holding.ptr.slot ≢ slot
 
--- what an index keeps: the addresses of its keys rise; what is held has its rows; there are no more keys than room; how
--- much is held, and of how many bytes
+-- what an index keeps. The addresses of its keys rise. What is held has its rows. There are no more keys than room.
+-- `blocks` and `bytes` are how much is held, and of how many bytes
 pub record IsIndex (kept : Kept) (blocks bytes : ℕ) : Type 0 where
   pub rise : RiseFrom 0 kept.keys
   pub rows : HaveRows kept.rows kept.keys

@@ -13,9 +13,9 @@ use Rattle.mtrace_replay.specs.Totals.{AreTotals, IsMost}
 use Rattle.mtrace_replay.specs.Moment.{Reading, Given, moment, asks, half}
 use Rattle.mtrace_replay.specs.History.{AreHeld, held, moments, content_after, pending, entries_of}
 
--- a replay: the heap's content and how often it was touched, how many addresses were compared, what is held in order of
--- address, the totals, the most addresses that were held, the address of the last line where that is `<`, and whether memory
--- was refused
+-- a replay: the heap's content, how often it was touched, how many addresses were compared, and the totals. `given`
+-- is what is held, in order of address; `most`, the most addresses that were held. `pending` is the address of the
+-- last line where that is `<`; `out_of_memory`, whether memory was refused
 pub record Replayed : Type 0 where
   pub content : Bare
   pub touches : ℕ
@@ -46,9 +46,10 @@ added_notes settings line past =
     let before = moments (started settings) past in
     (moment (length past) line (pending past) (held before) (content_after (started settings) before)).notes
 
--- The line of this number was fed. Where that is served, the replay stands for it too, and the answer is what it adds to the
--- diagnostics. Else memory was refused, by a heap that may lack it: what is held and the totals stay, for good. There are at most
--- three look-ups and 384 touches, and no touch where the line asks nothing of the heap, which has as many records as before.
+-- The line of this number was fed. Where that is served, the replay stands for it too, and the answer is what it adds
+-- to the diagnostics. Else memory was refused, by a heap that may lack it: what is held and the totals stay, for
+-- good. There are at most three look-ups and 384 touches, and no touch where the line asks nothing of the heap. The
+-- heap has as many records as before.
 pub record Feeds {H N : Type 0} (lacks : H → Type 0) (items : N → List Diagnostic) (number : ℕ) (line : Reading) (result : Result N ReplayFault) (old new : Replayed) : Type 0 where
   pub stands : OnOk result ((settings : Settings) (past : List Reading) → StandsFor old settings past → StandsFor new settings (line ∷ past))
   pub note : IfOk result (λ note. (settings : Settings) (past : List Reading) → StandsFor old settings past → items note ≡ added_notes settings line past)

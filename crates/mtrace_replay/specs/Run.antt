@@ -82,9 +82,9 @@ pub record BeginsWhole (report : Report) (settings : Settings) (left_old left_ne
 abbrev pub FailedInPiece : (left_old left_new : Bytes) (calls_old calls_new : List Call) → List Reading → Type 0
 FailedInPiece left_old left_new calls_old calls_new lines = HasReadBefore left_old left_new lines × HasGivenAndFailed calls_old calls_new
 
--- The reader failed, or a line past the last number would come; then unused are the bytes that were asked
--- of the reader and belong to no line that was read. The diagnostics of the lines read were written, and
--- no report.
+-- The reader failed, or a line past the last number would come. In the second case unused are the bytes that were
+-- asked of the reader and belong to no line that was read. The diagnostics of the lines read were written, and no
+-- report.
 pub record StopsAtRead (settings : Settings) (left_old left_new : Bytes) (calls_old calls_new : List Call) (taken_old taken_new : Bytes) : Type 0 where
   pub lines : List Reading
   pub reason : FailedInPiece left_old left_new calls_old calls_new lines

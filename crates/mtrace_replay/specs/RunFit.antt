@@ -24,7 +24,8 @@ use Rattle.mtrace_replay.specs.Again.{Follows, RunsAgain}
 abbrev pub refusals : Settings → List Reading → ℕ
 refusals settings lines = count_by is_refused (history settings lines)
 
--- A log was tried on a heap by the settings: all of it was read, and no line is refused; or lines were read of which one is.
+-- A log was tried on a heap by the settings. All of it was read, and no line is refused; or lines were read, and one
+-- or more are refused.
 abbrev pub IsTried : Settings → (serves : Bool) → (whole left : Bytes) → Type 0
 IsTried settings true whole left = (lines : List Reading) × HasReadAll whole left lines × (refusals settings lines ≡ 0)
 IsTried settings false whole left =
@@ -41,8 +42,8 @@ TellsSizes zero step peak most whole text =
     (verdicts : List Verdict) × AreVerdicts (enough_records most) whole (sizes step peak) verdicts × (text ≡ fitted_lines (enough_records most) (fitted verdicts))
 TellsSizes (suc more) step peak most whole text = text ≡ untried_lines
 
--- The text of how large a pool a log needs: the peak and the most addresses held, on the greatest pool, and what is told of the
--- sizes.
+-- The text of how large a pool a log needs. It has the peak and the most addresses held, on the greatest pool, and
+-- what is told of the sizes.
 pub record TellsFit (step : Option ℕ) (lines : List Reading) (whole : Bytes) (text : List ℕ) : Type 0 where
   pub totals : Totals
   pub summed : AreTotals (started greatest_settings) (history greatest_settings lines) totals
@@ -93,8 +94,9 @@ abbrev pub FitFollows : {R W T : Type 0} → (step : Option ℕ) (lines : List R
 FitFollows step lines left whole pulls taken puts result reader_old reader_new writer_old writer_new =
     Follows (λ left_new. TellsFit step lines (whole reader_old)) NoneFailed (FailsLater (whole reader_old)) left pulls taken puts result reader_old reader_new writer_old writer_new
 
--- What a run leaves that tells how large a pool a log needs: a bad step comes exactly where it is bad, and then nothing is done; else
--- first a run without a report on the greatest pool, and then the log is read again.
+-- What a run leaves that tells how large a pool a log needs. `BadSettings` comes exactly where the step is bad, and
+-- then nothing is done. Else there is first a run without a report on the greatest pool, and then the log is read
+-- again.
 pub record RunsFit {R W : Type 0} (step : Option ℕ) (left whole : R → Bytes) (pulls : R → List Call) (taken : W → Bytes) (puts : W → List Call)
     (result : Result Status RunFault) (reader_old reader_new : R) (writer_old writer_new : W) : Type 0 where
   pub bad_step : IsErrOf result BadSettings ↔ IsTrue (is_bad_step step)

@@ -26,7 +26,8 @@ pub record Groups (entries : List Entry) (sum : Sum) (grouped : Grouped) : Type 
   pub bytes : sum.bytes ≡ total_size entries
   pub sites : AreSites entries grouped.sites
 
--- a replay of no line yet, by the settings, and room to group as much as it has records, at the peak and at the end
+-- a replay of no line yet, by the settings. There is room to group as much as it has records, at the peak and at the
+-- end
 pub record HasMemory (settings : Settings) (start : Replayed) (peak end : ℕ) : Type 0 where
   pub replay : StandsFor start settings []
   pub records : start.content.records ≡ settings.records
@@ -44,8 +45,8 @@ pub record HeldSites (settings : Settings) (lines : List Reading) : Type 0 where
 abbrev pub section_of : {settings : Settings} {lines : List Reading} → List ℕ → HeldSites settings lines → List ℕ
 section_of words held = section words (length held.all) (total_size (entries_of held.all)) held.sites
 
--- The text of who holds the memory of a log: first of the lines up to the peak, which are read again from the first byte on, and
--- then of all lines.
+-- The text of who holds the memory of a log. It is first of the lines up to the peak, which are read again from the
+-- first byte on. Then it is of all lines.
 pub record TellsSites (settings : Settings) (lines : List Reading) (whole left : Bytes) (text : List ℕ) : Type 0 where
   pub totals : Totals
   pub summed : AreTotals (started settings) (history settings lines) totals
@@ -62,7 +63,8 @@ SitesFollow settings lines left whole pulls taken puts result reader_old reader_
     Follows (TellsSites settings lines (whole reader_old)) (λ calls_old. HasNotFailed (Began ∷ calls_old)) (FailsAgain (whole reader_old)) left pulls taken puts
     result reader_old reader_new writer_old writer_new
 
--- What a run leaves that tells who holds the memory of a log: first a run without a report, and then the log is read again.
+-- What a run leaves that tells who holds the memory of a log. There is first a run without a report, and then the log
+-- is read again.
 abbrev pub RunsSites : {R W : Type 0} → (settings : Settings) (left whole : R → Bytes) (pulls : R → List Call) (taken : W → Bytes) (puts : W → List Call)
     → Result Status RunFault → (reader_old reader_new : R) (writer_old writer_new : W) → Type 0
 RunsSites settings left whole pulls taken puts result reader_old reader_new writer_old writer_new =

@@ -49,8 +49,8 @@ IsLive holding content = is_live (λ slot. slot == holding.ptr.slot) holding.ptr
 abbrev pub IsUnder : Pointer → Option Holding → Type 0
 IsUnder ptr held = (holding : Holding) × (held ≡ Some holding) × (holding.ptr ≡ ptr)
 
--- Each block that is held is live, and was asked for with at most the greatest size; no two addresses are held under
--- one block; the heap has no more records than there can be.
+-- Each block that is held is live, and was asked for with at most the greatest size. No two addresses are held under
+-- one block. The heap has no more records than there can be.
 pub record AreLive (holdings : List Holding) (content : Content ℕ) : Type 0 where
   pub live : (address : ℕ) (holding : Holding) → held_at holdings address ≡ Some holding → IsLive holding content
   pub apart : (one other : ℕ) (first second : Holding) → held_at holdings one ≡ Some first → held_at holdings other ≡ Some second
@@ -59,9 +59,9 @@ pub record AreLive (holdings : List Holding) (content : Content ℕ) : Type 0 wh
   pub records : content.records ≤ most_records
 
 -- What a line does, or a part of it, which answers where the block ends that it was given, if any. Where no memory is
--- refused, the heap, what is held and the notes are as the moment says, and what is held is live; else what is held is as it
--- was. The heap has as many records as before. The look-ups are counted, and the touches are at most `most`: none where
--- nothing is asked of the heap.
+-- refused, the heap, what is held and the notes are as the moment says, and what is held is live. Else what is held
+-- is as it was. The heap has as many records as before. The look-ups are counted, and the touches are at most `most`:
+-- none where nothing is asked of the heap.
 pub record Replays {H E : Type 0} (content : H → Content ℕ) (touches : H → ℕ) (lacks : H → Type 0) (looks most : ℕ) (asks : Bool) (moment : Moment)
     (notes : List Diagnostic) (result : Result (Option ℕ) E) (heap_old heap_new : H) (held_old held_new : Indexed) : Type 0 where
   pub comes : IfOk result (λ end. Comes (bare (content heap_old)) (bare (content heap_new)) (all_given held_old.all) (all_given held_new.all) notes end moment)
@@ -103,8 +103,8 @@ pub record Takes {H E : Type 0} (content_of : H → Content ℕ) (touches : H �
   pub looked : LooksUp 0 held_old held_new
   pub bound : touches heap_new ≤ touches heap_old + most
 
--- what a replay keeps: until memory is refused what is held is live; memory is refused only by a heap that lacks it;
--- there is at most as much held as there are records, and room for as much; no more lines were served, or refused,
+-- what a replay keeps. Until memory is refused what is held is live. Memory is refused only by a heap that lacks it.
+-- There is at most as much held as there are records, and room for as much. No more lines were served, or refused,
 -- than there were
 pub record Keeps (held : Indexed) (content : Content ℕ) (totals : Totals) (may_lack : Type 0) (out_of_memory : Bool) : Type 0 where
   pub live : out_of_memory ≡ false → AreLive held.all content

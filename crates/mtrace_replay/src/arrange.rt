@@ -7,8 +7,8 @@ ghost use Rattle.mtrace_replay.specs.Arrange.{held_keys};
 
 use crate::keys::Keys;
 
-/// What has come since the keys were arranged: how many new addresses between them, and how many at the end, and how many
-/// keys have moved for these.
+/// How many have come since the keys were arranged: new addresses between them, new addresses at the end, and moves
+/// of keys for these.
 #[derive(Clone, Copy)]
 pub(crate) struct Came {
     between: usize,
@@ -67,8 +67,9 @@ fn leave_held(keys: &mut Keys)
     keys.resize(held);
 }
 
-/// Whether the last of the held keys that are left is to stand last of the places that are left: where it has its share of these
-/// before it, or there are no more than keys; and where all are left.
+/// Whether the last of the held keys that are left is to stand at the last of the places that are left. It is where
+/// all places are left, or no more than keys. Else it is where one place less would be below the share of the keys
+/// that are left.
 fn is_its_place(left: usize, held: usize, end: usize, all: usize) -> bool
     requires some { 0 < end }
     requires all { end ≡ all → 0 < left }
@@ -109,8 +110,8 @@ fn spread(keys: &mut Keys, held: usize)
     }
 }
 
-/// Leaves the held keys, and shares the room that is left by where new addresses came: vacant keys evenly among the held ones,
-/// at most as many as these, and the rest at the end.
+/// Leaves the held keys, and shares the room that is left by where new addresses came. Vacant keys stand evenly among
+/// the held ones, at most as many as these. The rest of the room is at the end.
 #[inline(never)]
 pub(crate) fn arrange(keys: &mut Keys, came: &Came)
     requires rise { RiseFrom 0 keys.old.keys }

@@ -118,8 +118,8 @@ fn try_sizes<R: Again>(
     Ok(fitted)
 }
 
-/// The text of how large a pool a log needs, of whose first replay these are the totals and the most addresses held: the log is
-/// read again for each size, but where the greatest pool refuses a line.
+/// The text of how large a pool the log of this first replay needs. The log is read again for each size, unless the
+/// greatest pool refuses a line.
 fn fit_text<R: Again>(
     reader: &mut R,
     replay: &mut Replay<Heap>,
@@ -172,10 +172,11 @@ fn tell_fit<R: Again, W: Sink>(
     }
 }
 
-/// Reads a log of mtrace(3), replays it on the greatest pool with the most records, and writes what is wrong with its lines,
-/// each as it comes; then the writer is flushed. Then it writes how large a pool the log needs: the peak, the most addresses
-/// held, the records that are always enough, and the least and the safe size among the multiples of the step from the peak to
-/// twice the peak. For that the log is read again, once for each size, until a line is refused. The writer is flushed once more.
+/// Reads a log of mtrace(3), and replays it on the greatest pool with the most records. Writes what is wrong with its
+/// lines, each as it comes, and flushes the writer. Then writes how large a pool the log needs: the peak, the most
+/// addresses held, and the records that are always enough. With these come the least and the safe size among the
+/// multiples of the step from the peak to twice the peak. For that the log is read again, once for each size, until a
+/// line is refused. The writer is flushed once more.
 ///
 /// Without a step, that is the least multiple of the unit from a 64th of the peak on. Memory is taken at the start alone, for one
 /// replay, which is made anew for each size.

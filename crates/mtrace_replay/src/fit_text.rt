@@ -78,8 +78,8 @@ fn push_untried(text: &mut LineText)
     push_number_line(text, b"sizes tried: ", 0);
 }
 
-/// The text of a log that the greatest pool serves: the peak, the most addresses that were held, the records, and what the
-/// sizes tell that were tried with them.
+/// The text where the greatest pool serves the log: the peak, the most addresses held, the records, and what the
+/// sizes tried with them gave.
 pub(crate) fn fitted_text(totals: Totals, most: u64, records: u32, fitted: Fitted) -> LineText
     ensures { result.items ≡ greatest_line totals ++ most_line most ++ fitted_lines records fitted }
 {

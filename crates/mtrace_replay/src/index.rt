@@ -24,9 +24,9 @@ pub(crate) struct Found {
     place: Result<usize, usize>,
 }
 
-/// What is held, in order of address. The key of an address that is held no more stays vacant, for the same address or
-/// for one near it, so that an address which comes again moves nothing. Where much has moved for new addresses, or a new one
-/// above all others finds most keys vacant, the keys are arranged anew.
+/// What is held, in order of address. The key of an address that is held no more stays vacant, for the same address
+/// or for one near it. So an address that comes again moves nothing. Where much has moved for new addresses, or a new
+/// one above all others finds most keys vacant, the keys are arranged anew.
 #[derive(Drop)]
 pub(crate) struct Index {
     keys: Keys,
@@ -47,8 +47,9 @@ impl Model for Index {
     ghost invariant = { λ index. IsIndex index.keys index.blocks index.bytes };
 }
 
-/// Whether room at the end is to be made anew: a new address there moved many of the keys, or three quarters of them are
-/// vacant. So where addresses rise, the keys stay few, and a search stays among those that it looked at before.
+/// Whether room at the end is to be made anew. It is where a new address there moved more than a 64th of the keys. It
+/// is too where three quarters of the keys and 65 more are vacant. So where addresses rise, the keys stay few, and a
+/// search stays among those that it looked at before.
 fn is_end_spent(keys: usize, blocks: u64, moved: usize) -> bool {
     moved > keys / 64 || keys as u64 / 4 > blocks.saturating_add(64)
 }
@@ -155,8 +156,8 @@ impl Index {
         self.is_held(&found)
     }
 
-    /// Where a new key entered between the others: it has a hint, and they are arranged anew where much has moved, or where room
-    /// at the end is to be made anew.
+    /// Where a new key entered between the others, it gets a hint. The keys are arranged anew where much has moved,
+    /// or where room at the end is to be made anew.
     fn settle(&mut self, found: &Found, end: usize, gap: &Gap)
         ensures unchanged { self.new.all ≡ self.old.all }
         ensures looked { LooksUp 0 self.old self.new }

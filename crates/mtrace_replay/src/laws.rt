@@ -50,8 +50,8 @@ pub fn verdict_of_all_lines()
         → HasReadAll (Some text) middle lines → IsTried settings serves (Some text) left → serves ≡ (refusals settings lines == 0) }
 {}
 
-/// On one pool a log is never refused for want of a record where there are two records, and three more, for the most
-/// addresses that are held after any number of its lines.
+/// On one pool a log is never refused for want of a record where there are 2 * `most` + 3 records or more. After any
+/// number of its lines at most `most` addresses are held.
 pub fn records_are_enough()
     ensures { (pool records most : ℕ) (past : List Reading) → are_bad (one_pool pool records) ≡ false → 2 * most + 3 ≤ records
         → HoldsAtMost most (moments (started (one_pool pool records)) past) → AllByRecursion IsNeverFull (moments (started (one_pool pool records)) past) }

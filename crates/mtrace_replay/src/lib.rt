@@ -1,5 +1,5 @@
-//! The replay of a log of mtrace(3) on a heap: what is held at each address, what is wrong with a line, and the
-//! reports of what was not freed, of the peak, and of the heap's blocks.
+//! The replay of a log of mtrace(3) on a heap: what is held at each address, and what is wrong with a line. The
+//! reports are of what was not freed, of the peak, and of the heap's blocks.
 #![tactic(auto)]
 
 mod again;

@@ -287,8 +287,8 @@ impl Replay<Heap> {
     ghost use Rattle.mtrace_replay.specs.Replay.{StandsFor};
     ghost use Rattle.mtrace_replay.specs.Saving.{PutsImage};
 
-    /// The replay is of no line yet, on a heap by the settings, which aren't bad and ask for at most as many records as
-    /// before. It takes no memory.
+    /// The replay is of no line yet, on a heap by the settings. These aren't bad, and ask for at most as many records
+    /// as before. It takes no memory.
     pub(crate) fn restart(&mut self, settings: Settings)
         requires good { are_bad settings ≡ false }
         requires few { settings.records ≤ self.old.content.records }

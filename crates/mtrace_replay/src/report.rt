@@ -48,7 +48,7 @@ fn put_held<W: Sink, H: Heaped>(writer: &mut W, replay: &Replay<H>) -> Result<()
 }
 
 /// Puts the report of leaks: a line for each address that is held, in order of address, and how many blocks and
-/// bytes they are, or that there are no leaks.
+/// bytes they are. Where none is held, it puts that there are no leaks.
 ///
 /// # Errors
 ///

@@ -212,8 +212,8 @@ fn run_report<R: Source, W: Sink>(
     }
 }
 
-/// Reads a log of mtrace(3), replays it on a heap by the settings, and writes what is wrong with its
-/// lines, each as it comes, and then the report of leaks: what is held at the end of the log.
+/// Reads a log of mtrace(3), replays it on a heap by the settings, and writes what is wrong with its lines, each as
+/// it comes. Then writes the report of leaks: what is held at the end of the log.
 ///
 /// The writer is flushed once at the end, but not after `Write`, `BadSettings` or `OutOfMemory`; after `Read` it doesn't
 /// matter whether that succeeds. Memory is taken at the start alone, for the heap's records and for what is held.
@@ -235,9 +235,8 @@ pub fn run_leaks<R: Source, W: Sink>(
     run_report(alloc, reader, writer, settings, Report::Leaks)
 }
 
-/// Reads a log of mtrace(3), replays it on a heap by the settings, and writes what is wrong with its
-/// lines, each as it comes, and then the report of the peak: the sums over the lines, and what is free
-/// at the end of the log.
+/// Reads a log of mtrace(3), replays it on a heap by the settings, and writes what is wrong with its lines, each as
+/// it comes. Then writes the report of the peak: the sums over the lines, and what is free at the end of the log.
 ///
 /// The writer is flushed once at the end, but not after `Write`, `BadSettings` or `OutOfMemory`; after `Read` it doesn't
 /// matter whether that succeeds. Memory is taken at the start alone, for the heap's records and for what is held.
@@ -259,9 +258,8 @@ pub fn run_peak<R: Source, W: Sink>(
     run_report(alloc, reader, writer, settings, Report::Peak)
 }
 
-/// Reads a log of mtrace(3), replays it on a heap by the settings, and writes what is wrong with its
-/// lines, each as it comes, and then the report of the walk: the pools at the end of the log, each with its
-/// blocks.
+/// Reads a log of mtrace(3), replays it on a heap by the settings, and writes what is wrong with its lines, each as
+/// it comes. Then writes the report of the walk: the pools at the end of the log, each with its blocks.
 ///
 /// The writer is flushed once at the end, but not after `Write`, `BadSettings` or `OutOfMemory`; after `Read` it doesn't
 /// matter whether that succeeds. Memory is taken at the start alone, for the heap's records and for what is held.

@@ -23,15 +23,15 @@ fn save<I: Sink>(replay: &mut Replay<Heap>, image: &mut I) -> Result<(), Failed>
 }
 
 /// Reads a log of mtrace(3), replays it on a heap by the settings, and writes what is wrong with its lines, each as it
-/// comes; then the writer is flushed, and an image of the heap at the end of the log is written and flushed.
+/// comes. Then flushes the writer, writes an image of the heap at the end of the log, and flushes the image's writer.
 ///
 /// Memory is taken at the start alone, for the heap's records and for what is held.
 ///
 /// # Errors
 ///
-/// `Read`, `Write`, `OutOfMemory` and `BadSettings` come as in the runs that write a report; then nothing is asked of the
-/// image's writer. `Image` where the image's writer answered an error, took no byte of some, or failed its flush: then
-/// what is wrong with the lines is written, and a beginning of the image.
+/// `Read`, `Write`, `OutOfMemory` and `BadSettings` come as in the runs that write a report; then nothing is asked of
+/// the image's writer. `Image` where the image's writer answered an error, took no byte of some, or failed its flush.
+/// Then what is wrong with the lines is written, and a beginning of the image.
 pub fn run_save<R: Source, W: Sink, I: Sink>(
     alloc: Global,
     reader: &mut R,

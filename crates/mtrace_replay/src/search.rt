@@ -47,7 +47,7 @@ pub(crate) fn search(
 }
 
 /// Whether the key there is the last one of the address. It compares that address, and where nothing is held under it the one
-/// behind it, but no more addresses than the number of keys has binary digits.
+/// behind it. It compares at most as many addresses as the number of keys has binary digits.
 #[inline(always)]
 pub(crate) fn is_last_of(
     keys: &Keys,
@@ -101,8 +101,8 @@ pub(crate) struct Gap {
     pub to: usize,
 }
 
-/// A gap for an address of this place: its own key, which is vacant; or the vacant key that is nearest, so that only what lies
-/// between moves, or else one more at the end.
+/// A gap for an address of this place. It is the address's own vacant key, or the nearest vacant one, so that only
+/// what lies between moves. Where the end is nearer, and has room, it is one more key there.
 #[inline(always)]
 pub(crate) fn make_gap(keys: &mut Keys, place: Result<usize, usize>) -> Gap
     requires vacant { IfOk place (IsVacantAt keys.old.keys) }

@@ -30,8 +30,8 @@ impl Settings {
     };
 
     /// Whether no heap can be made by them: `pool` isn't a multiple of the unit from the unit to the
-    /// greatest size of a block, `pools` isn't 1 to 8, `records` isn't 1 to 65,535 or is below
-    /// `pools`, or the pools end above 2^32.
+    /// greatest size of a block; `pools` isn't 1 to 8; `records` isn't 1 to 65,535 or is below
+    /// `pools`; or the pools end above 2^32.
     pub fn are_bad(self) -> bool
         ensures { result ≡ are_bad self }
     {

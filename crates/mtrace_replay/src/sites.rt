@@ -146,8 +146,8 @@ fn tell_sites<'a, R: Again, W: Sink>(
     }
 }
 
-/// What a run takes memory for beside its first replay: a replay to the peak, and room to group what is held there and at the
-/// end.
+/// What a run takes memory for beside its first replay. This is a replay to the peak, and room to group what is held
+/// there and at the end.
 fn take_memory<'a>(
     alloc: Global,
     settings: Settings,
@@ -165,13 +165,13 @@ fn take_memory<'a>(
     Ok((replay, peak, end))
 }
 
-/// Reads a log of mtrace(3), replays it on a heap by the settings, and writes what is wrong with its lines, each as it
-/// comes; then the writer is flushed. Then the log is read again, up to the line of the peak, and it is written who holds
-/// its memory: what is held at the peak, and what is held at the end, each by the locations that asked for it. The writer is
-/// flushed once more.
+/// Reads a log of mtrace(3), replays it on a heap by the settings, and writes what is wrong with its lines, each as
+/// it comes. Then flushes the writer, reads the log again, up to the line of the peak, and writes who holds its
+/// memory. That is what is held at the peak, and what is held at the end, each by the locations that asked for it.
+/// The writer is flushed once more.
 ///
-/// Memory is taken at the start alone, for two replays, and to group what they hold; all that is held at the end is grouped before
-/// the log is read again.
+/// Memory is taken at the start alone, for two replays, and to group what they hold. All that is held at the end is
+/// grouped before the log is read again.
 ///
 /// # Errors
 ///

@@ -35,8 +35,8 @@ fn empty_heap<H: Heaped>(alloc: Global, settings: Settings) -> Result<H, AllocEr
     }
 }
 
-/// Adds the pools of the settings to a heap that has none: one behind the other from place 0 on, the highest added first,
-/// so that place 0 heads the list.
+/// Adds the pools of the settings to a heap that has none, one behind the other from place 0 on. The highest is added
+/// first, so that place 0 heads the list.
 fn add_pools<H: Heaped>(heap: &mut H, settings: Settings) -> Result<(), AllocError>
     requires good { are_bad settings ≡ false }
     requires empty { bare (H.content heap.old) ≡ created settings.records }

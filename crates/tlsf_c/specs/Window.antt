@@ -3,7 +3,7 @@ use Rattle.std.specs.Prelude.{ℕ, List, ◌∷◌, length, Option, Some}
 use Rattle.mtrace_log.specs.declared.call.Call.{Call}
 use Rattle.tlsf_c.specs.declared.window.Window.{Window}
 
--- under which name the bytes are lent and how many they are, then what stood there, and then what was put: so that who
+-- the name under which the bytes are lent, how many they are, then what stood there, and then what was put. Whoever
 -- lent them knows all of these again when the writer comes back
 abbrev pub taken : Window → Option (List ℕ)
 taken window = Some (window.room.ghost_name ∷ length window.room.now ∷ window.told.bytes)

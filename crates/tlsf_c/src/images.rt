@@ -44,8 +44,8 @@ fn save_into(heap: &mut Heap, bytes: &mut [u8], count: &mut u64) -> u32
 /// twice, for the table of records and for the heap itself, and none where a rule is broken. At most 16 touches a record and 8
 /// a class. What `out` held before is forgotten.
 ///
-/// The status is 0; or 101 to 112 where the bytes are no image, and the first rule broken is this less 100; or 9 where memory
-/// is refused.
+/// The status is 0, or 9 where memory is refused. It is 101 to 112 where the bytes are no image: the first rule
+/// broken is the status less 100.
 #[unsafe(no_mangle)]
 pub extern "C" fn tlsf_heap_load(alloc: Global, bytes: &[u8], out: &mut Made) -> u32
     ensures broken { (rule : BrokenRule) → first_broken bytes.now ≡ Some rule → result ≡ broken_number rule }

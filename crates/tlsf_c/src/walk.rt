@@ -13,9 +13,9 @@ use crate::row::Row;
 use crate::status::{SERVED, number};
 use tlsf_heap::{Cursor, Heap};
 
-/// Puts the rows of the pool that begins at the place `base` into `rows`: in order, those that begin at the place `from` or
-/// behind it, as many as there is room for. How many there are goes into `count`. At most four touches, and one more for each
-/// row of the pool.
+/// Puts rows of the pool that begins at the place `base` into `rows`: those that begin at the place `from` or behind
+/// it. They are put in order, as many as there is room for. How many there are, with room or without, goes into
+/// `count`. At most four touches, and one more for each row of the pool.
 ///
 /// The status is 0, or the number of `NoPool` where no pool begins there.
 #[unsafe(no_mangle)]
@@ -43,8 +43,8 @@ pub extern "C" fn tlsf_heap_walk(
     }
 }
 
-/// Puts the rows from a cursor on that begin at the place `from` or behind it into `rows`, as many as there is room for, and
-/// answers how many there are.
+/// Puts the rows from a cursor on that begin at the place `from` or behind it into `rows`, as many as there is room
+/// for. Answers how many there are, with room or without.
 fn fill(heap: &mut Heap, cursor: Cursor, from: u64, rows: &mut [Row]) -> u64
     requires stands { is_at_row heap.old.rows cursor }
     requires few { length (rows_behind heap.old.rows cursor) ≤ 2 ^ 32 }

@@ -37,7 +37,7 @@ le-rounded n = let g : (k : ℕ) × IsGap n k × (rounded n ≡ n + k) = rounded
 pub rounded-lt : (n : ℕ) → rounded n < n + unit
 rounded-lt n = let g : (k : ℕ) × IsGap n k × (rounded n ≡ n + k) = rounded_is n in omega (arith, g.1.below, g.2)
 
--- it is the least such multiple
+-- it is the least multiple of the unit at or above `n`
 pub rounded-le : (n m : ℕ) → m % unit ≡ 0 → n ≤ m → rounded n ≤ m
 rounded-le n m whole most = omega (arith, rounded-unit n, rounded-lt n)
 

@@ -1,5 +1,6 @@
--- Size classes by their lowest sizes: first levels by powers of two, each divided into equal steps
--- (TLSF, ECRTS 2004; 32 steps, and one first level for the smallest sizes, as in `tlsf.c`).
+-- Size classes by their lowest sizes (TLSF, ECRTS 2004). Each power of two has a first level,
+-- divided into equal steps. There are 32 steps, and one first level for the smallest sizes, as in
+-- `tlsf.c`.
 use Rattle.std.specs.Prelude.{ℕ, zero, suc, ◌+◌, ◌-◌, ◌*◌, ◌/◌, ◌%◌, ◌^◌, ◌==◌, nat_le, Bool, if◌then◌else◌, Option, Some, None}
 
 -- the unit is this power of two

@@ -4,8 +4,8 @@ ghost use Rattle.std.specs.Prelude.{◌≡◌, ℕ, ◌*◌, ◌≤◌};
 ghost use Rattle.tlsf_class.specs.Classes.{unit, steps, greatest_size, class};
 ghost use Rattle.tlsf_class.specs.Mapping.{IsHighestBit, mapped};
 
-/// The mapping of the paper (ECRTS 2004): above the first level 0, the class of a size is the one whose
-/// first level is told by the place of the size's highest bit, and whose step is its next five bits.
+/// The mapping of the paper (ECRTS 2004), for sizes above the first level 0. The place of a size's
+/// highest bit gives the first level of its class, and the next five bits give the step.
 pub fn mapping()
     ensures { (size place : ℕ) → unit * steps ≤ size → size ≤ greatest_size → IsHighestBit place size → class size ≡ mapped place size }
 {}

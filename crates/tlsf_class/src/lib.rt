@@ -1,6 +1,6 @@
-//! Size classes of a heap by Two-Level Segregated Fit (ECRTS 2004), found by bit counting: a first
-//! level for each power of two, each divided into 32 equal steps, and one first level for all the
-//! smallest sizes, as in `tlsf.c`. Sizes are in bytes.
+//! Size classes of a heap by Two-Level Segregated Fit (ECRTS 2004), found by bit counting. Each
+//! power of two has a first level, divided into 32 equal steps. All the smallest sizes share one
+//! first level, as in `tlsf.c`. Sizes are in bytes.
 #![tactic(auto)]
 
 pub mod laws;

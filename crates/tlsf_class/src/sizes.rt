@@ -36,7 +36,7 @@ pub fn class_of(size: u32) -> Class
 }
 
 /// The least class of which every block holds `size` bytes: the least whose lowest size is at least
-/// `size`, a positive multiple of the unit. `None` where there is no such class.
+/// `size`, a positive multiple of the unit. `None` where there is none.
 pub fn class_for(size: u32) -> Option<Class>
     requires whole { size % unit ≡ 0 }
     requires some { 0 < size }

@@ -34,7 +34,7 @@ module _ {A : Type 0} where
   if_free None = None
   if_free (Some block) = if is_free block then Some block else None
 
-  -- the first of the pools in which there is such a block tells it
+  -- the block that `tell` gives of the first pool of which it gives one
   abbrev pub first_in_pools : (List (Block A) → Option (Block A)) → List (Pool A) → Option (Block A)
   first_in_pools tell [] = None
   first_in_pools tell (pool ∷ pools) = option_or (tell pool.blocks) (first_in_pools tell pools)
@@ -70,8 +70,8 @@ module _ {A : Type 0} where
   without_block None pools = pools
   without_block (Some block) pools = map (replaced_in block.place []) pools
 
-  -- the content after free: the neighbours are gone, from their lists too, and the block gives way to a free one
-  -- of all their bytes, which enters its list in front
+  -- the content after free. The free neighbours are gone, from their lists too. The block gives way to a free
+  -- one of all their bytes, which enters its list in front
   abbrev pub after_free : ℕ → Content A → Content A
   after_free place content =
       let previous = free_previous place content in

@@ -39,7 +39,8 @@ AreFreeBelow bytes blocks = All (λ block. IsTrue (is_free block) → block.size
 abbrev pub NoneFits : {A : Type 0} → ℕ → Content A → Type 0
 NoneFits n content = (m c : ℕ) → round n ≡ Some m → need m ≡ Some c → AreFreeBelow (low c) (blocks_of content.pools)
 
--- where there is such a class for the bytes that an alignment asks of the lists, each free block is smaller than its lowest size
+-- where each block of a class holds what an alignment asks of the lists, each free block is smaller than the class's
+-- lowest size
 abbrev pub NoneFitsAligned : {A : Type 0} → ℕ → ℕ → Content A → Type 0
 NoneFitsAligned align n content = (m c : ℕ) → round n ≡ Some m → need (size_asked align m) ≡ Some c → AreFreeBelow (low c) (blocks_of content.pools)
 

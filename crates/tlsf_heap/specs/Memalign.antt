@@ -18,13 +18,12 @@ alignments = 30
 abbrev pub is_alignment : ℕ → Bool
 is_alignment align = list_any (λ power. 2 ^ power == align) (range_with_len 0 alignments)
 
--- how many bytes are asked of the lists: above the unit, as many that each block of them holds m bytes from some
--- multiple of the alignment on
+-- how many bytes are asked of the lists. For an alignment above the unit, each block of as many bytes holds m bytes
+-- from some multiple of it on
 abbrev pub size_asked : ℕ → ℕ → ℕ
 size_asked align m = if nat_le align unit then m else (m + align) - unit
 
--- what a block becomes where a live one of m bytes is to begin at the start: the gap in front, the live block, and
--- what is left behind it
+-- a block carved for a live one of m bytes at the start: the gap in front, the live block, and the rest behind it
 abbrev pub carved : {A : Type 0} → A → (start m place size : ℕ) → List (Block A)
 carved owner start m place size = gap place (start - place) ++ cut owner start m (size - (start - place))
 

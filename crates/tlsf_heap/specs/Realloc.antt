@@ -12,8 +12,8 @@ module _ {A : Type 0} where
   abbrev pub size_with_next : ℕ → Content A → ℕ
   size_with_next place content = size_at place (blocks_of content.pools) + size_of (free_next place content)
 
-  -- the live block at the place, with the free one behind it, which leaves its list, is cut to m bytes; what is left
-  -- enters its list
+  -- the live block at the place, with the free one behind it, is cut to m bytes. The free one leaves its list, and
+  -- the rest enters its list
   abbrev pub resized : A → (place m : ℕ) → Content A → Content A
   resized owner place m content =
       let next = free_next place content in
@@ -23,8 +23,8 @@ module _ {A : Type 0} where
         lists = link_gap (place + m) (size - m) (unlink_block next content.lists);
       }
 
-  -- whether the block at the place can have m bytes where it is: all of what is free behind it, and, where it gets
-  -- smaller, a record for what is left, if no free block is behind it
+  -- whether the block at the place can have m bytes where it is. To get larger, it needs m bytes with the free block
+  -- behind it. To get smaller, it needs a free block behind it, or a record for the rest
   abbrev pub fits_in_place : (place m : ℕ) → Content A → Bool
   fits_in_place place m content =
       if nat_lt m (size_at place (blocks_of content.pools)) then is_some (free_next place content) || nat_lt (used_records content) content.records
@@ -52,8 +52,8 @@ module _ {A : Type 0} where
   given_anew owner (Err refusal) = Err refusal
   given_anew owner (Ok (place, content)) = Ok (Some (place, owner), content)
 
-  -- realloc(pointer, n), where `same` compares what blocks are known by and a new live block is known by owner: where
-  -- the block is now, or none where it was freed, and the new content; or why it is refused
+  -- realloc(pointer, n). `same` compares what blocks are known by, and a new live block is known by owner. The answer
+  -- is where the block is now, or none where it was freed, and the new content; or why it is refused
   abbrev pub realloc : (same : A → A → Bool) → A → Option (ℕ × A) → ℕ → Content A → Result (Option (ℕ × A) × Content A) Refusal
   realloc same owner None n content = given_anew owner (malloc owner n content)
   realloc same owner (Some (place, known)) n content =

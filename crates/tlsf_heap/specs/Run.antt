@@ -77,8 +77,9 @@ is_reading (BlockSize pointer) = true
 abbrev pub MayLack : {H : Type 0} → (H → Type 0) → Type 0
 MayLack {H} lacks = (heap : H) × lacks heap
 
--- one request and its answer: a refusal changes nothing; want of memory alone needs no other reason, and
--- comes only where memory may be lacking, and never for a reading
+-- one request and its answer. A refusal changes nothing. Each but OutOfMemory is the one that the
+-- request has on the content. OutOfMemory comes only where memory may be lacking, and never for a
+-- reading
 abbrev pub Step : (lacks : Type 0) → Request → Answer → Content ℕ → Content ℕ → Type 0
 Step lacks request Done old new = Does request old new
 Step lacks request (Given pointer) old new = Gives request pointer old new
@@ -96,7 +97,7 @@ most_touches (Free pointer) = 96
 most_touches (Realloc pointer n) = 256
 most_touches (BlockSize pointer) = 4
 
--- each request has its answer, each on the content that the one before left; the count of touches never
+-- each request has its answer, on the content that the one before left. The count of touches never
 -- falls, and rises by no more than the request may
 abbrev pub Run : (lacks : Type 0) → List Request → List Answer → (old new : Content ℕ) → (before after : ℕ) → Type 0
 Run lacks [] [] old new before after = (new ≡ old) × (after ≡ before)

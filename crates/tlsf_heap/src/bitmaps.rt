@@ -1,5 +1,5 @@
-//! The bitmaps: a bit for each class whose list isn't empty, and one for each first level that has such
-//! a class.
+//! The bitmaps. A class's bit is set where its list isn't empty; a first level's, where one of its
+//! classes' bits is set.
 
 ghost use Rattle.std.specs.Prelude.{◌≡◌, ◌<◌, ◌≤◌, ◌^◌};
 ghost use Rattle.tlsf_class.specs.Classes.{levels};

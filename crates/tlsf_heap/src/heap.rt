@@ -137,10 +137,10 @@ impl Heap {
     ///
     /// # Errors
     ///
-    /// `BadPool` where base or bytes isn't a multiple of the unit, bytes isn't from the unit to the
-    /// greatest size, the end is above 2^32, or the pool overlaps another; `PoolsFull` where there are
-    /// as many pools as there can be; `TableFull` where each record is in use: there are at most two
-    /// records a live block and one a pool then.
+    /// `BadPool` where `base` or `bytes` isn't a multiple of the unit, or `bytes` isn't from the unit to the greatest
+    /// size. `BadPool` too where the end is above 2^32, or the pool overlaps another; `PoolsFull` where there are as
+    /// many pools as there can be; `TableFull` where each record is in use: there are at most two records a live
+    /// block and one a pool then.
     pub fn add_pool(&mut self, base: u64, bytes: u64) -> Result<(), Refusal>
         ensures ok { OnOk result (added base bytes self.old.content ≡ Ok self.new.content) }
         ensures refused { Refuses result (λ refusal. added base bytes self.old.content ≡ Err refusal) (IsUnchanged self.old self.new) }
@@ -163,15 +163,15 @@ impl Heap {
         remove_pool(&mut self.store, base)
     }
 
-    /// A live block of at least `n` bytes: the first of the first list that isn't empty, at or above the
-    /// class from which each block holds `n` bytes, rounded up to the unit. What is left of it behind
-    /// these bytes is a free block. At most 23 touches.
+    /// A live block of at least `n` bytes, rounded up to the unit. It is the first block of the first list that isn't
+    /// empty, from the least class whose blocks all hold as many. What is left of it behind these bytes is a free
+    /// block. At most 23 touches.
     ///
     /// # Errors
     ///
-    /// `ZeroSize` for 0; `NoFit` where no such block is there, or `n` is above the greatest size: each
-    /// free block is smaller than that class then, if there is one; `TableFull` where a rest would be left
-    /// and each record is in use: there are at most two records a live block and one a pool then.
+    /// `ZeroSize` for 0. `NoFit` where none of these lists has a block, or `n` is above the greatest size. Then each
+    /// free block is smaller than that class's lowest size, where the class exists. `TableFull` where a rest would be
+    /// left and each record is in use. Then there are at most two records a live block and one a pool.
     pub fn malloc(&mut self, n: u64) -> Result<Ptr, Refusal>
         ensures ok { IfOk result (λ ptr. IsServed (λ slot. served slot n) ptr self.old.content self.new.content) }
         ensures refused { Refuses result (λ refusal. (slot : ℕ) → served slot n self.old.content ≡ Err refusal) (IsUnchanged self.old self.new) }
@@ -182,18 +182,18 @@ impl Heap {
         malloc(&mut self.store, n)
     }
 
-    /// A live block of at least `n` bytes, rounded up to the unit, that begins at a multiple of `align`. It is
-    /// carved from the first of the first list that isn't empty, at or above the class from which each block
-    /// holds `n` bytes, rounded up, and for an alignment above the unit `align` less the unit more. What is left
-    /// in front of it and behind it are free blocks; the one in front enters its list first. At most 42
-    /// touches.
+    /// A live block of at least `n` bytes, rounded up to the unit, that begins at a multiple of `align`. It is carved
+    /// from a block that holds `n` bytes, rounded up, and for an alignment above the unit `align` less the unit more.
+    /// That is the first block of the first list that isn't empty, from the least class whose blocks all hold as
+    /// many. What is left in front of the live block and behind it are free blocks; the one in front enters its list
+    /// first. At most 42 touches.
     ///
     /// # Errors
     ///
-    /// `BadAlign` where `align` isn't a power of two from 1 to 2^29; `ZeroSize` where `n` is 0; `NoFit` where no
-    /// such block is there, or `n` is above the greatest size: each free block is smaller than that class then,
-    /// if there is one; `TableFull` where the blocks in front and behind need more records than are left: there
-    /// are at most two records a live block, one a pool and one more then.
+    /// `BadAlign` where `align` isn't a power of two from 1 to 2^29; `ZeroSize` where `n` is 0. `NoFit` where none of
+    /// these lists has a block, or `n` is above the greatest size. Then each free block is smaller than that class's
+    /// lowest size, where the class exists. `TableFull` where the blocks in front and behind need more records than
+    /// are left. Then there are at most two records a live block, one a pool and one more.
     pub fn memalign(&mut self, align: u64, n: u64) -> Result<Ptr, Refusal>
         ensures ok { IfOk result (λ ptr. IsServed (λ slot. aligned slot align n) ptr self.old.content self.new.content) }
         ensures multiple { IfOk result (λ ptr. ptr.place % align ≡ 0) }
@@ -219,15 +219,15 @@ impl Heap {
         free(&mut self.store, ptr)
     }
 
-    /// The block with room for `n` bytes, rounded up to the unit, in its place where it can have them: with
-    /// the free block behind it, or smaller. Else a new block is given, and the old one is freed; which bytes
-    /// are copied is the caller's. Without a pointer it is `malloc`. The answer to 0 bytes is `None`, and the
-    /// block is freed. A block that gets smaller stays as it is where no free block is behind it and each record
-    /// is in use. At most 58 touches.
+    /// The block with room for `n` bytes, rounded up to the unit. It stays in its place where it can have them there:
+    /// with the free block behind it, or smaller. Else a new block is given, and the old one is freed; which bytes
+    /// are copied is the caller's. Without a pointer it is `malloc`. The answer to 0 bytes is `None`, and the block
+    /// is freed. A block that gets smaller stays as it is where no free block is behind it and each record is in use.
+    /// At most 58 touches.
     ///
     /// # Errors
     ///
-    /// `BadPointer` unless a live block has both the pointer's place and its slot; as `malloc` without a
+    /// `BadPointer` unless a live block has both the pointer's place and its slot. The errors of `malloc` without a
     /// pointer, or where the block has to move: then the old block is as it was.
     pub fn realloc(&mut self, ptr: Option<Ptr>, n: u64) -> Result<Option<Ptr>, Refusal>
         ensures ok { IfOk result (λ given. IsMoved (realloc_ptr ptr n) ptr given self.old.content self.new.content) }
@@ -283,8 +283,9 @@ impl Heap {
         row(&mut self.store, cursor)
     }
 
-    /// Calls the `visit` that is lent at each row of the pool that begins at the place `base`, once and in order, and at no
-    /// other time: it is left as these visits leave it. At most four touches, and one more for each row.
+    /// Calls the `visit` that is lent at each row of the pool that begins at the place `base`, once and in order. It
+    /// is called at no other time, and is left as these visits leave it. At most four touches, and one more for each
+    /// row.
     ///
     /// # Errors
     ///
@@ -299,8 +300,8 @@ impl Heap {
         walk(&mut self.store, base, visit)
     }
 
-    /// `walk_with` of a `visit` that is given away: it is called at each row of the pool that begins at the place `base`, once
-    /// and in order. At most four touches, and one more for each row.
+    /// `walk_with` of a `visit` that is given away. It is called at each row of the pool that begins at the place
+    /// `base`, once and in order. At most four touches, and one more for each row.
     ///
     /// # Errors
     ///
@@ -314,12 +315,12 @@ impl Heap {
         self.walk_with(base, &mut visit)
     }
 
-    /// Whether the table of records is that of a heap: it always is, and the answer is `true`. The pools are in order and
-    /// apart; each block's links are of records; the blocks of each pool are linked both ways and cover it end to end,
-    /// with no two free ones side by side; the list of each class is linked both ways and has free blocks of that class
-    /// alone; each block is of a pool, and each free one in a list; the bitmaps agree with the lists; each vacant record is
-    /// once on the chain of vacant records. Those are the rules that an image is tested by, the bitmaps and that chain. There
-    /// are more touches than records.
+    /// Whether the table of records is that of a heap: it always is, and the answer is `true`. The pools are in order
+    /// and apart. Each block's links are of records. The blocks of each pool are linked both ways and cover it end to
+    /// end, with no two free ones side by side. The list of each class is linked both ways and has free blocks of
+    /// that class alone. Each block is of a pool, and each free one in a list. The bitmaps agree with the lists. Each
+    /// vacant record is once on the chain of vacant records. Those are the rules that an image is tested by, the
+    /// bitmaps and that chain. There are more touches than records.
     pub fn check(&mut self) -> bool
         ensures whole { result ≡ true }
         ensures unchanged { IsUnchanged self.old self.new }

@@ -60,9 +60,9 @@ pub trait Heaped: Drop {
     ///
     /// # Errors
     ///
-    /// `BadPool` where base or bytes isn't a multiple of the unit, bytes isn't from the unit to the
-    /// greatest size, the end is above 2^32, or the pool overlaps another; `PoolsFull` where there are
-    /// as many pools as there can be; `TableFull` where each record is in use; `OutOfMemory` where
+    /// `BadPool` where `base` or `bytes` isn't a multiple of the unit, or `bytes` isn't from the unit to the
+    /// greatest size. `BadPool` too where the end is above 2^32, or the pool overlaps another; `PoolsFull` where
+    /// there are as many pools as there can be; `TableFull` where each record is in use; `OutOfMemory` where
     /// memory is refused, which it may lack.
     fn add_pool(&mut self, base: u64, bytes: u64) -> Result<(), Refusal>
         ensures ok { OnOk result (added base bytes (content self.old) ≡ Ok (content self.new)) }
@@ -118,8 +118,9 @@ pub trait Heaped: Drop {
         ensures refused { RefusesOrLacks result (λ refusal. free_ptr ptr (content self.old) ≡ Err refusal) (lacks self.old) (IsUnchanged content stands rest self.old self.new) }
         ensures bound { AtMost 96 (touches self.old) (touches self.new) };
 
-    /// The block with room for `n` bytes, in its place where it can have them, else under a new pointer; none
-    /// for 0 bytes, for then it is freed. Without a pointer it is `malloc`. At most 256 touches.
+    /// The block with room for `n` bytes, in its place where it can have them, else under a new pointer. For 0
+    /// bytes the block is freed, and the answer is `None`. Without a pointer it is `malloc`. At most 256
+    /// touches.
     ///
     /// # Errors
     ///

@@ -26,8 +26,8 @@ written place region last =
 abbrev pub lends_from : MutBor CountedRegion → ℕ → MutBor (List ℕ) → Fml
 lends_from region place lent = Lends the_row (Array u8 0) region lent (written place region.now)
 
--- the bytes of the live block that the pointer names were lent to write, if it names one: its heap was read, and what
--- was written last, as long as the block, is over the block's bytes. No other byte changed
+-- the bytes of the live block that the pointer names were lent to write, if it names one. Its heap was read. What was
+-- written last, as long as the block, is over the block's bytes. No other byte changed
 abbrev pub lends_block : MutBor CountedRegion → Pointer → Option (MutBor (List ℕ)) → Fml
 lends_block region ptr lent =
     LendsSo the_row (Array u8 0) region lent (λ new last. OnSome lent (WasRead 1 region.now new

@@ -4,8 +4,8 @@ use Rattle.tlsf_heap.specs.Content.{Content, blocks_of, size_at}
 use Rattle.tlsf_heap.specs.Pointer.{Pointer}
 use Rattle.tlsf_region.specs.Bytes.{block_bytes, overwritten}
 
--- a block of this size that moved took its bytes along: the start of the new block is what the old one had, and no
--- other byte changed
+-- a block of this size that moved took its bytes along. They are the start of the new block, and no other byte
+-- changed
 abbrev pub taken_along : (old new size : ℕ) → List ℕ → List ℕ
 taken_along old new size bytes = if new == old then bytes else overwritten new (block_bytes old size bytes) bytes
 

@@ -27,7 +27,8 @@ pub record IsWithin (content : Content ℕ) (bytes : List ℕ) : Type 0 where
   pub places : length bytes ≤ end_of_places
   pub pools : EndBelow (length bytes) (map range_of content.pools)
 
--- a region: its pools are within its bytes, and the memory of these has room for them and no more, so that none is kept beside
+-- a region: its pools are within its bytes. The memory of the bytes has room for exactly these: a region keeps no
+-- spare memory
 pub record IsRegion (content : Content ℕ) (room : ℕ) (bytes : List ℕ) : Type 0 where
   pub within : IsWithin content bytes
   pub exact : room ≡ length bytes

@@ -92,10 +92,10 @@ impl Region {
     ///
     /// # Errors
     ///
-    /// `BadPool` where base or bytes isn't a multiple of the unit, bytes isn't from the unit to the
-    /// greatest size, the end is above the region's bytes, or the pool overlaps another; `PoolsFull`
-    /// where there are as many pools as there can be; `TableFull` where each record is in use: there are
-    /// at most two records a live block and one a pool then.
+    /// `BadPool` where `base` or `bytes` isn't a multiple of the unit, or `bytes` isn't from the unit to the greatest
+    /// size. `BadPool` too where the end is above the region's bytes, or the pool overlaps another; `PoolsFull` where
+    /// there are as many pools as there can be; `TableFull` where each record is in use: there are at most two
+    /// records a live block and one a pool then.
     pub fn add_pool(&mut self, base: u64, bytes: u64) -> Result<(), Refusal>
         ensures ok { OnOk result (add_pool_within (length self.old.bytes) base bytes self.old.content ≡ Ok self.new.content) }
         ensures refused { Refuses result (λ refusal. add_pool_within (length self.old.bytes) base bytes self.old.content ≡ Err refusal) (IsUnchanged self.old self.new) }
@@ -127,7 +127,7 @@ impl Region {
     ///
     /// # Errors
     ///
-    /// `ZeroSize` for 0; `NoFit` where no such block is there, or `n` is above the greatest size;
+    /// `ZeroSize` for 0; `NoFit` where no list that may be searched has a block, or `n` is above the greatest size;
     /// `TableFull` where a rest would be left and each record is in use.
     pub fn malloc(&mut self, n: u64) -> Result<Ptr, Refusal>
         ensures ok { IfOk result (λ ptr. IsServed (λ slot. served slot n) ptr self.old.content self.new.content) }
@@ -144,8 +144,8 @@ impl Region {
     ///
     /// # Errors
     ///
-    /// `BadAlign` where `align` isn't a power of two from 1 to 2^29; `ZeroSize` for 0 bytes; `NoFit` where
-    /// no such block is there, or `n` is above the greatest size; `TableFull` where the blocks in front and
+    /// `BadAlign` where `align` isn't a power of two from 1 to 2^29; `ZeroSize` for 0 bytes; `NoFit` where no list
+    /// that may be searched has a block, or `n` is above the greatest size; `TableFull` where the blocks in front and
     /// behind need more records than are left.
     pub fn memalign(&mut self, align: u64, n: u64) -> Result<Ptr, Refusal>
         ensures ok { IfOk result (λ ptr. IsServed (λ slot. aligned slot align n) ptr self.old.content self.new.content) }
@@ -176,7 +176,7 @@ impl Region {
     ///
     /// # Errors
     ///
-    /// `BadPointer` unless a live block has both the pointer's place and its slot; as `malloc` without a
+    /// `BadPointer` unless a live block has both the pointer's place and its slot. The errors of `malloc` without a
     /// pointer, or where the block has to move: then the old block is as it was.
     pub fn realloc(&mut self, ptr: Option<Ptr>, n: u64) -> Result<Option<Ptr>, Refusal>
         ensures ok { IfOk result (λ given. IsMoved (realloc_ptr ptr n) ptr given self.old.content self.new.content) }
@@ -304,8 +304,8 @@ impl Region {
         self.heap.row(cursor)
     }
 
-    /// Calls the `visit` that is lent at each row of the pool that begins at the place `base`, once and in order, and at no
-    /// other time, as `Heap::walk_with` does. At most four touches, and one more for each row.
+    /// Calls the `visit` that is lent at each row of the pool that begins at the place `base`, once and in order. It
+    /// is called at no other time, as by `Heap::walk_with`. At most four touches, and one more for each row.
     ///
     /// # Errors
     ///
@@ -320,8 +320,8 @@ impl Region {
         self.heap.walk_with(base, visit)
     }
 
-    /// `walk_with` of a `visit` that is given away: it is called at each row of the pool that begins at the place `base`, once
-    /// and in order. At most four touches, and one more for each row.
+    /// `walk_with` of a `visit` that is given away. It is called at each row of the pool that begins at the place
+    /// `base`, once and in order. At most four touches, and one more for each row.
     ///
     /// # Errors
     ///
@@ -345,8 +345,8 @@ impl Region {
         self.heap.check()
     }
 
-    /// Says what every region keeps, and does nothing: what every heap does; no pool ends above the bytes,
-    /// which are at most 2^32; and a live block has as many bytes as its size.
+    /// Says what every region keeps, and does nothing. It keeps what every heap does. No pool ends above the bytes,
+    /// which are at most 2^32. A live block has as many bytes as its size.
     pub fn keeps_good(&self)
         ensures good { IsGood self.now.content }
         ensures slots { HasGoodSlots self.now.content }

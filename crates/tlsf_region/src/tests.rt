@@ -230,7 +230,7 @@ fn aligned_block_and_pool_that_goes(rt: HostRuntime) {
 }
 
 /// Each call of a region once, and then another region. A region takes memory twice, and no call but `create` takes
-/// any: so this test fails where one of the first four allocations is refused, and passes where the fifth is.
+/// any. So this test fails where one of the first four allocations is refused, and passes where the fifth is.
 #[test]
 fn memory_taken_twice(rt: HostRuntime) {
     let mut region = made(&rt, rt.alloc(), 1024, 5);

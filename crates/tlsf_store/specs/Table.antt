@@ -33,7 +33,8 @@ pub record IsTable (records : List Record) (first : Option ℕ) (vacant : ℕ) :
   pub chained : IsChain (IsVacantAt records) (next_at records) vacant first
   pub counted : vacant_count records ≡ vacant
 
--- the same in memory that has room for as many records as the table was made with, and no more: so a table can keep no memory beside
+-- the records of a table, and their memory. It has room for exactly as many records as the table was made with: a
+-- table keeps no spare memory
 pub record IsStored (capacity room : ℕ) (records : List Record) (first : Option ℕ) (vacant : ℕ) : Type 0 where
   pub exact : capacity ≡ room
   pub fits : length records ≤ room

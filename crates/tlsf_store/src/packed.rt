@@ -11,8 +11,8 @@ use super::{Record, Slot, State};
 use std::marker::Model;
 use tlsf_class::UNIT;
 
-/// A record in sixteen bytes. The size word is the size, a multiple of the unit, and below the unit the
-/// state: 0 for vacant, 1 for free, 2 for live.
+/// A record in sixteen bytes. The size word is the size plus the state. The size is a multiple of the
+/// unit; the state is 0 for vacant, 1 for free, 2 for live.
 #[derive(Drop)]
 pub(crate) struct Packed {
     place: u32,

@@ -131,9 +131,9 @@ fn checked<R: Source, W: Sink>(
     }
 }
 
-/// Checks the image that the reader has left, by `Heap::load_image`, and puts the line of a fault to `errors`, whose own
-/// fault doesn't matter. Answers the status that the program ends with: 0 where the image can be loaded, 1 where it
-/// breaks a rule, 3 where the reader or the writer failed, 4 where memory was refused.
+/// Checks the image that the reader has left, by `Heap::load_image`, and puts the line of a fault to `errors`, whose
+/// own fault doesn't matter. Answers the status that the program ends with. It is 0 where the image can be loaded,
+/// and 1 where it breaks a rule. It is 3 where the reader or the writer failed, and 4 where memory was refused.
 pub fn check_image<R: Source, W: Sink, E: Sink>(
     alloc: Global,
     reader: &mut R,

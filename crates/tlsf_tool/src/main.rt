@@ -53,8 +53,8 @@ fn asked_words(rt: &HostRuntime) -> Result<Vec<String>, ToolFault> {
     }
 }
 
-/// The file, under a descriptor that is no standard stream's. Where one of these is closed a file
-/// that is opened takes its number, and what goes to the stream would land in the file; a clone is
+/// The file, under a descriptor that is no standard stream's. Where one of these is closed, a file
+/// that is opened takes its number. What goes to the stream would then land in the file. A clone is
 /// always above them.
 fn above_streams(file: File) -> io::Result<File> {
     if file.as_raw_fd() > LAST_STREAM {

@@ -44,10 +44,9 @@ fn run_named<R: Source, W: Sink>(
     }
 }
 
-/// Makes the report of this name from what the reader has left, and puts the line of a fault to
-/// `errors`, whose own fault doesn't matter. Answers the status that the program ends with: 0 where
-/// nothing was found, 1 where something was, 2 for bad settings, 3 where the reader or the writer failed,
-/// 4 where memory was refused.
+/// Makes the report of this name from what the reader has left. Puts the line of a fault to `errors`, whose own fault
+/// doesn't matter. Answers the status that the program ends with. It is 0 where nothing was found, 1 where something
+/// was, and 2 for bad settings. It is 3 where the reader or the writer failed, and 4 where memory was refused.
 pub fn serve<R: Source, W: Sink, E: Sink>(
     alloc: Global,
     name: Name,
@@ -68,10 +67,10 @@ pub fn serve<R: Source, W: Sink, E: Sink>(
     }
 }
 
-/// Tells who holds the memory of the log that the reader has left, by `run_sites`, and puts the line of a fault to `errors`,
-/// whose own fault doesn't matter. Answers the status that the program ends with: 0 where nothing was found, 1 where
-/// something was, 2 for bad settings, 3 where the reader or the writer failed, or the reader didn't begin again, 4 where
-/// memory was refused.
+/// Tells who holds the memory of the log that the reader has left, by `run_sites`. Puts the line of a fault to
+/// `errors`, whose own fault doesn't matter. Answers the status that the program ends with. It is 0 where nothing was
+/// found, 1 where something was, and 2 for bad settings. It is 3 where the reader or the writer failed, or the reader
+/// didn't begin again, and 4 where memory was refused.
 pub fn serve_sites<R: Again, W: Sink, E: Sink>(
     alloc: Global,
     settings: Settings,
@@ -91,9 +90,10 @@ pub fn serve_sites<R: Again, W: Sink, E: Sink>(
     }
 }
 
-/// Tells how large a pool the log needs that the reader has left, by `run_fit`, and puts the line of a fault to `errors`, whose own
-/// fault doesn't matter. Answers the status that the program ends with: 0 where nothing was found, 1 where something was, 2 for a
-/// bad step, 3 where the reader or the writer failed, or the reader didn't begin again, 4 where memory was refused.
+/// Tells how large a pool the log needs that the reader has left, by `run_fit`. Puts the line of a fault to `errors`,
+/// whose own fault doesn't matter. Answers the status that the program ends with. It is 0 where nothing was found, 1
+/// where something was, and 2 for a bad step. It is 3 where the reader or the writer failed, or the reader didn't
+/// begin again, and 4 where memory was refused.
 pub fn serve_fit<R: Again, W: Sink, E: Sink>(
     alloc: Global,
     step: Option<u64>,
@@ -113,10 +113,10 @@ pub fn serve_fit<R: Again, W: Sink, E: Sink>(
     }
 }
 
-/// Saves the heap at the end of the log that the reader has left, by `run_save`, and puts the line of a fault to
-/// `errors`, whose own fault doesn't matter. Answers the status that the program ends with: 0 where
-/// nothing was found, 1 where something was, 2 for bad settings, 3 where the reader or a writer failed,
-/// 4 where memory was refused.
+/// Saves the heap at the end of the log that the reader has left, by `run_save`. Puts the line of a fault to
+/// `errors`, whose own fault doesn't matter. Answers the status that the program ends with. It is 0 where nothing was
+/// found, 1 where something was, and 2 for bad settings. It is 3 where the reader or a writer failed, and 4 where
+/// memory was refused.
 pub fn serve_save<R: Source, W: Sink, I: Sink, E: Sink>(
     alloc: Global,
     settings: Settings,

@@ -37,7 +37,7 @@ impl<'a> MemorySource<'a> {
     }
 
     /// A reader that gives these bytes in pieces of at most `piece` bytes, and fails once, after
-    /// `calls` calls; the calls after it go on giving bytes.
+    /// `calls` calls. The calls after it go on giving bytes.
     pub fn failing_after(bytes: &'a [u8], piece: usize, calls: u64) -> Self
         requires { 0 < piece }
         ensures { IsSource bytes.now bytes.now piece (Some calls) [] result }

@@ -1,4 +1,5 @@
--- Records that tell the same of their blocks: where the one stand, so do the others, for the same content.
+-- Records that agree on their blocks. Where cells stand with the ones, they stand with the others, for
+-- the same content.
 use Rattle.std.proofs.Common.{◌≡◌, ◌≤◌, true, List, refl, sym, ap, ◌∙◌, arith}
 use Rattle.tlsf_store.specs.declared.records.State.{State}
 use Rattle.tlsf_store.specs.declared.records.State.TheVariants.{Vacant, Free, Live}

@@ -1,4 +1,5 @@
--- Slots that are linked back stand once: how far a slot is from a first one, and from which, is told by the links back alone.
+-- Slots that are linked back stand once. The links back alone give the first slot in front of a slot, and how far
+-- back it is.
 use Rattle.std.proofs.Common.{◌≡◌, ℕ, zero, suc, ◌≤◌, Bool, true, false, eqb, List, [], ◌∷◌, refl, sym, ap, ◌∙◌, subst, arith, Option, Some, None, inl, inr}
 use Rattle.std.specs.Option.{option_eq}
 use Rattle.std.specs.Prelude.{nat_eq}

@@ -34,7 +34,8 @@ module _ (bytes : List ℕ) where
       let from : 0 + count ≡ count = omega arith in
       subst P all (those_present count count 0 (most_pools - count) from)
 
-  -- the pools from a number on, up to an end, are such above a place
+  -- the pools from a number up to an end pass `are_pools` from a place on, and their entries end
+  -- with zeros
   abbrev pub are_pools_from : ℕ → ℕ → ℕ → Bool
   are_pools_from place number end =
       are_pools (two_at count_at bytes) place (map (pool_in bytes) (range_with_len number (end - number))) && list_all (λ number. are_zero (entry_at number + 10) 2 bytes) (range_with_len number (end - number))

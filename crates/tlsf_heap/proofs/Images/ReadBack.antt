@@ -16,7 +16,7 @@ use Rattle.tlsf_heap.proofs.Images.WritingLemmas.{two_back, four_back, entry_byt
 pub record IsWritten (link : Option ℕ) : Type 0 where
   pub other : link ≢ Some missing
 
--- a record's links are such
+-- no link of a record is the word of none
 pub record LinksFit (r : Record) : Type 0 where
   pub prev : IsWritten r.prev
   pub next : IsWritten r.next

@@ -27,7 +27,7 @@ module _ (count : ℕ) where
       one true m = omega arith
       one false m = omega arith
 
-  -- one record more that has such links
+  -- one record more, which passes `has_record_links`
   pub record_on : (blocks : Blocks) (records : List Record) (slot : ℕ) → slot < length records → has_record_links count (record_at records slot) ≡ true
       → blocks_with count blocks (drop slot records) ≡ blocks_with count (blocks_and (record_at records slot) blocks) (drop (slot + 1) records)
   record_on blocks records slot within linked =
@@ -37,7 +37,7 @@ module _ (count : ℕ) where
       let free = more (λ r. is_free r.state) blocks.free r rest in
       left_at blocks records slot within ∙ (rw (linked, all, free) refl)
 
-  -- one that has not
+  -- one record more, which doesn't pass it
   pub record_off : (blocks : Blocks) (records : List Record) (slot : ℕ) → slot < length records → has_record_links count (record_at records slot) ≡ false → blocks_with count blocks (drop slot records) ≡ None
   record_off blocks records slot within linked = left_at blocks records slot within ∙ (rw linked refl)
 

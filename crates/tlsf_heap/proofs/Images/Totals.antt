@@ -254,7 +254,7 @@ module _ (parts : Parts) where
     pub other_lists : are_lists parts (number + 1) heads ≡ true
     other_lists = (and_parts (is_list parts number first) (are_lists parts (number + 1) heads) lists).1
 
-  -- one in the lists from a class on is free, and of such a class
+  -- a slot in the lists from a class on is of a free block, of that class or a higher one
   pub listed_from : (number : ℕ) (heads : List (Option ℕ)) → are_lists parts number heads ≡ true → (slot : ℕ) → 1 ≤ times slot (flat_map (list_of parts) heads) → (is_free (at parts slot).state ≡ true) × (number ≤ class (at parts slot).size)
   listed_from number [] lists slot some = absurd (omega (arith, some))
   listed_from number (first ∷ heads) lists slot some = elim (cases_lt 0 (times slot (list_of parts first))) [

@@ -68,7 +68,7 @@ an_unused_entry = refl
 another_state : broken_in_bytes (slice_set vector 1524 0x43) ≡ States ∷ []
 another_state = refl
 
--- what such images describe: one pool of this many bytes from 0 on, and one head of a class
+-- what the images here describe: one pool of this many bytes from 0 on, and the head of one class
 abbrev parts_of : ℕ → ℕ → Option ℕ → List Record → Parts
 parts_of bytes class first records = record {
   pools = Some (record { base = 0; bytes = bytes; first = 0 }) ∷ replicate 7 None;

@@ -1,4 +1,5 @@
--- A listed node leaves its list and is in use, and what is left behind its first bytes is listed: what the steps need and leave.
+-- A listed node leaves its list and is in use, and the rest behind its first bytes is listed. What the steps need and
+-- leave.
 use Rattle.std.proofs.Common.{◌≡◌, ℕ, ◌+◌, ◌-◌, ◌%◌, ◌<◌, Bool, List, ◌∷◌, length, map, refl, ap, subst, arith, Some, true, false, cond, [], ◌++◌, sym, count_by}
 use Rattle.std.proofs.lemmas.Bool.{eq-eqb, ne_eqb}
 use Rattle.tlsf_class.specs.Classes.{unit, class}

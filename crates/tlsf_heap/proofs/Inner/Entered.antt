@@ -89,7 +89,8 @@ module _ (cells : Cells) (entry : StoredPool) (layout : Layout) (was : Represent
       let P : List Area → Type 0 = λ areas. Represents (pool_entered entry cells) (record layout { areas = areas; lists = entered (turned Listed (pool_node entry)) layout.lists }) in
       subst P (sym (at.put (turned Listed (pool_node entry)))) (linked_laid put layout.count position (pool_node entry) [] layout.lists layout.taken is_put)
 
--- a pool that enters: once it is there its slot is in use, and so is the first of its list, and then it is laid
+-- a pool that enters. Once it is put its slot is in use, and so is the head of its class's list. Then it is
+-- laid
 pub record Enters (entry : StoredPool) (layout : Layout) (cells : Cells) : Type 0 where
   pub slot : IsUsed (pool_put entry (with_entry entry (entries_of cells.pools)) cells).records (Some entry.first)
   pub first : IsUsed (pool_put entry (with_entry entry (entries_of cells.pools)) cells).records (head_at cells.heads (class entry.bytes))

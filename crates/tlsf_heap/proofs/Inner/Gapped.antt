@@ -1,4 +1,5 @@
--- A live node that leaves a gap of its first bytes: the steps from one node of two neighbours to the other, and what they come to.
+-- A live node that leaves a gap of its first bytes. The steps from one of two neighbours to the other, and what
+-- stands after them.
 use Rattle.std.proofs.Common.{◌≡◌, ℕ, ◌+◌, ◌-◌, ◌<◌, Bool, false, cond, List, [], ◌∷◌, ◌++◌, refl, sym, ap, subst, arith}
 use Rattle.std.specs.Prelude.{◌==◌}
 use Rattle.std.proofs.lemmas.Bool.{ne_eqb}

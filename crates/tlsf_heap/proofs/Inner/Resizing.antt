@@ -1,4 +1,5 @@
--- A live block that a pointer is of, as a node at its position: its size, the free one behind it, and what stands once it got another size in its place.
+-- A pointer's live block, as a node at its position: its size and the free block behind it. What stands once it has
+-- another size in its place.
 use Rattle.std.proofs.Common.{◌≡◌, ◌≢◌, ℕ, ◌+◌, ◌%◌, ◌<◌, ◌≤◌, Bool, true, false, cond, List, ◌∷◌, length, refl, sym, ap, ◌∙◌, arith, Option, Some, None, option_map, inl, inr, [], unwrap_or, ◌-◌}
 use Rattle.std.specs.Prelude.{◌||◌, is_some, nat_lt, nat_le, ◌==◌, ◌⊎◌}
 use Rattle.std.proofs.lemmas.Bool.{cases_Bool, ltb-true, ltb-false, leb-true, lt-ltb, le-ltb, le-leb, lt-leb, leb-false}

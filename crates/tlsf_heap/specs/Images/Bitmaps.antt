@@ -1,4 +1,4 @@
--- The bitmaps: which classes have a free block, and which first levels have such a class.
+-- The bitmaps: which classes have a free block, and which first levels have a class with one.
 use Rattle.std.specs.Prelude.{◌≡◌, ℕ, ◌<◌, ◌/◌, ◌%◌, ◌==◌, if◌then◌else◌, List, Option, Some, None, slice_index}
 use Rattle.std.specs.Int.{bit_at}
 use Rattle.tlsf_class.specs.Classes.{steps, levels, classes}

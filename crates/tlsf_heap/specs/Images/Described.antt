@@ -22,7 +22,7 @@ pub record IsImageOf (content : Content ℕ) (image : List ℕ) : Type 0 where
   pub unbroken : first_broken image ≡ None
   pub describes : described image ≡ content
 
--- what a call leaves that saves a heap of this content: an image of it is put, all of it, or, where the call fails, a beginning
+-- what saving a heap of this content leaves: all of an image of it is put, or a beginning where the call fails
 pub record Saves {W T E : Type 0} (taken : W → Option (List ℕ)) (trace : W → List Call) (result : Result T E) (content : Content ℕ) (old new : W) : Type 0 where
   pub image : List ℕ
   pub is_image : IsImageOf content image

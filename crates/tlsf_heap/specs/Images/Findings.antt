@@ -81,14 +81,14 @@ HasSizes parts = (slot : ℕ) → slot < length parts.records → is_used (at pa
 abbrev pub is_behind : Option ℕ → ℕ → Record → Bool
 is_behind before number block = (is_free block.state && (class block.size == number)) && option_eq nat_eq block.prev_free before
 
--- the records from here on, where each has such links, with these before
+-- the count of blocks, of those before and of these records, where each record passes `has_record_links`
 abbrev pub blocks_with : ℕ → Blocks → List Record → Option Blocks
 blocks_with count blocks records =
     if list_all (has_record_links count) records
     then Some (record { all = blocks.all + count_by (λ r. is_used r.state) records; free = blocks.free + count_by (λ r. is_free r.state) records })
     else None
 
--- the blocks of all records, where these and the heads have such links
+-- the count of blocks of all records, where `has_links` holds
 abbrev pub links_found : Parts → Option Blocks
 links_found parts =
     if has_links parts

@@ -33,16 +33,16 @@ present pools = filter_map (λ pool. pool) pools
 abbrev pub is_pool : ℕ → ℕ → Pool → Bool
 is_pool count from pool = can_be_pool pool.base pool.bytes && (nat_le from pool.base && nat_lt pool.first count)
 
--- such pools, each at or above the end of the one before
+-- each pool passes `is_pool`: the first from a place on, each other from the end of the one before on
 abbrev pub are_pools : ℕ → ℕ → List Pool → Bool
 are_pools count from [] = true
 are_pools count from (pool ∷ pools) = is_pool count from pool && are_pools count (pool.base + pool.bytes) pools
 
--- the pools of these parts are such, from the first place on
+-- the pools of these parts pass `are_pools` from place 0 on
 abbrev pub has_ordered_pools : Parts → Bool
 has_ordered_pools parts = are_pools (length parts.records) 0 (present parts.pools)
 
--- 3: the pools are such, and their entries end with zeros
+-- 3: the pools pass `are_pools` from place 0 on, and their entries end with zeros
 abbrev pub has_pools : List ℕ → Bool
 has_pools bytes =
     are_pools (two_at count_at bytes) 0 (present (parts_in bytes).pools) && list_all (λ number. are_zero (entry_at number + 10) 2 bytes) (range_with_len 0 (two_at pools_at bytes))
@@ -55,7 +55,7 @@ has_unused_pools bytes = are_zero (entry_at (two_at pools_at bytes)) (12 * (most
 abbrev pub has_state : List ℕ → ℕ → Bool
 has_state bytes slot = nat_lt (size_word bytes slot % unit) 3 && (nat_lt 0 (size_word bytes slot % unit) || are_zero (record_at slot) 16 bytes)
 
--- 5: each record is such
+-- 5: each record's state is one of three, and a vacant record is zero
 abbrev pub has_states : List ℕ → Bool
 has_states bytes = list_all (has_state bytes) (range_with_len 0 (two_at count_at bytes))
 
@@ -91,11 +91,11 @@ is_free Vacant = false
 is_free Free = true
 is_free Live = false
 
--- a block has bytes and links of records, a live one none to other free ones
+-- a block has bytes and links of records, a live one no links in a list
 abbrev pub has_record_links : ℕ → Record → Bool
 has_record_links count r = not (is_used r.state) || (nat_lt 0 r.size && ((is_below count r.prev && is_below count r.next) && has_links_in r.state count r))
 
--- 6: heads and records have such links
+-- 6: each head is none or one of the records, and each record passes `has_record_links`
 abbrev pub has_links : Parts → Bool
 has_links parts = list_all (is_below (length parts.records)) parts.heads && list_all (has_record_links (length parts.records)) parts.records
 
@@ -111,7 +111,7 @@ at parts slot = record_of parts.records slot
 abbrev pub is_chain : Parts → Pool → Bool
 is_chain parts pool = is_linked (λ slot. is_used (at parts slot).state) (λ slot. (at parts slot).next) (λ slot. (at parts slot).prev) (length parts.records) None (Some pool.first)
 
--- 7: the chain of each pool is such
+-- 7: the chain of each pool ends, has blocks alone, and is linked back
 abbrev pub has_chains : Parts → Bool
 has_chains parts = list_all (is_chain parts) (present parts.pools)
 
@@ -151,12 +151,12 @@ abbrev pub is_list : Parts → ℕ → Option ℕ → Bool
 is_list parts number first =
     is_linked (λ slot. is_free (at parts slot).state && (class (at parts slot).size == number)) (λ slot. (at parts slot).next_free) (λ slot. (at parts slot).prev_free) (length parts.records) None first
 
--- such lists, from the class of this number on
+-- each list passes `is_list`, from the class of this number on
 abbrev pub are_lists : Parts → ℕ → List (Option ℕ) → Bool
 are_lists parts number [] = true
 are_lists parts number (first ∷ more) = is_list parts number first && are_lists parts (number + 1) more
 
--- 11: the list of each class is such
+-- 11: the list of each class ends, has free blocks of its class alone, and is linked back
 abbrev pub has_lists : Parts → Bool
 has_lists parts = are_lists parts 0 parts.heads
 

@@ -109,8 +109,8 @@ without_area at = record { count = at.count; areas = plug at.position.areas_befo
 abbrev pub StandsAt : ℕ → Status → Cells → At → Type 0
 StandsAt slot status cells at = Represents cells (layout_at at) × IsAt slot status at
 
--- one of two neighbours, which has this size, can leave its list, and the front one can then take in the other;
--- out: the records once it left
+-- one of two neighbours, the listed one of this size, can leave its list. The front one can then take in the other.
+-- out: the records once the listed one left
 pub record IsJoinable (front behind listed size : ℕ) (records out : List Record) : Type 0 where
   pub some : 0 < size
   pub whole : size % unit ≡ 0

@@ -1,4 +1,4 @@
--- Cells that hold what an image describes, and records that tell the same of their blocks.
+-- Cells that hold what an image describes, and records that agree on their blocks.
 use Rattle.std.specs.Prelude.{◌≡◌, ℕ, ◌%◌, true, List, length, None}
 use Rattle.tlsf_class.specs.Classes.{unit, classes, levels}
 use Rattle.tlsf_store.specs.declared.records.State.TheVariants.{Live}
@@ -23,7 +23,8 @@ pub record AreImaged (cells : Cells) : Type 0 where
   pub bitmaps : AreBitmapsOf cells.heads cells.step_words cells.level_word
   pub in_units : (slot : ℕ) → (record_at cells.records slot).size % unit ≡ 0
 
--- the records tell the same of each slot: its state, of a block its place, size and neighbours, and of a free one also its neighbours in its list
+-- the two tables of records agree on each slot's state. Of a block they agree on its place, size and neighbours;
+-- of a free one also on its neighbours in its list
 pub record AreAlike (records others : List Record) : Type 0 where
   pub count : length records ≡ length others
   pub states : (slot : ℕ) → (record_at records slot).state ≡ (record_at others slot).state

@@ -29,7 +29,8 @@ pub record HasNoHeads (cells : Cells) : Type 0 where
   pub words_count : length cells.step_words ≡ levels
   pub bitmaps : AreBitmapsOf cells.heads cells.step_words cells.level_word
 
--- the heads of the classes below a number are these, no other class has a block, the bitmaps tell so, and all else is as in the old cells
+-- the heads of the classes below a number are these, and no other class has a block. The bitmaps agree, and all else
+-- is as in the old cells
 pub record HasHeadsBelow (heads : List (Option ℕ)) (old : Cells) (number : ℕ) (cells : Cells) : Type 0 where
   pub records : cells.records ≡ old.records
   pub pools : cells.pools ≡ old.pools

@@ -1,5 +1,5 @@
--- When cells represent a layout. A record is read in two views: what it says of its block and the
--- neighbours in its pool, and what it says of the neighbours in its list.
+-- When cells represent a layout. A record is read in two views. One is of its block and the
+-- neighbours in its pool, the other of the neighbours in its list.
 use Rattle.std.specs.Prelude.{◌≡◌, ℕ, ◌+◌, ◌&&◌, Bool, List, [], ◌∷◌, length, map, count_by, Option, Some, None, ⊤}
 use Rattle.std.specs.List.{AllByRecursion}
 use Rattle.tlsf_class.specs.Classes.{levels, classes}

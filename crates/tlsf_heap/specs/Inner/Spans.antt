@@ -1,4 +1,4 @@
--- What is known of a block on its way, by its record and by its node; and the edits of a store's cells by what is known.
+-- What is known of a block on its way, by its record and by its node. The edits of a store's cells by what is known.
 use Rattle.std.specs.Prelude.{◌≡◌, ℕ, ◌+◌, ◌-◌, ◌%◌, ◌<◌, ◌≤◌, List, Option, Some, None}
 use Rattle.tlsf_class.specs.Classes.{unit, class, greatest_size}
 use Rattle.tlsf_store.specs.declared.records.State.{State}
@@ -59,8 +59,8 @@ absorbed_by span state behind cells = with_record (with_prev span.next (Some spa
 abbrev pub joined_by : Span → State → ℕ → Record → Cells → Cells
 joined_by span state behind listed cells = absorbed_by span state behind (unlinked_by (class listed.size) listed cells)
 
--- one of two neighbours, of this record, can leave its list, and the first can then take in the other;
--- out: the records once it left
+-- one of two neighbours, the listed one of this record, can leave its list. The first can then take in the other.
+-- out: the records once the listed one left
 pub record CanJoin (span : Span) (behind : ℕ) (listed : Record) (records out : List Record) : Type 0 where
   pub some : 0 < listed.size
   pub whole : listed.size % unit ≡ 0

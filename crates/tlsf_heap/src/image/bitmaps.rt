@@ -17,8 +17,8 @@ fn has_bit(word: u32, bit: u32) -> bool
     (word >> bit) % 2 == 1
 }
 
-/// Whether the bit of each class tells whether its list has a block, and the bit of each first level whether
-/// one of its classes has its bit set.
+/// Whether the bitmaps are true. A class's bit says whether its list has a block. A first level's bit says
+/// whether the bit of one of its classes is set.
 pub(crate) fn has_true_bitmaps(store: &mut Store) -> bool
     ensures value { IsTrue result ↔ AreBitmapsOf store.old.cells.heads store.old.cells.step_words store.old.cells.level_word }
     ensures cells { store.new.cells ≡ store.old.cells }

@@ -20,8 +20,8 @@ pub(crate) struct Tally {
     pub(crate) is_merged: bool,
 }
 
-/// What stands in front of a block in its chain: the block before it, if there is one, where that ends, and whether
-/// it is free.
+/// What stands in front of a block in its chain: the block before it, if any; where that ends; whether it is
+/// free.
 #[derive(Clone, Copy)]
 struct Front {
     block: Option<Slot>,

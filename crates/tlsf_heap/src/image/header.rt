@@ -83,7 +83,8 @@ pub(crate) fn pool_in(bytes: &[u8], number: usize) -> Pool
     }
 }
 
-/// Whether each pool is such, at or above the end of the one before, and its entry ends with zeros.
+/// Whether the pools pass `is_pool`, each from the end of the one before on, and their entries end with
+/// zeros.
 pub(crate) fn has_pools(bytes: &[u8]) -> bool
     requires whole { record_at 0 ≤ length bytes.now }
     requires few { number_at pools_at bytes.now ≤ most_pools }
@@ -115,7 +116,7 @@ fn has_state(bytes: &[u8], slot: usize) -> bool
     }
 }
 
-/// Whether each record is such.
+/// Whether each record's state is vacant, free or live, and each vacant record is zero.
 pub(crate) fn has_states(bytes: &[u8]) -> bool
     requires { record_at (number_at count_at bytes.now) ≡ length bytes.now }
     ensures { result ≡ has_states bytes.now }

@@ -49,7 +49,7 @@ fn is_below(slot: Option<Slot>, count: u32) -> bool
     }
 }
 
-/// Whether a block has bytes and links of this many records, and a live one none to free ones.
+/// Whether a block has bytes and links of this many records, and a live one no links in a list.
 fn has_links(block: &Record, count: u32) -> bool
     ensures { result ≡ has_record_links count block.now }
 {
@@ -75,7 +75,7 @@ fn has_head_links<T: Table>(table: &mut T) -> bool
     true
 }
 
-/// How many blocks the records are of, if each has such links.
+/// How many blocks the records are of, if each passes `has_links`.
 fn look_at_records<T: Table>(table: &mut T) -> Option<Blocks>
     ensures value { result ≡ blocks_with (length (T.parts table.old).records) (record { all = 0; free = 0 }) (T.parts table.old).records }
     ensures read { OnlyReads T.parts T.cells T.touches table.old table.new }
@@ -92,7 +92,8 @@ fn look_at_records<T: Table>(table: &mut T) -> Option<Blocks>
     Some(blocks)
 }
 
-/// How many blocks the records are of, if heads and records have such links.
+/// How many blocks the records are of, if the heads pass `has_head_links` and each record
+/// `has_links`.
 pub(crate) fn look_at_links<T: Table>(table: &mut T) -> Option<Blocks>
     ensures value { result ≡ links_found (T.parts table.old) }
     ensures read { OnlyReads T.parts T.cells T.touches table.old table.new }

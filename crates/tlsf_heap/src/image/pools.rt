@@ -15,7 +15,7 @@ pub(crate) fn is_pool(count: u32, from: u64, pool: &Pool) -> bool
     can_be_pool(base, u64::from(pool.bytes)) && from <= base && u32::from(pool.first.0) < count
 }
 
-/// Whether each pool is such, at or above the end of the one before.
+/// Whether the pools pass `is_pool`, each from the end of the one before on.
 pub(crate) fn has_ordered_pools<T: Table>(table: &mut T) -> bool
     ensures value { result ≡ has_ordered_pools (T.parts table.old) }
     ensures read { OnlyReads T.parts T.cells T.touches table.old table.new }

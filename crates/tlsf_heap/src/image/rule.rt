@@ -5,18 +5,18 @@
 pub enum Rule {
     /// Nothing is missing in front of the records, and the image begins with `TLSFIMG1`.
     Magic = 1,
-    /// There are 1 to 65,535 records and at most 8 pools, four bytes behind their numbers are zero, and the image ends with
-    /// the last record.
+    /// There are 1 to 65,535 records and at most 8 pools. The four bytes behind their numbers are zero, and the image
+    /// ends with the last record.
     Length = 2,
-    /// Each pool is where a pool can be, at or above the end of the one before, with a first record, and its entry ends with
-    /// two zero bytes.
+    /// Each pool is where a pool can be, at or above the end of the one before. It has a first record, and its entry
+    /// ends with two zero bytes.
     Pools = 3,
     /// The other pool entries are zero.
     UnusedPools = 4,
     /// The state of each record is vacant, free or live, and a vacant record is zero.
     States = 5,
-    /// Each head, and each link of a block, is none or one of the records; a live block is linked to no free one; a block
-    /// has bytes.
+    /// Each head, and each link of a block, is none or one of the records. A live block has no links in a list. A
+    /// block has bytes.
     Links = 6,
     /// The chain of each pool ends, has blocks alone, and is linked back.
     Chains = 7,

@@ -7,9 +7,9 @@ use super::bitmaps::has_true_bitmaps;
 use super::first_broken;
 use tlsf_store::Store;
 
-/// Whether a store is that of a heap: the bitmaps agree with the heads of the lists, each vacant record stands once on the chain
-/// of vacant records, and the cells break no rule that an image of them is tested by. Each record is read. Its time is linear
-/// in the records.
+/// Whether a store is that of a heap. The bitmaps agree with the heads of the lists. Each vacant record stands once
+/// on the chain of vacant records. The cells break no rule that an image of them is tested by. Where all that
+/// holds, each record is read. The time is linear in the records.
 pub fn is_whole(store: &mut Store) -> bool
     ensures exact { IsTrue result ↔ IsWhole store.old.cells }
     ensures cells { store.new.cells ≡ store.old.cells }

@@ -11,8 +11,8 @@ use super::content::Content;
 use crate::memalign::{size_asked, start_of};
 use crate::{Ptr, Refusal};
 
-/// The content in which the block picked is carved, and the pointer of the live block of `asked` bytes that
-/// begins at a multiple of the alignment.
+/// The content in which the block picked is carved, and the pointer of the live block. That has `asked` bytes
+/// and begins at a multiple of the alignment.
 ///
 /// # Errors
 ///

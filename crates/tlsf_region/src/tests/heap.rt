@@ -137,7 +137,7 @@ fn reads(heap: &mut Heap, block: Ptr) -> bool {
 }
 
 /// Each call of a heap once, and then another heap. A heap takes memory for its table alone, so the other's is the
-/// second that is taken: this test fails where the first or the second allocation is refused, and passes where any
+/// second that is taken. This test fails where the first or the second allocation is refused, and passes where any
 /// other is.
 #[test]
 fn memory_taken_once(rt: HostRuntime) {

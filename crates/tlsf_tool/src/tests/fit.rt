@@ -109,8 +109,8 @@ fn expect_read_fault(rt: &impl Abort, alloc: Global, calls: u64, wanted: &[u8]) 
     expect_eq_at(rt, calls, writer.bytes(), wanted);
 }
 
-/// The reader gives the log and tells its end, and then twice begins again, gives the log and tells its end: each of these
-/// calls fails in turn.
+/// The reader gives the log and tells its end, and then twice begins again, gives the log and tells its end. Each of
+/// these calls fails in turn.
 #[test]
 fn reader_of_fit_fails(rt: HostRuntime) {
     expect_read_fault(&rt, rt.alloc(), 0, b"");

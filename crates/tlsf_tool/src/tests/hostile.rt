@@ -29,8 +29,8 @@ const TEXTS: [(Name, &[u8]); 3] = [
 
 const REPORTS: [Name; 3] = [Name::Leaks, Name::Peak, Name::Walk];
 
-/// What the first bytes of the log come to, where the reader fails behind them: the first number of bytes that
-/// gives a text, and the text.
+/// The texts where the reader fails behind the first bytes of the log: the least number of bytes that gives a text,
+/// and the text.
 const READ: [(u64, &[u8]); 3] = [
     (0, b""),
     (15, b"line 1: not a line\n"),

@@ -1,4 +1,4 @@
-//! Logs with the text, the status and the line on standard error that they come to, in one piece and in
+//! Logs, each with its text, its status and its line on standard error. They come in one piece, and in
 //! pieces of one byte, of seven, and of about as many as the buffer of `Lines` has.
 
 use crate::asked::Name;

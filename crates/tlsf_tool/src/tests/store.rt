@@ -86,8 +86,9 @@ fn bad_counts(rt: HostRuntime) {
     );
 }
 
-/// Each call of a store once, and then another store. Its memory is the second that is taken, for no call but `create`
-/// takes any: so this test fails where the first or the second allocation is refused, and passes where the third is.
+/// Each call of a store once, and then another store. Its memory is the second that is taken, for no call but
+/// `create` takes any. So this test fails where the first or the second allocation is refused, and passes where the
+/// third is.
 #[test]
 fn memory_taken_once(rt: HostRuntime) {
     let mut store = Store::create(rt.alloc(), 3).expect(&rt, "a store");
@@ -152,8 +153,8 @@ fn parts_of_a_record(rt: HostRuntime) {
     assert_eq!(rt; read(&rt, &mut store, slot), written);
 }
 
-/// Each of the other tests that make a store makes one, so it fails where the first allocation is refused and passes
-/// where the second is. This test sees the error of the first, and passes with both.
+/// Each other test that makes one store fails where the first allocation is refused, and passes where the second is.
+/// This test sees the error of the first, and passes with both.
 #[test]
 fn refused_memory(rt: HostRuntime) {
     if let Some(error) = Store::create(rt.alloc(), 2).err() {

@@ -33,8 +33,8 @@ fn block(place: u32, size: u32, state: State, prev: Option<Slot>, next: Option<S
     }
 }
 
-/// The blocks of a pool of 1,024 bytes, each with its slot: a free one of 112 bytes, live ones of 16 and 112 bytes,
-/// and a free one of 784 bytes.
+/// The blocks of a pool of 1,024 bytes, each with its slot. They are a free one of 112 bytes, live ones of 16 and
+/// 112 bytes, and a free one of 784 bytes.
 fn blocks() -> [(Slot, Record); 4] {
     [
         (FIRST, block(0, 112, State::Free, None, Some(SECOND))),
@@ -178,7 +178,7 @@ fn fields_spoiled(rt: HostRuntime) {
     }
 }
 
-/// A level word and the step words of the levels 0 and 1, with what is wrong with them in a filled store: its free
+/// A level word and the step words of the levels 0 and 1, with what is wrong with them in a filled store. Its free
 /// blocks are of the classes 7 and 49.
 const SPOILED_BITMAPS: [(u32, u32, u32); 7] = [
     // The bit of a class without a block.

@@ -6,7 +6,8 @@ use Rattle.mtrace_replay.specs.Replay.{StandsFor}
 use Rattle.mtrace_replay.proofs.RunLemmas.{IsUnderWay}
 use Rattle.mtrace_replay.proofs.run.replay_lines.Given as goal
 
--- the run is under way, and as many lines were replayed as were read; the reader gave pieces, and perhaps told its end; the writer took pieces
+-- the run is under way, and as many lines were replayed as were read. The reader gave pieces, and perhaps told its
+-- end. The writer took pieces
 abbrev pub invariant-loop-number : goal.invariant-loop-number
 invariant-loop-number g l =
     let left = g.R.Source.left in

@@ -121,8 +121,8 @@ fn broken_images(rt: HostRuntime) {
     );
 }
 
-/// Its memory refused, an image isn't loaded; loaded again it is. Where the first load is served, a heap is made behind it: so
-/// the second allocation is that heap's, and the test fails with it alone.
+/// Its memory refused, an image isn't loaded; loaded again it is. Where the first load is served, a heap is made
+/// behind it. The second allocation is that heap's, and the test fails with it alone.
 #[test]
 fn refused_memory_of_loading(rt: HostRuntime) {
     let image = two_blocks();

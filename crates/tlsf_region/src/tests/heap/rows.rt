@@ -74,8 +74,8 @@ impl Seen {
 /// A block of a pool: its place, its size, and whether it is live.
 pub(crate) type Block = (u32, u32, bool);
 
-/// A heap of this many records, what is asked of it with what it answers, and its pools in the end, in order of base,
-/// each with its rows.
+/// A heap of this many records, and what is asked of it with what it answers. Its pools in the end are in order of
+/// base, each with its rows.
 #[derive(Clone, Copy)]
 struct Case {
     name: &'static str,

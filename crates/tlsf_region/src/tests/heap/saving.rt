@@ -17,7 +17,8 @@ fn small<A: Abort>(rt: &A, alloc: Global, records: u32) -> Heap {
     heap
 }
 
-/// The image of the vector, and that of a heap with a live block and a free one, whose pointer is live in the heap loaded.
+/// The image of the vector, and that of a heap with a live block and a free one. The live block's pointer is live in
+/// the heap loaded.
 #[test]
 fn saved_images(rt: HostRuntime) {
     let mut heap = small(&rt, rt.alloc(), 1);
@@ -107,7 +108,8 @@ fn go_alike<A: Heaped, B: Heaped>(
     true
 }
 
-/// A heap is loaded again from what was saved of it, and goes on as the plain heap does, also with the blocks that were live.
+/// A heap is loaded again from what was saved of it. It goes on as the plain heap does, also with the blocks that
+/// were live.
 #[test]
 fn saved_and_loaded(rt: HostRuntime) {
     for seed in 1..20 {

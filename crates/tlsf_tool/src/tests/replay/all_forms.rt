@@ -1,4 +1,4 @@
-//! Random lines of all forms, over both heaps side by side: what is wrong with each line, what is held after it
+//! Random lines of all forms, over both heaps side by side. What is wrong with each line, what is held after it
 //! and the totals are the same.
 
 use super::random_lines::Random;

@@ -29,8 +29,8 @@ impl Wrong {
     }
 }
 
-/// A diagnostic that is expected: the number of the line that is answered with it, or `END`, the number of
-/// the line that it is of, and what is wrong with that.
+/// A diagnostic that is expected: the number of the line that is answered with it, or `END`. Then the
+/// number of the line that it is of, and what is wrong with that.
 type Told = (u64, u64, Wrong);
 
 /// Told by `finish`.

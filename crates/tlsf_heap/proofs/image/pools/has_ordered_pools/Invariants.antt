@@ -4,7 +4,7 @@ use Rattle.tlsf_heap.specs.Images.Rules.{present, are_pools, has_ordered_pools}
 use Rattle.tlsf_heap.specs.Images.Table.{OnlyReads}
 use Rattle.tlsf_heap.proofs.image.pools.has_ordered_pools.Given as goal
 
--- the pools that are left tell whether all are such
+-- all pools pass exactly if those that are left do
 abbrev pub invariant-loop-number : goal.invariant-loop-number
 invariant-loop-number g l =
     let parts = g.T.Table.parts l.fn.table in
