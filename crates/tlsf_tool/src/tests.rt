@@ -1,21 +1,19 @@
-//! Rows of whole runs: logs, faults of reader and writer, and words; and the tests of the crates below but for the heap's.
+//! Rows of whole runs: logs, faults of reader and writer, and words. Each module named for a crate has that crate's tests.
 
 mod buffer;
-mod classes;
 mod fit;
 mod glibc_log;
 mod hostile;
-mod image_bytes;
 mod images;
-mod log;
+mod mtrace_log;
+mod mtrace_replay;
 mod program;
-mod reading_images;
-mod replay;
 mod reports;
 mod rows;
 mod sites;
-mod store;
-mod tables;
+mod tlsf_class;
+mod tlsf_heap;
+mod tlsf_store;
 mod words;
 
 use std::fmt::Debug;

@@ -3,23 +3,23 @@
 use tlsf_heap::{Image, Rule};
 
 /// Where the heads begin, and the records.
-pub(super) const HEADS_AT: usize = 112;
+pub(crate) const HEADS_AT: usize = 112;
 
-pub(super) const RECORDS_AT: usize = 1_520;
+pub(crate) const RECORDS_AT: usize = 1_520;
 
 /// How many bytes an image of four records has, and one byte more.
 const ROOM: usize = RECORDS_AT + 65;
 
 /// An image of four records at most, and a byte behind them.
 #[derive(Clone, Copy)]
-pub(super) struct Bytes {
+pub(crate) struct Bytes {
     bytes: [u8; ROOM],
     len: usize,
 }
 
 impl Bytes {
     /// This many records below 5, one pool from 0 on of this many bytes below 256, and no list.
-    pub(super) fn new(records: u8, pool: u8) -> Bytes {
+    pub(crate) fn new(records: u8, pool: u8) -> Bytes {
         let mut image = Bytes {
             bytes: [0; ROOM],
             len: RECORDS_AT + 16 * usize::from(records.min(4)),
@@ -34,7 +34,7 @@ impl Bytes {
     }
 
     /// Writes bytes from an offset on.
-    pub(super) fn put(&mut self, offset: usize, bytes: &[u8]) {
+    pub(crate) fn put(&mut self, offset: usize, bytes: &[u8]) {
         let mut at = offset;
         for byte in bytes {
             if at < ROOM {
@@ -45,29 +45,29 @@ impl Bytes {
     }
 
     /// The same with one byte changed.
-    pub(super) fn with(mut self, offset: usize, byte: u8) -> Bytes {
+    pub(crate) fn with(mut self, offset: usize, byte: u8) -> Bytes {
         self.put(offset, &[byte]);
         self
     }
 
     /// The same, this long.
-    pub(super) fn of_len(mut self, len: usize) -> Bytes {
+    pub(crate) fn of_len(mut self, len: usize) -> Bytes {
         self.len = len;
         self
     }
 
-    pub(super) fn as_slice(&self) -> &[u8] {
+    pub(crate) fn as_slice(&self) -> &[u8] {
         &self.bytes[..self.len.min(ROOM)]
     }
 
     /// The first rule that the bytes break.
-    pub(super) fn broken(&self) -> Option<Rule> {
+    pub(crate) fn broken(&self) -> Option<Rule> {
         Image::read(self.as_slice()).err()
     }
 }
 
 /// One record and one pool of 64 bytes, all free.
-pub(super) fn vector() -> Bytes {
+pub(crate) fn vector() -> Bytes {
     let mut image = Bytes::new(1, 64);
     image.put(HEADS_AT + 2 * 4, &[0, 0]);
     image.put(

@@ -1,0 +1,5 @@
+//! Images and tables of a heap.
+
+pub(crate) mod image_bytes;
+mod reading_images;
+mod tables;
