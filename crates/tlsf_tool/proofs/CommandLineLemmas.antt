@@ -1,5 +1,5 @@
 -- The command line's description, and what a parse by it gives.
-use Rattle.std.proofs.Common.{arith, ◌≡◌, ◌∙◌, ◌⊎◌, ◌<◌, ◌^◌, ◌+◌, ◌*◌, ℕ, List, [], ◌∷◌, Option, Some, None, Result, Ok, Err, inl, inr, refl, sym, ap, ap₂, subst, true, codes}
+use Rattle.std.proofs.Common.{arith, ◌≡◌, ◌∙◌, ◌⊎◌, ◌<◌, ◌^◌, ◌+◌, ◌*◌, ℕ, List, [], ◌∷◌, Option, Some, None, Result, Ok, Err, inl, inr, refl, sym, ap, subst, true, codes}
 use Rattle.std.specs.Prelude.{String, string_bytes}
 use Rattle.std.specs.Result.{IsErrAnd}
 use Rattle.std.specs.declared.alloc.Global.{Global}
@@ -31,20 +31,18 @@ pub line_is_free : is_simple_and_free tlsf_line ≡ true
 unfolding clap_on_literals
 line_is_free = refl
 
+-- one subcommand more
+put : (more a b next : App) → a ≡ b → next ≡ with_subcommand a more.top → next ≡ with_subcommand b more.top
+put more a b next is next_is = next_is ∙ ap (λ (x : App). with_subcommand x more.top) is
+
 -- the lines of the subcommands, put to the bare one one after the other
-pub line_of : (bare leaks peak walk sites fit fitting save saving check last : App) → bare ≡ bare_line → leaks ≡ with_subcommand bare (report_line (codes "leaks")).top
+pub line_of : (bare leaks peak walk sites fit save last : App) → bare ≡ bare_line → leaks ≡ with_subcommand bare (report_line (codes "leaks")).top
     → peak ≡ with_subcommand leaks (report_line (codes "peak")).top → walk ≡ with_subcommand peak (report_line (codes "walk")).top
-    → sites ≡ with_subcommand walk (report_line (codes "sites")).top → fit ≡ fit_line → fitting ≡ with_subcommand sites fit.top
-    → save ≡ save_line → saving ≡ with_subcommand fitting save.top → check ≡ check_line → last ≡ with_subcommand saving check.top → last ≡ tlsf_line
-line_of bare leaks peak walk sites fit fitting save saving check last bare_is leaks_is peak_is walk_is sites_is fit_is fitting_is save_is saving_is check_is last_is =
-    let one : leaks ≡ with_subcommand bare_line (report_line (codes "leaks")).top = leaks_is ∙ ap (λ (a : App). with_subcommand a (report_line (codes "leaks")).top) bare_is in
-    let two : peak ≡ with_subcommand (with_subcommand bare_line (report_line (codes "leaks")).top) (report_line (codes "peak")).top =
-    peak_is ∙ ap (λ (a : App). with_subcommand a (report_line (codes "peak")).top) one in
-    let three : walk ≡ with_subcommand (with_subcommand (with_subcommand bare_line (report_line (codes "leaks")).top) (report_line (codes "peak")).top) (report_line (codes "walk")).top =
-    walk_is ∙ ap (λ (a : App). with_subcommand a (report_line (codes "walk")).top) two in
-    let four : sites ≡ with_subcommand (with_subcommand (with_subcommand (with_subcommand bare_line (report_line (codes "leaks")).top) (report_line (codes "peak")).top) (report_line (codes "walk")).top) (report_line (codes "sites")).top =
-    sites_is ∙ ap (λ (a : App). with_subcommand a (report_line (codes "sites")).top) three in
-    last_is ∙ ap₂ (λ (a b : App). with_subcommand a b.top) (saving_is ∙ ap₂ (λ (a b : App). with_subcommand a b.top) (fitting_is ∙ ap₂ (λ (a b : App). with_subcommand a b.top) four fit_is) save_is) check_is
+    → sites ≡ with_subcommand walk (report_line (codes "sites")).top → fit ≡ with_subcommand sites fit_line.top
+    → save ≡ with_subcommand fit save_line.top → last ≡ with_subcommand save check_line.top → last ≡ tlsf_line
+line_of bare leaks peak walk sites fit save last bare_is leaks_is peak_is walk_is sites_is fit_is save_is last_is =
+    put check_line _ _ last (put save_line _ _ save (put fit_line _ _ fit (put (report_line (codes "sites")) _ _ sites (put (report_line (codes "walk")) _ _ walk (put (report_line (codes "peak")) _ _ peak
+    (put (report_line (codes "leaks")) _ _ leaks bare_is leaks_is) peak_is) walk_is) sites_is) fit_is) save_is) last_is
 
 -- ---- numbers
 

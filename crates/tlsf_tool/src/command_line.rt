@@ -1,7 +1,7 @@
 //! The command line, described to clap.
 
 ghost use Rattle.std.specs.Prelude.{◌≡◌, IfOk};
-ghost use Rattle.clap.specs.Words.{app_of, with_subcommand};
+ghost use Rattle.clap.specs.Words.{App, app_of, with_subcommand};
 ghost use Rattle.tlsf_tool.specs.CommandLine.{IsArgOf, IsCommandOf, log_rule, image_rule, pool_rule, pools_rule, records_rule, step_rule, report_line, fit_line, save_line, check_line, bare_line, tlsf_line};
 
 use clap::{Arg, Command, value_parser};
@@ -188,17 +188,17 @@ fn bare_command<'a>(alloc: Global) -> Result<Command<'a>, AllocError>
     )
 }
 
-/// A command line with the subcommand of one report more.
-fn with_report<'a>(
+/// A command line with one subcommand more, where that was made.
+fn with<'a>(
     line: Command<'a>,
-    alloc: Global,
-    name: &'a str,
-    about: &'a str,
+    made: Result<Command<'a>, AllocError>,
 ) -> Result<Command<'a>, AllocError>
-    ensures { IfOk result (λ command. app_of command ≡ with_subcommand (app_of line.entry) (report_line name.entry.now).top) }
+    ensures { (more : App) → IfOk made.entry (IsCommandOf more) → IfOk result (λ command. app_of command ≡ with_subcommand (app_of line.entry) more.top) }
 {
-    let report = report_command(alloc, name, about)?;
-    line.subcommand(report)
+    match made {
+        Ok(more) => line.subcommand(more),
+        Err(error) => Err(error),
+    }
 }
 
 /// The whole command line.
@@ -206,14 +206,11 @@ pub fn tlsf_command<'a>(alloc: Global) -> Result<Command<'a>, AllocError>
     ensures { IfOk result (λ command. app_of command ≡ tlsf_line) }
 {
     let bare = bare_command(alloc)?;
-    let leaks = with_report(bare, alloc, "leaks", LEAKS)?;
-    let peak = with_report(leaks, alloc, "peak", PEAK)?;
-    let walk = with_report(peak, alloc, "walk", WALK)?;
-    let sites = with_report(walk, alloc, "sites", SITES)?;
-    let fit = fit_command(alloc)?;
-    let fitting = sites.subcommand(fit)?;
-    let save = save_command(alloc)?;
-    let saving = fitting.subcommand(save)?;
-    let check = check_command(alloc)?;
-    saving.subcommand(check)
+    let leaks = with(bare, report_command(alloc, "leaks", LEAKS))?;
+    let peak = with(leaks, report_command(alloc, "peak", PEAK))?;
+    let walk = with(peak, report_command(alloc, "walk", WALK))?;
+    let sites = with(walk, report_command(alloc, "sites", SITES))?;
+    let fit = with(sites, fit_command(alloc))?;
+    let save = with(fit, save_command(alloc))?;
+    with(save, check_command(alloc))
 }
