@@ -6,30 +6,31 @@ use Rattle.std.proofs.lemmas.Bool.{lt-ltb, le-ltb}
 use Rattle.tlsf_store.specs.declared.pools.Pool.{Pool}
 use Rattle.tlsf_store.specs.Cells.{most_pools}
 use Rattle.tlsf_heap.specs.Images.Image.{two_at, count_at, pools_at, entry_at, are_zero, pool_in, parts_in}
-use Rattle.tlsf_heap.specs.Images.Rules.{present, is_pool, are_pools, has_pools}
+use Rattle.tlsf_heap.specs.Images.Rules.{is_pool, are_pools, has_pools}
+use Rattle.tlsf_heap.specs.Inner.Entries.{entries_of}
 
 module _ (bytes : List ℕ) where
   abbrev entry_if : ℕ → ℕ → Option Pool
   entry_if count number = if nat_lt number count then Some (pool_in bytes number) else None
 
   -- behind the last pool there is none
-  none_behind : (count from left : ℕ) → count ≤ from → present (map (entry_if count) (range_with_len from left)) ≡ []
+  none_behind : (count from left : ℕ) → count ≤ from → entries_of (map (entry_if count) (range_with_len from left)) ≡ []
   none_behind count from zero all = refl
   none_behind count from (suc left) all = rw (le-ltb from count all) (none_behind count (from + 1) left (omega (arith, all)))
 
   -- the pools from one number on
-  those_present : (count some from behind : ℕ) → from + some ≡ count → present (map (entry_if count) (range_with_len from (some + behind))) ≡ map (pool_in bytes) (range_with_len from some)
+  those_present : (count some from behind : ℕ) → from + some ≡ count → entries_of (map (entry_if count) (range_with_len from (some + behind))) ≡ map (pool_in bytes) (range_with_len from some)
   those_present count zero from behind all = let bare : 0 + behind ≡ behind = omega arith in rw bare (none_behind count from behind (omega (arith, all)))
   those_present count (suc some) from behind all =
       let more : suc some + behind ≡ suc (some + behind) = omega arith in
-      let P : ℕ → Type 0 = λ n. present (map (entry_if count) (range_with_len from n)) ≡ map (pool_in bytes) (range_with_len from (suc some)) in
+      let P : ℕ → Type 0 = λ n. entries_of (map (entry_if count) (range_with_len from n)) ≡ map (pool_in bytes) (range_with_len from (suc some)) in
       subst P (sym more) (rw (lt-ltb from count (omega (arith, all))) (ap (λ pools. pool_in bytes from ∷ pools) (those_present count some (from + 1) behind (omega (arith, all)))))
 
   -- the pools of an image
-  pub pools_present : two_at pools_at bytes ≤ most_pools → present (parts_in bytes).pools ≡ map (pool_in bytes) (range_with_len 0 (two_at pools_at bytes))
+  pub pools_present : two_at pools_at bytes ≤ most_pools → entries_of (parts_in bytes).pools ≡ map (pool_in bytes) (range_with_len 0 (two_at pools_at bytes))
   pools_present few =
       let count = two_at pools_at bytes in
-      let P : ℕ → Type 0 = λ n. present (map (entry_if count) (range_with_len 0 n)) ≡ map (pool_in bytes) (range_with_len 0 count) in
+      let P : ℕ → Type 0 = λ n. entries_of (map (entry_if count) (range_with_len 0 n)) ≡ map (pool_in bytes) (range_with_len 0 count) in
       let all : count + (most_pools - count) ≡ most_pools = omega (arith, few) in
       let from : 0 + count ≡ count = omega arith in
       subst P all (those_present count count 0 (most_pools - count) from)

@@ -8,22 +8,22 @@ use Rattle.tlsf_store.specs.declared.records.State.{State}
 use Rattle.tlsf_store.specs.declared.records.State.TheVariants.{Vacant, Free, Live}
 use Rattle.tlsf_store.specs.declared.records.Record.{Record}
 use Rattle.tlsf_store.specs.declared.pools.Pool.{Pool as StoredPool}
-use Rattle.tlsf_store.specs.Records.{record_at}
+use Rattle.tlsf_store.specs.Records.{record_at, is_free_state}
 use Rattle.tlsf_store.specs.Cells.{Cells}
 use Rattle.tlsf_heap.specs.Images.Image.{Parts}
 use Rattle.tlsf_heap.specs.Images.Links.{follow, ends_within, is_linked}
-use Rattle.tlsf_heap.specs.Images.Rules.{present, at, is_used, is_free as is_free_state, is_chain, chain_of, list_of as listed_of}
+use Rattle.tlsf_heap.specs.Images.Rules.{at, is_used, is_chain, chain_of, slots_in_list}
 use Rattle.tlsf_heap.proofs.Images.Counting.{times}
 use Rattle.tlsf_heap.proofs.Images.Totals.{all_first, all_rest}
 use Rattle.tlsf_heap.proofs.Images.Once.{linked_step, linked_ends}
 use Rattle.tlsf_heap.specs.Images.Described.{parts_of}
 use Rattle.tlsf_heap.specs.Inner.Entries.{entries_of}
-use Rattle.tlsf_heap.specs.Inner.Nodes.{Status, InUse, Listed, Node, Area, Layout, nodes_of, has_slot, is_listed, owner_of}
+use Rattle.tlsf_heap.specs.Inner.Nodes.{NodeState, InUse, Listed, Node, Area, Layout, nodes_of, has_slot, is_listed, owner_of}
 use Rattle.tlsf_heap.specs.Inner.Represents.{in_pool, pool_views, state_of, first_slot, AreLinked, IsChain}
 use Rattle.tlsf_heap.proofs.Counts.{count-map}
 
 -- the status of a block in this state
-abbrev pub status_in : State → Status
+abbrev pub status_in : State → NodeState
 status_in Vacant = InUse
 status_in Free = Listed
 status_in Live = InUse
@@ -42,8 +42,8 @@ area_from parts pool = record { entry = pool; nodes = map (node_at parts.records
 abbrev pub layout_of : Cells → Layout
 layout_of cells = record {
   count = length cells.records;
-  areas = map (area_from (parts_of cells)) (present cells.pools);
-  lists = map (λ first. map (node_at cells.records) (listed_of (parts_of cells) first)) cells.heads;
+  areas = map (area_from (parts_of cells)) (entries_of cells.pools);
+  lists = map (λ first. map (node_at cells.records) (slots_in_list (parts_of cells) first)) cells.heads;
   taken = [];
 }
 
@@ -108,7 +108,7 @@ module _ (parts : Parts) where
     chains_are pools (all_rest (is_chain parts) pool pools all),
   )
 
-  pub entries_are : (pools : List (Option StoredPool)) → map (λ (area : Area). area.entry) (map (area_from parts) (present pools)) ≡ entries_of pools
+  pub entries_are : (pools : List (Option StoredPool)) → map (λ (area : Area). area.entry) (map (area_from parts) (entries_of pools)) ≡ entries_of pools
   entries_are [] = refl
   entries_are (None ∷ pools) = entries_are pools
   entries_are (Some pool ∷ pools) = ap (λ entries. pool ∷ entries) (entries_are pools)

@@ -16,7 +16,7 @@ use Rattle.tlsf_heap.specs.Inner.Entries.{is_entry_apart}
 use Rattle.tlsf_heap.specs.Inner.Entries.{entries_of}
 use Rattle.tlsf_heap.specs.Inner.Nodes.{Node, Listed, turned, content_by}
 use Rattle.tlsf_heap.specs.Inner.Represents.{Represents}
-use Rattle.tlsf_heap.specs.Inner.Joined.{is_loose}
+use Rattle.tlsf_heap.specs.Inner.Merging.{is_loose}
 use Rattle.tlsf_heap.specs.Inner.Following.{content_of, Stands}
 use Rattle.tlsf_heap.specs.Inner.Entering.{pool_node, pool_laid}
 use Rattle.tlsf_heap.proofs.Good.Calls.{add_pool_is_good}

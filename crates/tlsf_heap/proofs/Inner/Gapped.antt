@@ -6,8 +6,8 @@ use Rattle.std.proofs.lemmas.Bool.{ne_eqb}
 use Rattle.tlsf_store.specs.declared.records.State.TheVariants.{Live}
 use Rattle.tlsf_store.specs.Cells.{Cells}
 use Rattle.tlsf_heap.specs.Inner.Chains.{with_state}
-use Rattle.tlsf_heap.specs.Inner.Nodes.{Status, InUse, Listed, Loose, Node, turned, rest_node, entered}
-use Rattle.tlsf_heap.specs.Inner.Joined.{is_loose}
+use Rattle.tlsf_heap.specs.Inner.Nodes.{NodeState, InUse, Listed, Loose, Node, turned, rest_node, entered}
+use Rattle.tlsf_heap.specs.Inner.Merging.{is_loose}
 use Rattle.tlsf_heap.specs.Inner.At.{At, StandsAt, at_turned, at_split, at_listed, at_gapped}
 use Rattle.tlsf_heap.proofs.Counts.{one_if, count-cons}
 use Rattle.tlsf_heap.proofs.Inner.Plugs.{count-filled}
@@ -24,7 +24,7 @@ module _ (cells : Cells) (at : At) (first second : Node) (before nodes : List No
   abbrev at_second : At
   at_second = record at { position = record at.position { before = first ∷ before }; node = second; nodes = nodes }
 
-  pub stepped_back : (slot other : ℕ) (status was : Status) → StandsAt other was cells at_second → is_loose was ≡ false → first.slot ≡ slot → first.status ≡ status → StandsAt slot status cells at_first
+  pub stepped_back : (slot other : ℕ) (status was : NodeState) → StandsAt other was cells at_second → is_loose was ≡ false → first.slot ≡ slot → first.status ≡ status → StandsAt slot status cells at_first
   stepped_back slot other status was stands settled slot_is status_is = (
     stands.0,
     record {
@@ -44,7 +44,7 @@ module _ (cells : Cells) (at : At) (first second : Node) (before nodes : List No
     },
   )
 
-  pub stepped_on : (slot other : ℕ) (status was : Status) → StandsAt other was cells at_first → is_loose was ≡ false → second.slot ≡ slot → second.status ≡ status → StandsAt slot status cells at_second
+  pub stepped_on : (slot other : ℕ) (status was : NodeState) → StandsAt other was cells at_first → is_loose was ≡ false → second.slot ≡ slot → second.status ≡ status → StandsAt slot status cells at_second
   stepped_on slot other status was stands settled slot_is status_is = (
     stands.0,
     record {
@@ -78,9 +78,9 @@ module _ (slot live bytes : ℕ) (at : At) where
 
   -- it was split, and what is behind is live
   pub front_stands : (cells : Cells) → StandsAt live Loose cells (at_split live bytes at) → at.node.slot ≡ slot → at.node.status ≡ InUse → StandsAt slot InUse (with_state live Live cells) at_front
-  front_stands cells cut slot_is status_is =
+  front_stands cells split slot_is status_is =
       stepped_back (with_state live Live cells) at (record at.node { size = bytes }) (turned InUse (rest_node live bytes at.node)) at.position.before at.nodes slot live InUse InUse
-      (turned_stands cells live Loose (at_split live bytes at) cut InUse refl refl) refl slot_is status_is
+      (turned_stands cells live Loose (at_split live bytes at) split InUse refl refl) refl slot_is status_is
 
   -- the first node entered its list: the gap is left
   pub gapped_stands : (cells : Cells) → at.node.slot ≡ slot → at.node.status ≡ InUse → 0 < bytes → StandsAt slot Listed cells (at_listed (at_turned Loose at_front)) → StandsAt live InUse cells (at_gapped live bytes at)
@@ -93,7 +93,7 @@ module _ (slot live bytes : ℕ) (at : At) where
         node = turned InUse (rest_node live bytes at.node);
         lists = cond b at.lists (entered gap at.lists);
       }) in
-      let Q : Status → Type 0 = λ s. StandsAt live InUse cells (record at {
+      let Q : NodeState → Type 0 = λ s. StandsAt live InUse cells (record at {
         position = record at.position { before = cond (bytes == 0) [] (gap ∷ []) ++ at.position.before };
         node = record { slot = live; place = at.node.place + bytes; size = at.node.size - bytes; status = s };
         lists = cond (bytes == 0) at.lists (entered gap at.lists);

@@ -10,10 +10,10 @@ use Rattle.tlsf_heap.specs.Content.{Block, Content, blocks_of, is_at, size_at}
 use Rattle.tlsf_heap.specs.Good.{times, IsGood}
 use Rattle.tlsf_heap.specs.Free.{is_owned_by, is_live}
 use Rattle.tlsf_heap.specs.Free.{after_free}
-use Rattle.tlsf_heap.specs.Inner.Nodes.{Status, InUse, Listed, Loose, Node, Layout, turned, owner_of, block_of, pool_of, content_by, nodes_of, has_slot, has_place}
+use Rattle.tlsf_heap.specs.Inner.Nodes.{NodeState, InUse, Listed, Loose, Node, Layout, turned, owner_of, block_of, pool_of, content_by, nodes_of, has_slot, has_place}
 use Rattle.tlsf_heap.specs.Inner.Positions.{filled}
 use Rattle.tlsf_heap.specs.Inner.Represents.{InPool, state_of, uses_in, Represents}
-use Rattle.tlsf_heap.specs.Inner.Joined.{is_loose}
+use Rattle.tlsf_heap.specs.Inner.Merging.{is_loose}
 use Rattle.tlsf_heap.specs.Inner.Following.{content_of, Stands}
 use Rattle.tlsf_heap.specs.Inner.At.{At, areas_at, layout_at, StandsAt, at_freed}
 use Rattle.tlsf_heap.proofs.Counts.{one_if, count-cons, any_counts, counts_any, any-map}
@@ -23,7 +23,7 @@ use Rattle.tlsf_heap.proofs.Inner.Followed.{content_is, stood_for}
 use Rattle.tlsf_heap.proofs.Inner.Standing.{content_is_good}
 use Rattle.tlsf_heap.proofs.Inner.Located.{Located, located}
 use Rattle.tlsf_heap.proofs.Inner.Steps.{place_read}
-use Rattle.tlsf_heap.proofs.Meaning.Places.{Told, alone, places_once, blocks_of_areas}
+use Rattle.tlsf_heap.proofs.Meaning.Places.{AgreeOnce, alone, places_once, blocks_of_areas}
 use Rattle.tlsf_heap.proofs.Meaning.NodeBlocks.{size_is}
 use Rattle.tlsf_heap.proofs.Meaning.Covered.{covered_good}
 use Rattle.tlsf_heap.proofs.Meaning.Freed.{freed_is}
@@ -33,25 +33,25 @@ use Rattle.tlsf_heap.proofs.Meaning.FreedIsGood.{freed_is_good}
 abbrev is_live_node : ℕ → ℕ → Node → Bool
 is_live_node place slot node = has_place place node && is_owned_by (λ owner. owner == slot) (owner_of node.status node.slot)
 
-owned_in_use : (slot q : ℕ) (status : Status) → is_owned_by (λ owner. owner == slot) (owner_of status q) ≡ true → (status ≡ InUse) × (q ≡ slot)
+owned_in_use : (slot q : ℕ) (status : NodeState) → is_owned_by (λ owner. owner == slot) (owner_of status q) ≡ true → (status ≡ InUse) × (q ≡ slot)
 owned_in_use slot q InUse owned = (refl, eqb-true q slot owned)
 owned_in_use slot q Listed owned = absurd (false≢true owned)
 owned_in_use slot q Loose owned = absurd (false≢true owned)
 
-live_in_use : (status : Status) → state_of status ≡ Live → status ≡ InUse
+live_in_use : (status : NodeState) → state_of status ≡ Live → status ≡ InUse
 live_in_use InUse live = refl
 live_in_use Listed live = absurd (cc)
 live_in_use Loose live = absurd (cc)
 
 -- the node of a layout at its position
-pub record NodeAt (place slot : ℕ) (status : Status) (cells : Cells) (layout : Layout) : Type 0 where
+pub record NodeAt (place slot : ℕ) (status : NodeState) (cells : Cells) (layout : Layout) : Type 0 where
   pub at : At
   pub stands : StandsAt slot status cells at
   pub place_is : at.node.place ≡ place
   pub layout_is : layout ≡ layout_at at
 
 -- what the lists of a good layout tell
-pub told_of : (cells : Cells) (layout : Layout) → Represents cells layout → IsGood (content_by layout) → Told layout.areas layout.lists
+pub told_of : (cells : Cells) (layout : Layout) → Represents cells layout → IsGood (content_by layout) → AgreeOnce layout.areas layout.lists
 told_of cells layout was good = record {
   full = was.index.lists_count;
   agree = was.agree;
@@ -60,7 +60,7 @@ told_of cells layout was good = record {
 }
 
 -- what is known of a node at its position, in the status that it has
-module _ (cells : Cells) (stands : Stands cells) (place slot : ℕ) (status : Status) (by : NodeAt place slot status cells stands.layout) where
+module _ (cells : Cells) (stands : Stands cells) (place slot : ℕ) (status : NodeState) (by : NodeAt place slot status cells stands.layout) where
   -- the layout with the node in this status
   node_laid : stands.layout ≡ layout_at (record by.at { node = turned status by.at.node })
   node_laid = by.layout_is ∙ ap (λ s. layout_at (record by.at { node = turned s by.at.node })) by.stands.1.status_is
@@ -71,7 +71,7 @@ module _ (cells : Cells) (stands : Stands cells) (place slot : ℕ) (status : St
   pub node_good : IsGood (content_by (layout_at (record by.at { node = turned status by.at.node })))
   node_good = let P : Layout → Type 0 = λ l. IsGood (content_by l) in subst P node_laid stands.good
 
-  pub node_told : Told (filled by.at.position (turned status by.at.node ∷ by.at.nodes)) by.at.lists
+  pub node_told : AgreeOnce (filled by.at.position (turned status by.at.node ∷ by.at.nodes)) by.at.lists
   node_told = let P : Layout → Type 0 = λ l. Represents cells l in told_of cells (layout_at (record by.at { node = turned status by.at.node })) (subst P node_laid stands.represented) node_good
 
   -- its size is that of the block at the place
@@ -84,13 +84,13 @@ module _ (cells : Cells) (stands : Stands cells) (place slot : ℕ) (status : St
   pub node_taken : by.at.taken ≡ []
   node_taken = ap (λ (l : Layout). l.taken) (sym by.layout_is) ∙ stands.none_taken
 
-settled_free : (status : Status) → is_loose status ≡ false → state_of status ≡ Free → status ≡ Listed
+settled_free : (status : NodeState) → is_loose status ≡ false → state_of status ≡ Free → status ≡ Listed
 settled_free InUse settled free = absurd (cc)
 settled_free Listed settled free = refl
 settled_free Loose settled free = absurd (false≢true (sym settled))
 
 -- new cells that represent a layout in which no node is loose
-pub stands_with : (new : Cells) (slot : ℕ) (status : Status) (at : At) (content : Content ℕ) → StandsAt slot status new at → is_loose status ≡ false → at.taken ≡ [] → content_by (layout_at at) ≡ content → IsGood content → Stands new × (content_of new ≡ content)
+pub stands_with : (new : Cells) (slot : ℕ) (status : NodeState) (at : At) (content : Content ℕ) → StandsAt slot status new at → is_loose status ≡ false → at.taken ≡ [] → content_by (layout_at at) ≡ content → IsGood content → Stands new × (content_of new ≡ content)
 stands_with new slot status at content after settled none is good =
     let loose : Node → Bool = λ n. is_loose n.status in
     let P : Content ℕ → Type 0 = λ x. IsGood x in (
@@ -120,7 +120,7 @@ module _ (cells : Cells) (stands : Stands cells) where
   pub found_laid : (test : Node → Bool) (found : Located test stands.layout.areas) → stands.layout ≡ layout_at (at_found test found)
   found_laid test found = ap (λ areas. record stands.layout { areas = areas }) found.whole
 
-  pub found_stands : (test : Node → Bool) (slot : ℕ) (status : Status) (found : Located test stands.layout.areas) → found.node.slot ≡ slot → found.node.status ≡ status → StandsAt slot status cells (at_found test found)
+  pub found_stands : (test : Node → Bool) (slot : ℕ) (status : NodeState) (found : Located test stands.layout.areas) → found.node.slot ≡ slot → found.node.status ≡ status → StandsAt slot status cells (at_found test found)
   found_stands test slot status found slot_is status_is =
       let at : At = at_found test found in
       let loose : Node → Bool = λ node. is_loose node.status in
@@ -145,7 +145,7 @@ module _ (cells : Cells) (stands : Stands cells) where
         | inr isnt ↦ isnt
       ]
 
-  node_at : (test : Node → Bool) (place slot : ℕ) (status : Status) (found : Located test stands.layout.areas) → found.node.slot ≡ slot → found.node.status ≡ status → found.node.place ≡ place → NodeAt place slot status cells stands.layout
+  node_at : (test : Node → Bool) (place slot : ℕ) (status : NodeState) (found : Located test stands.layout.areas) → found.node.slot ≡ slot → found.node.status ≡ status → found.node.place ≡ place → NodeAt place slot status cells stands.layout
   node_at test place slot status found slot_is status_is place_is = record { at = at_found test found; stands = found_stands test slot status found slot_is status_is; place_is = place_is; layout_is = found_laid test found }
 
   told : (place slot : ℕ) → is_live (λ owner. owner == slot) place (blocks_of (content_of cells).pools) ≡ list_any (is_live_node place slot) (nodes_of stands.layout.areas)
@@ -174,7 +174,7 @@ module _ (cells : Cells) (stands : Stands cells) where
       let in_use : found.node.status ≡ InUse = live_in_use found.node.status (sym (ap (λ (v : InPool). v.state) here.says) ∙ ap (λ q. (record_at cells.records q).state) own ∙ live) in
       let place_too : found.node.place ≡ place = sym (ap (λ (v : InPool). v.place) here.says) ∙ ap (λ q. (record_at cells.records q).place) own ∙ place_is in
       let test : Node → Bool = is_live_node place slot in
-      let Q : Status → Type 0 = λ s. is_owned_by (λ owner. owner == slot) (owner_of s found.node.slot) ≡ true in
+      let Q : NodeState → Type 0 = λ s. is_owned_by (λ owner. owner == slot) (owner_of s found.node.slot) ≡ true in
       let owned : is_owned_by (λ owner. owner == slot) (owner_of found.node.status found.node.slot) ≡ true = subst Q (sym in_use) (eq-eqb found.node.slot slot own) in
       let passes : test found.node ≡ true = rw (eq-eqb found.node.place place place_too, owned) refl in
       told place slot

@@ -12,10 +12,10 @@ use Rattle.tlsf_heap.specs.Free.{after_free}
 use Rattle.tlsf_heap.specs.Malloc.{malloc}
 use Rattle.tlsf_heap.specs.Pools.{created, with_pool}
 use Rattle.std.specs.Prelude.{Ok}
-use Rattle.tlsf_heap.specs.Inner.Nodes.{Node, Layout, InUse, Listed, content_by, list_of, left, entered}
+use Rattle.tlsf_heap.specs.Inner.Nodes.{Node, Layout, InUse, Listed, content_by, nodes_in, left, entered}
 use Rattle.tlsf_heap.specs.Inner.Positions.{Position, filled, laid}
 use Rattle.tlsf_heap.specs.Inner.Represents.{pool_views, list_views, in_pool, in_list, AreLinked, first_slot}
-use Rattle.tlsf_heap.specs.Inner.Joined.{freed_layout}
+use Rattle.tlsf_heap.specs.Inner.Merging.{freed_layout}
 
 -- a pool of 1024 bytes in a store of 4 records
 abbrev entry : StoredPool
@@ -41,7 +41,7 @@ in_the_pool : AreLinked in_pool (pool_views first_split.records) None (taken ∷
 unfolding class low
 in_the_pool = (refl, (refl, tt))
 
-in_the_list : AreLinked in_list (list_views first_split.records) None (list_of 57 split_layout.lists)
+in_the_list : AreLinked in_list (list_views first_split.records) None (nodes_in 57 split_layout.lists)
 unfolding class low entered
 in_the_list = (refl, tt)
 

@@ -14,11 +14,11 @@ use Rattle.tlsf_heap.specs.Content.{Block, Content, blocks_of, size_at, used_rec
 use Rattle.tlsf_heap.specs.Lists.{pick}
 use Rattle.tlsf_heap.specs.Malloc.{allocated, malloc_picked}
 use Rattle.tlsf_heap.specs.Good.{IsGood}
-use Rattle.tlsf_heap.specs.Inner.Nodes.{Status, InUse, Listed, Node, Layout, turned, owner_of, block_of, content_by, nodes_of, has_slot, gap_nodes, entered_gap}
+use Rattle.tlsf_heap.specs.Inner.Nodes.{NodeState, InUse, Listed, Node, Layout, turned, owner_of, block_of, content_by, nodes_of, has_slot, gap_nodes, entered_gap}
 use Rattle.tlsf_heap.specs.Inner.Following.{content_of, Stands}
-use Rattle.tlsf_heap.specs.Inner.At.{At, areas_at, layout_at, StandsAt, at_taken, at_cut, at_trimmed}
+use Rattle.tlsf_heap.specs.Inner.At.{At, areas_at, layout_at, StandsAt, at_taken, at_split_off, at_split_rest}
 use Rattle.tlsf_heap.proofs.Good.Calls.{picked, allocated_is_good}
-use Rattle.tlsf_heap.specs.Inner.Joined.{is_loose}
+use Rattle.tlsf_heap.specs.Inner.Merging.{is_loose}
 use Rattle.tlsf_heap.proofs.Counts.{one_if, count-cons, count-map}
 use Rattle.tlsf_heap.proofs.Inner.Plugs.{count-filled}
 use Rattle.tlsf_heap.proofs.Inner.Followed.{stood_for, records_are}
@@ -69,7 +69,7 @@ module _ (cells : Cells) (stands : Stands cells) (place slot asked : ℕ) (by : 
       ∙ ap (λ p. allocated slot p bytes by.at.node.size (content_of cells)) by.place_is
 
   -- what stands where the node keeps the bytes asked for
-  served : (new : Cells) (rest s : ℕ) (status : Status) (left_at : At) → StandsAt s status new left_at → is_loose status ≡ false → left_at.taken ≡ by.at.taken → layout_at left_at ≡ layout_at (at_trimmed rest asked (at_taken by.at))
+  served : (new : Cells) (rest s : ℕ) (status : NodeState) (left_at : At) → StandsAt s status new left_at → is_loose status ≡ false → left_at.taken ≡ by.at.taken → layout_at left_at ≡ layout_at (at_split_rest rest asked (at_taken by.at))
       → (asked < by.at.node.size → used_records (content_of cells) < (content_of cells).records) → Stands new × (malloc_picked slot asked (Some place) (content_of cells) ≡ Ok (place, content_of new))
   served new rest s status left_at after settled kept same_left room =
       let given = gives room in
@@ -89,11 +89,11 @@ module _ (cells : Cells) (stands : Stands cells) (place slot asked : ℕ) (by : 
       let same_left : of by.at.node.size 0 ≡ of asked (by.at.node.size - asked) = λ i. of (sym all i) (nothing i) in
       served new 0 slot InUse (at_taken by.at) after refl refl same_left (λ larger. absurd (omega (arith, larger, all)))
 
-  pub part_stands : (new : Cells) (rest : ℕ) → StandsAt rest Listed new (at_cut rest asked (at_taken by.at)) → asked < by.at.node.size → used_records (content_of cells) < (content_of cells).records
+  pub part_stands : (new : Cells) (rest : ℕ) → StandsAt rest Listed new (at_split_off rest asked (at_taken by.at)) → asked < by.at.node.size → used_records (content_of cells) < (content_of cells).records
       → Stands new × (malloc_picked slot asked (Some place) (content_of cells) ≡ Ok (place, content_of new))
   part_stands new rest after less room =
       let some = ne_eqb (by.at.node.size - asked) 0 (λ e. omega (arith, e, less)) in
-      served new rest rest Listed (at_cut rest asked (at_taken by.at)) after refl refl (rw some refl) (λ larger. room)
+      served new rest rest Listed (at_split_off rest asked (at_taken by.at)) after refl refl (rw some refl) (λ larger. room)
 
   pub full_refused : vacant_count cells.records ≡ 0 → asked < by.at.node.size → (owner : ℕ) → malloc_picked owner asked (Some place) (content_of cells) ≡ Err TableFull
   full_refused no_vacant less owner =

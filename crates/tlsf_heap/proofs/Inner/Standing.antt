@@ -12,7 +12,7 @@ use Rattle.tlsf_heap.specs.GoodSlots.{is_slot, slot_times, HasGoodSlots}
 use Rattle.tlsf_heap.specs.Counted.{range_of}
 use Rattle.tlsf_heap.specs.Inner.Entries.{is_entry_apart, entry_range}
 use Rattle.tlsf_heap.specs.Inner.Entries.{entries_of}
-use Rattle.tlsf_heap.specs.Inner.Nodes.{Status, InUse, Listed, Loose, Node, Area, owner_of, block_of, pool_of, nodes_of, has_slot}
+use Rattle.tlsf_heap.specs.Inner.Nodes.{NodeState, InUse, Listed, Loose, Node, Area, owner_of, block_of, pool_of, nodes_of, has_slot}
 use Rattle.tlsf_heap.specs.Inner.Represents.{uses_in}
 use Rattle.tlsf_heap.specs.Inner.Entering.{entries_in}
 use Rattle.tlsf_heap.specs.Inner.Following.{content_of, Stands}
@@ -32,7 +32,7 @@ ranges_areas [] = refl
 ranges_areas (area ∷ areas) = ap (λ ranges. (area.entry.base, area.entry.bytes) ∷ ranges) (ranges_areas areas)
 
 -- a live block's slot is that of its node
-owner_is : (slot q : ℕ) (status : Status) → one_if (is_slot slot (owner_of status q)) ≤ one_if (eqb q slot)
+owner_is : (slot q : ℕ) (status : NodeState) → one_if (is_slot slot (owner_of status q)) ≤ one_if (eqb q slot)
 owner_is slot q InUse = omega arith
 owner_is slot q Listed = omega arith
 owner_is slot q Loose = omega arith

@@ -6,7 +6,7 @@ use Rattle.tlsf_store.specs.Records.{record_at}
 use Rattle.tlsf_store.specs.Cells.{Cells}
 use Rattle.tlsf_heap.specs.Inner.Edits.{edited_in}
 use Rattle.tlsf_heap.specs.Inner.Chains.{with_state}
-use Rattle.tlsf_heap.specs.Inner.Nodes.{Status, Node, turned, has_slot, is_listed, is_listed_in}
+use Rattle.tlsf_heap.specs.Inner.Nodes.{NodeState, Node, turned, has_slot, is_listed, is_listed_in}
 use Rattle.tlsf_heap.specs.Inner.Positions.{Position, laid}
 use Rattle.tlsf_heap.specs.Inner.Represents.{InPool, pool_view, list_view, pool_views, state_of, in_pool, uses_in, Represents}
 use Rattle.tlsf_heap.proofs.Counts.{count-cons}
@@ -15,7 +15,7 @@ use Rattle.tlsf_heap.proofs.Inner.Reads.{length-edited, edited_here, edited_apar
 use Rattle.tlsf_heap.proofs.Inner.Chains.{uses_node, unlisted, AtNode, at_node, refilled}
 
 module _ (cells : Cells) (count : ℕ) (position : Position) (node : Node) (nodes : List Node) (lists : List (List Node)) (taken : List ℕ) (was : Represents cells (laid count position (node ∷ nodes) lists taken)) where
-  pub state_set : (status : Status) → is_listed node.status ≡ false → is_listed status ≡ false
+  pub state_set : (status : NodeState) → is_listed node.status ≡ false → is_listed status ≡ false
       → Represents (with_state node.slot (state_of status) cells) (laid count position (turned status node ∷ nodes) lists taken)
   state_set status was_not is_not =
       let edit : Record → Record = λ r. record r { state = state_of status } in

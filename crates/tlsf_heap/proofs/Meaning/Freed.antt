@@ -7,13 +7,13 @@ use Rattle.tlsf_heap.specs.Content.{Block, Pool, Content}
 use Rattle.tlsf_heap.specs.Lists.{link}
 use Rattle.tlsf_heap.specs.Free.{if_free, unlink_block, size_of, start_of, free_block, after_free}
 use Rattle.tlsf_heap.specs.Good.{IsGood}
-use Rattle.tlsf_heap.specs.Inner.Nodes.{Status, InUse, Listed, Loose, Node, turned, owner_of, block_of, pool_of, content_by, is_listed}
+use Rattle.tlsf_heap.specs.Inner.Nodes.{NodeState, InUse, Listed, Loose, Node, turned, owner_of, block_of, pool_of, content_by, is_listed}
 use Rattle.tlsf_heap.specs.Inner.Positions.{Position, filled, laid}
-use Rattle.tlsf_heap.specs.Inner.Joined.{is_loose, listed_first, past, left_by, grown_in_front, grown_behind, position_past, merged_node, freed_layout}
+use Rattle.tlsf_heap.specs.Inner.Merging.{is_loose, listed_first, past, left_by, grown_in_front, grown_behind, position_past, merged_node, freed_layout}
 use Rattle.tlsf_heap.proofs.Counts.{one_if, count-cons}
 use Rattle.tlsf_heap.proofs.Inner.Lists.{length-left}
 use Rattle.tlsf_heap.proofs.Meaning.BlockPositions.{filled_pools}
-use Rattle.tlsf_heap.proofs.Meaning.Places.{block_position, pools_are, Told, Alike, alike, alike-left, by_places, places-entered, places-left}
+use Rattle.tlsf_heap.proofs.Meaning.Places.{block_position, pools_are, AgreeOnce, Alike, alike, alike-left, by_places, places-entered, places-left}
 use Rattle.tlsf_heap.proofs.Meaning.NodeBlocks.{first_block}
 use Rattle.tlsf_heap.proofs.Meaning.FreeFirst.{past_free, free_first, merged_of}
 use Rattle.tlsf_heap.proofs.Meaning.FreedIsGood.{after_is}
@@ -29,7 +29,7 @@ free_is node nodes none = by_status node.status (elim (cases_Bool (is_loose node
   | inr settled ↦ settled
 ])
   where
-    by_status : (status : Status) → is_loose status ≡ false → is_none (owner_of status node.slot) ≡ is_listed status
+    by_status : (status : NodeState) → is_loose status ≡ false → is_none (owner_of status node.slot) ≡ is_listed status
     by_status InUse settled = refl
     by_status Listed settled = refl
     by_status Loose settled = absurd (cc)
@@ -47,7 +47,7 @@ past_is (node ∷ nodes) none =
     ap (λ b. cond b (map block_of nodes) (block_of node ∷ map block_of nodes)) (free_is node nodes none)
     ∙ elim (is_listed node.status) as (λ b. cond b (map block_of nodes) (block_of node ∷ map block_of nodes) ≡ map block_of (cond b nodes (node ∷ nodes))) [ true ↦ refl | false ↦ refl ]
 
-module _ (position : Position) (node : Node) (nodes : List Node) (lists : List (List Node)) (told : Told (filled position (node ∷ nodes)) lists) where
+module _ (position : Position) (node : Node) (nodes : List Node) (lists : List (List Node)) (told : AgreeOnce (filled position (node ∷ nodes)) lists) where
   abbrev front : Option Node
   front = listed_first position.before
 
@@ -67,7 +67,7 @@ module _ (position : Position) (node : Node) (nodes : List Node) (lists : List (
   still_alike b (Some f) same = alike-left b f lists told.full same
 
   -- a listed neighbour leaves its list, also where the other left
-  neighbour_left : (at : Position) (n : Node) (others : List Node) (o : Option Node) → Told (filled at (n ∷ others)) lists
+  neighbour_left : (at : Position) (n : Node) (others : List Node) (o : Option Node) → AgreeOnce (filled at (n ∷ others)) lists
       → by_places (left_by (cond (is_listed n.status) (Some n) None) (left_by o lists)) ≡ unlink_block (option_map block_of (cond (is_listed n.status) (Some n) None)) (by_places (left_by o lists))
   neighbour_left at n others o there = elim (is_listed n.status) as (λ b. by_places (left_by (cond b (Some n) None) (left_by o lists)) ≡ unlink_block (option_map block_of (cond b (Some n) None)) (by_places (left_by o lists))) [
     | true ↦ places-left n (left_by o lists) (full_front o) (still_alike n o (alike n lists at n others refl refl there))
@@ -77,14 +77,14 @@ module _ (position : Position) (node : Node) (nodes : List Node) (lists : List (
   lists_front : by_places (left_by front lists) ≡ unlink_block (option_map block_of front) (by_places lists)
   lists_front = go position.before told
     where
-      go : (before : List Node) → Told (filled (record position { before = before }) (node ∷ nodes)) lists → by_places (left_by (listed_first before) lists) ≡ unlink_block (option_map block_of (listed_first before)) (by_places lists)
+      go : (before : List Node) → AgreeOnce (filled (record position { before = before }) (node ∷ nodes)) lists → by_places (left_by (listed_first before) lists) ≡ unlink_block (option_map block_of (listed_first before)) (by_places lists)
       go [] there = refl
       go (f ∷ before) there = neighbour_left (record position { before = before }) f (node ∷ nodes) None there
 
   pub lists_back : (o : Option Node) → by_places (left_by back (left_by o lists)) ≡ unlink_block (option_map block_of back) (by_places (left_by o lists))
   lists_back o = go nodes told
     where
-      go : (others : List Node) → Told (filled position (node ∷ others)) lists → by_places (left_by (listed_first others) (left_by o lists)) ≡ unlink_block (option_map block_of (listed_first others)) (by_places (left_by o lists))
+      go : (others : List Node) → AgreeOnce (filled position (node ∷ others)) lists → by_places (left_by (listed_first others) (left_by o lists)) ≡ unlink_block (option_map block_of (listed_first others)) (by_places (left_by o lists))
       go [] there = refl
       go (b ∷ others) there = neighbour_left (record position { before = node ∷ position.before }) b others o there
 

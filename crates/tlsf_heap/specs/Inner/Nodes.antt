@@ -5,15 +5,15 @@ use Rattle.tlsf_store.specs.declared.pools.Pool.{Pool as StoredPool}
 use Rattle.tlsf_heap.specs.Content.{Block, Pool, Content}
 
 -- live; free and in its class's list; or free and on its way, in no list
-pub data Status : Type 0 where
-  InUse Listed Loose : Status
+pub data NodeState : Type 0 where
+  InUse Listed Loose : NodeState
 
 -- a block, and the slot of its record
 pub record Node : Type 0 where
   pub slot : ℕ
   pub place : ℕ
   pub size : ℕ
-  pub status : Status
+  pub status : NodeState
 
 -- a pool's entry, and its nodes in order of place
 pub record Area : Type 0 where
@@ -31,7 +31,7 @@ pub record Layout : Type 0 where
   pub taken : List ℕ
 
 -- a live block is known by its slot
-abbrev pub owner_of : Status → ℕ → Option ℕ
+abbrev pub owner_of : NodeState → ℕ → Option ℕ
 owner_of InUse slot = Some slot
 owner_of Listed slot = None
 owner_of Loose slot = None
@@ -51,7 +51,7 @@ content_by layout = record {
 }
 
 -- the node in another status
-abbrev pub turned : Status → Node → Node
+abbrev pub turned : NodeState → Node → Node
 turned status node = record node { status = status }
 
 -- the loose node of what is left of a node behind its first bytes
@@ -63,8 +63,8 @@ abbrev pub nodes_of : List Area → List Node
 nodes_of areas = flat_map (λ area. area.nodes) areas
 
 -- the list of a class
-abbrev pub list_of : ℕ → List (List Node) → List Node
-list_of number lists = slice_index_or lists number []
+abbrev pub nodes_in : ℕ → List (List Node) → List Node
+nodes_in number lists = slice_index_or lists number []
 
 -- whether the node has the slot
 abbrev pub has_slot : ℕ → Node → Bool
@@ -74,7 +74,7 @@ has_slot slot node = node.slot == slot
 abbrev pub has_place : ℕ → Node → Bool
 has_place place node = node.place == place
 
-abbrev pub is_listed : Status → Bool
+abbrev pub is_listed : NodeState → Bool
 is_listed InUse = false
 is_listed Listed = true
 is_listed Loose = false
@@ -89,11 +89,11 @@ without_slot slot nodes = filter (λ node. not (has_slot slot node)) nodes
 
 -- the node leaves its class's list
 unfoldable pub left : Node → List (List Node) → List (List Node)
-left node lists = slice_set lists (class node.size) (without_slot node.slot (list_of (class node.size) lists))
+left node lists = slice_set lists (class node.size) (without_slot node.slot (nodes_in (class node.size) lists))
 
 -- the node enters its class's list, in front of the others
 unfoldable pub entered : Node → List (List Node) → List (List Node)
-entered node lists = slice_set lists (class node.size) (node ∷ list_of (class node.size) lists)
+entered node lists = slice_set lists (class node.size) (node ∷ nodes_in (class node.size) lists)
 
 -- a listed node of these bytes, or none where there are none
 abbrev pub gap_nodes : (slot place size : ℕ) → List Node

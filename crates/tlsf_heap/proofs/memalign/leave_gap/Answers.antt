@@ -56,8 +56,8 @@ front : (mid left live : Cells) (span : Span) (rest bytes : ℕ) (at : At) → S
 front mid left live span rest bytes at stands read some less whole split_is live_is =
     let P : At → Type 0 = λ a. StandsAt rest Loose left (at_split rest bytes a) in
     let same : at_turned InUse at ≡ at = ap (λ s. at_turned s at) (sym stands.1.status_is) in
-    let cut : StandsAt rest Loose left (at_split rest bytes at) = subst P same (span_splits mid left span InUse rest bytes at refl stands read some less whole split_is) in
-    rw live_is (front_stands span.slot rest bytes at left cut stands.1.slot_is stands.1.status_is)
+    let split : StandsAt rest Loose left (at_split rest bytes at) = subst P same (span_splits mid left span InUse rest bytes at refl stands read some less whole split_is) in
+    rw live_is (front_stands span.slot rest bytes at left split stands.1.slot_is stands.1.status_is)
 
 fronted : (old mid left live : Cells) (span : Span) (result : Option ℕ) (rest bytes : ℕ) (at : At) → StandsAt span.slot InUse old at → IsRead span old.records → result ≡ Some rest → mid ≡ with_taken old result → rest < length old.records → record_at old.records rest ≡ blank
     → 0 < bytes → bytes < span.size → bytes % unit ≡ 0 → left ≡ split_by span rest bytes mid → live ≡ with_state rest Live left → StandsAt span.slot InUse live (at_front span.slot rest bytes at)

@@ -3,13 +3,13 @@ use Rattle.tlsf_class.specs.Classes.{unit, greatest_size}
 use Rattle.tlsf_store.specs.Cells.{Cells}
 use Rattle.tlsf_heap.specs.declared.span.Span.{Span}
 use Rattle.tlsf_heap.specs.Inner.Edits.{IsUsed}
-use Rattle.tlsf_heap.specs.Inner.Nodes.{Status, InUse, Loose}
+use Rattle.tlsf_heap.specs.Inner.Nodes.{NodeState, InUse, Loose}
 use Rattle.tlsf_heap.specs.Inner.At.{At, StandsAt, with_slot, at_turned, at_split}
 use Rattle.tlsf_heap.specs.Inner.Spans.{IsRead}
 use Rattle.tlsf_heap.proofs.Inner.Steps.{slot_used, size_read, place_read, whole_at, first_used, listed_stands}
 use Rattle.tlsf_heap.proofs.Inner.Allotted.{rest_used, last_used}
 use Rattle.tlsf_heap.proofs.Inner.Spans.{span_splits}
-use Rattle.tlsf_heap.proofs.malloc.cut.Goals as goal
+use Rattle.tlsf_heap.proofs.malloc.split_off.Goals as goal
 
 pub split-requires-clause-slot_used : goal.split-requires-clause-slot_used
 split-requires-clause-slot_used c = slot_used c.args.store.now.cells c.args.block.now.slot c.requires.stands.0 (with_slot c.args.rest c.requires.stands.1) c.requires.stands.3
@@ -23,7 +23,7 @@ split-requires-clause-next_used c =
     subst P (sym c.requires.read.next) (last_used c.args.store.now.cells c.args.block.now.slot c.args.rest c.requires.stands.0 c.requires.stands.1 c.requires.stands.3)
 
 -- the size and the end of a block as they were read
-whole : (cells : Cells) (span : Span) (rest : ℕ) (status : Status) (at : At) → StandsAt span.slot status cells (with_slot rest at) → IsRead span cells.records → (span.size % unit ≡ 0) × (span.size ≤ greatest_size) × (span.size ≡ at.node.size) × (span.place + span.size ≡ at.node.place + at.node.size)
+whole : (cells : Cells) (span : Span) (rest : ℕ) (status : NodeState) (at : At) → StandsAt span.slot status cells (with_slot rest at) → IsRead span cells.records → (span.size % unit ≡ 0) × (span.size ≤ greatest_size) × (span.size ≡ at.node.size) × (span.place + span.size ≡ at.node.place + at.node.size)
 whole cells span rest status at stands read =
     let all = whole_at cells span.slot status (with_slot rest at) stands in
     let size = read.size ∙ size_read cells span.slot status (with_slot rest at) stands in

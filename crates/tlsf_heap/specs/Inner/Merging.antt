@@ -1,9 +1,9 @@
--- A node and the free ones beside it in its pool, made one.
+-- A node and the free ones beside it in its pool, merged.
 use Rattle.std.specs.Prelude.{ℕ, ◌+◌, Bool, true, false, List, [], ◌∷◌, Option, Some, None, if◌then◌else◌}
-use Rattle.tlsf_heap.specs.Inner.Nodes.{Status, InUse, Listed, Loose, Node, Layout, turned, is_listed, left, entered}
+use Rattle.tlsf_heap.specs.Inner.Nodes.{NodeState, InUse, Listed, Loose, Node, Layout, turned, is_listed, left, entered}
 use Rattle.tlsf_heap.specs.Inner.Positions.{Position, laid}
 
-abbrev pub is_loose : Status → Bool
+abbrev pub is_loose : NodeState → Bool
 is_loose InUse = false
 is_loose Listed = false
 is_loose Loose = true
@@ -23,12 +23,12 @@ abbrev pub left_by : Option Node → List (List Node) → List (List Node)
 left_by None lists = lists
 left_by (Some node) lists = left node lists
 
--- a node in front, where there is one, takes in the node
+-- a node in front, where there is one, is merged with the node
 abbrev pub grown_in_front : Option Node → Node → Node
 grown_in_front None node = node
 grown_in_front (Some front) node = record front { size = front.size + node.size; status = Loose }
 
--- the node takes in a node behind, where there is one
+-- the node is merged with one behind, where there is one
 abbrev pub grown_behind : Option Node → Node → Node
 grown_behind None node = node
 grown_behind (Some behind) node = record node { size = node.size + behind.size }

@@ -1,19 +1,18 @@
--- A node takes in the free one behind it, or is taken in by the free one in front: what the steps need and leave.
+-- A node is merged with the free one behind it, or with the free one in front: what the steps need and leave.
 use Rattle.std.proofs.Common.{◌≡◌, ℕ, ◌+◌, Bool, true, false, cond, List, [], ◌∷◌, map, refl, sym, ap, ◌∙◌, subst, arith, count_by, Option, Some, None, inl, inr, option_map}
 use Rattle.std.proofs.lemmas.Bool.{cases_Bool, false≢true}
 use Rattle.tlsf_class.specs.Classes.{class}
 use Rattle.tlsf_store.specs.declared.records.Record.{Record}
-use Rattle.tlsf_store.specs.Records.{record_at}
+use Rattle.tlsf_store.specs.Records.{record_at, is_free_state}
 use Rattle.tlsf_store.specs.Cells.{Cells}
 use Rattle.tlsf_heap.specs.Inner.Edits.{unlinked}
 use Rattle.tlsf_heap.specs.Inner.At.{AreCovered}
-use Rattle.tlsf_heap.specs.Inner.States.{is_state_free}
-use Rattle.tlsf_heap.specs.Inner.Chains.{joined}
-use Rattle.tlsf_heap.specs.Inner.Nodes.{Status, InUse, Listed, Loose, Node, Area, nodes_of, turned, block_of, pool_of, is_listed, left}
+use Rattle.tlsf_heap.specs.Inner.Chains.{merged_listed}
+use Rattle.tlsf_heap.specs.Inner.Nodes.{NodeState, InUse, Listed, Loose, Node, Area, nodes_of, turned, block_of, pool_of, is_listed, left}
 use Rattle.tlsf_heap.specs.Inner.Positions.{Position, laid, filled}
-use Rattle.tlsf_heap.specs.Inner.Joined.{is_loose, past, listed_first, left_by, grown_in_front, grown_behind}
+use Rattle.tlsf_heap.specs.Inner.Merging.{is_loose, past, listed_first, left_by, grown_in_front, grown_behind}
 use Rattle.tlsf_heap.specs.Inner.Represents.{InPool, in_pool, pool_views, state_of, first_slot, AreChains, Represents}
-use Rattle.tlsf_heap.specs.Inner.At.{At, StandsAt, previous_joined, next_joined, IsJoinable}
+use Rattle.tlsf_heap.specs.Inner.At.{At, StandsAt, previous_merged, next_merged, IsMergeable}
 use Rattle.tlsf_heap.proofs.Good.Calls.{IsWhole}
 use Rattle.tlsf_heap.proofs.Counts.{one_if, count-cons}
 use Rattle.tlsf_heap.proofs.Inner.Plugs.{count-filled}
@@ -21,16 +20,16 @@ use Rattle.tlsf_heap.proofs.Inner.Links.{Some≢None, Some-same}
 use Rattle.tlsf_heap.proofs.Inner.Chains.{AtNode, at_node}
 use Rattle.tlsf_heap.proofs.Inner.Used.{node_is_used, next_used}
 use Rattle.tlsf_heap.proofs.Inner.Unlinked.{unlinked_laid, prev_free_used, next_free_used}
-use Rattle.tlsf_heap.proofs.Inner.Join.{join_laid}
+use Rattle.tlsf_heap.proofs.Inner.Merge.{merge_laid}
 use Rattle.tlsf_heap.proofs.Meaning.Covered.{node_whole, covered_refilled, covers_both}
 
 -- what a step leads to
-pub record Joins (slot behind listed size result : ℕ) (status : Status) (cells : Cells) (after : At) : Type 0 where
-  pub ready : IsJoinable slot behind listed size cells.records (unlinked (class size) listed cells).records
+pub record Merges (slot behind listed size result : ℕ) (status : NodeState) (cells : Cells) (after : At) : Type 0 where
+  pub ready : IsMergeable slot behind listed size cells.records (unlinked (class size) listed cells).records
   pub place_is : (record_at (unlinked (class size) listed cells).records slot).place ≡ after.node.place
   pub size_is : (record_at (unlinked (class size) listed cells).records slot).size + (record_at (unlinked (class size) listed cells).records behind).size ≡ after.node.size
   pub next_is : (record_at (unlinked (class size) listed cells).records behind).next ≡ first_slot after.nodes
-  pub leads : StandsAt result status (joined slot behind listed size cells) after
+  pub leads : StandsAt result status (merged_listed slot behind listed size cells) after
 
 -- two nodes side by side, of which one was listed and leaves its list
 module _ (cells : Cells) (count : ℕ) (listed_position : Position) (listed : Node) (listed_nodes : List Node) (position : Position) (front behind : Node) (nodes : List Node) (lists : List (List Node)) (taken : List ℕ)
@@ -42,8 +41,8 @@ module _ (cells : Cells) (count : ℕ) (listed_position : Position) (listed : No
       let P : List Area → Type 0 = λ areas. Represents (unlinked (class listed.size) listed.slot cells) (record { count = count; areas = areas; lists = left (turned Listed listed) lists; taken = taken }) in
       subst P side_by_side (unlinked_laid cells count listed_position (turned Listed listed) listed_nodes lists taken was)
 
-  joinable : IsJoinable front.slot behind.slot listed.slot listed.size cells.records (unlinked (class listed.size) listed.slot cells).records
-  joinable =
+  mergeable : IsMergeable front.slot behind.slot listed.slot listed.size cells.records (unlinked (class listed.size) listed.slot cells).records
+  mergeable =
       let whole : IsWhole (block_of (turned Listed listed)) = node_whole listed_position (turned Listed listed) listed_nodes covered in
       let both : IsWhole (block_of (record front { size = front.size + behind.size })) = node_whole position (record front { size = front.size + behind.size }) nodes covered_after in
       let records : List Record = (unlinked (class listed.size) listed.slot cells).records in
@@ -63,19 +62,19 @@ module _ (cells : Cells) (count : ℕ) (listed_position : Position) (listed : No
         fits = omega (arith, both.at_most, ap (λ (v : InPool). v.size) here.says, ap (λ (v : InPool). v.size) there.says);
       }
 
-  joins_sides : (status : Status) → front.status ≡ status → count_by (λ node. is_loose node.status) (nodes_of (filled position nodes)) ≡ 0
-      → Joins front.slot behind.slot listed.slot listed.size front.slot status cells (record { count = count; position = position; node = record front { size = front.size + behind.size }; nodes = nodes; lists = left (turned Listed listed) lists; taken = taken })
-  joins_sides status status_is settled =
+  merges_sides : (status : NodeState) → front.status ≡ status → count_by (λ node. is_loose node.status) (nodes_of (filled position nodes)) ≡ 0
+      → Merges front.slot behind.slot listed.slot listed.size front.slot status cells (record { count = count; position = position; node = record front { size = front.size + behind.size }; nodes = nodes; lists = left (turned Listed listed) lists; taken = taken })
+  merges_sides status status_is settled =
       let records : List Record = (unlinked (class listed.size) listed.slot cells).records in
       let here : AtNode records position front (behind ∷ nodes) taken = at_node records position front (behind ∷ nodes) taken unlinked_was.chains in
       let there : AtNode records (record position { before = front ∷ position.before }) behind nodes taken = at_node records (record position { before = front ∷ position.before }) behind nodes taken unlinked_was.chains in
       record {
-        ready = joinable;
+        ready = mergeable;
         place_is = ap (λ (v : InPool). v.place) here.says;
         size_is = omega (arith, ap (λ (v : InPool). v.size) here.says, ap (λ (v : InPool). v.size) there.says);
         next_is = ap (λ (v : InPool). v.next) there.says;
         leads = (
-          join_laid (unlinked (class listed.size) listed.slot cells) count position front behind nodes (left (turned Listed listed) lists) taken unlinked_was front_unlisted behind_unlisted,
+          merge_laid (unlinked (class listed.size) listed.slot cells) count position front behind nodes (left (turned Listed listed) lists) taken unlinked_was front_unlisted behind_unlisted,
           record { slot_is = refl; status_is = status_is; others_settled = settled; covered = covered_after },
         );
       }
@@ -85,22 +84,22 @@ module _ (cells : Cells) (at : At) (front : Node) (before : List Node) where
   abbrev seen : List Node → At
   seen nodes = record at { position = record at.position { before = nodes } }
 
-  joins_seen : (slot : ℕ) → StandsAt slot Loose cells (seen (turned Listed front ∷ before)) → Joins front.slot at.node.slot front.slot front.size front.slot Loose cells (previous_joined (seen (turned Listed front ∷ before)))
-  joins_seen slot stands =
+  merges_seen : (slot : ℕ) → StandsAt slot Loose cells (seen (turned Listed front ∷ before)) → Merges front.slot at.node.slot front.slot front.size front.slot Loose cells (previous_merged (seen (turned Listed front ∷ before)))
+  merges_seen slot stands =
       let position : Position = record at.position { before = before } in
       let loose : Node → Bool = λ node. is_loose node.status in
       let covered_after = covered_refilled position (turned Listed front ∷ at.node ∷ at.nodes) (record front { size = front.size + at.node.size; status = Loose } ∷ at.nodes) (λ from to c. covers_both Loose (turned Listed front) at.node at.nodes from to c) stands.1.covered in
       let settled : count_by loose (nodes_of (filled position at.nodes)) ≡ 0 = omega (arith, stands.1.others_settled, count-filled loose (record position { before = turned Listed front ∷ before }) at.nodes, count-filled loose position at.nodes, count-cons loose (turned Listed front) before) in
-      joins_sides cells at.count position front (at.node ∷ at.nodes) position (turned Loose front) at.node at.nodes at.lists at.taken stands.0 stands.1.covered refl refl (ap is_listed stands.1.status_is) covered_after Loose refl settled
+      merges_sides cells at.count position front (at.node ∷ at.nodes) position (turned Loose front) at.node at.nodes at.lists at.taken stands.0 stands.1.covered refl refl (ap is_listed stands.1.status_is) covered_after Loose refl settled
 
 -- the node behind is free
 module _ (cells : Cells) (at : At) (behind : Node) (nodes : List Node) where
-  joins_behind : (slot : ℕ) (status : Status) → is_listed status ≡ false → StandsAt slot status cells (record at { nodes = turned Listed behind ∷ nodes }) → Joins at.node.slot behind.slot behind.slot behind.size at.node.slot status cells (next_joined (record at { nodes = turned Listed behind ∷ nodes }))
-  joins_behind slot status unlisted stands =
+  merges_behind : (slot : ℕ) (status : NodeState) → is_listed status ≡ false → StandsAt slot status cells (record at { nodes = turned Listed behind ∷ nodes }) → Merges at.node.slot behind.slot behind.slot behind.size at.node.slot status cells (next_merged (record at { nodes = turned Listed behind ∷ nodes }))
+  merges_behind slot status unlisted stands =
       let loose : Node → Bool = λ node. is_loose node.status in
       let covered_after = covered_refilled at.position (at.node ∷ turned Listed behind ∷ nodes) (record at.node { size = at.node.size + behind.size } ∷ nodes) (λ from to c. covers_both at.node.status at.node (turned Listed behind) nodes from to c) stands.1.covered in
       let settled : count_by loose (nodes_of (filled at.position nodes)) ≡ 0 = omega (arith, stands.1.others_settled, count-filled loose at.position (turned Listed behind ∷ nodes), count-filled loose at.position nodes, count-cons loose (turned Listed behind) nodes) in
-      joins_sides cells at.count (record at.position { before = at.node ∷ at.position.before }) behind nodes at.position at.node (turned Loose behind) nodes at.lists at.taken stands.0 stands.1.covered refl (ap is_listed stands.1.status_is ∙ unlisted) refl covered_after status stands.1.status_is settled
+      merges_sides cells at.count (record at.position { before = at.node ∷ at.position.before }) behind nodes at.position at.node (turned Loose behind) nodes at.lists at.taken stands.0 stands.1.covered refl (ap is_listed stands.1.status_is ∙ unlisted) refl covered_after status stands.1.status_is settled
 
 -- the first of some nodes, which has this slot, and what its record says
 pub record Neighbour (records : List Record) (slot : ℕ) (nodes : List Node) : Type 0 where
@@ -129,17 +128,17 @@ said records slot node others prev next says own settled = record {
   settled = settled;
 }
 
-status_free : (s : Status) → is_loose s ≡ false → is_state_free (state_of s) ≡ true → s ≡ Listed
+status_free : (s : NodeState) → is_loose s ≡ false → is_free_state (state_of s) ≡ true → s ≡ Listed
 status_free InUse settled free = absurd (false≢true free)
 status_free Listed settled free = refl
 status_free Loose settled free = absurd (false≢true (sym settled))
 
-status_live : (s : Status) → is_state_free (state_of s) ≡ false → is_listed s ≡ false
+status_live : (s : NodeState) → is_free_state (state_of s) ≡ false → is_listed s ≡ false
 status_live InUse live = refl
 status_live Listed live = absurd (false≢true (sym live))
 status_live Loose live = refl
 
-module _ (cells : Cells) (at : At) (slot : ℕ) (status : Status) (stands : StandsAt slot status cells at) where
+module _ (cells : Cells) (at : At) (slot : ℕ) (status : NodeState) (stands : StandsAt slot status cells at) where
   abbrev loose : Node → Bool
   loose node = is_loose node.status
 
@@ -169,72 +168,72 @@ module _ (cells : Cells) (at : At) (slot : ℕ) (status : Status) (stands : Stan
           said cells.records n b nodes (Some at.node.slot) (first_slot nodes) (at_node cells.records (record at.position { before = at.node ∷ at.position.before }) b nodes at.taken chains).says (Some-same b.slot n first) (settled_first b nodes none)
 
 -- a listed neighbour, as a node turned so
-turned_listed : (records : List Record) (slot : ℕ) (nodes : List Node) (by : Neighbour records slot nodes) → is_state_free (record_at records slot).state ≡ true → nodes ≡ turned Listed by.node ∷ by.others
+turned_listed : (records : List Record) (slot : ℕ) (nodes : List Node) (by : Neighbour records slot nodes) → is_free_state (record_at records slot).state ≡ true → nodes ≡ turned Listed by.node ∷ by.others
 turned_listed records slot nodes by free =
-    by.is ∙ ap (λ s. turned s by.node ∷ by.others) (status_free by.node.status by.settled (ap is_state_free (sym by.state_is) ∙ free))
+    by.is ∙ ap (λ s. turned s by.node ∷ by.others) (status_free by.node.status by.settled (ap is_free_state (sym by.state_is) ∙ free))
 
 -- what stays where the neighbour isn't free
-past_live : (records : List Record) (slot : ℕ) (nodes : List Node) (by : Neighbour records slot nodes) → is_state_free (record_at records slot).state ≡ false → (past nodes ≡ nodes) × (listed_first nodes ≡ None)
+past_live : (records : List Record) (slot : ℕ) (nodes : List Node) (by : Neighbour records slot nodes) → is_free_state (record_at records slot).state ≡ false → (past nodes ≡ nodes) × (listed_first nodes ≡ None)
 past_live records slot nodes by live =
     let P : List Node → Type 0 = λ ns. (past ns ≡ ns) × (listed_first ns ≡ None) in
-    let is_not : is_listed by.node.status ≡ false = status_live by.node.status (ap is_state_free (sym by.state_is) ∙ live) in
+    let is_not : is_listed by.node.status ≡ false = status_live by.node.status (ap is_free_state (sym by.state_is) ∙ live) in
     subst P (sym by.is) (ap (λ b. cond b by.others (by.node ∷ by.others)) is_not, ap (λ b. cond b (Some by.node) None) is_not)
 
 past_none : (nodes : List Node) → first_slot nodes ≡ None → (past nodes ≡ nodes) × (listed_first nodes ≡ None)
 past_none [] none = (refl, refl)
 past_none (node ∷ nodes) none = absurd (Some≢None node.slot none)
 
-unjoined_front : (at : At) → (past at.position.before ≡ at.position.before) × (listed_first at.position.before ≡ None) → previous_joined at ≡ at
-unjoined_front at same = λ i. record at { position = record at.position { before = same.0 i }; node = grown_in_front (same.1 i) at.node; lists = left_by (same.1 i) at.lists }
+unmerged_front : (at : At) → (past at.position.before ≡ at.position.before) × (listed_first at.position.before ≡ None) → previous_merged at ≡ at
+unmerged_front at same = λ i. record at { position = record at.position { before = same.0 i }; node = grown_in_front (same.1 i) at.node; lists = left_by (same.1 i) at.lists }
 
-unjoined_back : (at : At) → (past at.nodes ≡ at.nodes) × (listed_first at.nodes ≡ None) → next_joined at ≡ at
-unjoined_back at same = λ i. record at { nodes = same.0 i; node = grown_behind (same.1 i) at.node; lists = left_by (same.1 i) at.lists }
+unmerged_back : (at : At) → (past at.nodes ≡ at.nodes) × (listed_first at.nodes ≡ None) → next_merged at ≡ at
+unmerged_back at same = λ i. record at { nodes = same.0 i; node = grown_behind (same.1 i) at.node; lists = left_by (same.1 i) at.lists }
 
 module _ (cells : Cells) (at : At) (slot : ℕ) (stands : StandsAt slot Loose cells at) where
   -- the free block in front takes it in
-  pub previous_joins : (p size : ℕ) → (record_at cells.records slot).prev ≡ Some p → is_state_free (record_at cells.records p).state ≡ true → size ≡ (record_at cells.records p).size → Joins p slot p size p Loose cells (previous_joined at)
-  previous_joins p size link free size_is =
+  pub previous_merges : (p size : ℕ) → (record_at cells.records slot).prev ≡ Some p → is_free_state (record_at cells.records p).state ≡ true → size ≡ (record_at cells.records p).size → Merges p slot p size p Loose cells (previous_merged at)
+  previous_merges p size link free size_is =
       let by : Neighbour cells.records p at.position.before = in_front cells at slot Loose stands p link in
-      let P : List Node → Type 0 = λ ns. StandsAt slot Loose cells (seen cells at by.node by.others ns) → Joins by.node.slot at.node.slot by.node.slot by.node.size by.node.slot Loose cells (previous_joined (seen cells at by.node by.others ns)) in
-      let base : Joins by.node.slot at.node.slot by.node.slot by.node.size by.node.slot Loose cells (previous_joined at) = subst P (sym (turned_listed cells.records p at.position.before by free)) (joins_seen cells at by.node by.others slot) stands in
-      let Q : ℕ → Type 0 = λ n. Joins n slot n size n Loose cells (previous_joined at) in
-      let R : ℕ → Type 0 = λ n. Joins by.node.slot n by.node.slot size by.node.slot Loose cells (previous_joined at) in
-      let S : ℕ → Type 0 = λ n. Joins by.node.slot at.node.slot by.node.slot n by.node.slot Loose cells (previous_joined at) in
+      let P : List Node → Type 0 = λ ns. StandsAt slot Loose cells (seen cells at by.node by.others ns) → Merges by.node.slot at.node.slot by.node.slot by.node.size by.node.slot Loose cells (previous_merged (seen cells at by.node by.others ns)) in
+      let base : Merges by.node.slot at.node.slot by.node.slot by.node.size by.node.slot Loose cells (previous_merged at) = subst P (sym (turned_listed cells.records p at.position.before by free)) (merges_seen cells at by.node by.others slot) stands in
+      let Q : ℕ → Type 0 = λ n. Merges n slot n size n Loose cells (previous_merged at) in
+      let R : ℕ → Type 0 = λ n. Merges by.node.slot n by.node.slot size by.node.slot Loose cells (previous_merged at) in
+      let S : ℕ → Type 0 = λ n. Merges by.node.slot at.node.slot by.node.slot n by.node.slot Loose cells (previous_merged at) in
       subst Q by.slot_is (subst R stands.1.slot_is (subst S (sym (size_is ∙ by.size_is)) base))
 
-  pub front_stays : (record_at cells.records slot).prev ≡ None → previous_joined at ≡ at
-  front_stays none = unjoined_front at (past_none at.position.before (sym (prev_is cells at slot Loose stands) ∙ none))
+  pub front_stays : (record_at cells.records slot).prev ≡ None → previous_merged at ≡ at
+  front_stays none = unmerged_front at (past_none at.position.before (sym (prev_is cells at slot Loose stands) ∙ none))
 
-  pub front_is_live : (p : ℕ) → (record_at cells.records slot).prev ≡ Some p → is_state_free (record_at cells.records p).state ≡ false → previous_joined at ≡ at
-  front_is_live p link live = unjoined_front at (past_live cells.records p at.position.before (in_front cells at slot Loose stands p link) live)
+  pub front_is_live : (p : ℕ) → (record_at cells.records slot).prev ≡ Some p → is_free_state (record_at cells.records p).state ≡ false → previous_merged at ≡ at
+  front_is_live p link live = unmerged_front at (past_live cells.records p at.position.before (in_front cells at slot Loose stands p link) live)
 
-module _ (cells : Cells) (at : At) (slot : ℕ) (status : Status) (unlisted : is_listed status ≡ false) (stands : StandsAt slot status cells at) where
-  -- it takes in the free block behind
-  pub next_joins : (n size : ℕ) → (record_at cells.records slot).next ≡ Some n → is_state_free (record_at cells.records n).state ≡ true → size ≡ (record_at cells.records n).size → Joins slot n n size slot status cells (next_joined at)
-  next_joins n size link free size_is =
+module _ (cells : Cells) (at : At) (slot : ℕ) (status : NodeState) (unlisted : is_listed status ≡ false) (stands : StandsAt slot status cells at) where
+  -- it is merged with the free block behind
+  pub next_merges : (n size : ℕ) → (record_at cells.records slot).next ≡ Some n → is_free_state (record_at cells.records n).state ≡ true → size ≡ (record_at cells.records n).size → Merges slot n n size slot status cells (next_merged at)
+  next_merges n size link free size_is =
       let by : Neighbour cells.records n at.nodes = in_back cells at slot status stands n link in
-      let P : List Node → Type 0 = λ ns. StandsAt slot status cells (record at { nodes = ns }) → Joins at.node.slot by.node.slot by.node.slot by.node.size at.node.slot status cells (next_joined (record at { nodes = ns })) in
-      let base : Joins at.node.slot by.node.slot by.node.slot by.node.size at.node.slot status cells (next_joined at) = subst P (sym (turned_listed cells.records n at.nodes by free)) (joins_behind cells at by.node by.others slot status unlisted) stands in
-      let Q : ℕ → Type 0 = λ m. Joins slot m m size slot status cells (next_joined at) in
-      let R : ℕ → Type 0 = λ m. Joins m by.node.slot by.node.slot size m status cells (next_joined at) in
-      let S : ℕ → Type 0 = λ m. Joins at.node.slot by.node.slot by.node.slot m at.node.slot status cells (next_joined at) in
+      let P : List Node → Type 0 = λ ns. StandsAt slot status cells (record at { nodes = ns }) → Merges at.node.slot by.node.slot by.node.slot by.node.size at.node.slot status cells (next_merged (record at { nodes = ns })) in
+      let base : Merges at.node.slot by.node.slot by.node.slot by.node.size at.node.slot status cells (next_merged at) = subst P (sym (turned_listed cells.records n at.nodes by free)) (merges_behind cells at by.node by.others slot status unlisted) stands in
+      let Q : ℕ → Type 0 = λ m. Merges slot m m size slot status cells (next_merged at) in
+      let R : ℕ → Type 0 = λ m. Merges m by.node.slot by.node.slot size m status cells (next_merged at) in
+      let S : ℕ → Type 0 = λ m. Merges at.node.slot by.node.slot by.node.slot m at.node.slot status cells (next_merged at) in
       subst Q by.slot_is (subst R stands.1.slot_is (subst S (sym (size_is ∙ by.size_is)) base))
 
-  pub back_stays : (record_at cells.records slot).next ≡ None → next_joined at ≡ at
-  back_stays none = unjoined_back at (past_none at.nodes (sym (next_is cells at slot status stands) ∙ none))
+  pub back_stays : (record_at cells.records slot).next ≡ None → next_merged at ≡ at
+  back_stays none = unmerged_back at (past_none at.nodes (sym (next_is cells at slot status stands) ∙ none))
 
-  pub back_is_live : (n : ℕ) → (record_at cells.records slot).next ≡ Some n → is_state_free (record_at cells.records n).state ≡ false → next_joined at ≡ at
-  back_is_live n link live = unjoined_back at (past_live cells.records n at.nodes (in_back cells at slot status stands n link) live)
+  pub back_is_live : (n : ℕ) → (record_at cells.records slot).next ≡ Some n → is_free_state (record_at cells.records n).state ≡ false → next_merged at ≡ at
+  back_is_live n link live = unmerged_back at (past_live cells.records n at.nodes (in_back cells at slot status stands n link) live)
 
 -- the free one behind, by the records
-module _ (cells : Cells) (at : At) (slot : ℕ) (status : Status) (stands : StandsAt slot status cells at) where
+module _ (cells : Cells) (at : At) (slot : ℕ) (status : NodeState) (stands : StandsAt slot status cells at) where
   pub listed_none : (record_at cells.records slot).next ≡ None → listed_first at.nodes ≡ None
   listed_none none = (past_none at.nodes (sym (next_is cells at slot status stands) ∙ none)).1
 
-  pub listed_live : (n : ℕ) → (record_at cells.records slot).next ≡ Some n → is_state_free (record_at cells.records n).state ≡ false → listed_first at.nodes ≡ None
+  pub listed_live : (n : ℕ) → (record_at cells.records slot).next ≡ Some n → is_free_state (record_at cells.records n).state ≡ false → listed_first at.nodes ≡ None
   listed_live n link live = (past_live cells.records n at.nodes (in_back cells at slot status stands n link) live).1
 
-  pub listed_free : (n : ℕ) → (record_at cells.records slot).next ≡ Some n → is_state_free (record_at cells.records n).state ≡ true → option_map (λ (node : Node). node.size) (listed_first at.nodes) ≡ Some (record_at cells.records n).size
+  pub listed_free : (n : ℕ) → (record_at cells.records slot).next ≡ Some n → is_free_state (record_at cells.records n).state ≡ true → option_map (λ (node : Node). node.size) (listed_first at.nodes) ≡ Some (record_at cells.records n).size
   listed_free n link free =
       let by : Neighbour cells.records n at.nodes = in_back cells at slot status stands n link in
       ap (λ ns. option_map (λ (node : Node). node.size) (listed_first ns)) (turned_listed cells.records n at.nodes by free) ∙ ap Some (sym by.size_is)
