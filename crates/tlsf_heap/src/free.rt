@@ -113,11 +113,11 @@ fn merge_previous(store: &mut Store, previous: Option<Slot>, block: Span) -> Spa
 /// block that is left, under its slot. At most 11 touches.
 #[inline(always)]
 pub(crate) fn merge_next(store: &mut Store, block: Span, state: State) -> Span
-    requires stands { (status : NodeState) × (at : At) × (is_listed status ≡ false) × StandsAt block.slot status store.old.cells at }
+    requires stands { (node_state : NodeState) × (at : At) × (is_listed node_state ≡ false) × StandsAt block.slot node_state store.old.cells at }
     requires read { IsRead block store.old.cells.records }
     requires state { state ≡ (record_at store.old.cells.records block.slot).state }
     ensures slot { result.slot ≡ block.slot }
-    ensures leads { (status : NodeState) (at : At) → is_listed status ≡ false → StandsAt block.slot status store.old.cells at → StandsAt block.slot status store.new.cells (next_merged at) }
+    ensures leads { (node_state : NodeState) (at : At) → is_listed node_state ≡ false → StandsAt block.slot node_state store.old.cells at → StandsAt block.slot node_state store.new.cells (next_merged at) }
     ensures read { IsRead result store.new.cells.records }
     ensures touches { AtMost 11 store.old.touches store.new.touches }
 {

@@ -132,12 +132,12 @@ pub(crate) fn take_whole(store: &mut Store, slot: Slot, block: &Record)
 /// A block that is in no list keeps its first bytes and is live. What is left is a free block of the slot
 /// `rest`, first in its class's list. At most 11 touches.
 fn split_off(store: &mut Store, block: &Span, rest: Slot, bytes: u32)
-    requires stands { (status : NodeState) × (at : At) × (is_listed status ≡ false) × StandsAt block.now.slot status store.old.cells (with_slot rest at) }
+    requires stands { (node_state : NodeState) × (at : At) × (is_listed node_state ≡ false) × StandsAt block.now.slot node_state store.old.cells (with_slot rest at) }
     requires read { IsRead block.now store.old.cells.records }
     requires some { 0 < bytes }
     requires less { bytes < block.now.size }
     requires whole { bytes % unit ≡ 0 }
-    ensures leads { (status : NodeState) (at : At) → is_listed status ≡ false → StandsAt block.now.slot status store.old.cells (with_slot rest at) → StandsAt rest Listed store.new.cells (at_split_off rest bytes (at_turned InUse at)) }
+    ensures leads { (node_state : NodeState) (at : At) → is_listed node_state ≡ false → StandsAt block.now.slot node_state store.old.cells (with_slot rest at) → StandsAt rest Listed store.new.cells (at_split_off rest bytes (at_turned InUse at)) }
     ensures touches { AtMost 11 store.old.touches store.new.touches }
 {
     split(store, block, rest, bytes);

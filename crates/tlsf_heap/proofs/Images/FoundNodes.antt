@@ -76,15 +76,15 @@ module _ (cells : Cells) (stands : Stands cells) where
   slot_below slot some = used_below cells.records slot (stands_used slot some)
 
   -- no node is loose
-  settled_node : (test : Node → Bool) (at : FoundNode cells.records areas test) → is_loose at.node.status ≡ true → false ≡ true
-  settled_node test at loose = absurd (omega (arith, stands.settled, at.among (λ node. is_loose node.status) loose))
+  settled_node : (test : Node → Bool) (at : FoundNode cells.records areas test) → is_loose at.node.state ≡ true → false ≡ true
+  settled_node test at loose = absurd (omega (arith, stands.settled, at.among (λ node. is_loose node.state) loose))
 
-  listed_free : (status : NodeState) → is_listed status ≡ true → state_of status ≡ Free
+  listed_free : (node_state : NodeState) → is_listed node_state ≡ true → state_of node_state ≡ Free
   listed_free InUse e = absurd (both_ways false refl e)
   listed_free Listed e = refl
   listed_free Loose e = refl
 
-  free_listed : (status : NodeState) → state_of status ≡ Free → (is_loose status ≡ true → false ≡ true) → is_listed status ≡ true
+  free_listed : (node_state : NodeState) → state_of node_state ≡ Free → (is_loose node_state ≡ true → false ≡ true) → is_listed node_state ≡ true
   free_listed InUse e settled = absurd (cc)
   free_listed Listed e settled = refl
   free_listed Loose e settled = settled refl
@@ -96,9 +96,9 @@ module _ (cells : Cells) (stands : Stands cells) where
 
   at_listed : (number : ℕ) (test : Node → Bool) (at : FoundNode cells.records areas test) → is_listed_in number at.node ≡ true → IsListedAt number at.node.slot
   at_listed number test at listed =
-      let both = and_parts (is_listed at.node.status) (eqb (class at.node.size) number) listed in
+      let both = and_parts (is_listed at.node.state) (eqb (class at.node.size) number) listed in
       record {
-        free = ap (λ (v : InPool). v.state) at.says ∙ listed_free at.node.status both.0;
+        free = ap (λ (v : InPool). v.state) at.says ∙ listed_free at.node.state both.0;
         of_class = ap (λ (v : InPool). class v.size) at.says ∙ eqb-true (class at.node.size) number both.1;
       }
 
@@ -126,9 +126,9 @@ module _ (cells : Cells) (stands : Stands cells) where
   free_stands slot free =
       let at = found (has_slot slot) (used_stands slot (let e : 1 ≤ uses_in (record_at cells.records slot).state = omega (arith, ap uses_in free) in e)) in
       let same : at.node.slot ≡ slot = eqb-true at.node.slot slot at.passes in
-      let state : state_of at.node.status ≡ Free = sym (ap (λ (v : InPool). v.state) at.says) ∙ ap (λ q. (record_at cells.records q).state) same ∙ free in
+      let state : state_of at.node.state ≡ Free = sym (ap (λ (v : InPool). v.state) at.says) ∙ ap (λ q. (record_at cells.records q).state) same ∙ free in
       let size : at.node.size ≡ (record_at cells.records slot).size = sym (ap (λ (v : InPool). v.size) at.says) ∙ ap (λ q. (record_at cells.records q).size) same in
       let number = class (record_at cells.records slot).size in
-      let listed = free_listed at.node.status state (settled_node (has_slot slot) at) in
-      let in_class = and_from (is_listed at.node.status) (eqb (class at.node.size) number) listed (eq-eqb (class at.node.size) number (ap class size)) in
+      let listed = free_listed at.node.state state (settled_node (has_slot slot) at) in
+      let in_class = and_from (is_listed at.node.state) (eqb (class at.node.size) number) listed (eq-eqb (class at.node.size) number (ap class size)) in
       omega (arith, stands.represented.agree number (has_slot slot), at.among (λ node. is_listed_in number node && has_slot slot node) (and_from (is_listed_in number at.node) (has_slot slot at.node) in_class at.passes))

@@ -22,7 +22,7 @@ use Rattle.tlsf_heap.specs.Inner.Nodes.{Node, nodes_of, nodes_in, has_slot, is_l
 use Rattle.tlsf_heap.specs.Inner.Represents.{in_list, list_views, first_slot, AreLinked, uses_in, Represents}
 use Rattle.tlsf_heap.specs.Inner.Imaged.{AreImaged}
 use Rattle.tlsf_heap.proofs.Counts.{count-map}
-use Rattle.tlsf_heap.proofs.Images.ReadNodes.{node_at, layout_of, status_listed, first_followed, linked_followed, count_slots, nodes_of_areas, chains_are, entries_are}
+use Rattle.tlsf_heap.proofs.Images.ReadNodes.{node_at, layout_of, node_state_listed, first_followed, linked_followed, count_slots, nodes_of_areas, chains_are, entries_are}
 
 uses_one : (state : State) → one_if (is_used state) ≡ uses_in state
 uses_one Vacant = refl
@@ -98,7 +98,7 @@ module _ (cells : Cells) where
         let right : (slot : ℕ) → times slot (filter on_chain_passes chained) ≡ cond (is_listed_slot parts number slot && in_list_passes slot) (one_if (is_block parts slot)) 0 =
         λ slot. times-filter on_chain_passes slot chained
         ∙ ap (λ n. cond (on_chain_passes slot) n 0) (on_chain slot)
-        ∙ ap (λ b. cond ((b && eqb (class (at parts slot).size) number) && in_list_passes slot) (one_if (is_block parts slot)) 0) (status_listed (at parts slot).state) in
+        ∙ ap (λ b. cond ((b && eqb (class (at parts slot).size) number) && in_list_passes slot) (one_if (is_block parts slot)) 0) (node_state_listed (at parts slot).state) in
         let none : (slot : ℕ) → length cells.records ≤ slot → times slot (filter in_list_passes (listed number)) ≡ 0 = λ slot past. left slot ∙ nothing number slot (in_list_passes slot) past in
         ap (count_by test) (list_is number)
         ∙ count-map test node (listed number)

@@ -19,14 +19,14 @@ use Rattle.tlsf_heap.specs.Images.Described.{parts_of}
 use Rattle.tlsf_heap.specs.Content.{blocks_of}
 use Rattle.tlsf_heap.specs.Good.{Covers, NoFreeNeighbours, AreGoodPools, times, is_listed, AreLists, IsGood}
 use Rattle.tlsf_heap.specs.Inner.Entries.{entries_of}
-use Rattle.tlsf_heap.specs.Inner.Nodes.{Node, Area, block_of, pool_of, owner_of, content_by, nodes_of, nodes_in, has_place, is_listed as is_listed_status, is_listed_in}
+use Rattle.tlsf_heap.specs.Inner.Nodes.{Node, Area, block_of, pool_of, owner_of, content_by, nodes_of, nodes_in, has_place, is_listed as is_listed_state, is_listed_in}
 use Rattle.tlsf_heap.specs.Inner.Merging.{is_loose}
 use Rattle.tlsf_heap.specs.Inner.Following.{Stands}
 use Rattle.tlsf_heap.specs.Inner.Imaged.{AreImaged}
 use Rattle.tlsf_heap.proofs.Counts.{one_if, count-cons, count-map, count_same}
 use Rattle.tlsf_heap.proofs.Inner.Sums.{all_records}
 use Rattle.tlsf_heap.proofs.Meaning.Places.{blocks_of_areas}
-use Rattle.tlsf_heap.proofs.Images.ReadNodes.{status_in, node_at, area_from, layout_of, status_free, nodes_of_areas, entries_are}
+use Rattle.tlsf_heap.proofs.Images.ReadNodes.{node_state_in, node_at, area_from, layout_of, node_state_free, nodes_of_areas, entries_are}
 use Rattle.tlsf_heap.proofs.Images.Represented.{represents, agreed}
 
 module _ (cells : Cells) (imaged : AreImaged cells) where
@@ -52,7 +52,7 @@ module _ (cells : Cells) (imaged : AreImaged cells) where
   merged after [] is = tt
   merged after (slot ∷ slots) is =
       let both = and_parts (not (after && is_free_state (at parts slot).state)) (are_merged parts (is_free_state (at parts slot).state) slots) is in
-      let free = sym (status_free (at parts slot).state slot) in
+      let free = sym (node_state_free (at parts slot).state slot) in
       let P : Bool → Type 0 = λ b. IsTrue (not (after && b)) in
       let Q : Bool → Type 0 = λ b. NoFreeNeighbours b (map block_of (map node slots)) in
       (subst P free both.0, subst Q free (merged (is_free_state (at parts slot).state) slots both.1))
@@ -84,7 +84,7 @@ module _ (cells : Cells) (imaged : AreImaged cells) where
       )
 
   -- a free block of a class at a place, by its node and by its block
-  alike : (state : State) (slot place size : ℕ) (of_class here : Bool) → (is_none (owner_of (status_in state) slot) && (here && of_class)) ≡ ((is_listed_status (status_in state) && of_class) && here)
+  alike : (state : State) (slot place size : ℕ) (of_class here : Bool) → (is_none (owner_of (node_state_in state) slot) && (here && of_class)) ≡ ((is_listed_state (node_state_in state) && of_class) && here)
   alike Vacant slot place size of_class here = refl
   alike Live slot place size of_class here = refl
   alike Free slot place size true true = refl
@@ -131,20 +131,20 @@ module _ (cells : Cells) (imaged : AreImaged cells) where
         blocks_few = omega (arith, ap length (blocks_of_areas layout.areas), length-map (nodes_of layout.areas) block_of, all_records cells layout (represents cells imaged));
       }
 
-  never_loose : (state : State) → is_loose (status_in state) ≡ false
+  never_loose : (state : State) → is_loose (node_state_in state) ≡ false
   never_loose Vacant = refl
   never_loose Free = refl
   never_loose Live = refl
 
-  none_loose : (slots : List ℕ) → count_by (λ n. is_loose n.status) (map node slots) ≡ 0
+  none_loose : (slots : List ℕ) → count_by (λ n. is_loose n.state) (map node slots) ≡ 0
   none_loose [] = refl
-  none_loose (slot ∷ slots) = omega (arith, count-cons (λ (n : Node). is_loose n.status) (node slot) (map node slots), ap one_if (never_loose (at parts slot).state), none_loose slots)
+  none_loose (slot ∷ slots) = omega (arith, count-cons (λ (n : Node). is_loose n.state) (node slot) (map node slots), ap one_if (never_loose (at parts slot).state), none_loose slots)
 
   pub imaged_stand : Stands cells
   imaged_stand = record {
     layout = layout_of cells;
     represented = represents cells imaged;
-    settled = ap (count_by (λ n. is_loose n.status)) (nodes_of_areas parts (entries_of cells.pools)) ∙ none_loose (flat_map (chain_of parts) (entries_of cells.pools));
+    settled = ap (count_by (λ n. is_loose n.state)) (nodes_of_areas parts (entries_of cells.pools)) ∙ none_loose (flat_map (chain_of parts) (entries_of cells.pools));
     none_taken = refl;
     good = good;
   }

@@ -62,15 +62,15 @@ linked_slots says at next back tells tells_back test (suc n) before (node ∷ no
     ∙ ap (is_linked test (λ slot. next (at slot)) (λ slot. back (at slot)) n (Some node.slot)) (ap next linked.0 ∙ tells before node (first_slot nodes))
     ∙ rest
 
-used_status : (status : NodeState) → is_used (state_of status) ≡ true
-used_status InUse = refl
-used_status Listed = refl
-used_status Loose = refl
+used_node_state : (node_state : NodeState) → is_used (state_of node_state) ≡ true
+used_node_state InUse = refl
+used_node_state Listed = refl
+used_node_state Loose = refl
 
-free_status : (status : NodeState) (slot : ℕ) → is_none (owner_of status slot) ≡ is_free_state (state_of status)
-free_status InUse slot = refl
-free_status Listed slot = refl
-free_status Loose slot = refl
+free_node_state : (node_state : NodeState) (slot : ℕ) → is_none (owner_of node_state slot) ≡ is_free_state (state_of node_state)
+free_node_state InUse slot = refl
+free_node_state Listed slot = refl
+free_node_state Loose slot = refl
 
 pub uses_one : (state : State) → is_used state ≡ true → 1 ≤ uses_in state
 uses_one Vacant used = absurd (cc)
@@ -126,8 +126,8 @@ module _ (cells : Cells) (stands : Stands cells) where
   none_vacant : (before : Option ℕ) (nodes : List Node) → AreLinked in_pool (pool_views cells.records) before nodes → count_by (λ node. not (used node.slot)) nodes ≡ 0
   none_vacant before [] linked = refl
   none_vacant before (node ∷ nodes) linked =
-      let state : (at parts node.slot).state ≡ state_of node.status = ap (λ (v : InPool). v.state) linked.0 in
-      omega (arith, count-cons (λ (other : Node). not (used other.slot)) node nodes, ap (λ s. one_if (not (is_used s))) state, ap (λ b. one_if (not b)) (used_status node.status), none_vacant (Some node.slot) nodes linked.1)
+      let state : (at parts node.slot).state ≡ state_of node.state = ap (λ (v : InPool). v.state) linked.0 in
+      omega (arith, count-cons (λ (other : Node). not (used other.slot)) node nodes, ap (λ s. one_if (not (is_used s))) state, ap (λ b. one_if (not b)) (used_node_state node.state), none_vacant (Some node.slot) nodes linked.1)
 
   -- what is known of an area: its nodes are linked, and not too many
   abbrev AreKnown : List Area → Type 0
@@ -170,7 +170,7 @@ module _ (cells : Cells) (stands : Stands cells) where
   merged : (before : Option ℕ) (after : Bool) (nodes : List Node) → AreLinked in_pool (pool_views cells.records) before nodes → NoFreeNeighbours after (map block_of nodes) → are_merged parts after (slots nodes) ≡ true
   merged before after [] linked is = refl
   merged before after (node ∷ nodes) linked is =
-      let free : is_free (block_of node) ≡ is_free_state (at parts node.slot).state = free_status node.status node.slot ∙ ap is_free_state (sym (ap (λ (v : InPool). v.state) linked.0)) in
+      let free : is_free (block_of node) ≡ is_free_state (at parts node.slot).state = free_node_state node.state node.slot ∙ ap is_free_state (sym (ap (λ (v : InPool). v.state) linked.0)) in
       let P : Bool → Type 0 = λ b. IsTrue (not (after && b)) in
       let Q : Bool → Type 0 = λ b. NoFreeNeighbours b (map block_of nodes) in
       and_from (not (after && is_free_state (at parts node.slot).state)) (are_merged parts (is_free_state (at parts node.slot).state) (slots nodes)) (subst P free is.0)

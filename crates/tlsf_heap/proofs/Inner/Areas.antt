@@ -54,7 +54,7 @@ area_at (suc number) (first ∷ areas) within =
       others = ap (λ entries. first.entry ∷ entries) rest.others ∙ ap entries_in (sym (plug-first rest.front first rest.behind));
     }
 
-state_free : (status : NodeState) (node : Node) → (is_free (block_of (record node { status = status })) && true) ≡ (is_free_state (state_of status) && true)
+state_free : (node_state : NodeState) (node : Node) → (is_free (block_of (record node { state = node_state })) && true) ≡ (is_free_state (state_of node_state) && true)
 state_free InUse node = refl
 state_free Listed node = refl
 state_free Loose node = refl
@@ -69,7 +69,7 @@ pub record FirstNode (records : List Record) (area : Area) : Type 0 where
   pub nodes : List Node
   pub whole : area.nodes ≡ node ∷ nodes
   pub slot_is : node.slot ≡ area.entry.first
-  pub state_is : (record_at records node.slot).state ≡ state_of node.status
+  pub state_is : (record_at records node.slot).state ≡ state_of node.state
   pub next_is : (record_at records node.slot).next ≡ first_slot nodes
   -- the pool is one free block
   pub unused : is_unused (pool_of area) ≡ (is_free_state (record_at records node.slot).state && is_none (record_at records node.slot).next)
@@ -94,8 +94,8 @@ first_node records area chain = of area.nodes refl
           unused = rw (is, state, next) (alone nodes);
         }
       where
-        alone : (ns : List Node) → is_unused (pool_of (record area { nodes = node ∷ ns })) ≡ (is_free_state (state_of node.status) && is_none (first_slot ns))
-        alone [] = state_free node.status node
+        alone : (ns : List Node) → is_unused (pool_of (record area { nodes = node ∷ ns })) ≡ (is_free_state (state_of node.state) && is_none (first_slot ns))
+        alone [] = state_free node.state node
         alone (n ∷ ns) =
             let blocks : List (Block ℕ) = map block_of (node ∷ n ∷ ns) in
-            ap (λ b. b && list_all is_free blocks) (ne_eqb (length blocks) 1 (λ e. absurd (omega (arith, e)))) ∙ sym (never_alone (is_free_state (state_of node.status)))
+            ap (λ b. b && list_all is_free blocks) (ne_eqb (length blocks) 1 (λ e. absurd (omega (arith, e)))) ∙ sym (never_alone (is_free_state (state_of node.state)))

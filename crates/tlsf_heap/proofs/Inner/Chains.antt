@@ -95,7 +95,7 @@ agree_refilled position olds news lists agree same number test =
     omega (arith, agree number test, same number test, count-filled listed position olds, count-filled listed position news)
 
 -- a node that is in no list counts in none
-pub unlisted : (number : ℕ) (test : Node → Bool) (node : Node) → is_listed node.status ≡ false → one_if (is_listed_in number node && test node) ≡ 0
+pub unlisted : (number : ℕ) (test : Node → Bool) (node : Node) → is_listed node.state ≡ false → one_if (is_listed_in number node && test node) ≡ 0
 unlisted number test node not_listed = ap (λ b. one_if ((b && eqb (class node.size) number) && test node)) not_listed
 
 -- the index where no listed slot reads otherwise
@@ -116,7 +116,7 @@ module _ (areas : List Area) (lists : List (List Node)) (agree : Agree areas lis
 
 -- the slot of a node that is in no list stands in none
 pub unlisted_nowhere : (at : ℕ → InPool) (position : Position) (node : Node) (nodes : List Node) (lists : List (List Node)) (taken : List ℕ)
-    → AreChains at (filled position (node ∷ nodes)) taken → Agree (filled position (node ∷ nodes)) lists → is_listed node.status ≡ false → (number : ℕ) → count_by (has_slot node.slot) (nodes_in number lists) ≡ 0
+    → AreChains at (filled position (node ∷ nodes)) taken → Agree (filled position (node ∷ nodes)) lists → is_listed node.state ≡ false → (number : ℕ) → count_by (has_slot node.slot) (nodes_in number lists) ≡ 0
 unlisted_nowhere at position node nodes lists taken chains agree not_listed number =
     let listed : Node → Bool = λ other. is_listed_in number other && has_slot node.slot other in
     omega (
@@ -135,7 +135,7 @@ unlisted_nowhere at position node nodes lists taken chains agree not_listed numb
     )
 
 -- the record of a node is in use
-pub uses_node : (status : NodeState) → uses_in (state_of status) ≡ 1
+pub uses_node : (node_state : NodeState) → uses_in (state_of node_state) ≡ 1
 uses_node InUse = refl
 uses_node Listed = refl
 uses_node Loose = refl
@@ -165,7 +165,7 @@ at_node records position node nodes taken were =
     let once = slots_once (pool_views records) position (node ∷ nodes) taken were in
     let most = slots_most (pool_views records) position (node ∷ nodes) taken were in
     let counts : (q : ℕ) → count_by (has_slot q) (node ∷ nodes) ≡ one_if (eqb node.slot q) + count_by (has_slot q) nodes = λ q. count-cons (has_slot q) node nodes in
-    let used : uses_in (record_at records node.slot).state ≡ 1 = ap (λ (v : InPool). uses_in v.state) links.0 ∙ uses_node node.status in
+    let used : uses_in (record_at records node.slot).state ≡ 1 = ap (λ (v : InPool). uses_in v.state) links.0 ∙ uses_node node.state in
     let own : (q : ℕ) → q ≡ node.slot → one_if (eqb node.slot q) ≡ 1 = λ q e. ap one_if (eq-eqb node.slot q (sym e)) in
     record {
       says = links.0;

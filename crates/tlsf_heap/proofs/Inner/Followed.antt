@@ -27,7 +27,7 @@ follow_linked says at next tells (suc n) before (node ∷ nodes) few l =
     ap (λ first. node.slot ∷ follow n (λ slot. next (at slot)) first) (ap next l.0 ∙ tells before node (first_slot nodes))
     ∙ ap (λ slots. node.slot ∷ slots) (follow_linked says at next tells n (Some node.slot) nodes (omega (arith, few)) l.1)
 
-owner_is : (status : NodeState) (slot : ℕ) → owner_in (state_of status) slot ≡ owner_of status slot
+owner_is : (node_state : NodeState) (slot : ℕ) → owner_in (state_of node_state) slot ≡ owner_of node_state slot
 owner_is InUse slot = refl
 owner_is Listed slot = refl
 owner_is Loose slot = refl
@@ -37,7 +37,7 @@ module _ (records : List Record) where
   blocks_read before [] l = refl
   blocks_read before (node ∷ nodes) l =
       let here : block_at records node.slot ≡ block_of node =
-      ap (λ (v : InPool). record { place = v.place; size = v.size; owner = owner_in v.state node.slot }) l.0 ∙ ap (λ o. record { place = node.place; size = node.size; owner = o }) (owner_is node.status node.slot) in
+      ap (λ (v : InPool). record { place = v.place; size = v.size; owner = owner_in v.state node.slot }) l.0 ∙ ap (λ o. record { place = node.place; size = node.size; owner = o }) (owner_is node.state node.slot) in
       ap (λ block. block ∷ map (block_at records) (map (λ n. n.slot) nodes)) here ∙ ap (λ blocks. block_of node ∷ blocks) (blocks_read (Some node.slot) nodes l.1)
 
   pools_read : (areas : List Area) → length (nodes_of areas) ≤ length records → AllByRecursion (IsChain (pool_views records)) areas → map (pool_from records) (map (λ (area : Area). area.entry) areas) ≡ map pool_of areas

@@ -22,14 +22,14 @@ use Rattle.tlsf_heap.proofs.Inner.Chains.{chains_refilled, linked_at, uses_most,
 use Rattle.tlsf_heap.proofs.Inner.Taken.{counted_apart}
 
 -- a node at a position enters or leaves its list: its pool doesn't see it
-pub chains_turned : (at new : ℕ → InPool) (position : Position) (node : Node) (nodes : List Node) (old status : NodeState) (taken : List ℕ) → state_of status ≡ state_of old → new ≡ at
-    → AreChains at (filled position (turned old node ∷ nodes)) taken → AreChains new (filled position (turned status node ∷ nodes)) taken
-chains_turned at new position node nodes old status taken alike same were =
-    let P : (ℕ → InPool) → Type 0 = λ views. AreChains views (filled position (turned status node ∷ nodes)) taken in
+pub chains_turned : (at new : ℕ → InPool) (position : Position) (node : Node) (nodes : List Node) (old node_state : NodeState) (taken : List ℕ) → state_of node_state ≡ state_of old → new ≡ at
+    → AreChains at (filled position (turned old node ∷ nodes)) taken → AreChains new (filled position (turned node_state node ∷ nodes)) taken
+chains_turned at new position node nodes old node_state taken alike same were =
+    let P : (ℕ → InPool) → Type 0 = λ views. AreChains views (filled position (turned node_state node ∷ nodes)) taken in
     let links = linked_at at position (turned old node ∷ nodes) taken were in
-    let said : at node.slot ≡ in_pool (first_slot position.before) (turned status node) (first_slot nodes) = links.0 ∙ ap (λ s. record { place = node.place; size = node.size; state = s; prev = first_slot position.before; next = first_slot nodes }) (sym alike) in
-    subst P (sym same) (chains_refilled at at position (turned old node ∷ nodes) (turned status node ∷ nodes) taken taken were (λ q h. refl) refl (said, links.1)
-    (λ q. omega (arith, count-cons (has_slot q) (turned old node) nodes, count-cons (has_slot q) (turned status node) nodes)))
+    let said : at node.slot ≡ in_pool (first_slot position.before) (turned node_state node) (first_slot nodes) = links.0 ∙ ap (λ s. record { place = node.place; size = node.size; state = s; prev = first_slot position.before; next = first_slot nodes }) (sym alike) in
+    subst P (sym same) (chains_refilled at at position (turned old node ∷ nodes) (turned node_state node ∷ nodes) taken taken were (λ q h. refl) refl (said, links.1)
+    (λ q. omega (arith, count-cons (has_slot q) (turned old node) nodes, count-cons (has_slot q) (turned node_state node) nodes)))
 
 module _ (cells : Cells) (count : ℕ) (position : Position) (node : Node) (nodes : List Node) (lists : List (List Node)) (taken : List ℕ) (was : Represents cells (laid count position (turned Loose node ∷ nodes) lists taken)) where
   abbrev number : ℕ

@@ -18,7 +18,7 @@ lists_apart areas lists number other q agree apart =
       arith,
       agree number (has_slot q),
       agree other (has_slot q),
-      count_apart in_one in_other (has_slot q) (λ node. both (is_listed node.status) (eqb (class node.size) number) (eqb (class node.size) other) (has_slot q node)
+      count_apart in_one in_other (has_slot q) (λ node. both (is_listed node.state) (eqb (class node.size) number) (eqb (class node.size) other) (has_slot q node)
           (λ e. ne_eqb (class node.size) other (λ f. apart (sym (eqb-true (class node.size) number e) ∙ f)))) (nodes_of areas),
     )
   where

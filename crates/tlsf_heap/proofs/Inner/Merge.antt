@@ -17,7 +17,7 @@ use Rattle.tlsf_heap.proofs.Inner.Reads.{length-edited, edited_here, edited_apar
 use Rattle.tlsf_heap.proofs.Inner.Chains.{unlisted, unlisted_nowhere, AtNode, at_node, refilled}
 
 module _ (cells : Cells) (count : ℕ) (position : Position) (node behind : Node) (nodes : List Node) (lists : List (List Node)) (taken : List ℕ)
-    (was : Represents cells (laid count position (node ∷ behind ∷ nodes) lists taken)) (was_not : is_listed node.status ≡ false) (behind_not : is_listed behind.status ≡ false) where
+    (was : Represents cells (laid count position (node ∷ behind ∷ nodes) lists taken)) (was_not : is_listed node.state ≡ false) (behind_not : is_listed behind.state ≡ false) where
   abbrev old : Record
   old = record_at cells.records node.slot
 

@@ -50,17 +50,17 @@ module _ (records : List Record) where
   abbrev unfree : Node → Bool
   unfree node = not (is_free_state (record_at records node.slot).state)
 
-  listed_free : (number : ℕ) (node : Node) → (record_at records node.slot).state ≡ state_of node.status → one_if (is_listed_in number node && unfree node) ≡ 0
-  listed_free number node is = by_status node.status (ap is_free_state is)
+  listed_free : (number : ℕ) (node : Node) → (record_at records node.slot).state ≡ state_of node.state → one_if (is_listed_in number node && unfree node) ≡ 0
+  listed_free number node is = by_node_state node.state (ap is_free_state is)
     where
-      by_status : (status : NodeState) → is_free_state (record_at records node.slot).state ≡ is_free_state (state_of status) → one_if ((is_listed status && eqb (class node.size) number) && unfree node) ≡ 0
-      by_status InUse is = refl
-      by_status Listed is = rw is (nothing (eqb (class node.size) number))
+      by_node_state : (node_state : NodeState) → is_free_state (record_at records node.slot).state ≡ is_free_state (state_of node_state) → one_if ((is_listed node_state && eqb (class node.size) number) && unfree node) ≡ 0
+      by_node_state InUse is = refl
+      by_node_state Listed is = rw is (nothing (eqb (class node.size) number))
         where
           nothing : (b : Bool) → one_if (b && false) ≡ 0
           nothing true = refl
           nothing false = refl
-      by_status Loose is = refl
+      by_node_state Loose is = refl
 
   all_free : (number : ℕ) (before : Option ℕ) (nodes : List Node) → AreLinked in_pool (pool_views records) before nodes → count_by (λ node. is_listed_in number node && unfree node) nodes ≡ 0
   all_free number before [] l = refl

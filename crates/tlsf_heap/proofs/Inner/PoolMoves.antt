@@ -79,7 +79,7 @@ module _ (cells : Cells) (count : ℕ) (front behind : List Area) (lists : List 
       }
 
 module _ (cells : Cells) (count : ℕ) (front behind : List Area) (lists : List (List Node)) (entry : StoredPool) (node : Node) (taken : List ℕ)
-    (was : Represents cells (record { count = count; areas = plug front (area_of_one entry node ∷ behind); lists = lists; taken = taken })) (was_not : is_listed node.status ≡ false) where
+    (was : Represents cells (record { count = count; areas = plug front (area_of_one entry node ∷ behind); lists = lists; taken = taken })) (was_not : is_listed node.state ≡ false) where
   abbrev emptied : List Record
   emptied = set cells.records node.slot blank
 

@@ -136,7 +136,7 @@ module _ (cells : Cells) (stands : Stands cells) (base : ℕ) where
         abbrev pub node_there : At
         node_there = at_found cells stands (has_slot slot) here
 
-        listed : (first.node.status ≡ Listed) × (first.node.place ≡ (record_at cells.records slot).place)
+        listed : (first.node.state ≡ Listed) × (first.node.place ≡ (record_at cells.records slot).place)
         listed = found_listed cells stands slot here (free_state (record_at cells.records slot).state (and_parts _ _ unused).0)
 
         pub stands_there : StandsAt slot Listed cells node_there
@@ -178,7 +178,7 @@ module _ (cells : Cells) (stands : Stands cells) (base : ℕ) where
 
         pub removed_stands : (new : Cells) → Represents new (without_area node_there) → Stands new × (remove_pool base (content_of cells) ≡ Ok (content_of new))
         removed_stands new after =
-            let loose : Node → Bool = λ node. is_loose node.status in
+            let loose : Node → Bool = λ node. is_loose node.state in
             let P : Content ℕ → Type 0 = λ x. IsGood x in
             let gone : remove_pool base (content_of cells) ≡ Ok (without_pool (pool_of at.area) (content_of cells)) =
             ap (λ o. remove_found o (content_of cells)) found.0 ∙ found_unused (pool_of at.area) (content_of cells) unused_pool in (

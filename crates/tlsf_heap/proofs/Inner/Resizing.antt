@@ -35,7 +35,7 @@ module _ (cells : Cells) (stands : Stands cells) (place slot : ℕ) (by : NodeAt
 
   none_loose : NoneLoose by.at.nodes
   none_loose =
-      let loose : Node → Bool = λ n. is_loose n.status in
+      let loose : Node → Bool = λ n. is_loose n.state in
       omega (arith, by.stands.1.others_settled, count-filled loose by.at.position by.at.nodes)
 
   -- its size
@@ -71,7 +71,7 @@ module _ (cells : Cells) (stands : Stands cells) (place slot : ℕ) (by : NodeAt
       → StandsAt slot InUse new (at_split_rest rest m (next_merged by.at)) → Stands new × (content_of new ≡ resized slot place m (content_of cells))
   resized_stands new m rest live fits other some whole after =
       let is : content_by (layout_at (at_split_rest rest m (next_merged by.at))) ≡ resized slot place m (content_of cells) =
-      ap (λ s. content_by (layout_at (at_split_rest rest m (next_merged (record by.at { node = turned s by.at.node }))))) by.stands.1.status_is
+      ap (λ s. content_by (layout_at (at_split_rest rest m (next_merged (record by.at { node = turned s by.at.node }))))) by.stands.1.node_state_is
       ∙ rest_split_is by.at.count by.at.position by.at.node by.at.nodes by.at.lists by.at.taken told none_loose (node_good cells stands place slot InUse by) rest m by.at.taken some whole
       ∙ ap (λ s. resized s by.at.node.place m (content_by (layout_at (record by.at { node = turned InUse by.at.node })))) by.stands.1.slot_is
       ∙ ap (λ p. resized slot p m (content_by (layout_at (record by.at { node = turned InUse by.at.node })))) by.place_is
@@ -85,7 +85,7 @@ module _ (cells : Cells) (stands : Stands cells) (place slot : ℕ) (by : NodeAt
 
   past_length : (nodes : List Node) → length (past nodes) + cond {A = ℕ} (is_some (listed_first nodes)) 1 0 ≡ length nodes
   past_length [] = refl
-  past_length (node ∷ nodes) = elim (is_listed node.status) as (λ b. length (cond b nodes (node ∷ nodes)) + cond {A = ℕ} (is_some (cond b (Some node) None)) 1 0 ≡ length (node ∷ nodes)) [ true ↦ omega arith | false ↦ omega arith ]
+  past_length (node ∷ nodes) = elim (is_listed node.state) as (λ b. length (cond b nodes (node ∷ nodes)) + cond {A = ℕ} (is_some (cond b (Some node) None)) 1 0 ≡ length (node ∷ nodes)) [ true ↦ omega arith | false ↦ omega arith ]
 
   -- after the merge there are the bytes asked for, and a record for what is left
   pub merged_holds : (new : Cells) (m : ℕ) → fits_in_place place m (content_of cells) ≡ true → StandsAt slot InUse new (next_merged by.at) → (m ≤ (next_merged by.at).node.size) × (m < (record_at new.records slot).size → 0 < vacant_count new.records)

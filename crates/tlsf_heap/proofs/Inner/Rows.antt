@@ -29,10 +29,10 @@ abbrev first_split : Cells
 first_split = with_state 0 Live (linked 57 1 (split 0 1 112 (unlinked 64 0 (with_taken (pool_entered entry (with_taken (empty_cells 4) (Some 0))) (Some 1)))))
 
 abbrev taken : Node
-taken = record { slot = 0; place = 0; size = 112; status = InUse }
+taken = record { slot = 0; place = 0; size = 112; state = InUse }
 
 abbrev rest : Node
-rest = record { slot = 1; place = 112; size = 912; status = Listed }
+rest = record { slot = 1; place = 112; size = 912; state = Listed }
 
 abbrev split_layout : Layout
 split_layout = laid 4 (position []) (taken ∷ rest ∷ []) (entered rest (replicate classes [])) []
@@ -60,13 +60,13 @@ the_row = refl
 
 -- sixteen bytes more are taken, and the first block is freed; then the one between two free ones is freed
 abbrev front : Node
-front = record { slot = 0; place = 0; size = 112; status = Listed }
+front = record { slot = 0; place = 0; size = 112; state = Listed }
 
 abbrev middle : Node
-middle = record { slot = 1; place = 112; size = 16; status = InUse }
+middle = record { slot = 1; place = 112; size = 16; state = InUse }
 
 abbrev back : Node
-back = record { slot = 2; place = 128; size = 896; status = Listed }
+back = record { slot = 2; place = 128; size = 896; state = Listed }
 
 abbrev before_free : Layout
 before_free = laid 4 (position (front ∷ [])) (middle ∷ back ∷ []) (entered front (entered back (replicate classes []))) []

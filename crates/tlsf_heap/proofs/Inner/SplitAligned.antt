@@ -86,7 +86,7 @@ module _ (cells : Cells) (stands : Stands cells) (place slot align asked : ℕ) 
   -- a slot that is vacant once the block was taken is of no live block
   pub vacant_new : (taken : Cells) → StandsAt slot InUse taken (at_taken by.at) → (q : ℕ) → record_at taken.records q ≡ blank → slot_times q (blocks_of (content_of cells).pools) ≡ 0
   vacant_new taken after q vacant =
-      let owns : Node → Bool = λ n. is_slot q (owner_of n.status n.slot) in
+      let owns : Node → Bool = λ n. is_slot q (owner_of n.state n.slot) in
       let blocks = ap (λ (x : Content ℕ). slot_times q (blocks_of x.pools)) (stood_for cells stands ∙ ap content_by by.layout_is) ∙ ap (slot_times q) (blocks_of_areas (areas_at by.at)) ∙ count-map (λ (b : Block ℕ). is_slot q b.owner) block_of (nodes_of (areas_at by.at)) in
       omega (
         arith,
@@ -104,8 +104,8 @@ module _ (cells : Cells) (stands : Stands cells) (place slot align asked : ℕ) 
   pub vacant_after : (new : Cells) (live : ℕ) → StandsAt live InUse new (at_gapped live front (at_taken by.at)) → vacant_count new.records + gap_records front ≡ vacant_count cells.records
   vacant_after new live after =
       let all : Node → Bool = λ n. true in
-      let gap_node : Node = record { slot = by.at.node.slot; place = by.at.node.place; size = front; status = Listed } in
-      let kept : Node = record by.at.node { slot = live; place = by.at.node.place + front; size = by.at.node.size - front; status = InUse } in
+      let gap_node : Node = record { slot = by.at.node.slot; place = by.at.node.place; size = front; state = Listed } in
+      let kept : Node = record by.at.node { slot = live; place = by.at.node.place + front; size = by.at.node.size - front; state = InUse } in
       let gapped : List Node = gap_nodes by.at.node.slot by.at.node.place front in
       let counted : length gapped ≡ gap_records front = elim (front == 0) as (λ b. length (cond b [] (gap_node ∷ [])) ≡ cond b 0 1) [ true ↦ refl | false ↦ refl ] in
       omega (

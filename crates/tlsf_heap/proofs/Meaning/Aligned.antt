@@ -37,7 +37,7 @@ module _ (count : ℕ) (position : Position) (node : Node) (nodes : List Node) (
   aligned_is live rest front m taken kept =
       let start : ℕ = node.place + front in
       let left_over : ℕ = (node.size - front) - m in
-      let block : Node = record { slot = live; place = start; size = m; status = InUse } in
+      let block : Node = record { slot = live; place = start; size = m; state = InUse } in
       let gaps : List Node = gap_nodes node.slot node.place front in
       let rests : List Node = gap_nodes rest (start + m) left_over in
       let news : map block_of (gaps ++ (block ∷ rests)) ≡ gap node.place front ++ split live start m (node.size - front) =
@@ -59,12 +59,12 @@ module _ (count : ℕ) (position : Position) (node : Node) (nodes : List Node) (
       -- what stands behind a gap in front of a position
       behind_gap : (ns : List Node) (slot place size : ℕ) → filled (record position { before = gap_nodes slot place size ++ position.before }) ns ≡ filled position (gap_nodes slot place size ++ ns)
       behind_gap ns slot place size =
-          let gap_node : Node = record { slot = slot; place = place; size = size; status = Listed } in
+          let gap_node : Node = record { slot = slot; place = place; size = size; state = Listed } in
           elim (size == 0) as (λ b. filled (record position { before = cond b [] (gap_node ∷ []) ++ position.before }) ns ≡ filled position (cond b [] (gap_node ∷ []) ++ ns)) [ true ↦ refl | false ↦ refl ]
 
       full_gap : (slot place size : ℕ) (ls : List (List Node)) → length ls ≡ classes → length (entered_gap slot place size ls) ≡ classes
       full_gap slot place size ls full =
-          let gap_node : Node = record { slot = slot; place = place; size = size; status = Listed } in
+          let gap_node : Node = record { slot = slot; place = place; size = size; state = Listed } in
           elim (size == 0) as (λ b. length (cond b ls (entered gap_node ls)) ≡ classes) [ true ↦ full | false ↦ length-entered gap_node ls full ]
 
   -- with no gap in front it is taken as malloc takes it: whole, or split at m bytes

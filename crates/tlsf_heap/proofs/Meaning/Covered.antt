@@ -48,8 +48,8 @@ covered_refilled position olds news covers c =
     )) 0 c
 
 -- two blocks side by side, and one of both their sizes
-pub covers_both : (status : NodeState) (front node : Node) (nodes : List Node) → (from to : ℕ) → Covers from to (map block_of (front ∷ node ∷ nodes)) → Covers from to (map block_of (record front { size = front.size + node.size; status = status } ∷ nodes))
-covers_both status front node nodes from to c =
+pub covers_both : (node_state : NodeState) (front node : Node) (nodes : List Node) → (from to : ℕ) → Covers from to (map block_of (front ∷ node ∷ nodes)) → Covers from to (map block_of (record front { size = front.size + node.size; state = node_state } ∷ nodes))
+covers_both node_state front node nodes from to c =
     let P : ℕ → Type 0 = λ n. Covers n to (map block_of nodes) in
     let same : (from + front.size) + node.size ≡ from + (front.size + node.size) = omega arith in
     (c.0, omega (arith, c.1), omega (arith, c.2, c.3.2), subst P same c.3.3)

@@ -20,32 +20,32 @@ use Rattle.tlsf_heap.proofs.Meaning.FreedIsGood.{after_is}
 
 -- no node is loose
 abbrev pub NoneLoose : List Node → Type 0
-NoneLoose nodes = count_by (λ node. is_loose node.status) nodes ≡ 0
+NoneLoose nodes = count_by (λ node. is_loose node.state) nodes ≡ 0
 
 -- where no node is loose, the free ones are listed
-free_is : (node : Node) (nodes : List Node) → NoneLoose (node ∷ nodes) → is_none (owner_of node.status node.slot) ≡ is_listed node.status
-free_is node nodes none = by_status node.status (elim (cases_Bool (is_loose node.status)) [
-  | inl loose ↦ absurd (omega (arith, none, count-cons (λ n. is_loose n.status) node nodes, ap one_if loose))
+free_is : (node : Node) (nodes : List Node) → NoneLoose (node ∷ nodes) → is_none (owner_of node.state node.slot) ≡ is_listed node.state
+free_is node nodes none = by_node_state node.state (elim (cases_Bool (is_loose node.state)) [
+  | inl loose ↦ absurd (omega (arith, none, count-cons (λ n. is_loose n.state) node nodes, ap one_if loose))
   | inr settled ↦ settled
 ])
   where
-    by_status : (status : NodeState) → is_loose status ≡ false → is_none (owner_of status node.slot) ≡ is_listed status
-    by_status InUse settled = refl
-    by_status Listed settled = refl
-    by_status Loose settled = absurd (cc)
+    by_node_state : (node_state : NodeState) → is_loose node_state ≡ false → is_none (owner_of node_state node.slot) ≡ is_listed node_state
+    by_node_state InUse settled = refl
+    by_node_state Listed settled = refl
+    by_node_state Loose settled = absurd (cc)
 
 pub listed_is_free : (nodes : List Node) → NoneLoose nodes → if_free (first_block nodes) ≡ option_map block_of (listed_first nodes)
 listed_is_free [] none = refl
 listed_is_free (node ∷ nodes) none =
     ap (λ b. cond b (Some (block_of node)) None) (free_is node nodes none)
-    ∙ elim (is_listed node.status) as (λ b. cond b (Some (block_of node)) None ≡ option_map block_of (cond b (Some node) None)) [ true ↦ refl | false ↦ refl ]
+    ∙ elim (is_listed node.state) as (λ b. cond b (Some (block_of node)) None ≡ option_map block_of (cond b (Some node) None)) [ true ↦ refl | false ↦ refl ]
 
 -- and what is behind the first is the same
 pub past_is : (nodes : List Node) → NoneLoose nodes → past_free (map block_of nodes) ≡ map block_of (past nodes)
 past_is [] none = refl
 past_is (node ∷ nodes) none =
     ap (λ b. cond b (map block_of nodes) (block_of node ∷ map block_of nodes)) (free_is node nodes none)
-    ∙ elim (is_listed node.status) as (λ b. cond b (map block_of nodes) (block_of node ∷ map block_of nodes) ≡ map block_of (cond b nodes (node ∷ nodes))) [ true ↦ refl | false ↦ refl ]
+    ∙ elim (is_listed node.state) as (λ b. cond b (map block_of nodes) (block_of node ∷ map block_of nodes) ≡ map block_of (cond b nodes (node ∷ nodes))) [ true ↦ refl | false ↦ refl ]
 
 module _ (position : Position) (node : Node) (nodes : List Node) (lists : List (List Node)) (told : AgreeOnce (filled position (node ∷ nodes)) lists) where
   abbrev front : Option Node
@@ -68,8 +68,8 @@ module _ (position : Position) (node : Node) (nodes : List Node) (lists : List (
 
   -- a listed neighbour leaves its list, also where the other left
   neighbour_left : (at : Position) (n : Node) (others : List Node) (o : Option Node) → AgreeOnce (filled at (n ∷ others)) lists
-      → by_places (left_by (cond (is_listed n.status) (Some n) None) (left_by o lists)) ≡ unlink_block (option_map block_of (cond (is_listed n.status) (Some n) None)) (by_places (left_by o lists))
-  neighbour_left at n others o there = elim (is_listed n.status) as (λ b. by_places (left_by (cond b (Some n) None) (left_by o lists)) ≡ unlink_block (option_map block_of (cond b (Some n) None)) (by_places (left_by o lists))) [
+      → by_places (left_by (cond (is_listed n.state) (Some n) None) (left_by o lists)) ≡ unlink_block (option_map block_of (cond (is_listed n.state) (Some n) None)) (by_places (left_by o lists))
+  neighbour_left at n others o there = elim (is_listed n.state) as (λ b. by_places (left_by (cond b (Some n) None) (left_by o lists)) ≡ unlink_block (option_map block_of (cond b (Some n) None)) (by_places (left_by o lists))) [
     | true ↦ places-left n (left_by o lists) (full_front o) (still_alike n o (alike n lists at n others refl refl there))
     | false ↦ refl
   ]
@@ -103,7 +103,7 @@ module _ (position : Position) (node : Node) (nodes : List Node) (lists : List (
     lists = link (start_of f node.place) (size_of f + node.size + size_of b) (unlink_block b (unlink_block f (by_places lists)));
   }
 
-  pub freed_is : (count : ℕ) (taken kept : List ℕ) → node.status ≡ InUse → NoneLoose position.before → NoneLoose nodes → IsGood (content_by (laid count position (node ∷ nodes) lists taken))
+  pub freed_is : (count : ℕ) (taken kept : List ℕ) → node.state ≡ InUse → NoneLoose position.before → NoneLoose nodes → IsGood (content_by (laid count position (node ∷ nodes) lists taken))
       → content_by (freed_layout count position node nodes lists kept) ≡ after_free node.place (content_by (laid count position (node ∷ nodes) lists taken))
   freed_is count taken kept in_use before_settled behind_settled good =
       let merged : Node = turned Listed (merged_node position node nodes) in
@@ -120,5 +120,5 @@ module _ (position : Position) (node : Node) (nodes : List Node) (lists : List (
       let of : List (Pool ℕ) → Content ℕ = λ pools. record { records = count; pools = pools; lists = by_places lists } in
       let P : Content ℕ → Type 0 = λ x. IsGood x in
       let is : of (map pool_of (filled position (node ∷ nodes))) ≡ of (filled_pools (block_position position) (map block_of (node ∷ nodes))) = ap of (pools_are position (node ∷ nodes)) in
-      let live : is_none (owner_of node.status node.slot) ≡ false = ap (λ s. is_none (owner_of s node.slot)) in_use in
+      let live : is_none (owner_of node.state node.slot) ≡ false = ap (λ s. is_none (owner_of s node.slot)) in_use in
       new_is ∙ sym by_blocks ∙ sym (ap (after_free node.place) is ∙ after_is count (block_position position) (block_of node) (map block_of nodes) (by_places lists) (subst P is good) live)

@@ -21,11 +21,11 @@ use Rattle.tlsf_heap.specs.Inner.At.{layout_at, next_merged, at_split_rest}
 
 -- a gap as a node and as a block
 pub gap_is : (slot place size : ℕ) → map block_of (gap_nodes slot place size) ≡ gap place size
-gap_is slot place size = elim (size == 0) as (λ b. map block_of (cond b [] (record { slot = slot; place = place; size = size; status = Listed } ∷ [])) ≡ cond b [] (record { place = place; size = size; owner = None } ∷ [])) [ true ↦ refl | false ↦ refl ]
+gap_is slot place size = elim (size == 0) as (λ b. map block_of (cond b [] (record { slot = slot; place = place; size = size; state = Listed } ∷ [])) ≡ cond b [] (record { place = place; size = size; owner = None } ∷ [])) [ true ↦ refl | false ↦ refl ]
 
 pub gap_entered : (slot place size : ℕ) (lists : List (List Node)) → length lists ≡ classes → by_places (entered_gap slot place size lists) ≡ link_gap place size (by_places lists)
 gap_entered slot place size lists full =
-    let node : Node = record { slot = slot; place = place; size = size; status = Listed } in
+    let node : Node = record { slot = slot; place = place; size = size; state = Listed } in
     elim (size == 0) as (λ b. by_places (cond b lists (entered node lists)) ≡ cond b (by_places lists) (link place size (by_places lists))) [ true ↦ refl | false ↦ places-entered node lists full ]
 
 module _ (count : ℕ) (position : Position) (node : Node) (nodes : List Node) (lists : List (List Node)) (taken : List ℕ) (told : AgreeOnce (filled position (turned InUse node ∷ nodes)) lists) (settled : NoneLoose nodes)

@@ -38,16 +38,16 @@ areas_at at = filled at.position (at.node ∷ at.nodes)
 abbrev pub layout_at : At → Layout
 layout_at at = laid at.count at.position (at.node ∷ at.nodes) at.lists at.taken
 
--- the node has this slot and this status, no other is loose, and the blocks cover their pools
-pub record IsAt (slot : ℕ) (status : NodeState) (at : At) : Type 0 where
+-- the node has this slot and this state, no other is loose, and the blocks cover their pools
+pub record IsAt (slot : ℕ) (node_state : NodeState) (at : At) : Type 0 where
   pub slot_is : at.node.slot ≡ slot
-  pub status_is : at.node.status ≡ status
-  pub others_settled : count_by (λ node. is_loose node.status) (nodes_of (filled at.position at.nodes)) ≡ 0
+  pub node_state_is : at.node.state ≡ node_state
+  pub others_settled : count_by (λ node. is_loose node.state) (nodes_of (filled at.position at.nodes)) ≡ 0
   pub covered : AreCovered 0 (map pool_of (areas_at at))
 
--- the node in another status
+-- the node in another state
 abbrev pub at_turned : NodeState → At → At
-at_turned status at = record at { node = turned status at.node }
+at_turned node_state at = record at { node = turned node_state at.node }
 
 -- a free node in front, if there is one, left its list and was merged with the node
 abbrev pub previous_merged : At → At
@@ -105,9 +105,9 @@ at_freed at = at_listed (next_merged (previous_merged (at_turned Loose at)))
 abbrev pub without_area : At → Layout
 without_area at = record { count = at.count; areas = plug at.position.areas_before at.position.areas_behind; lists = left (turned Listed at.node) at.lists; taken = at.taken }
 
--- the cells represent the layout, and the node has this slot and this status
+-- the cells represent the layout, and the node has this slot and this state
 abbrev pub StandsAt : ℕ → NodeState → Cells → At → Type 0
-StandsAt slot status cells at = Represents cells (layout_at at) × IsAt slot status at
+StandsAt slot node_state cells at = Represents cells (layout_at at) × IsAt slot node_state at
 
 -- one of two neighbours, the listed one of this size, can leave its list. The two can then be merged.
 -- out: the records once the listed one left

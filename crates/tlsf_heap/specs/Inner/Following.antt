@@ -46,6 +46,6 @@ content_of cells = content_from cells.records (entries_of cells.pools) cells.hea
 pub record Stands (cells : Cells) : Type 0 where
   pub layout : Layout
   pub represented : Represents cells layout
-  pub settled : count_by (λ node. is_loose node.status) (nodes_of layout.areas) ≡ 0
+  pub settled : count_by (λ node. is_loose node.state) (nodes_of layout.areas) ≡ 0
   pub none_taken : layout.taken ≡ []
   pub good : IsGood (content_by layout)

@@ -11,12 +11,12 @@ is_loose Loose = true
 -- the first of the nodes, where it is listed
 abbrev pub listed_first : List Node → Option Node
 listed_first [] = None
-listed_first (node ∷ nodes) = if is_listed node.status then Some node else None
+listed_first (node ∷ nodes) = if is_listed node.state then Some node else None
 
 -- the nodes without it
 abbrev pub past : List Node → List Node
 past [] = []
-past (node ∷ nodes) = if is_listed node.status then nodes else node ∷ nodes
+past (node ∷ nodes) = if is_listed node.state then nodes else node ∷ nodes
 
 -- a node, where there is one, leaves its list
 abbrev pub left_by : Option Node → List (List Node) → List (List Node)
@@ -26,7 +26,7 @@ left_by (Some node) lists = left node lists
 -- a node in front, where there is one, is merged with the node
 abbrev pub grown_in_front : Option Node → Node → Node
 grown_in_front None node = node
-grown_in_front (Some front) node = record front { size = front.size + node.size; status = Loose }
+grown_in_front (Some front) node = record front { size = front.size + node.size; state = Loose }
 
 -- the node is merged with one behind, where there is one
 abbrev pub grown_behind : Option Node → Node → Node

@@ -13,7 +13,7 @@ pub record Node : Type 0 where
   pub slot : ℕ
   pub place : ℕ
   pub size : ℕ
-  pub status : NodeState
+  pub state : NodeState
 
 -- a pool's entry, and its nodes in order of place
 pub record Area : Type 0 where
@@ -37,7 +37,7 @@ owner_of Listed slot = None
 owner_of Loose slot = None
 
 abbrev pub block_of : Node → Block ℕ
-block_of node = record { place = node.place; size = node.size; owner = owner_of node.status node.slot }
+block_of node = record { place = node.place; size = node.size; owner = owner_of node.state node.slot }
 
 abbrev pub pool_of : Area → Pool ℕ
 pool_of area = record { base = area.entry.base; bytes = area.entry.bytes; blocks = map block_of area.nodes }
@@ -50,13 +50,13 @@ content_by layout = record {
   lists = map (map (λ node. node.place)) layout.lists;
 }
 
--- the node in another status
+-- the node in another state
 abbrev pub turned : NodeState → Node → Node
-turned status node = record node { status = status }
+turned node_state node = record node { state = node_state }
 
 -- the loose node of what is left of a node behind its first bytes
 abbrev pub rest_node : ℕ → ℕ → Node → Node
-rest_node rest bytes node = record { slot = rest; place = node.place + bytes; size = node.size - bytes; status = Loose }
+rest_node rest bytes node = record { slot = rest; place = node.place + bytes; size = node.size - bytes; state = Loose }
 
 -- all nodes, area after area
 abbrev pub nodes_of : List Area → List Node
@@ -81,7 +81,7 @@ is_listed Loose = false
 
 -- whether the node is to stand in the list of the class
 abbrev pub is_listed_in : ℕ → Node → Bool
-is_listed_in number node = is_listed node.status && (class node.size == number)
+is_listed_in number node = is_listed node.state && (class node.size == number)
 
 -- the nodes but that of the slot, in order
 abbrev pub without_slot : ℕ → List Node → List Node
@@ -97,8 +97,8 @@ entered node lists = slice_set lists (class node.size) (node ∷ nodes_in (class
 
 -- a listed node of these bytes, or none where there are none
 abbrev pub gap_nodes : (slot place size : ℕ) → List Node
-gap_nodes slot place size = if size == 0 then [] else record { slot = slot; place = place; size = size; status = Listed } ∷ []
+gap_nodes slot place size = if size == 0 then [] else record { slot = slot; place = place; size = size; state = Listed } ∷ []
 
 -- it enters its class's list
 abbrev pub entered_gap : (slot place size : ℕ) → List (List Node) → List (List Node)
-entered_gap slot place size lists = if size == 0 then lists else entered (record { slot = slot; place = place; size = size; status = Listed }) lists
+entered_gap slot place size lists = if size == 0 then lists else entered (record { slot = slot; place = place; size = size; state = Listed }) lists

@@ -48,7 +48,7 @@ state_of Loose = Free
 
 -- what a node's record is to say between these neighbours
 abbrev pub in_pool : Option ℕ → Node → Option ℕ → InPool
-in_pool prev node next = record { place = node.place; size = node.size; state = state_of node.status; prev = prev; next = next }
+in_pool prev node next = record { place = node.place; size = node.size; state = state_of node.state; prev = prev; next = next }
 
 abbrev pub in_list : Option ℕ → Node → Option ℕ → InList
 in_list prev node next = record { prev = prev; next = next }

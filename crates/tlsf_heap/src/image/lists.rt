@@ -10,7 +10,7 @@ ghost use Rattle.tlsf_heap.specs.Images.HasParts.{OnlyReads};
 
 use super::HasParts;
 use tlsf_class::{CLASSES, Class, class_of};
-use tlsf_store::{Record, Slot, State};
+use tlsf_store::{Record, Slot};
 
 /// Whether the record is of a free block of the class, behind the one before it in its list, if there is one.
 fn is_behind(before: Option<Slot>, block: &Record, class: Class) -> bool
@@ -19,10 +19,7 @@ fn is_behind(before: Option<Slot>, block: &Record, class: Class) -> bool
     requires most { is_free_state block.now.state ≡ true → block.now.size ≤ greatest_size }
     ensures { result ≡ is_behind before class block.now }
 {
-    match block.state {
-        State::Vacant | State::Live => false,
-        State::Free => class_of(block.size) == class && block.prev_free == before,
-    }
+    block.state.is_free() && class_of(block.size) == class && block.prev_free == before
 }
 
 /// How many blocks the list of a class has, if it ends, has free blocks of the class alone, and is linked back.

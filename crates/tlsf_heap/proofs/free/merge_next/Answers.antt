@@ -14,8 +14,8 @@ use Rattle.tlsf_heap.proofs.Inner.Spans.{back_used, merge_fits, merges_by, Merge
 use Rattle.tlsf_heap.proofs.free.merge_next.Goals as goal
 
 -- the slot behind is in use
-in_use : (cells : Cells) (span : Span) (n : ℕ) (status : NodeState) (at : At) → StandsAt span.slot status cells at → IsRead span cells.records → span.next ≡ Some n → IsUsed cells.records (Some n)
-in_use cells span n status at stands read link = subst (λ o. IsUsed cells.records o) (sym read.next ∙ link) (back_used cells span.slot status at stands)
+in_use : (cells : Cells) (span : Span) (n : ℕ) (node_state : NodeState) (at : At) → StandsAt span.slot node_state cells at → IsRead span cells.records → span.next ≡ Some n → IsUsed cells.records (Some n)
+in_use cells span n node_state at stands read link = subst (λ o. IsUsed cells.records o) (sym read.next ∙ link) (back_used cells span.slot node_state at stands)
 
 pub read_used-next-requires-clause-within : goal.read_used-next-requires-clause-within
 read_used-next-requires-clause-within c = (in_use c.args.store.now.cells c.args.block c.in-Some.next_slot c.requires.stands.0 c.requires.stands.1 c.requires.stands.3 c.requires.read c.in-Some.is).0
@@ -24,28 +24,28 @@ pub read_used-next-requires-clause-used : goal.read_used-next-requires-clause-us
 read_used-next-requires-clause-used c = (in_use c.args.store.now.cells c.args.block c.in-Some.next_slot c.requires.stands.0 c.requires.stands.1 c.requires.stands.3 c.requires.read c.in-Some.is).1
 
 pub returns-in_default-clause-leads : goal.returns-in_default-clause-leads
-returns-in_default-clause-leads c status at unlisted stands =
-    let same = back_stays c.args.store.now.cells at c.args.block.slot status unlisted stands (sym c.requires.read.next ∙ c.in_default.is) in
-    subst (λ (a : At). StandsAt c.args.block.slot status c.args.store.now.cells a) (sym same) stands
+returns-in_default-clause-leads c node_state at unlisted stands =
+    let same = back_stays c.args.store.now.cells at c.args.block.slot node_state unlisted stands (sym c.requires.read.next ∙ c.in_default.is) in
+    subst (λ (a : At). StandsAt c.args.block.slot node_state c.args.store.now.cells a) (sym same) stands
 
 pub returns-then-not-is_free-clause-leads : goal.returns-then-not-is_free-clause-leads
-returns-then-not-is_free-clause-leads c status at unlisted stands =
+returns-then-not-is_free-clause-leads c node_state at unlisted stands =
     let old : Cells = c.args.store.now.cells in
     let live : is_free_state (record_at old.records c.in-Some.next_slot).state ≡ false = sym (ap (λ (r : Record). is_free_state r.state) c.read_used-next.ensures.value) ∙ sym c.is_free.ensures ∙ c.if-not-is_free.true in
     rw c.read_used-next.ensures.left.cells
-    (subst (λ (a : At). StandsAt c.args.block.slot status old a) (sym (back_is_live old at c.args.block.slot status unlisted stands c.in-Some.next_slot (sym c.requires.read.next ∙ c.in-Some.is) live)) stands)
+    (subst (λ (a : At). StandsAt c.args.block.slot node_state old a) (sym (back_is_live old at c.args.block.slot node_state unlisted stands c.in-Some.next_slot (sym c.requires.read.next ∙ c.in-Some.is) live)) stands)
 
 -- the two that merge
-merging : (old : Cells) (span : Span) (n : ℕ) (status : NodeState) (at : At) (next : Record) → is_listed status ≡ false → StandsAt span.slot status old at → IsRead span old.records → span.next ≡ Some n → next ≡ record_at old.records n → is_free_state next.state ≡ true
-    → Merges span.slot n n next.size span.slot status old (next_merged at)
-merging old span n status at next unlisted stands read link is free =
-    next_merges old at span.slot status unlisted stands n next.size (sym read.next ∙ link) (sym (ap (λ (r : Record). is_free_state r.state) is) ∙ free) (ap (λ (r : Record). r.size) is)
+merging : (old : Cells) (span : Span) (n : ℕ) (node_state : NodeState) (at : At) (next : Record) → is_listed node_state ≡ false → StandsAt span.slot node_state old at → IsRead span old.records → span.next ≡ Some n → next ≡ record_at old.records n → is_free_state next.state ≡ true
+    → Merges span.slot n n next.size span.slot node_state old (next_merged at)
+merging old span n node_state at next unlisted stands read link is free =
+    next_merges old at span.slot node_state unlisted stands n next.size (sym read.next ∙ link) (sym (ap (λ (r : Record). is_free_state r.state) is) ∙ free) (ap (λ (r : Record). r.size) is)
 
 -- what merge needs and leaves
-merging_by : (old : Cells) (span : Span) (state : State) (n : ℕ) (status : NodeState) (at : At) (next : Record) → is_listed status ≡ false → StandsAt span.slot status old at → IsRead span old.records → span.next ≡ Some n → next ≡ record_at old.records n → is_free_state next.state ≡ true → state ≡ (record_at old.records span.slot).state
-    → MergesBy (record span { size = span.size + next.size; next = next.next }) state n next status old (next_merged at)
-merging_by old span state n status at next unlisted stands read link is free same =
-    merges_by old (record span { size = span.size + next.size; next = next.next }) state n n next status (next_merged at) (merging old span n status at next unlisted stands read link is free) is
+merging_by : (old : Cells) (span : Span) (state : State) (n : ℕ) (node_state : NodeState) (at : At) (next : Record) → is_listed node_state ≡ false → StandsAt span.slot node_state old at → IsRead span old.records → span.next ≡ Some n → next ≡ record_at old.records n → is_free_state next.state ≡ true → state ≡ (record_at old.records span.slot).state
+    → MergesBy (record span { size = span.size + next.size; next = next.next }) state n next node_state old (next_merged at)
+merging_by old span state n node_state at next unlisted stands read link is free same =
+    merges_by old (record span { size = span.size + next.size; next = next.next }) state n n next node_state (next_merged at) (merging old span n node_state at next unlisted stands read link is free) is
     read.place (omega (arith, ap (λ (r : Record). r.size) is, read.size)) (ap (λ (r : Record). r.next) is) read.in_units same
 
 pub overflow_add-merged : goal.overflow_add-merged
@@ -65,9 +65,9 @@ merge-requires-clause-can c =
     (merging_by c.args.store.now.cells c.args.block c.args.state c.in-Some.next_slot c.requires.stands.0 c.requires.stands.1 c.read_used-next.result c.requires.stands.2 c.requires.stands.3 c.requires.read c.in-Some.is c.read_used-next.ensures.value (sym c.is_free.ensures ∙ c.if-not-is_free.false) c.requires.state).ready
 
 pub returns-clause-leads : goal.returns-clause-leads
-returns-clause-leads c status at unlisted stands =
+returns-clause-leads c node_state at unlisted stands =
     rw (c.merge.ensures.cells, c.read_used-next.ensures.left.cells)
-    (merging_by c.args.store.now.cells c.args.block c.args.state c.in-Some.next_slot status at c.read_used-next.result unlisted stands c.requires.read c.in-Some.is c.read_used-next.ensures.value (sym c.is_free.ensures ∙ c.if-not-is_free.false) c.requires.state).leads
+    (merging_by c.args.store.now.cells c.args.block c.args.state c.in-Some.next_slot node_state at c.read_used-next.result unlisted stands c.requires.read c.in-Some.is c.read_used-next.ensures.value (sym c.is_free.ensures ∙ c.if-not-is_free.false) c.requires.state).leads
 
 pub returns-clause-read : goal.returns-clause-read
 returns-clause-read c =

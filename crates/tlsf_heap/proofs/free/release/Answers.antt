@@ -79,4 +79,4 @@ returns-clause-leads c from stands =
     let at : At = at_turned Loose from in
     let first : StandsAt c.of-whole.result.slot Loose c.turn.new.store.cells at = rw c.of-whole.ensures (loose c.args.store.now.cells c.turn.new.store.cells c.args.slot from stands (turned c.args.store.now.cells c.turn.new.store.cells c.of-whole.result c.args.slot c.args.block.now c.of-whole.ensures c.turn.ensures.cells)) in
     let end = c.enter.ensures.leads (next_merged (previous_merged at)) (rw c.merge_next-all.ensures.slot (c.merge_next-all.ensures.leads Loose (previous_merged at) refl (c.merge_previous-merged.ensures.leads at first))) in
-    (end.0, record { slot_is = refl; status_is = refl; others_settled = end.1.others_settled; covered = end.1.covered })
+    (end.0, record { slot_is = refl; node_state_is = refl; others_settled = end.1.others_settled; covered = end.1.covered })

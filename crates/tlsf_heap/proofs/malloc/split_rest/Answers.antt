@@ -50,5 +50,5 @@ returns-clause-leads c at stands =
     let size = size_is old c.args.block.now at stands c.requires.read in
     let taken = spared old c.take_vacant.new.self.cells c.take_vacant.result c.args.block.now.slot rest at stands c.in-Some.is c.take_vacant.ensures.left.cells c.in-Some.ensures.within c.in-Some.ensures.vacant in
     let P : At → Type 0 = λ a. StandsAt rest Listed c.split_off.new.store.cells (at_split_off rest c.args.bytes a) in
-    let same : at_turned InUse at ≡ at = ap (λ s. at_turned s at) (sym stands.1.status_is) in
+    let same : at_turned InUse at ≡ at = ap (λ s. at_turned s at) (sym stands.1.node_state_is) in
     (rest, rest_split_stands old c.split_off.new.store.cells c.args.block.now.slot rest c.args.bytes at stands (omega (arith, c.requires.most, c.if-block-bytes.false, size)) (subst P same (c.split_off.ensures.leads InUse at refl taken)))
