@@ -69,18 +69,18 @@ module _ (bytes : List ℕ) where
     abbrev more_zeros : Bool
     more_zeros = list_all (λ number. are_zero (entry_at number + 10) 2 bytes) (range_with_len (number + 1) (end - (number + 1)))
 
-    split : number < end → are_pools_from place number end ≡ ((first_is && more_are) && (zeros_are && more_zeros))
-    split within =
+    unfolded : number < end → are_pools_from place number end ≡ ((first_is && more_are) && (zeros_are && more_zeros))
+    unfolded within =
         let one : suc (end - (number + 1)) ≡ end - number = omega (arith, within) in
         let P : ℕ → Type 0 = λ left. (are_pools (two_at count_at bytes) place (map (pool_in bytes) (range_with_len number left)) && list_all (λ number. are_zero (entry_at number + 10) 2 bytes) (range_with_len number left)) ≡ ((first_is && more_are) && (zeros_are && more_zeros)) in
         subst P one refl
 
     pub pools_on : number < end → first_is ≡ true → zeros_are ≡ true → are_pools_from place number end ≡ are_pools_from ((pool_in bytes number).base + (pool_in bytes number).bytes) (number + 1) end
-    pools_on within is zeros = split within ∙ drop_both first_is zeros_are more_are more_zeros is zeros
+    pools_on within is zeros = unfolded within ∙ drop_both first_is zeros_are more_are more_zeros is zeros
 
     pub pools_off : number < end → (first_is ≡ false) ⊎ (zeros_are ≡ false) → are_pools_from place number end ≡ false
-    pools_off within (inl off) = split within ∙ drop_first first_is zeros_are more_are more_zeros off
-    pools_off within (inr off) = split within ∙ drop_second first_is zeros_are more_are more_zeros off
+    pools_off within (inl off) = unfolded within ∙ drop_first first_is zeros_are more_are more_zeros off
+    pools_off within (inr off) = unfolded within ∙ drop_second first_is zeros_are more_are more_zeros off
 
     pub pools_end : end ≤ number → are_pools_from place number end ≡ true
     pools_end all =

@@ -30,7 +30,7 @@ use Rattle.tlsf_heap.specs.Inner.Nodes.{NodeState, InUse, Listed, Loose, Node, A
 use Rattle.tlsf_heap.specs.Inner.Represents.{InPool, InList, in_pool, in_list, pool_views, list_views, state_of, first_slot, AreLinked, IsChain, uses_in}
 use Rattle.tlsf_heap.specs.Inner.Following.{Stands}
 use Rattle.tlsf_heap.specs.Inner.Imaged.{LiveAlone}
-use Rattle.tlsf_heap.proofs.Counts.{one_if, count-cons, count-plug, count-map, Split, split_at}
+use Rattle.tlsf_heap.proofs.Counts.{one_if, count-cons, count-plug, count-map, FirstPassing, first_passing}
 use Rattle.tlsf_heap.proofs.Inner.Plugs.{count-nodes}
 use Rattle.tlsf_heap.proofs.Inner.Links.{first_stands, linked_parts}
 use Rattle.tlsf_heap.proofs.Inner.Chains.{listed_within}
@@ -281,16 +281,16 @@ module _ (cells : Cells) (stands : Stands cells) where
   links_listed : (number slot : ℕ) → 1 ≤ count_by (has_slot slot) (nodes_in number stands.layout.lists) → (is_below (length cells.records) (at parts slot).prev_free && is_below (length cells.records) (at parts slot).next_free) ≡ true
   links_listed number slot some =
       let list = nodes_in number stands.layout.lists in
-      let split : Split (has_slot slot) list = split_at (has_slot slot) list some in
+      let item_at : FirstPassing (has_slot slot) list = first_passing (has_slot slot) list some in
       let P : List Node → Type 0 = λ nodes. AreLinked in_list (list_views cells.records) None nodes in
-      let linked = (linked_parts in_list (list_views cells.records) split.front (split.item ∷ split.behind) (subst P split.whole (stands.represented.index.linked number))).1 in
-      let same : split.item.slot ≡ slot = eqb-true split.item.slot slot split.passes in
-      let count : (q : ℕ) → count_by (has_slot q) list ≡ count_by (has_slot q) split.front + (one_if (has_slot q split.item) + count_by (has_slot q) split.behind) =
-      λ q. ap (count_by (has_slot q)) split.whole ∙ count-plug (has_slot q) split.front (split.item ∷ split.behind) ∙ ap (λ n. count_by (has_slot q) split.front + n) (count-cons (has_slot q) split.item split.behind) in
-      let says : list_views cells.records slot ≡ in_list (first_slot split.front) split.item (first_slot split.behind) = ap (list_views cells.records) (sym same) ∙ linked.0 in
+      let linked = (linked_parts in_list (list_views cells.records) item_at.front (item_at.item ∷ item_at.behind) (subst P item_at.whole (stands.represented.index.linked number))).1 in
+      let same : item_at.item.slot ≡ slot = eqb-true item_at.item.slot slot item_at.passes in
+      let count : (q : ℕ) → count_by (has_slot q) list ≡ count_by (has_slot q) item_at.front + (one_if (has_slot q item_at.item) + count_by (has_slot q) item_at.behind) =
+      λ q. ap (count_by (has_slot q)) item_at.whole ∙ count-plug (has_slot q) item_at.front (item_at.item ∷ item_at.behind) ∙ ap (λ n. count_by (has_slot q) item_at.front + n) (count-cons (has_slot q) item_at.item item_at.behind) in
+      let says : list_views cells.records slot ≡ in_list (first_slot item_at.front) item_at.item (first_slot item_at.behind) = ap (list_views cells.records) (sym same) ∙ linked.0 in
       and_from (is_below (length cells.records) (at parts slot).prev_free) (is_below (length cells.records) (at parts slot).next_free)
-      (ap (λ (v : InList). is_below (length cells.records) v.prev) says ∙ first_is split.front (λ q h. listed_below number q (omega (arith, h, count q))))
-      (ap (λ (v : InList). is_below (length cells.records) v.next) says ∙ first_is split.behind (λ q h. listed_below number q (omega (arith, h, count q))))
+      (ap (λ (v : InList). is_below (length cells.records) v.prev) says ∙ first_is item_at.front (λ q h. listed_below number q (omega (arith, h, count q))))
+      (ap (λ (v : InList). is_below (length cells.records) v.next) says ∙ first_is item_at.behind (λ q h. listed_below number q (omega (arith, h, count q))))
     where
       first_is : (nodes : List Node) → ((q : ℕ) → 1 ≤ count_by (has_slot q) nodes → q < length cells.records) → is_below (length cells.records) (first_slot nodes) ≡ true
       first_is [] below = refl

@@ -51,8 +51,8 @@ pub record NodeAt (place slot : ℕ) (node_state : NodeState) (cells : Cells) (l
   pub layout_is : layout ≡ layout_at at
 
 -- what the lists of a good layout tell
-pub told_of : (cells : Cells) (layout : Layout) → Represents cells layout → IsGood (content_by layout) → AgreeOnce layout.areas layout.lists
-told_of cells layout was good = record {
+pub agree_once : (cells : Cells) (layout : Layout) → Represents cells layout → IsGood (content_by layout) → AgreeOnce layout.areas layout.lists
+agree_once cells layout was good = record {
   full = was.index.lists_count;
   agree = was.agree;
   slots = λ q. omega (arith, was.chains.once q, uses_most (record_at cells.records q).state);
@@ -71,15 +71,15 @@ module _ (cells : Cells) (stands : Stands cells) (place slot : ℕ) (node_state 
   pub node_good : IsGood (content_by (layout_at (record by.at { node = turned node_state by.at.node })))
   node_good = let P : Layout → Type 0 = λ l. IsGood (content_by l) in subst P node_laid stands.good
 
-  pub node_told : AgreeOnce (filled by.at.position (turned node_state by.at.node ∷ by.at.nodes)) by.at.lists
-  node_told = let P : Layout → Type 0 = λ l. Represents cells l in told_of cells (layout_at (record by.at { node = turned node_state by.at.node })) (subst P node_laid stands.represented) node_good
+  pub node_agrees_once : AgreeOnce (filled by.at.position (turned node_state by.at.node ∷ by.at.nodes)) by.at.lists
+  node_agrees_once = let P : Layout → Type 0 = λ l. Represents cells l in agree_once cells (layout_at (record by.at { node = turned node_state by.at.node })) (subst P node_laid stands.represented) node_good
 
   -- its size is that of the block at the place
   pub node_size : size_at place (blocks_of (content_of cells).pools) ≡ by.at.node.size
   node_size =
       ap (λ (x : Content ℕ). size_at place (blocks_of x.pools)) node_stood
       ∙ ap (λ p. size_at p (blocks_of (map pool_of (filled by.at.position (turned node_state by.at.node ∷ by.at.nodes))))) (sym by.place_is)
-      ∙ size_is by.at.position (turned node_state by.at.node) by.at.nodes (alone by.at.position (turned node_state by.at.node) by.at.nodes node_told.places)
+      ∙ size_is by.at.position (turned node_state by.at.node) by.at.nodes (alone by.at.position (turned node_state by.at.node) by.at.nodes node_agrees_once.places)
 
   pub node_taken : by.at.taken ≡ []
   node_taken = ap (λ (l : Layout). l.taken) (sym by.layout_is) ∙ stands.none_taken
@@ -218,7 +218,7 @@ module _ (cells : Cells) (stands : Stands cells) where
       let loose : Node → Bool = λ n. is_loose n.state in
       let others = node.stands.1.others_settled in
       let is : content_by (layout_at (at_freed node.at)) ≡ after_free place (content_of cells) =
-      freed_is at.position at.node at.nodes at.lists (node_told cells stands place slot InUse node) at.count at.taken at.taken refl (omega (arith, others, count-filled loose at.position at.nodes)) (omega (arith, others, count-filled loose at.position at.nodes)) (node_good cells stands place slot InUse node)
+      freed_is at.position at.node at.nodes at.lists (node_agrees_once cells stands place slot InUse node) at.count at.taken at.taken refl (omega (arith, others, count-filled loose at.position at.nodes)) (omega (arith, others, count-filled loose at.position at.nodes)) (node_good cells stands place slot InUse node)
       ∙ ap (λ p. after_free p (content_by (layout_at at))) node.place_is
       ∙ ap (after_free place) (sym (node_stood cells stands place slot InUse node)) in
       stands_with new (at_freed node.at).node.slot Listed (at_freed node.at) (after_free place (content_of cells)) after refl (node_taken cells stands place slot InUse node) is

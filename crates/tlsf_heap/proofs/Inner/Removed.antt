@@ -28,7 +28,7 @@ use Rattle.tlsf_heap.proofs.Good.RemovedPool.{others, found_among, none_found, o
 use Rattle.tlsf_heap.proofs.Inner.Plugs.{map-plug, all_parts, count-nodes, count-nodes-plug}
 use Rattle.tlsf_heap.proofs.Inner.Areas.{AreaAt, area_at, FirstNode, first_node}
 use Rattle.tlsf_heap.proofs.Inner.Followed.{content_is, stood_for}
-use Rattle.tlsf_heap.proofs.Inner.Live.{NodeAt, at_found, found_laid, found_stands, found_listed, node_told}
+use Rattle.tlsf_heap.proofs.Inner.Live.{NodeAt, at_found, found_laid, found_stands, found_listed, node_agrees_once}
 use Rattle.tlsf_heap.proofs.Inner.Located.{Located}
 use Rattle.tlsf_heap.proofs.Inner.Standing.{entries_are, content_is_good}
 use Rattle.tlsf_heap.proofs.Inner.PoolMoves.{pool_leaves}
@@ -165,12 +165,12 @@ module _ (cells : Cells) (stands : Stands cells) (base : ℕ) where
         content_left =
             let node : Node = first.node in
             let lists : List (List Node) = stands.layout.lists in
-            let told = node_told cells stands first.node.place slot Listed by in
+            let agreed = node_agrees_once cells stands first.node.place slot Listed by in
             let records : stands.layout.count ≡ (content_of cells).records = ap (λ (content : Content ℕ). content.records) (sym (stood_for cells stands)) in
             let pools : map pool_of (plug at.front at.behind) ≡ others at.area.entry.base (content_of cells).pools =
             ap (map pool_of) (at.same at.behind) ∙ map-append pool_of at.before at.behind ∙ sym found.1 ∙ ap (λ b. others {A = ℕ} b (content_of cells).pools) (sym base_is) in
             let out : by_places (left (turned Listed node) lists) ≡ unlink at.area.entry.base at.area.entry.bytes (content_of cells).lists =
-            places-left (turned Listed node) lists told.full (alike (turned Listed node) lists node_there.position (turned Listed node) first.nodes refl refl told)
+            places-left (turned Listed node) lists agreed.full (alike (turned Listed node) lists node_there.position (turned Listed node) first.nodes refl refl agreed)
             ∙ ap (λ p. unlink p node.size (by_places lists)) block_there.0
             ∙ ap (λ n. unlink at.area.entry.base n (by_places lists)) block_there.1
             ∙ ap (λ (content : Content ℕ). unlink at.area.entry.base at.area.entry.bytes content.lists) (sym (stood_for cells stands)) in

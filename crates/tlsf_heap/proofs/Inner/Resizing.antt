@@ -20,7 +20,7 @@ use Rattle.tlsf_heap.proofs.Inner.Sums.{all_records}
 use Rattle.tlsf_heap.proofs.Inner.Followed.{stood_for, records_are}
 use Rattle.tlsf_heap.proofs.Inner.Steps.{size_read, slot_used}
 use Rattle.tlsf_heap.proofs.Inner.Served.{used_is}
-use Rattle.tlsf_heap.proofs.Inner.Live.{NodeAt, node_stood, node_good, node_told, node_size, node_taken, live_at, stands_with}
+use Rattle.tlsf_heap.proofs.Inner.Live.{NodeAt, node_stood, node_good, node_agrees_once, node_size, node_taken, live_at, stands_with}
 use Rattle.tlsf_heap.proofs.Inner.Standing.{used_are, content_is_good}
 use Rattle.tlsf_heap.proofs.Meaning.Places.{AgreeOnce, alone}
 use Rattle.tlsf_heap.proofs.Meaning.NodeBlocks.{back_is}
@@ -30,8 +30,8 @@ use Rattle.tlsf_heap.proofs.Meaning.ResizedIsGood.{resized_is_good}
 use Rattle.tlsf_store.specs.declared.records.Record.{Record}
 
 module _ (cells : Cells) (stands : Stands cells) (place slot : ℕ) (by : NodeAt place slot InUse cells stands.layout) where
-  told : AgreeOnce (filled by.at.position (turned InUse by.at.node ∷ by.at.nodes)) by.at.lists
-  told = node_told cells stands place slot InUse by
+  agreed : AgreeOnce (filled by.at.position (turned InUse by.at.node ∷ by.at.nodes)) by.at.lists
+  agreed = node_agrees_once cells stands place slot InUse by
 
   none_loose : NoneLoose by.at.nodes
   none_loose =
@@ -47,7 +47,7 @@ module _ (cells : Cells) (stands : Stands cells) (place slot : ℕ) (by : NodeAt
   next_there =
       ap (free_next place) (node_stood cells stands place slot InUse by)
       ∙ ap (λ p. free_next p (content_by (layout_at (record by.at { node = turned InUse by.at.node })))) (sym by.place_is)
-      ∙ ap if_free (back_is by.at.position (turned InUse by.at.node) by.at.nodes (alone by.at.position (turned InUse by.at.node) by.at.nodes told.places))
+      ∙ ap if_free (back_is by.at.position (turned InUse by.at.node) by.at.nodes (alone by.at.position (turned InUse by.at.node) by.at.nodes agreed.places))
       ∙ listed_is_free by.at.nodes none_loose
 
   -- where it fits, by the node and the one behind it
@@ -72,7 +72,7 @@ module _ (cells : Cells) (stands : Stands cells) (place slot : ℕ) (by : NodeAt
   resized_stands new m rest live fits other some whole after =
       let is : content_by (layout_at (at_split_rest rest m (next_merged by.at))) ≡ resized slot place m (content_of cells) =
       ap (λ s. content_by (layout_at (at_split_rest rest m (next_merged (record by.at { node = turned s by.at.node }))))) by.stands.1.node_state_is
-      ∙ rest_split_is by.at.count by.at.position by.at.node by.at.nodes by.at.lists by.at.taken told none_loose (node_good cells stands place slot InUse by) rest m by.at.taken some whole
+      ∙ rest_split_is by.at.count by.at.position by.at.node by.at.nodes by.at.lists by.at.taken agreed none_loose (node_good cells stands place slot InUse by) rest m by.at.taken some whole
       ∙ ap (λ s. resized s by.at.node.place m (content_by (layout_at (record by.at { node = turned InUse by.at.node })))) by.stands.1.slot_is
       ∙ ap (λ p. resized slot p m (content_by (layout_at (record by.at { node = turned InUse by.at.node })))) by.place_is
       ∙ ap (resized slot place m) (sym (node_stood cells stands place slot InUse by)) in

@@ -24,7 +24,7 @@ use Rattle.tlsf_heap.proofs.Inner.Plugs.{count-filled}
 use Rattle.tlsf_heap.proofs.Inner.Followed.{stood_for, records_are}
 use Rattle.tlsf_heap.proofs.Inner.Chains.{uses_most}
 use Rattle.tlsf_heap.proofs.Inner.Steps.{slot_used}
-use Rattle.tlsf_heap.proofs.Inner.Live.{NodeAt, node_stood, node_told, node_size, node_taken, stands_with}
+use Rattle.tlsf_heap.proofs.Inner.Live.{NodeAt, node_stood, node_agrees_once, node_size, node_taken, stands_with}
 use Rattle.tlsf_heap.proofs.Inner.Standing.{used_are, content_is_good, owners_few}
 use Rattle.tlsf_heap.proofs.Meaning.Places.{blocks_of_areas}
 use Rattle.tlsf_heap.proofs.Meaning.Aligned.{allocated_is}
@@ -74,7 +74,7 @@ module _ (cells : Cells) (stands : Stands cells) (place slot asked : ℕ) (by : 
   served new rest s node_state left_at after settled kept same_left room =
       let given = gives room in
       let is : content_by (layout_at left_at) ≡ allocated slot place asked by.at.node.size (content_of cells) =
-      ap content_by same_left ∙ allocated_is by.at.count by.at.position (turned Listed by.at.node) by.at.nodes by.at.lists (node_told cells stands place slot Listed by) rest asked by.at.taken by.at.taken ∙ renamed asked in
+      ap content_by same_left ∙ allocated_is by.at.count by.at.position (turned Listed by.at.node) by.at.nodes by.at.lists (node_agrees_once cells stands place slot Listed by) rest asked by.at.taken by.at.taken ∙ renamed asked in
       let after_all = stands_with new s node_state left_at (allocated slot place asked by.at.node.size (content_of cells)) after settled (kept ∙ node_taken cells stands place slot Listed by) is given.1 in
       (after_all.0, given.0 ∙ ap (λ x. Ok (place, x)) (sym after_all.1))
 

@@ -19,7 +19,7 @@ use Rattle.tlsf_heap.proofs.Counts.{count_all, count-cons, count-append, count-m
 use Rattle.tlsf_heap.proofs.Content.MemalignCases.{used_aligned}
 use Rattle.tlsf_heap.proofs.Inner.Sums.{all_records}
 use Rattle.tlsf_heap.proofs.Inner.Followed.{stood_for, records_are}
-use Rattle.tlsf_heap.proofs.Inner.Live.{NodeAt, node_stood, node_told, node_size, node_taken, stands_with, free_at}
+use Rattle.tlsf_heap.proofs.Inner.Live.{NodeAt, node_stood, node_agrees_once, node_size, node_taken, stands_with, free_at}
 use Rattle.tlsf_heap.proofs.Inner.Standing.{used_are, content_is_good, owners_few}
 use Rattle.tlsf_heap.proofs.Meaning.Places.{blocks_of_areas}
 use Rattle.tlsf_heap.proofs.Meaning.Aligned.{aligned_is}
@@ -76,7 +76,7 @@ module _ (cells : Cells) (stands : Stands cells) (place slot align asked : ℕ) 
       subst P size_there (λ few. aligned_is_good live start asked place (content_of cells) (content_is_good cells stands) can_split.picked.once can_split.start.begins can_split.fits some whole can_split.start.gap_whole few) room in
       let begins : by.at.node.place + front ≡ start = omega (arith, by.place_is, can_split.start.begins) in
       let is_so : content_by (layout_at (at_split_rest rest asked (at_gapped live front (at_taken by.at)))) ≡ of by.at.node.size =
-      aligned_is by.at.count by.at.position by.at.node by.at.nodes by.at.lists (node_told cells stands place slot Listed by) live rest front asked by.at.taken by.at.taken
+      aligned_is by.at.count by.at.position by.at.node by.at.nodes by.at.lists (node_agrees_once cells stands place slot Listed by) live rest front asked by.at.taken by.at.taken
       ∙ ap (λ x. aligned live (by.at.node.place + front) asked by.at.node.place by.at.node.size x) (sym (node_stood cells stands place slot Listed by))
       ∙ ap (λ s. aligned live s asked by.at.node.place by.at.node.size (content_of cells)) begins
       ∙ ap (λ p. aligned live start asked p by.at.node.size (content_of cells)) by.place_is in

@@ -14,7 +14,7 @@ use Rattle.tlsf_heap.specs.Inner.Nodes.{Node, Area, Listed, Loose, turned, nodes
 use Rattle.tlsf_heap.specs.Inner.Positions.{plug, Position, laid, filled}
 use Rattle.tlsf_heap.specs.Inner.Represents.{InList, pool_view, list_view, pool_views, list_views, in_list, first_slot, AreLinked, AreChains, Agree, Represented, Represents}
 use Rattle.tlsf_heap.proofs.Bits.Edits.{bits_kept, bits_cleared}
-use Rattle.tlsf_heap.proofs.Counts.{one_if, count-cons, count-plug, count_but, filter_one, Split, split_at}
+use Rattle.tlsf_heap.proofs.Counts.{one_if, count-cons, count-plug, count_but, filter_one, FirstPassing, first_passing}
 use Rattle.tlsf_heap.proofs.Inner.Plugs.{count-filled}
 use Rattle.tlsf_heap.proofs.Inner.Links.{first-plug, from_behind, linked_same, linked_parts, linked_plugged, linked_moved, first_stands}
 use Rattle.tlsf_heap.proofs.Inner.Reads.{length-edited, edited_here, edited_apart, edited_kept}
@@ -201,7 +201,7 @@ module _ (cells : Cells) (count : ℕ) (position : Position) (node : Node) (node
 
   pub unlinked_laid : Represents (unlinked (class node.size) node.slot cells) (laid count position (turned Loose node ∷ nodes) (left node lists) taken)
   unlinked_laid =
-      let at : Split (has_slot node.slot) list = split_at (has_slot node.slot) list stands in
+      let at : FirstPassing (has_slot node.slot) list = first_passing (has_slot node.slot) list stands in
       let own : at.item.slot ≡ node.slot = eqb-true at.item.slot node.slot at.passes in
       let said : list_views cells.records node.slot ≡ in_list (first_slot at.front) at.item (first_slot at.behind) = says at.front at.item at.behind at.whole own in
       let P : Option ℕ → Type 0 = λ prev. Represents (with_behind (class node.size) prev (record_at cells.records node.slot).next_free (with_prev_free (record_at cells.records node.slot).next_free prev cells)) (laid count position (turned Loose node ∷ nodes) (left node lists) taken) in
@@ -211,7 +211,7 @@ module _ (cells : Cells) (count : ℕ) (position : Position) (node : Node) (node
   -- those beside it in its list are in use
   pub prev_free_used : IsUsed cells.records (record_at cells.records node.slot).prev_free
   prev_free_used =
-      let at : Split (has_slot node.slot) list = split_at (has_slot node.slot) list stands in
+      let at : FirstPassing (has_slot node.slot) list = first_passing (has_slot node.slot) list stands in
       let own : at.item.slot ≡ node.slot = eqb-true at.item.slot node.slot at.passes in
       let P : Option ℕ → Type 0 = λ o. IsUsed cells.records o in
       subst P (sym (ap (λ (v : InList). v.prev) (says at.front at.item at.behind at.whole own)))
@@ -219,7 +219,7 @@ module _ (cells : Cells) (count : ℕ) (position : Position) (node : Node) (node
 
   pub next_free_used : IsUsed cells.records (record_at cells.records node.slot).next_free
   next_free_used =
-      let at : Split (has_slot node.slot) list = split_at (has_slot node.slot) list stands in
+      let at : FirstPassing (has_slot node.slot) list = first_passing (has_slot node.slot) list stands in
       let own : at.item.slot ≡ node.slot = eqb-true at.item.slot node.slot at.passes in
       let P : Option ℕ → Type 0 = λ o. IsUsed cells.records o in
       subst P (sym (ap (λ (v : InList). v.next) (says at.front at.item at.behind at.whole own)))

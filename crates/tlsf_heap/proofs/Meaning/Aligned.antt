@@ -17,7 +17,7 @@ use Rattle.std.specs.Prelude.{◌==◌}
 use Rattle.std.proofs.Math.Nat.{sub-zero}
 use Rattle.tlsf_heap.proofs.Meaning.SplitInThree.{aligned_here}
 
-module _ (count : ℕ) (position : Position) (node : Node) (nodes : List Node) (lists : List (List Node)) (told : AgreeOnce (filled position (turned Listed node ∷ nodes)) lists) where
+module _ (count : ℕ) (position : Position) (node : Node) (nodes : List Node) (lists : List (List Node)) (agreed : AgreeOnce (filled position (turned Listed node ∷ nodes)) lists) where
   abbrev pools : List (Pool ℕ)
   pools = map pool_of (filled position (turned Listed node ∷ nodes))
 
@@ -47,12 +47,12 @@ module _ (count : ℕ) (position : Position) (node : Node) (nodes : List Node) (
       let by_pools : map pool_of (filled (record position { before = gaps ++ position.before }) (block ∷ (rests ++ nodes))) ≡ map (replaced_in node.place (gap node.place front ++ split live start m (node.size - front))) pools =
       ap (map pool_of) (behind_gap (block ∷ (rests ++ nodes)) node.slot node.place front)
       ∙ ap (λ ns. map pool_of (filled position ns)) (sym (append_assoc gaps (block ∷ rests) nodes))
-      ∙ sym (pools_replaced position (turned Listed node) nodes (alone position (turned Listed node) nodes told.places) (gaps ++ (block ∷ rests)))
+      ∙ sym (pools_replaced position (turned Listed node) nodes (alone position (turned Listed node) nodes agreed.places) (gaps ++ (block ∷ rests)))
       ∙ ap (λ blocks. map (replaced_in node.place blocks) pools) news in
-      let out = length-left (turned Listed node) lists told.full in
+      let out = length-left (turned Listed node) lists agreed.full in
       let by_lists : by_places (entered_gap rest (start + m) left_over (entered_gap node.slot node.place front (left (turned Listed node) lists))) ≡ link_gap (start + m) left_over (link_gap node.place front (unlink node.place node.size (by_places lists))) =
       gap_entered rest (start + m) left_over (entered_gap node.slot node.place front (left (turned Listed node) lists)) (full_gap node.slot node.place front (left (turned Listed node) lists) out)
-      ∙ ap (link_gap (start + m) left_over) (gap_entered node.slot node.place front (left (turned Listed node) lists) out ∙ ap (link_gap node.place front) (places-left (turned Listed node) lists told.full (alike (turned Listed node) lists position (turned Listed node) nodes refl refl told))) in
+      ∙ ap (link_gap (start + m) left_over) (gap_entered node.slot node.place front (left (turned Listed node) lists) out ∙ ap (link_gap node.place front) (places-left (turned Listed node) lists agreed.full (alike (turned Listed node) lists position (turned Listed node) nodes refl refl agreed))) in
       let front_is : (node.place + front) - node.place ≡ front = omega arith in
       (λ i. record { records = count; pools = by_pools i; lists = by_lists i }) ∙ sym (ap (λ g. aligned_by live start m g taken) front_is)
     where

@@ -47,7 +47,7 @@ past_is (node ∷ nodes) none =
     ap (λ b. cond b (map block_of nodes) (block_of node ∷ map block_of nodes)) (free_is node nodes none)
     ∙ elim (is_listed node.state) as (λ b. cond b (map block_of nodes) (block_of node ∷ map block_of nodes) ≡ map block_of (cond b nodes (node ∷ nodes))) [ true ↦ refl | false ↦ refl ]
 
-module _ (position : Position) (node : Node) (nodes : List Node) (lists : List (List Node)) (told : AgreeOnce (filled position (node ∷ nodes)) lists) where
+module _ (position : Position) (node : Node) (nodes : List Node) (lists : List (List Node)) (agreed : AgreeOnce (filled position (node ∷ nodes)) lists) where
   abbrev front : Option Node
   front = listed_first position.before
 
@@ -55,8 +55,8 @@ module _ (position : Position) (node : Node) (nodes : List Node) (lists : List (
   back = listed_first nodes
 
   pub full_front : (o : Option Node) → length (left_by o lists) ≡ classes
-  full_front None = told.full
-  full_front (Some f) = length-left f lists told.full
+  full_front None = agreed.full
+  full_front (Some f) = length-left f lists agreed.full
 
   full_back : (o p : Option Node) → length (left_by p (left_by o lists)) ≡ classes
   full_back o None = full_front o
@@ -64,7 +64,7 @@ module _ (position : Position) (node : Node) (nodes : List Node) (lists : List (
 
   still_alike : (b : Node) (o : Option Node) → Alike b lists → Alike b (left_by o lists)
   still_alike b None same = same
-  still_alike b (Some f) same = alike-left b f lists told.full same
+  still_alike b (Some f) same = alike-left b f lists agreed.full same
 
   -- a listed neighbour leaves its list, also where the other left
   neighbour_left : (at : Position) (n : Node) (others : List Node) (o : Option Node) → AgreeOnce (filled at (n ∷ others)) lists
@@ -75,14 +75,14 @@ module _ (position : Position) (node : Node) (nodes : List Node) (lists : List (
   ]
 
   lists_front : by_places (left_by front lists) ≡ unlink_block (option_map block_of front) (by_places lists)
-  lists_front = go position.before told
+  lists_front = go position.before agreed
     where
       go : (before : List Node) → AgreeOnce (filled (record position { before = before }) (node ∷ nodes)) lists → by_places (left_by (listed_first before) lists) ≡ unlink_block (option_map block_of (listed_first before)) (by_places lists)
       go [] there = refl
       go (f ∷ before) there = neighbour_left (record position { before = before }) f (node ∷ nodes) None there
 
   pub lists_back : (o : Option Node) → by_places (left_by back (left_by o lists)) ≡ unlink_block (option_map block_of back) (by_places (left_by o lists))
-  lists_back o = go nodes told
+  lists_back o = go nodes agreed
     where
       go : (others : List Node) → AgreeOnce (filled position (node ∷ others)) lists → by_places (left_by (listed_first others) (left_by o lists)) ≡ unlink_block (option_map block_of (listed_first others)) (by_places (left_by o lists))
       go [] there = refl

@@ -97,7 +97,7 @@ pub record Alike (node : Node) (lists : List (List Node)) : Type 0 where
   pub none : count_by (λ other. differ (has_slot node.slot other) (has_place node.place other)) (nodes_in (class node.size) lists) ≡ 0
 
 pub alike : (node : Node) (lists : List (List Node)) (position : Position) (at : Node) (nodes : List Node) → at.slot ≡ node.slot → at.place ≡ node.place → AgreeOnce (filled position (at ∷ nodes)) lists → Alike node lists
-alike node lists position at nodes same_slot same_place told =
+alike node lists position at nodes same_slot same_place agreed =
     let test : Node → Bool = λ other. differ (has_slot node.slot other) (has_place node.place other) in
     let either : (others : List Node) → count_by test others ≤ count_by (has_slot node.slot) others + count_by (has_place node.place) others =
     count_either test (has_slot node.slot) (has_place node.place) (λ other. differ_most (has_slot node.slot other) (has_place node.place other)) in
@@ -105,16 +105,16 @@ alike node lists position at nodes same_slot same_place told =
     record {
       none = omega (
         arith,
-        told.agree (class node.size) test,
+        agreed.agree (class node.size) test,
         count_and (is_listed_in (class node.size)) test (nodes_of (filled position (at ∷ nodes))),
         count-filled test position (at ∷ nodes),
         count-cons test at nodes,
         here,
-        told.slots node.slot,
+        agreed.slots node.slot,
         count-filled (has_slot node.slot) position (at ∷ nodes),
         count-cons (has_slot node.slot) at nodes,
         ap one_if (eq-eqb at.slot node.slot same_slot),
-        told.places node.place,
+        agreed.places node.place,
         count-filled (has_place node.place) position (at ∷ nodes),
         count-cons (has_place node.place) at nodes,
         ap one_if (eq-eqb at.place node.place same_place),

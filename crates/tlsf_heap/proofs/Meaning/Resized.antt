@@ -28,7 +28,7 @@ gap_entered slot place size lists full =
     let node : Node = record { slot = slot; place = place; size = size; state = Listed } in
     elim (size == 0) as (λ b. by_places (cond b lists (entered node lists)) ≡ cond b (by_places lists) (link place size (by_places lists))) [ true ↦ refl | false ↦ places-entered node lists full ]
 
-module _ (count : ℕ) (position : Position) (node : Node) (nodes : List Node) (lists : List (List Node)) (taken : List ℕ) (told : AgreeOnce (filled position (turned InUse node ∷ nodes)) lists) (settled : NoneLoose nodes)
+module _ (count : ℕ) (position : Position) (node : Node) (nodes : List Node) (lists : List (List Node)) (taken : List ℕ) (agreed : AgreeOnce (filled position (turned InUse node ∷ nodes)) lists) (settled : NoneLoose nodes)
     (good : IsGood (content_by (laid count position (turned InUse node ∷ nodes) lists taken))) where
   abbrev next : Option Node
   next = listed_first nodes
@@ -78,7 +78,7 @@ module _ (count : ℕ) (position : Position) (node : Node) (nodes : List Node) (
   -- the node with the listed one behind it, where one is, keeps its first bytes
   pub rest_split_is : (rest m : ℕ) (kept : List ℕ) → 0 < m → m % unit ≡ 0 → content_by (layout_at (at_split_rest rest m (next_merged (record { count = count; position = position; node = turned InUse node; nodes = nodes; lists = lists; taken = kept }))))
       ≡ resized node.slot node.place m (content_by (laid count position (turned InUse node ∷ nodes) lists taken))
-  rest_split_is rest m kept some whole = go next (past nodes) (left_by next lists) (full_front position (turned InUse node) nodes lists told next) (lists_back position (turned InUse node) nodes lists told None) ∙ sym (resized_by m some whole)
+  rest_split_is rest m kept some whole = go next (past nodes) (left_by next lists) (full_front position (turned InUse node) nodes lists agreed next) (lists_back position (turned InUse node) nodes lists agreed None) ∙ sym (resized_by m some whole)
     where
       go : (o : Option Node) (others : List Node) (left : List (List Node)) → length left ≡ classes → by_places left ≡ unlink_block (option_map block_of o) (by_places lists)
           → content_by (layout_at (at_split_rest rest m (record { count = count; position = position; node = grown_behind o (turned InUse node); nodes = others; lists = left; taken = kept })))
