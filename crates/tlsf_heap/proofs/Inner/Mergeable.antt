@@ -10,7 +10,7 @@ use Rattle.tlsf_heap.specs.Inner.At.{AreCovered}
 use Rattle.tlsf_heap.specs.Inner.Chains.{merged_listed}
 use Rattle.tlsf_heap.specs.Inner.Nodes.{NodeState, InUse, Listed, Loose, Node, Area, nodes_of, turned, block_of, pool_of, is_listed, left}
 use Rattle.tlsf_heap.specs.Inner.Positions.{Position, laid, filled}
-use Rattle.tlsf_heap.specs.Inner.Merging.{is_loose, past, listed_first, left_by, grown_in_front, grown_behind}
+use Rattle.tlsf_heap.specs.Inner.Merging.{is_loose, past, listed_first, left_by, merged_with_front, merged_with_behind}
 use Rattle.tlsf_heap.specs.Inner.Represents.{InPool, in_pool, pool_views, state_of, first_slot, AreChains, Represents}
 use Rattle.tlsf_heap.specs.Inner.At.{At, StandsAt, previous_merged, next_merged, IsMergeable}
 use Rattle.tlsf_heap.proofs.Good.Calls.{IsWhole}
@@ -184,10 +184,10 @@ past_none [] none = (refl, refl)
 past_none (node ∷ nodes) none = absurd (Some≢None node.slot none)
 
 unmerged_front : (at : At) → (past at.position.before ≡ at.position.before) × (listed_first at.position.before ≡ None) → previous_merged at ≡ at
-unmerged_front at same = λ i. record at { position = record at.position { before = same.0 i }; node = grown_in_front (same.1 i) at.node; lists = left_by (same.1 i) at.lists }
+unmerged_front at same = λ i. record at { position = record at.position { before = same.0 i }; node = merged_with_front (same.1 i) at.node; lists = left_by (same.1 i) at.lists }
 
 unmerged_back : (at : At) → (past at.nodes ≡ at.nodes) × (listed_first at.nodes ≡ None) → next_merged at ≡ at
-unmerged_back at same = λ i. record at { nodes = same.0 i; node = grown_behind (same.1 i) at.node; lists = left_by (same.1 i) at.lists }
+unmerged_back at same = λ i. record at { nodes = same.0 i; node = merged_with_behind (same.1 i) at.node; lists = left_by (same.1 i) at.lists }
 
 module _ (cells : Cells) (at : At) (slot : ℕ) (stands : StandsAt slot Loose cells at) where
   -- the free block in front takes it in

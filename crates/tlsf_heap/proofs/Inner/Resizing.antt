@@ -11,7 +11,7 @@ use Rattle.tlsf_heap.specs.Free.{is_live, if_free, free_next, size_of}
 use Rattle.tlsf_heap.specs.Realloc.{fits_in_place, resized}
 use Rattle.tlsf_heap.specs.Inner.Nodes.{InUse, Node, Layout, turned, block_of, content_by, nodes_of, is_listed}
 use Rattle.tlsf_heap.specs.Inner.Positions.{filled}
-use Rattle.tlsf_heap.specs.Inner.Merging.{is_loose, listed_first, past, grown_behind}
+use Rattle.tlsf_heap.specs.Inner.Merging.{is_loose, listed_first, past, merged_with_behind}
 use Rattle.tlsf_heap.specs.Inner.Following.{content_of, Stands}
 use Rattle.tlsf_heap.specs.Inner.At.{areas_at, layout_at, StandsAt, next_merged, at_split_rest}
 use Rattle.tlsf_heap.proofs.Counts.{count_all}
@@ -79,7 +79,7 @@ module _ (cells : Cells) (stands : Stands cells) (place slot : ℕ) (by : NodeAt
       stands_with new slot InUse (at_split_rest rest m (next_merged by.at)) (resized slot place m (content_of cells)) after refl (node_taken cells stands place slot InUse by) is
       (resized_is_good (λ owner. owner == slot) slot place m (content_of cells) (content_is_good cells stands) live some whole fits other)
 
-  grown_size : (node : Node) (o : Option Node) → (grown_behind o node).size ≡ node.size + size_of (option_map block_of o)
+  grown_size : (node : Node) (o : Option Node) → (merged_with_behind o node).size ≡ node.size + size_of (option_map block_of o)
   grown_size node None = omega arith
   grown_size node (Some b) = refl
 

@@ -9,7 +9,7 @@ use Rattle.tlsf_heap.specs.Free.{if_free, unlink_block, size_of, start_of, free_
 use Rattle.tlsf_heap.specs.Good.{IsGood}
 use Rattle.tlsf_heap.specs.Inner.Nodes.{NodeState, InUse, Listed, Loose, Node, turned, owner_of, block_of, pool_of, content_by, is_listed}
 use Rattle.tlsf_heap.specs.Inner.Positions.{Position, filled, laid}
-use Rattle.tlsf_heap.specs.Inner.Merging.{is_loose, listed_first, past, left_by, grown_in_front, grown_behind, position_past, merged_node, freed_layout}
+use Rattle.tlsf_heap.specs.Inner.Merging.{is_loose, listed_first, past, left_by, merged_with_front, merged_with_behind, position_past, merged_node, freed_layout}
 use Rattle.tlsf_heap.proofs.Counts.{one_if, count-cons}
 use Rattle.tlsf_heap.proofs.Inner.Lists.{length-left}
 use Rattle.tlsf_heap.proofs.Meaning.BlockPositions.{filled_pools}
@@ -89,7 +89,7 @@ module _ (position : Position) (node : Node) (nodes : List Node) (lists : List (
       go (b ∷ others) there = neighbour_left (record position { before = node ∷ position.before }) b others o there
 
   -- the block that is left
-  block_merged : (f b : Option Node) → block_of (turned Listed (grown_behind b (grown_in_front f (turned Loose node)))) ≡ merged_of (option_map block_of f) (block_of node) (option_map block_of b)
+  block_merged : (f b : Option Node) → block_of (turned Listed (merged_with_behind b (merged_with_front f (turned Loose node)))) ≡ merged_of (option_map block_of f) (block_of node) (option_map block_of b)
   block_merged None None = let n : node.size ≡ 0 + node.size + 0 = omega arith in ap (free_block node.place) n
   block_merged None (Some b) = let n : node.size + b.size ≡ 0 + node.size + b.size = omega arith in ap (free_block node.place) n
   block_merged (Some f) None = let n : f.size + node.size ≡ f.size + node.size + 0 = omega arith in ap (free_block f.place) n

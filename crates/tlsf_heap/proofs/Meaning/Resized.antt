@@ -9,7 +9,7 @@ use Rattle.tlsf_heap.specs.Realloc.{resized}
 use Rattle.tlsf_heap.specs.Good.{IsGood}
 use Rattle.tlsf_heap.specs.Inner.Nodes.{InUse, Listed, Node, turned, block_of, content_by, entered, gap_nodes, entered_gap}
 use Rattle.tlsf_heap.specs.Inner.Positions.{Position, filled, laid}
-use Rattle.tlsf_heap.specs.Inner.Merging.{listed_first, past, left_by, grown_behind}
+use Rattle.tlsf_heap.specs.Inner.Merging.{listed_first, past, left_by, merged_with_behind}
 use Rattle.tlsf_heap.proofs.Meaning.BlockPositions.{filled_pools}
 use Rattle.tlsf_heap.proofs.Meaning.FreeFirst.{past_free}
 use Rattle.tlsf_heap.proofs.Meaning.Places.{block_position, pools_are, AgreeOnce, by_places, places-entered}
@@ -81,7 +81,7 @@ module _ (count : ℕ) (position : Position) (node : Node) (nodes : List Node) (
   rest_split_is rest m kept some whole = go next (past nodes) (left_by next lists) (full_front position (turned InUse node) nodes lists agreed next) (lists_back position (turned InUse node) nodes lists agreed None) ∙ sym (resized_by m some whole)
     where
       go : (o : Option Node) (others : List Node) (left : List (List Node)) → length left ≡ classes → by_places left ≡ unlink_block (option_map block_of o) (by_places lists)
-          → content_by (layout_at (at_split_rest rest m (record { count = count; position = position; node = grown_behind o (turned InUse node); nodes = others; lists = left; taken = kept })))
+          → content_by (layout_at (at_split_rest rest m (record { count = count; position = position; node = merged_with_behind o (turned InUse node); nodes = others; lists = left; taken = kept })))
           ≡ after m (option_map block_of o) (map block_of others)
       go None others left full out =
           let own : node.size ≡ node.size + 0 = omega arith in

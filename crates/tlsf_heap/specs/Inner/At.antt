@@ -10,7 +10,7 @@ use Rattle.tlsf_heap.specs.Good.{Covers}
 use Rattle.tlsf_heap.specs.Pools.{end_of_places}
 use Rattle.tlsf_heap.specs.Inner.Nodes.{NodeState, InUse, Listed, Loose, Node, Area, Layout, turned, rest_node, pool_of, nodes_of, left, entered, gap_nodes, entered_gap}
 use Rattle.tlsf_heap.specs.Inner.Positions.{Position, plug, filled, laid}
-use Rattle.tlsf_heap.specs.Inner.Merging.{is_loose, listed_first, past, left_by, grown_in_front, grown_behind, position_past}
+use Rattle.tlsf_heap.specs.Inner.Merging.{is_loose, listed_first, past, left_by, merged_with_front, merged_with_behind, position_past}
 use Rattle.tlsf_heap.specs.Inner.Represents.{Represents}
 
 -- the blocks of the pool cover it
@@ -51,11 +51,11 @@ at_turned node_state at = record at { node = turned node_state at.node }
 
 -- a free node in front, if there is one, left its list and was merged with the node
 abbrev pub previous_merged : At → At
-previous_merged at = record at { position = position_past at.position; node = grown_in_front (listed_first at.position.before) at.node; lists = left_by (listed_first at.position.before) at.lists }
+previous_merged at = record at { position = position_past at.position; node = merged_with_front (listed_first at.position.before) at.node; lists = left_by (listed_first at.position.before) at.lists }
 
 -- a free node behind, if there is one, left its list and was merged with the node
 abbrev pub next_merged : At → At
-next_merged at = record at { node = grown_behind (listed_first at.nodes) at.node; nodes = past at.nodes; lists = left_by (listed_first at.nodes) at.lists }
+next_merged at = record at { node = merged_with_behind (listed_first at.nodes) at.node; nodes = past at.nodes; lists = left_by (listed_first at.nodes) at.lists }
 
 -- the node entered its list
 abbrev pub at_listed : At → At

@@ -24,14 +24,14 @@ left_by None lists = lists
 left_by (Some node) lists = left node lists
 
 -- a node in front, where there is one, is merged with the node
-abbrev pub grown_in_front : Option Node → Node → Node
-grown_in_front None node = node
-grown_in_front (Some front) node = record front { size = front.size + node.size; state = Loose }
+abbrev pub merged_with_front : Option Node → Node → Node
+merged_with_front None node = node
+merged_with_front (Some front) node = record front { size = front.size + node.size; state = Loose }
 
 -- the node is merged with one behind, where there is one
-abbrev pub grown_behind : Option Node → Node → Node
-grown_behind None node = node
-grown_behind (Some behind) node = record node { size = node.size + behind.size }
+abbrev pub merged_with_behind : Option Node → Node → Node
+merged_with_behind None node = node
+merged_with_behind (Some behind) node = record node { size = node.size + behind.size }
 
 -- the position without a listed node in front
 abbrev pub position_past : Position → Position
@@ -39,7 +39,7 @@ position_past position = record position { before = past position.before }
 
 -- the loose node that is left of a node and those beside it
 abbrev pub merged_node : Position → Node → List Node → Node
-merged_node position node nodes = grown_behind (listed_first nodes) (grown_in_front (listed_first position.before) (turned Loose node))
+merged_node position node nodes = merged_with_behind (listed_first nodes) (merged_with_front (listed_first position.before) (turned Loose node))
 
 -- the layout after the node at the position was freed: one listed node is left of it and those beside it
 abbrev pub freed_layout : ℕ → Position → Node → List Node → List (List Node) → List ℕ → Layout
