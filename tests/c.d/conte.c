@@ -173,7 +173,7 @@ static bool may_refuse(const struct heap *heap, size_t m, size_t align)
 }
 
 /* The block at `at` becomes a rest, a live block and a rest. */
-static void carve(struct heap *heap, size_t at, unsigned char *start, size_t m)
+static void split(struct heap *heap, size_t at, unsigned char *start, size_t m)
 {
     struct block old = heap->blocks[at], live = old, behind = old;
     size_t gap = (size_t)(start - old.start);
@@ -209,7 +209,7 @@ static bool takes(struct heap *heap, unsigned char *given, size_t m, size_t alig
                 return false;
             }
             size_t at = k + (start > block->start);
-            carve(heap, k, start, m);
+            split(heap, k, start, m);
             fill(&heap->blocks[at]);
             return tlsf_block_size(given) == m - FRONT;
         }
@@ -369,7 +369,7 @@ static bool stays(struct heap *heap, size_t at, size_t m, bool has_next)
         block->size += block[1].size;
         erase(heap, at + 1);
     }
-    carve(heap, at, block->start, m);
+    split(heap, at, block->start, m);
     bool good = tlsf_block_size(given) == m - FRONT
                 && is_filled(given, least(had, m) - FRONT, seed);
     fill(&heap->blocks[at]);

@@ -110,7 +110,7 @@ static void give_vacant(plain_heap *heap, uint16_t slot)
 }
 
 /* A block of the last bytes of one, behind it in the pool. */
-static uint16_t cut(plain_heap *heap, uint16_t slot, uint32_t kept, uint32_t state)
+static uint16_t split(plain_heap *heap, uint16_t slot, uint32_t kept, uint32_t state)
 {
     struct plain_record *r = &heap->records[slot];
     uint16_t other = take_vacant(heap);
@@ -223,7 +223,7 @@ uint32_t plain_malloc(plain_heap *heap, uint64_t bytes, tlsf_heap_block *out)
     r->word = size_of(r) | LIVE;
     r->prev_free = r->next_free = NIL;
     if (rest) {
-        link_free(heap, cut(heap, slot, size, FREE));
+        link_free(heap, split(heap, slot, size, FREE));
     }
     out->place = r->place;
     out->slot = slot;
@@ -252,14 +252,14 @@ uint32_t plain_memalign(plain_heap *heap, uint64_t align, uint64_t bytes, tlsf_h
     unlink_free(heap, slot);
     if (gap > 0) {
         uint16_t front = slot;
-        slot = cut(heap, front, gap, LIVE);
+        slot = split(heap, front, gap, LIVE);
         link_free(heap, front);
         r = &heap->records[slot];
     }
     r->word = size_of(r) | LIVE;
     r->prev_free = r->next_free = NIL;
     if (rest > 0) {
-        link_free(heap, cut(heap, slot, (uint32_t)size, FREE));
+        link_free(heap, split(heap, slot, (uint32_t)size, FREE));
     }
     out->place = r->place;
     out->slot = slot;
@@ -311,7 +311,7 @@ uint32_t plain_realloc(plain_heap *heap, tlsf_heap_block block, uint64_t bytes, 
         take_in(heap, block.slot);
     }
     if (size_of(r) > size && heap->left > 0) {
-        link_free(heap, cut(heap, block.slot, size, FREE));
+        link_free(heap, split(heap, block.slot, size, FREE));
     }
     *out = block;
     return TLSF_OK;

@@ -91,7 +91,7 @@ static uint64_t pick(uint64_t bytes)
 
 /* The block at `at` is split: what is in front of the start, a live block of `bytes`, and what is
  * left behind. */
-static void carve(uint64_t at, uint64_t start, uint64_t bytes)
+static void split(uint64_t at, uint64_t start, uint64_t bytes)
 {
     struct block old = blocks[at], live = old, gap = old, rest = old;
     erase(at);
@@ -137,7 +137,7 @@ static uint32_t model_memalign(uint64_t align, uint64_t bytes, uint64_t *place)
     if (count + more > records) {
         return TLSF_TABLE_FULL;
     }
-    carve(at, start, m);
+    split(at, start, m);
     *place = start;
     return TLSF_OK;
 }
@@ -200,7 +200,7 @@ static uint32_t model_realloc(tlsf_heap_block block, uint64_t bytes, uint64_t *p
         if (has_next) {
             erase(at + 1);
         }
-        carve(at, block.place, m);
+        split(at, block.place, m);
         blocks[at].slot = slot;
         return TLSF_OK;
     }

@@ -88,22 +88,22 @@ module _ {X : Type 0} where
       here = rw passes refl
 
   -- a list at the first item that passes
-  pub record Split (p : X → Bool) (xs : List X) : Type 0 where
+  pub record FirstPassing (p : X → Bool) (xs : List X) : Type 0 where
     pub front : List X
     pub item : X
     pub behind : List X
     pub whole : xs ≡ plug front (item ∷ behind)
     pub passes : p item ≡ true
 
-  split_behind : (p : X → Bool) (front xs : List X) → 1 ≤ count_by p xs → Split p (plug front xs)
-  split_behind p front [] some = absurd (omega (arith, some))
-  split_behind p front (x ∷ xs) some = elim (cases_Bool (p x)) [
+  first_passing_behind : (p : X → Bool) (front xs : List X) → 1 ≤ count_by p xs → FirstPassing p (plug front xs)
+  first_passing_behind p front [] some = absurd (omega (arith, some))
+  first_passing_behind p front (x ∷ xs) some = elim (cases_Bool (p x)) [
     | inl passes ↦ record { front = front; item = x; behind = xs; whole = refl; passes = passes }
-    | inr fails ↦ split_behind p (x ∷ front) xs (omega (arith, some, count-cons p x xs, ap one_if fails))
+    | inr fails ↦ first_passing_behind p (x ∷ front) xs (omega (arith, some, count-cons p x xs, ap one_if fails))
   ]
 
-  pub split_at : (p : X → Bool) (xs : List X) → 1 ≤ count_by p xs → Split p xs
-  split_at p xs some = split_behind p [] xs some
+  pub first_passing : (p : X → Bool) (xs : List X) → 1 ≤ count_by p xs → FirstPassing p xs
+  first_passing p xs some = first_passing_behind p [] xs some
 
 -- items seen through a function
 pub count-map : {X Y : Type 0} (p : Y → Bool) (f : X → Y) (xs : List X) → count_by p (map f xs) ≡ count_by (λ x. p (f x)) xs

@@ -14,7 +14,7 @@ pub mod FilledHeads
 pub mod Storable
 pub mod Appending
 pub mod ChainLemmas
-pub mod TableLemmas
+pub mod HasPartsLemmas
 pub mod Counting
 pub mod Distinct
 pub mod ImageBack

@@ -5,7 +5,7 @@ pub mod Reads
 pub mod Chains
 pub mod StateSet
 pub mod Split
-pub mod Join
+pub mod Merge
 pub mod Lists
 pub mod Taken
 pub mod Linked
@@ -15,12 +15,12 @@ pub mod Sums
 pub mod Followed
 pub mod Located
 pub mod Used
-pub mod Joinable
+pub mod Mergeable
 pub mod Steps
 pub mod Live
 pub mod Resizing
 pub mod Gapped
-pub mod Carving
+pub mod SplitAligned
 pub mod Allotted
 pub mod Spans
 pub mod Served

@@ -8,7 +8,7 @@ pub mod FreeFirst
 pub mod Refilled
 pub mod FreedIsGood
 pub mod Gaps
-pub mod Carved
+pub mod SplitInThree
 pub mod AlignedIsGood
 pub mod ResizedIsGood
 pub mod FreedSlots

@@ -7,5 +7,5 @@ pub mod Findings
 pub mod Told
 pub mod Bitmaps
 pub mod Whole
-pub mod Table
+pub mod HasParts
 pub mod Described

@@ -2,7 +2,7 @@
 pub mod Nodes
 pub mod Positions
 pub mod Represents
-pub mod Joined
+pub mod Merging
 pub mod CellEdits
 pub mod Following
 pub mod At
@@ -11,7 +11,6 @@ pub mod Bitmaps
 pub mod Chains
 pub mod Edits
 pub mod Entries
-pub mod States
 pub mod Loading
 pub mod Imaged
 pub mod Spans

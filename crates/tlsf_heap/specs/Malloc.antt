@@ -1,4 +1,4 @@
--- malloc: the block picked, cut to the size asked for.
+-- malloc: the block picked, split at the size asked for.
 use Rattle.std.specs.Prelude.{ℕ, ◌+◌, ◌-◌, ◌&&◌, List, [], ◌∷◌, map, flat_map, Option, Some, None, Result, Ok, Err, if◌then◌else◌, ◌==◌, nat_lt, nat_le}
 use Rattle.tlsf_heap.specs.declared.refusal.Refusal.{Refusal}
 use Rattle.tlsf_heap.specs.declared.refusal.Refusal.TheVariants.{ZeroSize, NoFit, TableFull}
@@ -23,13 +23,13 @@ abbrev pub replaced_in : {A : Type 0} → ℕ → List (Block A) → Pool A → 
 replaced_in place others pool = record pool { blocks = replaced place others pool.blocks }
 
 -- a live block of m bytes, and what is left of the size behind it
-abbrev pub cut : {A : Type 0} → A → ℕ → ℕ → ℕ → List (Block A)
-cut owner place m size = record { place = place; size = m; owner = Some owner } ∷ gap (place + m) (size - m)
+abbrev pub split : {A : Type 0} → A → ℕ → ℕ → ℕ → List (Block A)
+split owner place m size = record { place = place; size = m; owner = Some owner } ∷ gap (place + m) (size - m)
 
--- the block at the place, which has this size, leaves its list and is cut to m bytes; what is left enters its list
+-- the block at the place, which has this size, leaves its list and is split at m bytes; what is left enters its list
 abbrev pub allocated : {A : Type 0} → A → ℕ → ℕ → ℕ → Content A → Content A
 allocated owner place m size content = record content {
-  pools = map (replaced_in place (cut owner place m size)) content.pools;
+  pools = map (replaced_in place (split owner place m size)) content.pools;
   lists = link_gap (place + m) (size - m) (unlink place size content.lists);
 }
 

@@ -1,4 +1,4 @@
--- memalign: the block picked, carved so that a live block begins at a multiple of an alignment.
+-- memalign: the block picked, split so that a live block begins at a multiple of an alignment.
 use Rattle.std.specs.Prelude.{ℕ, ◌+◌, ◌-◌, ◌^◌, Bool, not, List, ◌++◌, map, Option, Some, None, Result, Ok, Err, if◌then◌else◌, ◌==◌, nat_lt, nat_le}
 use Rattle.std.specs.List.{list_any, range_with_len}
 use Rattle.std.specs.Int.{next_multiple_of}
@@ -8,7 +8,7 @@ use Rattle.tlsf_class.specs.Classes.{unit}
 use Rattle.tlsf_class.specs.Rounding.{round}
 use Rattle.tlsf_heap.specs.Content.{Block, Content, blocks_of, size_at, used_records}
 use Rattle.tlsf_heap.specs.Lists.{unlink, pick}
-use Rattle.tlsf_heap.specs.Malloc.{gap, link_gap, replaced_in, cut}
+use Rattle.tlsf_heap.specs.Malloc.{gap, link_gap, replaced_in, split}
 
 -- how many alignments there are: the powers of two from 1 to 2^29
 abbrev pub alignments : ℕ
@@ -23,19 +23,19 @@ is_alignment align = list_any (λ power. 2 ^ power == align) (range_with_len 0 a
 abbrev pub size_asked : ℕ → ℕ → ℕ
 size_asked align m = if nat_le align unit then m else (m + align) - unit
 
--- a block carved for a live one of m bytes at the start: the gap in front, the live block, and the rest behind it
-abbrev pub carved : {A : Type 0} → A → (start m place size : ℕ) → List (Block A)
-carved owner start m place size = gap place (start - place) ++ cut owner start m (size - (start - place))
+-- a block split in three, for a live one of m bytes at the start: the gap in front, the live block, and the rest behind it
+abbrev pub split_in_three : {A : Type 0} → A → (start m place size : ℕ) → List (Block A)
+split_in_three owner start m place size = gap place (start - place) ++ split owner start m (size - (start - place))
 
 -- how many records a gap of these bytes takes
 abbrev pub gap_records : ℕ → ℕ
 gap_records bytes = if bytes == 0 then 0 else 1
 
--- the block at the place, which has this size, leaves its list and is carved; the gap enters its list, and then what
+-- the block at the place, which has this size, leaves its list and is split; the gap enters its list, and then what
 -- is left
 abbrev pub aligned : {A : Type 0} → A → (start m place size : ℕ) → Content A → Content A
 aligned owner start m place size content = record content {
-  pools = map (replaced_in place (carved owner start m place size)) content.pools;
+  pools = map (replaced_in place (split_in_three owner start m place size)) content.pools;
   lists = link_gap (start + m) ((size - (start - place)) - m) (link_gap place (start - place) (unlink place size content.lists));
 }
 

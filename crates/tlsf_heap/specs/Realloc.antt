@@ -4,7 +4,7 @@ use Rattle.tlsf_heap.specs.declared.refusal.Refusal.{Refusal}
 use Rattle.tlsf_heap.specs.declared.refusal.Refusal.TheVariants.{NoFit, BadPointer}
 use Rattle.tlsf_class.specs.Rounding.{round}
 use Rattle.tlsf_heap.specs.Content.{Content, blocks_of, size_at, used_records}
-use Rattle.tlsf_heap.specs.Malloc.{link_gap, replaced_in, cut, malloc, malloc_rounded}
+use Rattle.tlsf_heap.specs.Malloc.{link_gap, replaced_in, split, malloc, malloc_rounded}
 use Rattle.tlsf_heap.specs.Free.{is_live, free_next, unlink_block, without_block, size_of, after_free}
 
 module _ {A : Type 0} where
@@ -12,14 +12,14 @@ module _ {A : Type 0} where
   abbrev pub size_with_next : ℕ → Content A → ℕ
   size_with_next place content = size_at place (blocks_of content.pools) + size_of (free_next place content)
 
-  -- the live block at the place, with the free one behind it, is cut to m bytes. The free one leaves its list, and
+  -- the live block at the place, with the free one behind it, is split at m bytes. The free one leaves its list, and
   -- the rest enters its list
   abbrev pub resized : A → (place m : ℕ) → Content A → Content A
   resized owner place m content =
       let next = free_next place content in
       let size = size_with_next place content in
       record content {
-        pools = map (replaced_in place (cut owner place m size)) (without_block next content.pools);
+        pools = map (replaced_in place (split owner place m size)) (without_block next content.pools);
         lists = link_gap (place + m) (size - m) (unlink_block next content.lists);
       }
 

@@ -6,7 +6,7 @@ ghost use Rattle.tlsf_store.specs.declared.records.State.TheVariants.{Vacant};
 ghost use Rattle.tlsf_heap.specs.Pools.{end_of_places};
 ghost use Rattle.tlsf_heap.specs.Inner.Edits.{IsUsed};
 ghost use Rattle.tlsf_heap.specs.Inner.Chains.{with_prev, with_state};
-ghost use Rattle.tlsf_heap.specs.Inner.Spans.{IsRead, split_by, absorbed_by};
+ghost use Rattle.tlsf_heap.specs.Inner.Spans.{IsRead, split_by, merged_behind_by};
 ghost use Rattle.tlsf_store.specs.CountedCells.{LeavesAfter};
 ghost use Rattle.tlsf_heap.specs.Inner.Answers.{Leaves};
 
@@ -72,15 +72,15 @@ pub(crate) fn split(store: &mut Store, block: &Span, rest: Slot, bytes: u32)
     set_prev(store, block.next, rest);
 }
 
-/// A block in this state takes in the one behind it, whose slot becomes vacant. It is then what `merged`
+/// A block in this state is merged with the one behind it, whose slot becomes vacant. It is then what `merged`
 /// says. At most five touches.
-pub(crate) fn absorb(store: &mut Store, merged: &Span, state: State, behind: Slot)
+pub(crate) fn merge_behind(store: &mut Store, merged: &Span, state: State, behind: Slot)
     requires slot_used { IsUsed store.old.cells.records (Some merged.now.slot) }
     requires behind_used { IsUsed store.old.cells.records (Some behind) }
     requires next_used { IsUsed store.old.cells.records merged.now.next }
     requires new_used { state ≢ Vacant }
     requires in_units { merged.now.size % unit ≡ 0 }
-    ensures { Leaves (absorbed_by merged.now state behind store.old.cells) 5 store.old store.new }
+    ensures { Leaves (merged_behind_by merged.now state behind store.old.cells) 5 store.old store.new }
 {
     store.set_block(merged.slot, merged.size, state, merged.next);
     set_prev(store, merged.next, merged.slot);

@@ -1,22 +1,21 @@
-//! free: the block becomes free, takes in its free neighbours, and enters its class's list.
+//! free: the block becomes free, is merged with its free neighbours, and enters its class's list.
 
 ghost use Rattle.std.specs.Prelude.{◌≡◌, ◌≢◌, false, ◌==◌, ◌&&◌, ◌%◌, is_some, Ok, Err, IfSome};
 ghost use Rattle.tlsf_class.specs.Classes.{unit, class};
 ghost use Rattle.tlsf_store.specs.declared.records.State.TheVariants.{Vacant};
-ghost use Rattle.tlsf_store.specs.Records.{record_at};
+ghost use Rattle.tlsf_store.specs.Records.{record_at, is_live_state};
 ghost use Rattle.tlsf_heap.specs.Touches.{AtMost, free_touches};
 ghost use Rattle.tlsf_heap.specs.Content.{blocks_of};
 ghost use Rattle.tlsf_heap.specs.Free.{is_live as is_live_in};
 ghost use Rattle.tlsf_heap.specs.Pointer.{free_ptr};
 ghost use Rattle.tlsf_heap.specs.Inner.Edits.{unlinked_by};
-ghost use Rattle.tlsf_heap.specs.Inner.States.{is_state_free, is_state_live};
-ghost use Rattle.tlsf_heap.specs.Inner.Nodes.{Status, InUse, Listed, Loose, is_listed};
+ghost use Rattle.tlsf_heap.specs.Inner.Nodes.{NodeState, InUse, Listed, Loose, is_listed};
 ghost use Rattle.tlsf_heap.specs.Inner.Following.{Stands, content_of};
-ghost use Rattle.tlsf_heap.specs.Inner.At.{At, StandsAt, previous_joined, next_joined, at_listed, at_freed};
-ghost use Rattle.tlsf_heap.specs.Inner.Spans.{IsRead, IsRecordOf, CanJoin, joined_by};
+ghost use Rattle.tlsf_heap.specs.Inner.At.{At, StandsAt, previous_merged, next_merged, at_listed, at_freed};
+ghost use Rattle.tlsf_heap.specs.Inner.Spans.{IsRead, IsRecordOf, CanMerge, merged_by};
 ghost use Rattle.tlsf_heap.specs.Inner.Answers.{Answers, Leaves};
 
-use crate::chains::{absorb, turn};
+use crate::chains::{merge_behind, turn};
 use crate::free_lists::{link, unlink};
 use crate::span::Span;
 use crate::{Ptr, Refusal};
@@ -60,12 +59,9 @@ pub(crate) fn live(store: &mut Store, ptr: Ptr) -> Option<Record>
 
 /// Whether the record is of a live block that begins at the place.
 fn is_live_at(block: &Record, place: u32) -> bool
-    ensures { result ≡ (is_state_live block.now.state && (block.now.place == place)) }
+    ensures { result ≡ (is_live_state block.now.state && (block.now.place == place)) }
 {
-    match block.state {
-        State::Live => block.place == place,
-        State::Vacant | State::Free => false,
-    }
+    block.state.is_live() && block.place == place
 }
 
 /// The block of this record becomes free, and one free block with its free neighbours in the pool. At
@@ -80,29 +76,19 @@ pub(crate) fn release(store: &mut Store, slot: Slot, block: &Record)
 {
     let whole = Span::of(slot, block);
     turn(store, &whole, State::Free);
-    let merged = join_previous(store, block.prev, whole);
-    let all = join_next(store, merged, State::Free);
+    let merged = merge_previous(store, block.prev, whole);
+    let all = merge_next(store, merged, State::Free);
     enter(store, all.slot, all.size);
 }
 
-/// Whether a record in this state is of a free block.
-pub(crate) fn is_free(state: State) -> bool
-    ensures { result ≡ is_state_free state }
-{
-    match state {
-        State::Free => true,
-        State::Vacant | State::Live => false,
-    }
-}
-
-/// A free block before it, of the slot `previous`, takes in the block, which is free and in no list. The
-/// answer is the block that is left. At most 11 touches.
+/// The block, which is free and in no list, is merged with a free one before it, of the slot `previous`.
+/// The answer is the block that is left. At most 11 touches.
 #[inline(always)]
-fn join_previous(store: &mut Store, previous: Option<Slot>, block: Span) -> Span
+fn merge_previous(store: &mut Store, previous: Option<Slot>, block: Span) -> Span
     requires stands { (at : At) × StandsAt block.slot Loose store.old.cells at }
     requires read { IsRead block store.old.cells.records }
     requires previous { previous ≡ (record_at store.old.cells.records block.slot).prev }
-    ensures leads { (at : At) → StandsAt block.slot Loose store.old.cells at → StandsAt result.slot Loose store.new.cells (previous_joined at) }
+    ensures leads { (at : At) → StandsAt block.slot Loose store.old.cells at → StandsAt result.slot Loose store.new.cells (previous_merged at) }
     ensures read { IsRead result store.new.cells.records }
     ensures touches { AtMost 11 store.old.touches store.new.touches }
 {
@@ -110,7 +96,7 @@ fn join_previous(store: &mut Store, previous: Option<Slot>, block: Span) -> Span
         return block;
     };
     let front = store.read_used(previous_slot);
-    if !is_free(front.state) {
+    if !front.state.is_free() {
         return block;
     }
     let merged = Span {
@@ -119,19 +105,19 @@ fn join_previous(store: &mut Store, previous: Option<Slot>, block: Span) -> Span
         size: front.size + block.size,
         next: block.next,
     };
-    join(store, &merged, front.state, block.slot, &front);
+    merge(store, &merged, front.state, block.slot, &front);
     merged
 }
 
-/// The block in this state, which is in no list, takes in a free one after it. The answer is the block
-/// that is left, under its slot. At most 11 touches.
+/// The block in this state, which is in no list, is merged with a free one after it. The answer is the
+/// block that is left, under its slot. At most 11 touches.
 #[inline(always)]
-pub(crate) fn join_next(store: &mut Store, block: Span, state: State) -> Span
-    requires stands { (status : Status) × (at : At) × (is_listed status ≡ false) × StandsAt block.slot status store.old.cells at }
+pub(crate) fn merge_next(store: &mut Store, block: Span, state: State) -> Span
+    requires stands { (node_state : NodeState) × (at : At) × (is_listed node_state ≡ false) × StandsAt block.slot node_state store.old.cells at }
     requires read { IsRead block store.old.cells.records }
     requires state { state ≡ (record_at store.old.cells.records block.slot).state }
     ensures slot { result.slot ≡ block.slot }
-    ensures leads { (status : Status) (at : At) → is_listed status ≡ false → StandsAt block.slot status store.old.cells at → StandsAt block.slot status store.new.cells (next_joined at) }
+    ensures leads { (node_state : NodeState) (at : At) → is_listed node_state ≡ false → StandsAt block.slot node_state store.old.cells at → StandsAt block.slot node_state store.new.cells (next_merged at) }
     ensures read { IsRead result store.new.cells.records }
     ensures touches { AtMost 11 store.old.touches store.new.touches }
 {
@@ -139,7 +125,7 @@ pub(crate) fn join_next(store: &mut Store, block: Span, state: State) -> Span
         return block;
     };
     let next = store.read_used(next_slot);
-    if !is_free(next.state) {
+    if !next.state.is_free() {
         return block;
     }
     let merged = Span {
@@ -147,20 +133,20 @@ pub(crate) fn join_next(store: &mut Store, block: Span, state: State) -> Span
         next: next.next,
         ..block
     };
-    join(store, &merged, state, next_slot, &next);
+    merge(store, &merged, state, next_slot, &next);
     merged
 }
 
-/// One of two neighbours, of the record `listed`, leaves its class's list. The first, in this state, takes
-/// in the one behind, and is then what `merged` says. At most ten touches.
+/// One of two neighbours, of the record `listed`, leaves its class's list. The two are merged: the
+/// first, in this state, is then what `merged` says. At most ten touches.
 #[inline(always)]
-fn join(store: &mut Store, merged: &Span, state: State, behind: Slot, listed: &Record)
-    requires can { CanJoin merged.now behind listed.now store.old.cells.records (unlinked_by (class listed.now.size) listed.now store.old.cells).records }
+fn merge(store: &mut Store, merged: &Span, state: State, behind: Slot, listed: &Record)
+    requires can { CanMerge merged.now behind listed.now store.old.cells.records (unlinked_by (class listed.now.size) listed.now store.old.cells).records }
     requires new_used { state ≢ Vacant }
-    ensures { Leaves (joined_by merged.now state behind listed.now store.old.cells) 10 store.old store.new }
+    ensures { Leaves (merged_by merged.now state behind listed.now store.old.cells) 10 store.old store.new }
 {
     unlink(store, class_of(listed.size), listed);
-    absorb(store, merged, state, behind);
+    merge_behind(store, merged, state, behind);
 }
 
 /// The block of `size` bytes, which is free and in no list, enters its class's list. At most eight

@@ -182,8 +182,8 @@ impl Heap {
         malloc(&mut self.store, n)
     }
 
-    /// A live block of at least `n` bytes, rounded up to the unit, that begins at a multiple of `align`. It is carved
-    /// from a block that holds `n` bytes, rounded up, and for an alignment above the unit `align` less the unit more.
+    /// A live block of at least `n` bytes, rounded up to the unit, that begins at a multiple of `align`. It is split
+    /// off a block that holds `n` bytes, rounded up, and for an alignment above the unit `align` less the unit more.
     /// That is the first block of the first list that isn't empty, from the least class whose blocks all hold as
     /// many. What is left in front of the live block and behind it are free blocks; the one in front enters its list
     /// first. At most 42 touches.

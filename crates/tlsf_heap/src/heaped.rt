@@ -16,7 +16,7 @@ ghost use Rattle.tlsf_heap.specs.Good.{IsGood};
 ghost use Rattle.tlsf_heap.specs.GoodSlots.{HasGoodSlots};
 ghost use Rattle.tlsf_heap.specs.Counted.{range_of};
 ghost use Rattle.tlsf_heap.specs.Touches.{AtMost};
-ghost use Rattle.tlsf_heap.specs.Heaped.{IsUnchanged, Reads};
+ghost use Rattle.tlsf_heap.specs.Heaped.{LooksUnchanged, Reads};
 ghost use Rattle.tlsf_heap.specs.Rows.{rows_from};
 
 use crate::{Cursor, Ptr, Refusal, Row};
@@ -66,7 +66,7 @@ pub trait Heaped: Drop {
     /// memory is refused, which it may lack.
     fn add_pool(&mut self, base: u64, bytes: u64) -> Result<(), Refusal>
         ensures ok { OnOk result (added base bytes (content self.old) ≡ Ok (content self.new)) }
-        ensures refused { RefusesOrLacks result (λ refusal. added base bytes (content self.old) ≡ Err refusal) (lacks self.old) (IsUnchanged content stands rest self.old self.new) }
+        ensures refused { RefusesOrLacks result (λ refusal. added base bytes (content self.old) ≡ Err refusal) (lacks self.old) (LooksUnchanged content stands rest self.old self.new) }
         ensures bound { AtMost 64 (touches self.old) (touches self.new) };
 
     /// The pool that begins at the place `base` is gone. At most 64 touches.
@@ -77,7 +77,7 @@ pub trait Heaped: Drop {
     /// memory is refused, which it may lack.
     fn remove_pool(&mut self, base: u64) -> Result<(), Refusal>
         ensures ok { OnOk result (removed base (content self.old) ≡ Ok (content self.new)) }
-        ensures refused { RefusesOrLacks result (λ refusal. removed base (content self.old) ≡ Err refusal) (lacks self.old) (IsUnchanged content stands rest self.old self.new) }
+        ensures refused { RefusesOrLacks result (λ refusal. removed base (content self.old) ≡ Err refusal) (lacks self.old) (LooksUnchanged content stands rest self.old self.new) }
         ensures bound { AtMost 64 (touches self.old) (touches self.new) };
 
     /// A live block of at least `n` bytes, with a slot that no other live block has. At most 96 touches.
@@ -89,7 +89,7 @@ pub trait Heaped: Drop {
     /// where memory is refused, which it may lack.
     fn malloc(&mut self, n: u64) -> Result<Ptr, Refusal>
         ensures ok { IfOk result (λ ptr. IsServed (λ slot. served slot n) ptr (content self.old) (content self.new)) }
-        ensures refused { RefusesOrLacks result (λ refusal. (slot : ℕ) → served slot n (content self.old) ≡ Err refusal) (lacks self.old) (IsUnchanged content stands rest self.old self.new) }
+        ensures refused { RefusesOrLacks result (λ refusal. (slot : ℕ) → served slot n (content self.old) ≡ Err refusal) (lacks self.old) (LooksUnchanged content stands rest self.old self.new) }
         ensures bound { AtMost 96 (touches self.old) (touches self.new) };
 
     /// A live block of at least `n` bytes that begins at a multiple of `align`, with a slot that no other live
@@ -103,10 +103,10 @@ pub trait Heaped: Drop {
     /// lack.
     fn memalign(&mut self, align: u64, n: u64) -> Result<Ptr, Refusal>
         ensures ok { IfOk result (λ ptr. IsServed (λ slot. aligned slot align n) ptr (content self.old) (content self.new)) }
-        ensures refused { RefusesOrLacks result (λ refusal. (slot : ℕ) → aligned slot align n (content self.old) ≡ Err refusal) (lacks self.old) (IsUnchanged content stands rest self.old self.new) }
+        ensures refused { RefusesOrLacks result (λ refusal. (slot : ℕ) → aligned slot align n (content self.old) ≡ Err refusal) (lacks self.old) (LooksUnchanged content stands rest self.old self.new) }
         ensures bound { AtMost 160 (touches self.old) (touches self.new) };
 
-    /// The live block with the pointer's place and slot becomes free, and is joined with its free
+    /// The live block with the pointer's place and slot becomes free, and is merged with its free
     /// neighbours. At most 96 touches.
     ///
     /// # Errors
@@ -115,7 +115,7 @@ pub trait Heaped: Drop {
     /// may lack.
     fn free(&mut self, ptr: Ptr) -> Result<(), Refusal>
         ensures ok { OnOk result (free_ptr ptr (content self.old) ≡ Ok (content self.new)) }
-        ensures refused { RefusesOrLacks result (λ refusal. free_ptr ptr (content self.old) ≡ Err refusal) (lacks self.old) (IsUnchanged content stands rest self.old self.new) }
+        ensures refused { RefusesOrLacks result (λ refusal. free_ptr ptr (content self.old) ≡ Err refusal) (lacks self.old) (LooksUnchanged content stands rest self.old self.new) }
         ensures bound { AtMost 96 (touches self.old) (touches self.new) };
 
     /// The block with room for `n` bytes, in its place where it can have them, else under a new pointer. For 0
@@ -128,7 +128,7 @@ pub trait Heaped: Drop {
     /// pointer, or where the block has to move; `OutOfMemory` where memory is refused, which it may lack.
     fn realloc(&mut self, ptr: Option<Ptr>, n: u64) -> Result<Option<Ptr>, Refusal>
         ensures ok { IfOk result (λ given. IsMoved (realloc_ptr ptr n) ptr given (content self.old) (content self.new)) }
-        ensures refused { RefusesOrLacks result (λ refusal. (slot : ℕ) → realloc_ptr ptr n slot (content self.old) ≡ Err refusal) (lacks self.old) (IsUnchanged content stands rest self.old self.new) }
+        ensures refused { RefusesOrLacks result (λ refusal. (slot : ℕ) → realloc_ptr ptr n slot (content self.old) ≡ Err refusal) (lacks self.old) (LooksUnchanged content stands rest self.old self.new) }
         ensures bound { AtMost 256 (touches self.old) (touches self.new) };
 
     /// The size of a live block, in bytes. At most four touches.
@@ -138,7 +138,7 @@ pub trait Heaped: Drop {
     /// `BadPointer` where no live block has both the pointer's place and its slot.
     fn block_size(&mut self, ptr: Ptr) -> Result<u32, Refusal>
         ensures ok { IfOk result (λ bytes. block_size_ptr ptr (content self.old) ≡ Ok bytes) }
-        ensures refused { Refuses result (λ refusal. block_size_ptr ptr (content self.old) ≡ Err refusal) (IsUnchanged content stands rest self.old self.new) }
+        ensures refused { Refuses result (λ refusal. block_size_ptr ptr (content self.old) ≡ Err refusal) (LooksUnchanged content stands rest self.old self.new) }
         ensures read { Reads content stands rest touches 4 self.old self.new };
 
     /// Where each pool begins and how many bytes it has, in order of base. At most eight touches.
@@ -160,7 +160,7 @@ pub trait Heaped: Drop {
     fn row(&mut self, cursor: Cursor) -> Option<(Row, Cursor)>
         requires { stands self.old cursor }
         ensures given { GivesRow result (rest self.old cursor) (rest self.new) (stands self.new) }
-        ensures unchanged { IsUnchanged content stands rest self.old self.new }
+        ensures unchanged { LooksUnchanged content stands rest self.old self.new }
         ensures touched { TouchesForRow 4 result (touches self.old) (touches self.new) };
 
     /// Says what every heap keeps, and does nothing. Its pools are covered by their blocks end to end, and

@@ -3,24 +3,25 @@
 ghost use Rattle.std.specs.Prelude.{◌≡◌, ◌+◌, ◌%◌, ◌<◌, ◌≤◌, IfErr, IfOk, IfSome, None, Some, length};
 ghost use Rattle.tlsf_class.specs.Classes.{unit, classes};
 ghost use Rattle.tlsf_store.specs.Cells.{most_pools};
-ghost use Rattle.tlsf_heap.specs.Images.Image.{parts_in, state_of, record_at, record_in, head_in};
+ghost use Rattle.tlsf_heap.specs.Images.Image.{parts_in, state_of, record_start, record_in, head_in};
 ghost use Rattle.tlsf_heap.specs.Images.Rules.{first_broken, IsReadable};
 
 mod bitmaps;
 mod bytes;
 mod chains;
+mod has_parts;
 mod header;
 mod links;
 mod lists;
 mod pools;
 mod rule;
 mod rules;
-mod table;
 mod told;
 mod whole;
 mod writing;
 
 use bytes::{four_at, two_at};
+pub use has_parts::HasParts;
 use header::{
     COUNT_AT, HEAD_BYTES, HEADS_AT, POOLS_AT, RECORD_BYTES, RECORDS_AT, has_length, has_magic,
     has_pools, has_states, has_unused_pools, pool_in,
@@ -29,7 +30,6 @@ pub use rule::Rule;
 use rules::first_behind_pools;
 pub use rules::first_broken;
 use std::marker::Model;
-pub use table::Table;
 use tlsf_class::{Class, UNIT};
 use tlsf_store::{Pool, Record, Slot, State, link_of};
 pub use whole::is_whole;
@@ -117,7 +117,7 @@ pub(crate) const VACANT: Record = Record {
 
 /// The record of a slot.
 fn record_in(bytes: &[u8], slot: Slot) -> Record
-    requires { record_at slot + 16 ≤ length bytes.now }
+    requires { record_start slot + 16 ≤ length bytes.now }
     ensures value { result ≡ record_in bytes.now slot }
     ensures whole { result.size % unit ≡ 0 }
 {
@@ -139,14 +139,14 @@ fn record_in(bytes: &[u8], slot: Slot) -> Record
 
 /// The first block of the list of a class.
 fn head_in(bytes: &[u8], class: Class) -> Option<Slot>
-    requires { record_at 0 ≤ length bytes.now }
+    requires { record_start 0 ≤ length bytes.now }
     ensures value { result ≡ head_in bytes.now class }
     ensures within { class < classes }
 {
     link_of(two_at(bytes, HEADS_AT + HEAD_BYTES * class.number() as usize))
 }
 
-impl<'a> Table for Image<'a> {
+impl<'a> HasParts for Image<'a> {
     ghost use Rattle.std.specs.Prelude.{◌≡◌, ◌<◌, ◌≤◌, length};
     ghost use Rattle.tlsf_store.specs.Cells.{empty_cells};
     ghost use Rattle.tlsf_heap.specs.Images.Image.{parts_in};

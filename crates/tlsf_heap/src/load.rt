@@ -10,7 +10,7 @@ ghost use Rattle.tlsf_heap.specs.Images.Bitmaps.{AreBitmapsOf};
 ghost use Rattle.tlsf_heap.specs.Inner.Loading.{CanBeStored, with_records, with_pools, HasNoHeads};
 
 use crate::bitmaps::set_class_bit;
-use crate::image::Table;
+use crate::image::HasParts;
 use std::alloc::Global;
 use tlsf_class::{CLASSES, Class};
 use tlsf_store::{MOST_POOLS, Slot, State, Store, StoreError};
@@ -26,7 +26,7 @@ fn take_all(store: &mut Store)
 }
 
 /// Writes the records of a table over those of a store, none of which is vacant. At most three touches each.
-fn fill_records<T: Table>(store: &mut Store, table: &mut T)
+fn fill_records<T: HasParts>(store: &mut Store, table: &mut T)
     requires none { vacant_count store.old.cells.records ≡ 0 }
     requires count { length store.old.cells.records ≡ length (T.parts table.old).records }
     requires stored { CanBeStored (T.parts table.old) }
@@ -45,7 +45,7 @@ fn fill_records<T: Table>(store: &mut Store, table: &mut T)
 }
 
 /// Makes the heads of a table those of a store without heads, and sets their bits. At most five touches a class.
-fn fill_heads<T: Table>(store: &mut Store, table: &mut T)
+fn fill_heads<T: HasParts>(store: &mut Store, table: &mut T)
     requires empty { HasNoHeads store.old.cells }
     requires count { length store.old.cells.records ≡ length (T.parts table.old).records }
     requires stored { CanBeStored (T.parts table.old) }
@@ -67,7 +67,7 @@ fn fill_heads<T: Table>(store: &mut Store, table: &mut T)
 }
 
 /// Makes the pools of a table those of a store. A touch a pool.
-fn fill_pools<T: Table>(store: &mut Store, table: &mut T)
+fn fill_pools<T: HasParts>(store: &mut Store, table: &mut T)
     requires pools { length store.old.cells.pools ≡ most_pools }
     requires count { length store.old.cells.records ≡ length (T.parts table.old).records }
     ensures cells { store.new.cells ≡ with_pools (T.parts table.old).pools store.old.cells }
@@ -81,7 +81,7 @@ fn fill_pools<T: Table>(store: &mut Store, table: &mut T)
 
 /// A store that holds what a table does. It takes memory once, for its own table. At most five touches a record and a class, and
 /// ten more.
-pub(crate) fn stored<T: Table>(alloc: Global, table: &mut T) -> Result<Store, StoreError>
+pub(crate) fn stored<T: HasParts>(alloc: Global, table: &mut T) -> Result<Store, StoreError>
     requires stored { CanBeStored (T.parts table.old) }
     ensures parts { IfOk result (λ store. parts_of store.cells ≡ T.parts table.old) }
     ensures words { IfOk result (λ store. length store.cells.step_words ≡ levels) }

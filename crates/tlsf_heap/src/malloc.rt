@@ -9,8 +9,8 @@ ghost use Rattle.tlsf_heap.specs.Lists.{pick as picked};
 ghost use Rattle.tlsf_heap.specs.Malloc.{malloc as served, malloc_rounded};
 ghost use Rattle.tlsf_heap.specs.Served.{IsServed};
 ghost use Rattle.tlsf_heap.specs.Inner.Following.{Stands, content_of};
-ghost use Rattle.tlsf_heap.specs.Inner.Nodes.{Status, InUse, Listed, is_listed};
-ghost use Rattle.tlsf_heap.specs.Inner.At.{At, StandsAt, with_slot, at_turned, at_taken, at_cut, at_trimmed};
+ghost use Rattle.tlsf_heap.specs.Inner.Nodes.{NodeState, InUse, Listed, is_listed};
+ghost use Rattle.tlsf_heap.specs.Inner.At.{At, StandsAt, with_slot, at_turned, at_taken, at_split_off, at_split_rest};
 ghost use Rattle.tlsf_heap.specs.Inner.Spans.{IsRead};
 ghost use Rattle.tlsf_heap.specs.Inner.Answers.{Answers, Leaves};
 
@@ -95,25 +95,25 @@ fn take(store: &mut Store, slot: Slot, asked: u32) -> Result<Ptr, Refusal>
     let Some(rest) = store.take_vacant() else {
         return Err(Refusal::TableFull);
     };
-    take_part(store, slot, rest, asked, &block);
+    take_split(store, slot, rest, asked, &block);
     Ok(Ptr::new(block.place, slot.0))
 }
 
 /// The first bytes of a free block of this record, which leaves its class's list, are a live block. What
 /// is left is a free block of the slot `rest`, first in its class's list. At most 16 touches.
-fn take_part(store: &mut Store, slot: Slot, rest: Slot, bytes: u32, block: &Record)
+fn take_split(store: &mut Store, slot: Slot, rest: Slot, bytes: u32, block: &Record)
     requires stands { (at : At) × StandsAt slot Listed store.old.cells (with_slot rest at) }
     requires read { block.now ≡ record_at store.old.cells.records slot }
     requires in_units { block.now.place % unit ≡ 0 }
     requires some { 0 < bytes }
     requires less { bytes < block.now.size }
     requires whole { bytes % unit ≡ 0 }
-    ensures leads { (at : At) → StandsAt slot Listed store.old.cells (with_slot rest at) → StandsAt rest Listed store.new.cells (at_cut rest bytes (at_taken at)) }
+    ensures leads { (at : At) → StandsAt slot Listed store.old.cells (with_slot rest at) → StandsAt rest Listed store.new.cells (at_split_off rest bytes (at_taken at)) }
     ensures touches { AtMost 16 store.old.touches store.new.touches }
 {
     unlink(store, class_of(block.size), block);
     let whole = Span::of(slot, block);
-    cut(store, &whole, rest, bytes);
+    split_off(store, &whole, rest, bytes);
 }
 
 /// A free block of this record leaves its class's list and is live. At most six touches.
@@ -131,13 +131,13 @@ pub(crate) fn take_whole(store: &mut Store, slot: Slot, block: &Record)
 
 /// A block that is in no list keeps its first bytes and is live. What is left is a free block of the slot
 /// `rest`, first in its class's list. At most 11 touches.
-fn cut(store: &mut Store, block: &Span, rest: Slot, bytes: u32)
-    requires stands { (status : Status) × (at : At) × (is_listed status ≡ false) × StandsAt block.now.slot status store.old.cells (with_slot rest at) }
+fn split_off(store: &mut Store, block: &Span, rest: Slot, bytes: u32)
+    requires stands { (node_state : NodeState) × (at : At) × (is_listed node_state ≡ false) × StandsAt block.now.slot node_state store.old.cells (with_slot rest at) }
     requires read { IsRead block.now store.old.cells.records }
     requires some { 0 < bytes }
     requires less { bytes < block.now.size }
     requires whole { bytes % unit ≡ 0 }
-    ensures leads { (status : Status) (at : At) → is_listed status ≡ false → StandsAt block.now.slot status store.old.cells (with_slot rest at) → StandsAt rest Listed store.new.cells (at_cut rest bytes (at_turned InUse at)) }
+    ensures leads { (node_state : NodeState) (at : At) → is_listed node_state ≡ false → StandsAt block.now.slot node_state store.old.cells (with_slot rest at) → StandsAt rest Listed store.new.cells (at_split_off rest bytes (at_turned InUse at)) }
     ensures touches { AtMost 11 store.old.touches store.new.touches }
 {
     split(store, block, rest, bytes);
@@ -146,14 +146,14 @@ fn cut(store: &mut Store, block: &Span, rest: Slot, bytes: u32)
 
 /// A live block keeps its first bytes. What is left, where anything is, is a free block first in its
 /// class's list. At most 13 touches.
-pub(crate) fn trim(store: &mut Store, block: &Span, bytes: u32)
+pub(crate) fn split_rest(store: &mut Store, block: &Span, bytes: u32)
     requires stands { (at : At) × StandsAt block.now.slot InUse store.old.cells at }
     requires read { IsRead block.now store.old.cells.records }
     requires most { bytes ≤ block.now.size }
     requires some { 0 < bytes }
     requires whole { bytes % unit ≡ 0 }
     requires room { bytes < block.now.size → 0 < vacant_count store.old.cells.records }
-    ensures leads { (at : At) → StandsAt block.now.slot InUse store.old.cells at → (rest : ℕ) × StandsAt block.now.slot InUse store.new.cells (at_trimmed rest bytes at) }
+    ensures leads { (at : At) → StandsAt block.now.slot InUse store.old.cells at → (rest : ℕ) × StandsAt block.now.slot InUse store.new.cells (at_split_rest rest bytes at) }
     ensures touches { AtMost 13 store.old.touches store.new.touches }
 {
     if block.size == bytes {
@@ -162,5 +162,5 @@ pub(crate) fn trim(store: &mut Store, block: &Span, bytes: u32)
     let Some(rest) = store.take_vacant() else {
         unreachable!()
     };
-    cut(store, block, rest, bytes);
+    split_off(store, block, rest, bytes);
 }

@@ -1,4 +1,4 @@
-//! memalign: the block picked is carved, so that a live block begins at a multiple of an alignment.
+//! memalign: the block picked is split, so that a live block begins at a multiple of an alignment.
 
 ghost use Rattle.std.specs.Prelude.{◌≡◌, ℕ, true, ◌+◌, ◌-◌, ◌%◌, ◌^◌, ◌<◌, ◌≤◌, Some, Err, length};
 ghost use Rattle.std.specs.Int.{next_multiple_of};
@@ -17,7 +17,7 @@ ghost use Rattle.tlsf_heap.specs.Inner.Answers.{Answers};
 
 use crate::chains::{set_state, split};
 use crate::free::enter;
-use crate::malloc::{pick, take_whole, trim};
+use crate::malloc::{pick, split_rest, take_whole};
 use crate::span::Span;
 use crate::{Ptr, Refusal};
 use tlsf_class::{UNIT, round};
@@ -49,16 +49,16 @@ pub(crate) fn memalign(store: &mut Store, align: u64, n: u64) -> Result<Ptr, Ref
     let Some(slot) = pick(store, size_asked(align, asked)) else {
         return Err(Refusal::NoFit);
     };
-    carve(store, slot, align, asked)
+    split_aligned(store, slot, align, asked)
 }
 
-/// The block picked is carved: a live block of `asked` bytes begins at the least multiple of the alignment
+/// The block picked is split: a live block of `asked` bytes begins at the least multiple of the alignment
 /// at or above its place. At most 38 touches.
 ///
 /// # Errors
 ///
 /// `TableFull` where the gap and what is left behind need more records than are vacant; then nothing is changed.
-fn carve(store: &mut Store, slot: Slot, align: u32, asked: u32) -> Result<Ptr, Refusal>
+fn split_aligned(store: &mut Store, slot: Slot, align: u32, asked: u32) -> Result<Ptr, Refusal>
     requires stands { Stands store.old.cells }
     requires is { is_one align ≡ true }
     requires whole { asked % unit ≡ 0 }
@@ -83,7 +83,7 @@ fn carve(store: &mut Store, slot: Slot, align: u32, asked: u32) -> Result<Ptr, R
         size: left,
         next: block.next,
     };
-    trim(store, &behind, asked);
+    split_rest(store, &behind, asked);
     Ok(Ptr::new(start, live.0))
 }
 

@@ -9,13 +9,12 @@ ghost use Rattle.tlsf_heap.specs.Rows.{rows_from};
 ghost use Rattle.tlsf_heap.specs.Pointer.{block_size_ptr};
 ghost use Rattle.tlsf_heap.specs.Readings.{FindsRows, GivesRow, TouchesForRow};
 ghost use Rattle.tlsf_heap.specs.Cursors.{rows_by, rows_behind, is_at_row, slot_for, begins_below, slot_if, AreInOrder, IsNarrowed};
-ghost use Rattle.tlsf_heap.specs.Inner.States.{is_state_live};
 ghost use Rattle.tlsf_store.specs.CountedCells.{LeavesAfter};
 ghost use Rattle.tlsf_heap.specs.Inner.Answers.{Leaves};
 
 use crate::free::live;
 use crate::{Cursor, Ptr, Refusal, Row};
-use tlsf_store::{MOST_POOLS, Pool, Slot, State, Store};
+use tlsf_store::{MOST_POOLS, Pool, Slot, Store};
 
 /// Half of the pool entries.
 const HALF: u32 = MOST_POOLS as u32 / 2;
@@ -112,22 +111,12 @@ pub(crate) fn row(store: &mut Store, cursor: Cursor) -> Option<(Row, Cursor)>
     let row = Row {
         place: block.place,
         size: block.size,
-        used: is_used(block.state),
+        used: block.state.is_live(),
     };
     let behind = Cursor {
         next: number_of(block.next),
     };
     Some((row, behind))
-}
-
-/// Whether a record in this state is of a live block.
-fn is_used(state: State) -> bool
-    ensures { result ≡ is_state_live state }
-{
-    match state {
-        State::Live => true,
-        State::Vacant | State::Free => false,
-    }
 }
 
 /// The number of a slot, if there is one.

@@ -11,13 +11,13 @@ ghost use Rattle.tlsf_heap.specs.Pointer.{realloc_ptr};
 ghost use Rattle.tlsf_heap.specs.Served.{IsMoved};
 ghost use Rattle.tlsf_heap.specs.Inner.Following.{Stands, content_of};
 ghost use Rattle.tlsf_heap.specs.Inner.Nodes.{InUse};
-ghost use Rattle.tlsf_heap.specs.Inner.Joined.{listed_first};
+ghost use Rattle.tlsf_heap.specs.Inner.Merging.{listed_first};
 ghost use Rattle.tlsf_heap.specs.Inner.At.{At, StandsAt};
 ghost use Rattle.tlsf_heap.specs.Inner.Spans.{IsRead};
 ghost use Rattle.tlsf_heap.specs.Inner.Answers.{Answers, Leaves};
 
-use crate::free::{free, is_free, join_next, live, release};
-use crate::malloc::{allocate, malloc, trim};
+use crate::free::{free, live, merge_next, release};
+use crate::malloc::{allocate, malloc, split_rest};
 use crate::span::Span;
 use crate::{Ptr, Refusal};
 use tlsf_class::round;
@@ -124,14 +124,14 @@ fn free_behind(store: &mut Store, block: &Span) -> Option<u32>
         return None;
     };
     let next = store.read_used(next_slot);
-    if !is_free(next.state) {
+    if !next.state.is_free() {
         return None;
     }
     Some(next.size)
 }
 
-/// The live block takes in a free one behind it, and keeps the first `asked` bytes. What is left, where
-/// anything is, is a free block. At most 24 touches.
+/// The live block is merged with a free one behind it, and keeps the first `asked` bytes. What is left,
+/// where anything is, is a free block. At most 24 touches.
 fn resize_in_place(store: &mut Store, block: Span, asked: u32)
     requires stands { Stands store.old.cells }
     requires live { is_live_in (λ slot. slot == block.slot) block.place (blocks_of (content_of store.old.cells).pools) ≡ true }
@@ -144,8 +144,8 @@ fn resize_in_place(store: &mut Store, block: Span, asked: u32)
     ensures content { content_of store.new.cells ≡ resized block.slot block.place asked (content_of store.old.cells) }
     ensures touches { AtMost 24 store.old.touches store.new.touches }
 {
-    let grown = join_next(store, block, State::Live);
-    trim(store, &grown, asked);
+    let grown = merge_next(store, block, State::Live);
+    split_rest(store, &grown, asked);
 }
 
 /// A new block, and the old one is freed. At most 55 touches.

@@ -3,10 +3,9 @@
 ghost use Rattle.std.specs.Prelude.{◌≡◌, ◌%◌, ◌<◌, ◌≤◌, ◌&&◌, [], length, is_none, All, Ok, Err};
 ghost use Rattle.tlsf_class.specs.Classes.{unit};
 ghost use Rattle.tlsf_store.specs.Cells.{most_pools};
-ghost use Rattle.tlsf_store.specs.Records.{record_at};
+ghost use Rattle.tlsf_store.specs.Records.{record_at, is_free_state};
 ghost use Rattle.tlsf_heap.specs.Touches.{AtMost, remove_pool_touches};
 ghost use Rattle.tlsf_heap.specs.Pools.{remove_pool as removed};
-ghost use Rattle.tlsf_heap.specs.Inner.States.{is_state_free};
 ghost use Rattle.tlsf_heap.specs.Inner.Nodes.{Listed};
 ghost use Rattle.tlsf_heap.specs.Inner.Positions.{plug};
 ghost use Rattle.tlsf_heap.specs.Inner.Entering.{entries_in};
@@ -17,7 +16,6 @@ ghost use Rattle.tlsf_heap.specs.Inner.Answers.{Answers};
 
 use crate::Refusal;
 use crate::entries::{entries, number_of, set_entries};
-use crate::free::is_free;
 use crate::malloc::take_whole;
 use tlsf_store::{Pool, Record, Slot, Store};
 
@@ -46,9 +44,9 @@ pub(crate) fn remove_pool(store: &mut Store, base: u64) -> Result<(), Refusal>
 
 /// Whether the first block of a pool is free, and the only one.
 fn is_alone(block: &Record) -> bool
-    ensures { result ≡ (is_state_free block.now.state && is_none block.now.next) }
+    ensures { result ≡ (is_free_state block.now.state && is_none block.now.next) }
 {
-    is_free(block.state) && block.next.is_none()
+    block.state.is_free() && block.next.is_none()
 }
 
 /// The one free block of a pool, of this record, leaves its class's list, its record is vacant, and these are

@@ -9,7 +9,7 @@ use Rattle.tlsf_heap.specs.declared.refusal.Refusal.TheVariants.{ZeroSize, Table
 use Rattle.tlsf_heap.specs.Content.{Block, Pool, Content, blocks_of, size_at, used_records}
 use Rattle.tlsf_heap.specs.Counted.{Counted, IsUnchanged, range_of}
 use Rattle.tlsf_heap.specs.Lists.{pick}
-use Rattle.tlsf_heap.specs.Malloc.{gap, replaced_in, cut, allocated, malloc_picked, malloc_rounded, malloc}
+use Rattle.tlsf_heap.specs.Malloc.{gap, replaced_in, split, allocated, malloc_picked, malloc_rounded, malloc}
 use Rattle.tlsf_heap.specs.Free.{is_live, free_next, without_block, after_free, free}
 use Rattle.tlsf_heap.specs.Realloc.{fits_in_place, resized, moved, realloc_sized, realloc_rounded, given_anew, realloc}
 use Rattle.tlsf_heap.specs.Memalign.{is_alignment, size_asked, aligned, memalign_picked, memalign_rounded, memalign}
@@ -46,7 +46,7 @@ module _ {A : Type 0} where
       of None = tt
       of (Some place) =
           let size : ℕ = size_at place (blocks_of content.pools) in
-          unless (nat_lt m size && nat_le content.records (used_records content)) TableFull (Ok (place, allocated owner place m size content)) (λ given. ranges given.1 ≡ ranges content) (ranges-replaced place (cut owner place m size) content.pools)
+          unless (nat_lt m size && nat_le content.records (used_records content)) TableFull (Ok (place, allocated owner place m size content)) (λ given. ranges given.1 ≡ ranges content) (ranges-replaced place (split owner place m size) content.pools)
 
   pub malloc_ranges : (owner : A) (n : ℕ) (content : Content A) → IfOk (malloc owner n content) (λ given. ranges given.1 ≡ ranges content)
   malloc_ranges owner n content = unless (n == 0) ZeroSize (malloc_rounded owner (round n) content) (λ given. ranges given.1 ≡ ranges content) (rounded_ranges owner (round n) content)

@@ -26,6 +26,18 @@ is_vacant Vacant = true
 is_vacant Free = false
 is_vacant Live = false
 
+-- whether a record in this state is of a free block
+abbrev pub is_free_state : State → Bool
+is_free_state Vacant = false
+is_free_state Free = true
+is_free_state Live = false
+
+-- whether a record in this state is of a live block
+abbrev pub is_live_state : State → Bool
+is_live_state Vacant = false
+is_live_state Free = false
+is_live_state Live = true
+
 -- how many records are vacant
 abbrev pub vacant_count : List Record → ℕ
 vacant_count records = count_by (λ r. is_vacant r.state) records

@@ -15,6 +15,30 @@ pub enum State {
     Live,
 }
 
+impl State {
+    ghost use Rattle.tlsf_store.specs.Records.{is_free_state, is_live_state};
+
+    /// Whether a record in this state is of a free block.
+    pub fn is_free(self) -> bool
+        ensures { result ≡ is_free_state self }
+    {
+        match self {
+            State::Free => true,
+            State::Vacant | State::Live => false,
+        }
+    }
+
+    /// Whether a record in this state is of a live block.
+    pub fn is_live(self) -> bool
+        ensures { result ≡ is_live_state self }
+    {
+        match self {
+            State::Live => true,
+            State::Vacant | State::Free => false,
+        }
+    }
+}
+
 /// One block of a pool: where it is, how long it is, and its neighbours.
 #[derive(Clone, Copy, Debug, PartialEq, Eq)]
 pub struct Record {

@@ -12,7 +12,7 @@ use Rattle.mtrace_replay.specs.declared.status.RunFault.TheVariants.{Read, Write
 use Rattle.tlsf_store.specs.Records.{most_records}
 use Rattle.tlsf_heap.specs.declared.image.rule.Rule.{Rule}
 use Rattle.tlsf_heap.specs.declared.image.rule.Rule.TheVariants.{Magic, Length, Pools, UnusedPools, States, Links, Chains, Cover, OnChains, Merged, Lists, OnLists}
-use Rattle.tlsf_heap.specs.Images.Image.{record_at}
+use Rattle.tlsf_heap.specs.Images.Image.{record_start}
 use Rattle.tlsf_heap.specs.Images.Rules.{first_broken}
 
 abbrev pub Bytes : Type 0
@@ -20,7 +20,7 @@ Bytes = Option (List ℕ)
 
 -- one byte more than the longest image has
 abbrev pub most_read : ℕ
-most_read = record_at most_records + 1
+most_read = record_start most_records + 1
 
 -- all bytes of the reader are read, or, where they are more than an image can have, the first of them
 pub record HasReadImage (bytes : List ℕ) (left_old left_new : Bytes) : Type 0 where

@@ -7,24 +7,24 @@ use Rattle.tlsf_class.specs.Rounding.{round}
 use Rattle.tlsf_heap.specs.declared.refusal.Refusal.TheVariants.{ZeroSize, TableFull, BadAlign}
 use Rattle.tlsf_heap.specs.Content.{Content, blocks_of, size_at, used_records}
 use Rattle.tlsf_heap.specs.Lists.{pick}
-use Rattle.tlsf_heap.specs.Malloc.{gap, cut}
-use Rattle.tlsf_heap.specs.Memalign.{is_alignment, size_asked, carved, aligned, if_recorded, memalign_picked, memalign_rounded, memalign}
+use Rattle.tlsf_heap.specs.Malloc.{gap, split}
+use Rattle.tlsf_heap.specs.Memalign.{is_alignment, size_asked, split_in_three, aligned, if_recorded, memalign_picked, memalign_rounded, memalign}
 use Rattle.tlsf_heap.specs.Bare.{renamed_block, renamed, renamed_given}
-use Rattle.tlsf_heap.proofs.Content.BareSteps.{ap-cond, size_at-renamed, used_records-renamed, gap-renamed, cut-renamed, replaced_in-renamed}
+use Rattle.tlsf_heap.proofs.Content.BareSteps.{ap-cond, size_at-renamed, used_records-renamed, gap-renamed, split-renamed, replaced_in-renamed}
 
 module _ {A B : Type 0} (rename : A → B) where
-  carved-renamed : (owner : A) (start m place size : ℕ) → map (renamed_block rename) (carved owner start m place size) ≡ carved (rename owner) start m place size
-  carved-renamed owner start m place size =
+  split_in_three-renamed : (owner : A) (start m place size : ℕ) → map (renamed_block rename) (split_in_three owner start m place size) ≡ split_in_three (rename owner) start m place size
+  split_in_three-renamed owner start m place size =
       let left : ℕ = size - (start - place) in
-      map-append (renamed_block rename) (gap place (start - place)) (cut owner start m left)
-      ∙ ap (λ front. front ++ map (renamed_block rename) (cut owner start m left)) (gap-renamed rename place (start - place))
-      ∙ ap (λ back. gap place (start - place) ++ back) (cut-renamed rename owner start m left)
+      map-append (renamed_block rename) (gap place (start - place)) (split owner start m left)
+      ∙ ap (λ front. front ++ map (renamed_block rename) (split owner start m left)) (gap-renamed rename place (start - place))
+      ∙ ap (λ back. gap place (start - place) ++ back) (split-renamed rename owner start m left)
 
   aligned-renamed : (owner : A) (start m place size : ℕ) (content : Content A)
       → aligned (rename owner) start m place size (renamed rename content) ≡ renamed rename (aligned owner start m place size content)
   aligned-renamed owner start m place size content =
       ap (λ pools. record { records = content.records; pools = pools; lists = (aligned owner start m place size content).lists })
-      (replaced_in-renamed rename place (carved owner start m place size) (carved (rename owner) start m place size) (carved-renamed owner start m place size) content.pools)
+      (replaced_in-renamed rename place (split_in_three owner start m place size) (split_in_three (rename owner) start m place size) (split_in_three-renamed owner start m place size) content.pools)
 
   if_recorded-renamed : (place : ℕ) (after : Content A) → if_recorded place (renamed rename after) ≡ renamed_given rename (if_recorded place after)
   if_recorded-renamed place after =

@@ -5,11 +5,11 @@ use Rattle.tlsf_class.specs.Rounding.{round}
 use Rattle.tlsf_heap.specs.declared.refusal.Refusal.{Refusal}
 use Rattle.tlsf_heap.specs.declared.refusal.Refusal.TheVariants.{BadPointer}
 use Rattle.tlsf_heap.specs.Content.{Block, Content, blocks_of, size_at, used_records}
-use Rattle.tlsf_heap.specs.Malloc.{link_gap, replaced_in, cut, malloc_rounded}
+use Rattle.tlsf_heap.specs.Malloc.{link_gap, replaced_in, split, malloc_rounded}
 use Rattle.tlsf_heap.specs.Free.{is_live, free_next, unlink_block, without_block, size_of, after_free}
 use Rattle.tlsf_heap.specs.Realloc.{size_with_next, resized, fits_in_place, moved, realloc_sized, realloc_rounded, realloc}
 use Rattle.tlsf_heap.specs.Bare.{renamed_block, renamed_pool, renamed, renamed_given, renamed_moved}
-use Rattle.tlsf_heap.proofs.Content.BareSteps.{ap-cond, size_at-renamed, used_records-renamed, cut-renamed, replaced_in-renamed, malloc_rounded-renamed}
+use Rattle.tlsf_heap.proofs.Content.BareSteps.{ap-cond, size_at-renamed, used_records-renamed, split-renamed, replaced_in-renamed, malloc_rounded-renamed}
 use Rattle.tlsf_heap.proofs.Content.BareFree.{free_next-renamed, without_block-renamed, size_of-renamed, after_free-renamed}
 
 module _ {A B : Type 0} (rename : A → B) where
@@ -35,15 +35,15 @@ module _ {A B : Type 0} (rename : A → B) where
       let lists_of : List (List ℕ) → List (List ℕ) = λ left. link_gap (place + m) (size - m) left in
       let of : Option (Block B) → ℕ → Content B = λ next size. record {
         records = content.records;
-        pools = map (replaced_in place (cut (rename owner) place m size)) (without_block next (map (renamed_pool rename) content.pools));
+        pools = map (replaced_in place (split (rename owner) place m size)) (without_block next (map (renamed_pool rename) content.pools));
         lists = link_gap (place + m) (size - m) (unlink_block next content.lists);
       } in
       ap (of (free_next place (renamed rename content))) (size_with_next-renamed place content)
       ∙ ap (λ other. of other size) (free_next-renamed rename place content)
-      ∙ ap (λ pools. record { records = content.records; pools = map (replaced_in place (cut (rename owner) place m size)) pools; lists = lists_of (unlink_block (option_map (renamed_block rename) next) content.lists) })
+      ∙ ap (λ pools. record { records = content.records; pools = map (replaced_in place (split (rename owner) place m size)) pools; lists = lists_of (unlink_block (option_map (renamed_block rename) next) content.lists) })
       (without_block-renamed rename next content.pools)
       ∙ ap (λ pools. record { records = content.records; pools = pools; lists = lists_of (unlink_block (option_map (renamed_block rename) next) content.lists) })
-      (replaced_in-renamed rename place (cut owner place m size) (cut (rename owner) place m size) (cut-renamed rename owner place m size) (without_block next content.pools))
+      (replaced_in-renamed rename place (split owner place m size) (split (rename owner) place m size) (split-renamed rename owner place m size) (without_block next content.pools))
       ∙ ap (λ left. record { records = content.records; pools = map (renamed_pool rename) (resized owner place m content).pools; lists = lists_of left }) (unlink_block-renamed next content.lists)
 
   fits_in_place-renamed : (place m : ℕ) (content : Content A) → fits_in_place place m (renamed rename content) ≡ fits_in_place place m content

@@ -8,7 +8,7 @@ use Rattle.tlsf_heap.specs.declared.refusal.Refusal.{Refusal}
 use Rattle.tlsf_heap.specs.declared.refusal.Refusal.TheVariants.{ZeroSize, TableFull, BadPool, PoolsFull}
 use Rattle.tlsf_heap.specs.Content.{Block, Pool, Content, blocks_of, is_at, size_at, used_records}
 use Rattle.tlsf_heap.specs.Lists.{pick}
-use Rattle.tlsf_heap.specs.Malloc.{gap, cut, replaced, replaced_in, allocated, allocate, malloc_picked, malloc_rounded, malloc}
+use Rattle.tlsf_heap.specs.Malloc.{gap, split, replaced, replaced_in, allocated, allocate, malloc_picked, malloc_rounded, malloc}
 use Rattle.tlsf_heap.specs.Pools.{is_apart, can_be_pool, in_order_of_base, with_pool, add_pool, most_pools}
 use Rattle.tlsf_heap.specs.Bare.{renamed_block, renamed_pool, renamed, renamed_result, renamed_given}
 
@@ -40,8 +40,8 @@ module _ {A B : Type 0} (rename : A → B) where
   pub gap-renamed : (place size : ℕ) → map (renamed_block rename) (gap place size) ≡ gap place size
   gap-renamed place size = ap-cond (map (renamed_block rename)) (size == 0) [] (record { place = place; size = size; owner = None } ∷ [])
 
-  pub cut-renamed : (owner : A) (place m size : ℕ) → map (renamed_block rename) (cut owner place m size) ≡ cut (rename owner) place m size
-  cut-renamed owner place m size = ap (λ blocks. record { place = place; size = m; owner = Some (rename owner) } ∷ blocks) (gap-renamed (place + m) (size - m))
+  pub split-renamed : (owner : A) (place m size : ℕ) → map (renamed_block rename) (split owner place m size) ≡ split (rename owner) place m size
+  split-renamed owner place m size = ap (λ blocks. record { place = place; size = m; owner = Some (rename owner) } ∷ blocks) (gap-renamed (place + m) (size - m))
 
   replaced-renamed : (place : ℕ) (others blocks : List (Block A))
       → replaced place (map (renamed_block rename) others) (map (renamed_block rename) blocks) ≡ map (renamed_block rename) (replaced place others blocks)
@@ -63,7 +63,7 @@ module _ {A B : Type 0} (rename : A → B) where
       → allocated (rename owner) place m size (renamed rename content) ≡ renamed rename (allocated owner place m size content)
   allocated-renamed owner place m size content =
       ap (λ pools. record { records = content.records; pools = pools; lists = (allocated owner place m size content).lists })
-      (replaced_in-renamed place (cut owner place m size) (cut (rename owner) place m size) (cut-renamed owner place m size) content.pools)
+      (replaced_in-renamed place (split owner place m size) (split (rename owner) place m size) (split-renamed owner place m size) content.pools)
 
   allocate-renamed : (owner : A) (place m size : ℕ) (content : Content A)
       → allocate (rename owner) place m size (renamed rename content) ≡ renamed_given rename (allocate owner place m size content)

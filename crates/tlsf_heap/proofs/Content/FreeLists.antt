@@ -7,7 +7,7 @@ use Rattle.tlsf_class.specs.Classes.{classes, class}
 use Rattle.tlsf_class.proofs.ClassLaws.{class-lt}
 use Rattle.tlsf_heap.specs.Lists.{list_of, without, link, unlink, first_of_lists}
 use Rattle.tlsf_heap.specs.Good.{times, is_listed}
-use Rattle.tlsf_heap.specs.Malloc.{gap, cut, link_gap}
+use Rattle.tlsf_heap.specs.Malloc.{gap, split, link_gap}
 use Rattle.tlsf_heap.specs.Content.{Block, is_free, is_at}
 use Rattle.tlsf_heap.proofs.Counts.{count-cons, one_if}
 
@@ -104,8 +104,8 @@ count_listed-gap A q p place size = elim (size == 0) as (λ b. count_by (is_list
   | false ↦ zero-add (listed_at q p place size)
 ]
 
-pub count_listed-cut : {A : Type 0} (owner : A) (q p place m size : ℕ) → count_by (is_listed q p) (cut owner place m size) ≡ cond ((size - m) == 0) 0 (listed_at q p (place + m) (size - m))
-count_listed-cut {A = A} owner q p place m size =
+pub count_listed-split : {A : Type 0} (owner : A) (q p place m size : ℕ) → count_by (is_listed q p) (split owner place m size) ≡ cond ((size - m) == 0) 0 (listed_at q p (place + m) (size - m))
+count_listed-split {A = A} owner q p place m size =
     count-cons (is_listed q p) (record { place = place; size = m; owner = Some owner }) (gap (place + m) (size - m)) ∙ zero-add _ ∙ count_listed-gap A q p (place + m) (size - m)
 
 -- a free block is listed as any of its place and size is

@@ -13,22 +13,22 @@ use Rattle.tlsf_heap.specs.Realloc.{fits_in_place, resized, moved, realloc_sized
 
 module _ {A : Type 0} (owner : A) (content : Content A) where
   -- what malloc leaves, where it picked the block at the place for m bytes
-  abbrev cut_there : ℕ → ℕ → ℕ × Content A
-  cut_there m place = (place, allocated owner place m (size_at place (blocks_of content.pools)) content)
+  abbrev split_there : ℕ → ℕ → ℕ × Content A
+  split_there m place = (place, allocated owner place m (size_at place (blocks_of content.pools)) content)
 
-  rounded_gave : (m : Option ℕ) (given : ℕ × Content A) → malloc_rounded owner m content ≡ Ok given → (asked place : ℕ) × (m ≡ Some asked) × (pick asked content.lists ≡ Some place) × (cut_there asked place ≡ given)
+  rounded_gave : (m : Option ℕ) (given : ℕ × Content A) → malloc_rounded owner m content ≡ Ok given → (asked place : ℕ) × (m ≡ Some asked) × (pick asked content.lists ≡ Some place) × (split_there asked place ≡ given)
   rounded_gave None given e = absurd (cc)
   rounded_gave (Some m) given e = of (pick m content.lists) refl e
     where
-      of : (found : Option ℕ) → pick m content.lists ≡ found → malloc_picked owner m found content ≡ Ok given → (asked place : ℕ) × (Some m ≡ Some asked) × (pick asked content.lists ≡ Some place) × (cut_there asked place ≡ given)
+      of : (found : Option ℕ) → pick m content.lists ≡ found → malloc_picked owner m found content ≡ Ok given → (asked place : ℕ) × (Some m ≡ Some asked) × (pick asked content.lists ≡ Some place) × (split_there asked place ≡ given)
       of None is h = absurd (cc)
       of (Some place) is h = elim (cases_Bool (nat_lt m (size_at place (blocks_of content.pools)) && nat_le content.records (used_records content))) [
         | inl full ↦ let refused : malloc_picked owner m (Some place) content ≡ Err TableFull = rw full refl in absurd (cc)
-        | inr room ↦ let served : malloc_picked owner m (Some place) content ≡ Ok (cut_there m place) = rw room refl in (m, place, refl, is, cc)
+        | inr room ↦ let served : malloc_picked owner m (Some place) content ≡ Ok (split_there m place) = rw room refl in (m, place, refl, is, cc)
       ]
 
-  -- malloc gave the block that it picked, cut
-  pub malloc_gave : (n : ℕ) (given : ℕ × Content A) → malloc owner n content ≡ Ok given → (asked place : ℕ) × (round n ≡ Some asked) × (pick asked content.lists ≡ Some place) × (cut_there asked place ≡ given)
+  -- malloc gave the block that it picked, split
+  pub malloc_gave : (n : ℕ) (given : ℕ × Content A) → malloc owner n content ≡ Ok given → (asked place : ℕ) × (round n ≡ Some asked) × (pick asked content.lists ≡ Some place) × (split_there asked place ≡ given)
   malloc_gave n given e = elim (cases_Bool (n == 0)) [
     | inl nothing ↦ let refused : malloc owner n content ≡ Err ZeroSize = rw nothing refl in absurd (cc)
     | inr some ↦ let asked : malloc owner n content ≡ malloc_rounded owner (round n) content = rw some refl in rounded_gave (round n) given (sym asked ∙ e)

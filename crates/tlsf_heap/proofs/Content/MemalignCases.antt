@@ -8,7 +8,7 @@ use Rattle.tlsf_heap.specs.declared.refusal.Refusal.TheVariants.{ZeroSize, NoFit
 use Rattle.tlsf_heap.specs.Content.{Block, Content, blocks_of, size_at, used_records}
 use Rattle.tlsf_heap.specs.Lists.{pick}
 use Rattle.tlsf_heap.specs.Malloc.{gap}
-use Rattle.tlsf_heap.specs.Memalign.{is_alignment, size_asked, gap_records, carved, aligned, memalign_picked, memalign_rounded, memalign}
+use Rattle.tlsf_heap.specs.Memalign.{is_alignment, size_asked, gap_records, split_in_three, aligned, memalign_picked, memalign_rounded, memalign}
 use Rattle.tlsf_heap.proofs.Content.Blocks.{Found}
 use Rattle.tlsf_heap.proofs.Content.Replacing.{length-replaced}
 
@@ -19,14 +19,14 @@ length-gap A place size = elim (size == 0) as (λ b. length (cond {A = List (Blo
 pub few_gap : (size : ℕ) → gap_records size ≤ 1
 few_gap size = elim (size == 0) as (λ b. cond b 0 1 ≤ 1) [ true ↦ omega arith | false ↦ omega arith ]
 
--- how many blocks there are once the one at the place is carved
+-- how many blocks there are once the one at the place is split in three
 pub used_aligned : {A : Type 0} (owner : A) (start m place size : ℕ) (content : Content A) → Found place (blocks_of content.pools)
     → used_records (aligned owner start m place size content) ≡ used_records content + (gap_records (start - place) + gap_records ((size - (start - place)) - m))
 used_aligned {A} owner start m place size content found =
     let live : Block A = record { place = start; size = m; owner = Some owner } in
     omega (
       arith,
-      length-replaced place (carved owner start m place size) content.pools found,
+      length-replaced place (split_in_three owner start m place size) content.pools found,
       length-append (gap place (start - place)) (live ∷ gap (start + m) ((size - (start - place)) - m)),
       length-gap A place (start - place),
       length-gap A (start + m) ((size - (start - place)) - m),
@@ -56,15 +56,15 @@ module _ {A : Type 0} (owner : A) (align n : ℕ) (content : Content A) where
     pub place : ℕ
     pub found : pick (size_asked align asked) content.lists ≡ Some place
 
-  -- what it would leave, carved
-  abbrev pub carving_of : IsPicked → Content A
-  carving_of p = aligned owner (next_multiple_of p.place align) p.asked p.place (size_at p.place (blocks_of content.pools)) content
+  -- what it would leave, split in three
+  abbrev pub split_aligned_of : IsPicked → Content A
+  split_aligned_of p = aligned owner (next_multiple_of p.place align) p.asked p.place (size_at p.place (blocks_of content.pools)) content
 
   -- it would be too many blocks, or it is given
   abbrev pub IsServed : IsPicked → Type 0
   IsServed p =
-      ((memalign owner align n content ≡ Err TableFull) × (content.records < used_records (carving_of p)))
-      ⊎ ((memalign owner align n content ≡ Ok (next_multiple_of p.place align, carving_of p)) × (used_records (carving_of p) ≤ content.records))
+      ((memalign owner align n content ≡ Err TableFull) × (content.records < used_records (split_aligned_of p)))
+      ⊎ ((memalign owner align n content ≡ Ok (next_multiple_of p.place align, split_aligned_of p)) × (used_records (split_aligned_of p) ≤ content.records))
 
   -- each of its answers
   pub memalign_cases : (memalign owner align n content ≡ Err BadAlign) ⊎ ((memalign owner align n content ≡ Err ZeroSize) ⊎ (((memalign owner align n content ≡ Err NoFit) × NonePicked) ⊎ ((p : IsPicked) × IsServed p)))
@@ -80,9 +80,9 @@ module _ {A : Type 0} (owner : A) (align n : ℕ) (content : Content A) where
       served p =
           let start : ℕ = next_multiple_of p.place align in
           let is = aligned_picked p.asked (Some p.place) p.is p.some p.rounds p.found in
-          elim (cases_Bool (nat_lt content.records (used_records (carving_of p)))) [
-            | inl full ↦ inl (is ∙ ap (λ b. cond b (Err TableFull) (Ok (start, carving_of p))) full, ltb-true _ _ full)
-            | inr room ↦ inr (is ∙ ap (λ b. cond b (Err TableFull) (Ok (start, carving_of p))) room, ltb-false _ _ room)
+          elim (cases_Bool (nat_lt content.records (used_records (split_aligned_of p)))) [
+            | inl full ↦ inl (is ∙ ap (λ b. cond b (Err TableFull) (Ok (start, split_aligned_of p))) full, ltb-true _ _ full)
+            | inr room ↦ inr (is ∙ ap (λ b. cond b (Err TableFull) (Ok (start, split_aligned_of p))) room, ltb-false _ _ room)
           ]
 
       picked : (asked : ℕ) (place : Option ℕ) → round n ≡ Some asked → pick (size_asked align asked) content.lists ≡ place → is_alignment align ≡ true → n ≢ 0
@@ -98,7 +98,7 @@ module _ {A : Type 0} (owner : A) (align n : ℕ) (content : Content A) where
       of (Some asked) rounds is some = picked asked (pick (size_asked align asked) content.lists) rounds refl is some
 
   -- where it is given
-  pub memalign_given : (new : ℕ × Content A) → memalign owner align n content ≡ Ok new → (p : IsPicked) × ((next_multiple_of p.place align, carving_of p) ≡ new) × (used_records (carving_of p) ≤ content.records)
+  pub memalign_given : (new : ℕ × Content A) → memalign owner align n content ≡ Ok new → (p : IsPicked) × ((next_multiple_of p.place align, split_aligned_of p) ≡ new) × (used_records (split_aligned_of p) ≤ content.records)
   memalign_given new e = elim memalign_cases [
     | inl other ↦ absurd (cc)
     | inr (inl other) ↦ absurd (cc)

@@ -8,7 +8,7 @@ use Rattle.tlsf_heap.specs.Good.{IsGood}
 use Rattle.tlsf_heap.specs.Implied.{NoneFitsAligned, HasFewRecordsAndOne}
 use Rattle.tlsf_heap.proofs.Good.Calls.{picked}
 use Rattle.tlsf_heap.proofs.Good.Implied.{none_picked, few_blocks}
-use Rattle.tlsf_heap.proofs.Content.MemalignCases.{few_gap, used_aligned, IsPicked, carving_of, memalign_cases}
+use Rattle.tlsf_heap.proofs.Content.MemalignCases.{few_gap, used_aligned, IsPicked, split_aligned_of, memalign_cases}
 
 module _ {A : Type 0} where
   module _ (owner : A) (align n : ℕ) (content : Content A) (good : IsGood content) where
@@ -22,8 +22,8 @@ module _ {A : Type 0} where
       | inr (inr (inr (p, inr given))) ↦ let other = given.0 in absurd (cc)
     ]
 
-    -- carving makes at most two blocks more
-    too_many : (p : IsPicked owner align n content) → content.records < used_records (carving_of owner align n content p) → HasFewRecordsAndOne content
+    -- a split in three makes at most two blocks more
+    too_many : (p : IsPicked owner align n content) → content.records < used_records (split_aligned_of owner align n content p) → HasFewRecordsAndOne content
     too_many p over =
         let size : ℕ = size_at p.place (blocks_of content.pools) in
         let front : ℕ = next_multiple_of p.place align - p.place in

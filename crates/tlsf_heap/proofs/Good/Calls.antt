@@ -11,7 +11,7 @@ use Rattle.tlsf_class.proofs.RoundingLaws.{round-Some}
 use Rattle.tlsf_heap.specs.declared.refusal.Refusal.TheVariants.{ZeroSize, TableFull, BadPool, PoolsFull}
 use Rattle.tlsf_heap.specs.Content.{Block, Pool, Content, blocks_of, is_free, size_at, used_records}
 use Rattle.tlsf_heap.specs.Lists.{list_of, first_of_lists, pick}
-use Rattle.tlsf_heap.specs.Malloc.{gap, cut, allocated, allocate, malloc_picked, malloc_rounded, malloc}
+use Rattle.tlsf_heap.specs.Malloc.{gap, split, allocated, allocate, malloc_picked, malloc_rounded, malloc}
 use Rattle.tlsf_heap.specs.Free.{free_block}
 use Rattle.tlsf_heap.specs.Pools.{most_pools, end_of_places, created, add_pool, with_pool, can_be_pool, is_apart, in_order_of_base}
 use Rattle.tlsf_heap.specs.Good.{Covers, NoFreeNeighbours, IsGoodPool, AreGoodPools, IsGood, times, is_listed}
@@ -19,8 +19,8 @@ use Rattle.tlsf_heap.proofs.Counts.{count-append, count_all}
 use Rattle.tlsf_heap.proofs.Content.Blocks.{Found, found_listed, Ascends-pools}
 use Rattle.tlsf_heap.proofs.Content.Replacing.{length-replaced, size_at-found}
 use Rattle.tlsf_heap.proofs.Meaning.FreeFirst.{listed_once}
-use Rattle.tlsf_heap.proofs.Meaning.Gaps.{length-cut, length-cut_most}
-use Rattle.tlsf_heap.proofs.Meaning.Carved.{aligned_is_good, aligned_here}
+use Rattle.tlsf_heap.proofs.Meaning.Gaps.{length-split, length-split_most}
+use Rattle.tlsf_heap.proofs.Meaning.SplitInThree.{aligned_is_good, aligned_here}
 use Rattle.tlsf_heap.specs.Memalign.{aligned}
 use Rattle.tlsf_heap.proofs.Content.FreeLists.{first_stands, times-link, length-link, count_listed-gap, listed_at}
 
@@ -103,19 +103,19 @@ module _ {A : Type 0} where
         once = (let P : ℕ → Type 0 = λ c. times place (list_of c content.lists) ≡ 1 in subst P (sym of_class) once);
       }
 
-  -- cutting the block that was picked keeps the content good
+  -- to split the block that was picked keeps the content good
   pub allocated_is_good : (owner : A) (m place : ℕ) (content : Content A) → IsGood content → pick m content.lists ≡ Some place → 0 < m → m % unit ≡ 0
       → (m < size_at place (blocks_of content.pools) → used_records content < content.records) → IsGood (allocated owner place m (size_at place (blocks_of content.pools)) content)
   allocated_is_good owner m place content good h positive in_units room =
       let is = picked m place content good h in
       let size : ℕ = size_at place (blocks_of content.pools) in
-      let more : List (Block A) = cut owner place m size in
+      let more : List (Block A) = split owner place m size in
       let none : place - place ≡ 0 = omega arith in
       let same : aligned owner place m place size content ≡ allocated owner place m size content = aligned_here owner m place size content in
       let few : used_records (allocated owner place m size content) + 1 ≡ used_records content + length more = length-replaced place more content.pools is.found in
       let fits : used_records (allocated owner place m size content) ≤ content.records = elim (cases_lt m size) [
-        | inl larger ↦ omega (arith, few, length-cut_most owner place m size, room larger)
-        | inr whole ↦ omega (arith, few, length-cut owner place m size ∙ ap (λ b. cond b 1 2) (eq-eqb (size - m) 0 (omega (arith, whole))), good.blocks_few)
+        | inl larger ↦ omega (arith, few, length-split_most owner place m size, room larger)
+        | inr whole ↦ omega (arith, few, length-split owner place m size ∙ ap (λ b. cond b 1 2) (eq-eqb (size - m) 0 (omega (arith, whole))), good.blocks_few)
       ] in
       let P : Content A → Type 0 = λ x. IsGood x in
       subst P same (aligned_is_good owner place m place content good is.once (omega arith) (omega (arith, none, is.holds)) positive in_units (ap (λ g. g % unit) none) (omega (arith, ap used_records same, fits)))

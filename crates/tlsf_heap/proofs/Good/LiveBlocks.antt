@@ -7,9 +7,9 @@ use Rattle.std.proofs.lemmas.Bool.{cases_Bool, eq-eqb, ne_eqb, eqb-true, and_par
 use Rattle.std.proofs.lemmas.List.Elements.{Contains-append_left, Contains-append_right, Contains-append_cases, Contains-push, Contains-push_cases}
 use Rattle.tlsf_heap.specs.declared.refusal.Refusal.TheVariants.{BadPointer}
 use Rattle.tlsf_heap.specs.Content.{Block, Pool, Content, blocks_of, is_free, is_at, size_at}
-use Rattle.tlsf_heap.specs.Malloc.{gap, replaced, replaced_in, cut, malloc}
+use Rattle.tlsf_heap.specs.Malloc.{gap, replaced, replaced_in, split, malloc}
 use Rattle.tlsf_heap.specs.Free.{is_owned_by, is_live, free_previous, free_next, size_of, start_of, free_block, without_block, after_free, free}
-use Rattle.tlsf_heap.specs.Memalign.{carved, memalign}
+use Rattle.tlsf_heap.specs.Memalign.{split_in_three, memalign}
 use Rattle.tlsf_heap.specs.Realloc.{size_with_next, realloc}
 use Rattle.tlsf_heap.specs.Good.{IsGood}
 use Rattle.tlsf_heap.specs.Bare.{renamed_block, renamed, bare}
@@ -90,18 +90,18 @@ module _ {A : Type 0} where
   live_or_free : {X : Type 0} (b : Block A) → is_free b ≡ false → is_free b ≡ true → X
   live_or_free b live empty = absurd (cc)
 
-  -- the live block of a cut begins at the place
-  from_cut : (owner : A) (place m size : ℕ) (b : Block A) → Contains (cut owner place m size) b → is_free b ≡ false → b.place ≡ place
-  from_cut owner place m size b has live = elim (stands_first_or_later (record { place = place; size = m; owner = Some owner }) b (gap (place + m) (size - m)) has) [
+  -- the live block of a split begins at the place
+  from_split : (owner : A) (place m size : ℕ) (b : Block A) → Contains (split owner place m size) b → is_free b ≡ false → b.place ≡ place
+  from_split owner place m size b has live = elim (stands_first_or_later (record { place = place; size = m; owner = Some owner }) b (gap (place + m) (size - m)) has) [
     | inl same ↦ ap (λ (block : Block A). block.place) (sym same)
     | inr left ↦ live_or_free b live (gap_is_free (place + m) (size - m) b left)
   ]
 
-  from_cut_in : (owner : A) (place m size : ℕ) (pools : List (Pool A)) (b : Block A) → Contains (blocks_of (map (replaced_in place (cut owner place m size)) pools)) b → is_free b ≡ false
+  from_split_in : (owner : A) (place m size : ℕ) (pools : List (Pool A)) (b : Block A) → Contains (blocks_of (map (replaced_in place (split owner place m size)) pools)) b → is_free b ≡ false
       → Contains (blocks_of pools) b ⊎ (b.place ≡ place)
-  from_cut_in owner place m size pools b has live = elim (from_replaced_in place (cut owner place m size) pools b has) [
+  from_split_in owner place m size pools b has live = elim (from_replaced_in place (split owner place m size) pools b has) [
     | inl stood ↦ inl stood
-    | inr came ↦ inr (from_cut owner place m size b came live)
+    | inr came ↦ inr (from_split owner place m size b came live)
   ]
 
   pub live_from_after_free : (place : ℕ) (content : Content A) (b : Block A) → Contains (blocks_of (after_free place content).pools) b → is_free b ≡ false → Contains (blocks_of content.pools) b
@@ -123,15 +123,15 @@ module _ {A : Type 0} where
   live_from_malloc owner n place content new b e =
       let gave = malloc_gave owner content n (place, new) e in
       let P : ℕ × Content A → Type 0 = λ given. Contains (blocks_of given.1.pools) b → is_free b ≡ false → Contains (blocks_of content.pools) b ⊎ (b.place ≡ given.0) in
-      subst P gave.4 (from_cut_in owner gave.1 gave.0 (size_at gave.1 (blocks_of content.pools)) content.pools b)
+      subst P gave.4 (from_split_in owner gave.1 gave.0 (size_at gave.1 (blocks_of content.pools)) content.pools b)
 
-  -- the live block of a carving begins at its start
-  from_carved : (owner : A) (start m place size : ℕ) (b : Block A) → Contains (carved owner start m place size) b → is_free b ≡ false → b.place ≡ start
-  from_carved owner start m place size b has live =
+  -- the live block of a split in three begins at its start
+  from_split_in_three : (owner : A) (start m place size : ℕ) (b : Block A) → Contains (split_in_three owner start m place size) b → is_free b ≡ false → b.place ≡ start
+  from_split_in_three owner start m place size b has live =
       let left : ℕ = size - (start - place) in
-      elim (Contains-append_cases (gap place (start - place)) (cut owner start m left) b has) [
+      elim (Contains-append_cases (gap place (start - place)) (split owner start m left) b has) [
         | inl front ↦ live_or_free b live (gap_is_free place (start - place) b front)
-        | inr back ↦ from_cut owner start m left b back live
+        | inr back ↦ from_split owner start m left b back live
       ]
 
   -- a live block after memalign was one before, or begins where memalign gave one
@@ -143,9 +143,9 @@ module _ {A : Type 0} where
       let start : ℕ = next_multiple_of p.place align in
       let size : ℕ = size_at p.place (blocks_of content.pools) in
       let P : ℕ × Content A → Type 0 = λ given. Contains (blocks_of given.1.pools) b → is_free b ≡ false → Contains (blocks_of content.pools) b ⊎ (b.place ≡ given.0) in
-      subst P gave.1 (λ has live. elim (from_replaced_in p.place (carved owner start p.asked p.place size) content.pools b has) [
+      subst P gave.1 (λ has live. elim (from_replaced_in p.place (split_in_three owner start p.asked p.place size) content.pools b has) [
         | inl stood ↦ inl stood
-        | inr came ↦ inr (from_carved owner start p.asked p.place size b came live)
+        | inr came ↦ inr (from_split_in_three owner start p.asked p.place size b came live)
       ])
 
   -- a live block after free was one before
@@ -182,7 +182,7 @@ module _ {A : Type 0} (same : A → A → Bool) (owner known : A) (place n : ℕ
       realloc_gave same owner known place n content IsFrom
       (λ there nothing has live. inl (live_from_after_free place content b has live))
       (λ there some has live. inl has)
-      (λ m there some has live. elim (from_cut_in known place m (size_with_next place content) (without_block (free_next place content) content.pools) b has live) [
+      (λ m there some has live. elim (from_split_in known place m (size_with_next place content) (without_block (free_next place content) content.pools) b has live) [
         | inl stood ↦ inl (from_without (free_next place content) content.pools b stood)
         | inr here ↦ inr (at_given place known here)
       ])

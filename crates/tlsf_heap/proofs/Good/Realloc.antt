@@ -8,7 +8,7 @@ use Rattle.tlsf_heap.specs.declared.refusal.Refusal.{Refusal}
 use Rattle.tlsf_heap.specs.declared.refusal.Refusal.TheVariants.{TableFull, BadPointer}
 use Rattle.tlsf_heap.specs.Content.{Block, Content, blocks_of, is_at, size_at, used_records}
 use Rattle.tlsf_heap.specs.Lists.{pick}
-use Rattle.tlsf_heap.specs.Malloc.{cut, allocated, malloc_picked, malloc_rounded, malloc}
+use Rattle.tlsf_heap.specs.Malloc.{split, allocated, malloc_picked, malloc_rounded, malloc}
 use Rattle.tlsf_heap.specs.Free.{is_owned_by, is_live, after_free}
 use Rattle.tlsf_heap.specs.Realloc.{fits_in_place, resized, moved, realloc_sized, realloc_rounded, given_anew, realloc}
 use Rattle.tlsf_heap.specs.Good.{IsGood}
@@ -23,7 +23,7 @@ module _ {A : Type 0} (is_meant : A → Bool) where
   not_owned None free = refl
   not_owned (Some owner) free = absurd (cc)
 
-  -- a live block is live still after a free one was cut
+  -- a live block is live still after a free one was split
   pub live_still : (owner : A) (m place picked_place : ℕ) (content : Content A) → IsGood content → pick m content.lists ≡ Some picked_place → is_live is_meant place (blocks_of content.pools) ≡ true
       → is_live is_meant place (blocks_of (allocated owner picked_place m (size_at picked_place (blocks_of content.pools)) content).pools) ≡ true
   live_still owner m place picked_place content good is live =
@@ -31,8 +31,8 @@ module _ {A : Type 0} (is_meant : A → Bool) where
       let size : ℕ = size_at picked_place (blocks_of content.pools) in
       let there = picked m picked_place content good is in
       let after = blocks_of (allocated owner picked_place m size content).pools in
-      let new = ap (count_by test) (blocks_of-replaced picked_place (cut owner picked_place m size) content.pools) in
-      let counted = count_by-replaced picked_place (cut owner picked_place m size) (blocks_of content.pools) test there.found in
+      let new = ap (count_by test) (blocks_of-replaced picked_place (split owner picked_place m size) content.pools) in
+      let counted = count_by-replaced picked_place (split owner picked_place m size) (blocks_of content.pools) test there.found in
       let gone : one_if (test there.found.block) ≡ 0 = ap one_if (and_right (is_at place there.found.block) _ (not_owned there.found.block.owner there.free)) in
       counts_any test after (omega (arith, new, counted, gone, any_counts test (blocks_of content.pools) live))
 

@@ -4,8 +4,8 @@ use Rattle.std.specs.Prelude.{◌==◌, is_none}
 use Rattle.std.proofs.lemmas.Bool.{cases_Bool, eqb-true, ne_eqb}
 use Rattle.tlsf_heap.specs.Content.{Block, Pool, Content, blocks_of, size_at}
 use Rattle.tlsf_heap.specs.Lists.{pick}
-use Rattle.tlsf_heap.specs.Malloc.{gap, cut, replaced_in, allocated}
-use Rattle.tlsf_heap.specs.Memalign.{carved, aligned}
+use Rattle.tlsf_heap.specs.Malloc.{gap, split, replaced_in, allocated}
+use Rattle.tlsf_heap.specs.Memalign.{split_in_three, aligned}
 use Rattle.tlsf_heap.specs.Pools.{created, with_pool}
 use Rattle.tlsf_heap.specs.Good.{IsGood}
 use Rattle.tlsf_heap.specs.GoodSlots.{is_slot, slot_times, HasGoodSlots}
@@ -32,8 +32,8 @@ slot_times-gap slot place size =
     let rest : Block ℕ = record { place = place; size = size; owner = None } in
     elim (size == 0) as (λ b. slot_times slot (cond b [] (rest ∷ [])) ≡ 0) [ true ↦ refl | false ↦ slot_times-cons slot rest [] ]
 
-pub slot_times-cut : (slot owner place m size : ℕ) → slot_times slot (cut owner place m size) ≡ one_if (owner == slot)
-slot_times-cut slot owner place m size =
+pub slot_times-split : (slot owner place m size : ℕ) → slot_times slot (split owner place m size) ≡ one_if (owner == slot)
+slot_times-split slot owner place m size =
     omega (arith, slot_times-cons slot (record { place = place; size = m; owner = Some owner }) (gap (place + m) (size - m)), slot_times-gap slot (place + m) (size - m))
 
 -- a heap that was just created has no live block
@@ -71,13 +71,13 @@ slots_fewer old new same fewer slots = record {
   below = λ slot above. omega (arith, fewer slot, slots.below slot (omega (arith, above, same)));
 }
 
-slot_times-carved : (slot owner start m place size : ℕ) → slot_times slot (carved owner start m place size) ≡ one_if (owner == slot)
-slot_times-carved slot owner start m place size =
+slot_times-split_in_three : (slot owner start m place size : ℕ) → slot_times slot (split_in_three owner start m place size) ≡ one_if (owner == slot)
+slot_times-split_in_three slot owner start m place size =
     omega (
       arith,
-      slot_times-append slot (gap place (start - place)) (cut owner start m (size - (start - place))),
+      slot_times-append slot (gap place (start - place)) (split owner start m (size - (start - place))),
       slot_times-gap slot place (start - place),
-      slot_times-cut slot owner start m (size - (start - place)),
+      slot_times-split slot owner start m (size - (start - place)),
     )
 
 module _ (owner m place : ℕ) (content : Content ℕ) (good : IsGood content) (is : pick m content.lists ≡ Some place) where
@@ -100,8 +100,8 @@ module _ (owner m place : ℕ) (content : Content ℕ) (good : IsGood content) (
 
   -- a slot that no live block has, given to the block that was picked
   pub allocated_slots : HasGoodSlots content → owner < content.records → slot_times owner (blocks_of content.pools) ≡ 0 → HasGoodSlots (allocated owner place m size content)
-  allocated_slots slots within unused = slots_replaced (cut owner place m size) (allocated owner place m size content).lists (λ slot. slot_times-cut slot owner place m size) slots within unused
+  allocated_slots slots within unused = slots_replaced (split owner place m size) (allocated owner place m size content).lists (λ slot. slot_times-split slot owner place m size) slots within unused
 
-  -- the same where it was carved for an alignment
+  -- the same where it was split for an alignment
   pub aligned_slots : (start n : ℕ) → HasGoodSlots content → owner < content.records → slot_times owner (blocks_of content.pools) ≡ 0 → HasGoodSlots (aligned owner start n place size content)
-  aligned_slots start n slots within unused = slots_replaced (carved owner start n place size) (aligned owner start n place size content).lists (λ slot. slot_times-carved slot owner start n place size) slots within unused
+  aligned_slots start n slots within unused = slots_replaced (split_in_three owner start n place size) (aligned owner start n place size content).lists (λ slot. slot_times-split_in_three slot owner start n place size) slots within unused

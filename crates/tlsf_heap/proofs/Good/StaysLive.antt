@@ -7,7 +7,7 @@ use Rattle.std.proofs.lemmas.Bool.{cases_Bool, eq-eqb, ne_eqb, eqb-true, and_lef
 use Rattle.tlsf_heap.specs.declared.refusal.Refusal.TheVariants.{BadPointer}
 use Rattle.tlsf_heap.specs.Content.{Block, Pool, Content, blocks_of, is_free, is_at, size_at}
 use Rattle.tlsf_heap.specs.Lists.{pick}
-use Rattle.tlsf_heap.specs.Malloc.{gap, replaced, replaced_in, cut, malloc}
+use Rattle.tlsf_heap.specs.Malloc.{gap, replaced, replaced_in, split, malloc}
 use Rattle.tlsf_heap.specs.Free.{is_owned_by, is_live, previous_of, next_of, if_free, first_in_pools, free_previous, free_next, size_of, start_of, free_block, without_block, after_free, free}
 use Rattle.tlsf_heap.specs.Realloc.{size_with_next, resized, realloc}
 use Rattle.tlsf_heap.specs.Good.{IsGood}
@@ -186,19 +186,19 @@ module _ {A : Type 0} (is_meant : A → Bool) where
       → is_live is_meant place (blocks_of (resized owner other m content).pools) ≡ true
   live_past_resized owner place other m content good live apart =
       let next = free_next other content in
-      live_replaced place other (cut owner other m (size_with_next other content)) (without_block next content.pools) apart (live_without place next content.pools (next_apart place other content good live) live)
+      live_replaced place other (split owner other m (size_with_next other content)) (without_block next content.pools) apart (live_without place next content.pools (next_apart place other content good live) live)
 
-  -- a block that was cut for an owner who is meant is live
-  live_cut : (owner : A) (kind : Block A → Bool) (place m size : ℕ) (pools : List (Pool A)) → is_meant owner ≡ true → ((block : Block A) → is_at place block ≡ false → kind block ≡ false) → 1 ≤ count_by kind (blocks_of pools)
-      → is_live is_meant place (blocks_of (map (replaced_in place (cut owner place m size)) pools)) ≡ true
-  live_cut owner kind place m size pools meant there some =
+  -- a block that was split off for an owner who is meant is live
+  live_split : (owner : A) (kind : Block A → Bool) (place m size : ℕ) (pools : List (Pool A)) → is_meant owner ≡ true → ((block : Block A) → is_at place block ≡ false → kind block ≡ false) → 1 ≤ count_by kind (blocks_of pools)
+      → is_live is_meant place (blocks_of (map (replaced_in place (split owner place m size)) pools)) ≡ true
+  live_split owner kind place m size pools meant there some =
       let test : Block A → Bool = is_live_at is_meant place in
       let block : Block A = record { place = place; size = m; owner = Some owner } in
       let passes : test block ≡ true = ap (λ b. b && is_meant owner) (eq-eqb place place refl) ∙ meant in
-      counts_any test (blocks_of (map (replaced_in place (cut owner place m size)) pools)) (omega (
+      counts_any test (blocks_of (map (replaced_in place (split owner place m size)) pools)) (omega (
         arith,
-        ap (count_by test) (blocks_of-replaced place (cut owner place m size) pools),
-        given_replaced test kind place (cut owner place m size) (blocks_of pools) there some,
+        ap (count_by test) (blocks_of-replaced place (split owner place m size) pools),
+        given_replaced test kind place (split owner place m size) (blocks_of pools) there some,
         count-cons test block (gap (place + m) (size - m)),
         ap one_if passes,
       ))
@@ -208,7 +208,7 @@ module _ {A : Type 0} (is_meant : A → Bool) where
   live_given owner n place content new good e meant =
       let gave = malloc_gave owner content n (place, new) e in
       let P : ℕ × Content A → Type 0 = λ given. is_live is_meant given.0 (blocks_of given.1.pools) ≡ true in
-      subst P gave.4 (live_cut owner (is_free_at gave.1) gave.1 gave.0 (size_at gave.1 (blocks_of content.pools)) content.pools meant (λ block. and_left (is_at gave.1 block) (is_free block)) (picked_stands gave.0 gave.1 content good gave.3))
+      subst P gave.4 (live_split owner (is_free_at gave.1) gave.1 gave.0 (size_at gave.1 (blocks_of content.pools)) content.pools meant (λ block. and_left (is_at gave.1 block) (is_free block)) (picked_stands gave.0 gave.1 content good gave.3))
 
   -- a live block is live after malloc, which gave a block elsewhere
   pub live_through_malloc : (owner : A) (p n place : ℕ) (content new : Content A) → IsGood content → is_live is_meant p (blocks_of content.pools) ≡ true → malloc owner n content ≡ Ok (place, new)
@@ -291,7 +291,7 @@ module _ {A : Type 0} (same : A → A → Bool) (owner known : A) (place n : ℕ
       grown m there =
           let next = free_next place content in
           let left = live_without (meant known) place next content.pools (next_apart (meant known) place place content good there) there in
-          live_cut (meant known) known (is_live_at (meant known) place) place m (size_with_next place content) (without_block next content.pools) (reflexive known)
+          live_split (meant known) known (is_live_at (meant known) place) place m (size_with_next place content) (without_block next content.pools) (reflexive known)
           (λ block. and_left (is_at place block) (is_owned_by (meant known) block.owner)) (any_counts (is_live_at (meant known) place) (blocks_of (without_block next content.pools)) left)
 
   -- it leaves one, unless none is asked for

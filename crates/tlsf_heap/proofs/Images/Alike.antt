@@ -4,9 +4,9 @@ use Rattle.std.proofs.Common.{◌≡◌, ◌≤◌, true, List, refl, sym, ap, �
 use Rattle.tlsf_store.specs.declared.records.State.{State}
 use Rattle.tlsf_store.specs.declared.records.State.TheVariants.{Vacant, Free, Live}
 use Rattle.tlsf_store.specs.declared.records.Record.{Record}
-use Rattle.tlsf_store.specs.Records.{record_at}
+use Rattle.tlsf_store.specs.Records.{record_at, is_free_state}
 use Rattle.tlsf_store.specs.Cells.{Cells}
-use Rattle.tlsf_heap.specs.Images.Rules.{is_used, is_free}
+use Rattle.tlsf_heap.specs.Images.Rules.{is_used}
 use Rattle.tlsf_heap.specs.Inner.Represents.{pool_views, list_views, uses_in, Represents}
 use Rattle.tlsf_heap.specs.Inner.Following.{content_of, Stands}
 use Rattle.tlsf_heap.specs.Inner.Imaged.{AreAlike}
@@ -34,7 +34,7 @@ module _ (cells : Cells) (others : List Record) (alike : AreAlike cells.records 
           once = λ q. was.chains.once q ∙ ap uses_in (alike.states q);
         };
         index = index_same (list_views cells.records) (list_views others) cells.heads cells.step_words cells.level_word stands.layout.lists
-            (λ number q h. sym (alike.in_list q (ap is_free (listed_at cells stands number q h).free))) was.index;
+            (λ number q h. sym (alike.in_list q (ap is_free_state (listed_at cells stands number q h).free))) was.index;
         agree = was.agree;
       }
 

@@ -8,14 +8,15 @@ use Rattle.std.proofs.lemmas.List.Folds.{list_all_at}
 use Rattle.std.proofs.lemmas.List.{length-append, at_drop_more, at_drop_all}
 use Rattle.tlsf_store.specs.Cells.{pool_at}
 use Rattle.tlsf_store.specs.declared.pools.Pool.{Pool}
-use Rattle.tlsf_store.specs.Records.{IsBelow, blank}
+use Rattle.tlsf_store.specs.Records.{IsBelow, blank, is_free_state}
 use Rattle.tlsf_heap.specs.declared.image.chains.Tally.{Tally}
 use Rattle.tlsf_heap.specs.declared.image.chains.Front.{Front}
 use Rattle.tlsf_heap.specs.Images.Image.{Parts}
 use Rattle.tlsf_heap.specs.Images.Links.{follow, is_linked}
-use Rattle.tlsf_heap.specs.Images.Rules.{present, at, is_used, is_free, is_chain, chain_of, is_below, has_links_in, has_record_links, has_links, covers, are_merged}
+use Rattle.tlsf_heap.specs.Images.Rules.{at, is_used, is_chain, chain_of, is_below, has_links_in, has_record_links, has_links, covers, are_merged}
 use Rattle.tlsf_heap.specs.Images.Findings.{chain_found, tally_with, both, front_of, is_before, with_block}
 use Rattle.tlsf_heap.proofs.Images.LinkLemmas.{linked_on, linked_not_on, linked_end, follow_none}
+use Rattle.tlsf_heap.specs.Inner.Entries.{entries_of}
 
 of_used : (used rest : Bool) → used ≡ true → (not used || rest) ≡ true → rest ≡ true
 of_used true rest is e = e
@@ -72,7 +73,7 @@ module _ (parts : Parts) where
       let r = at parts slot in
       let blocks : tally.blocks + length (slot ∷ rest) ≡ tally.blocks + 1 + length rest = omega arith in
       let covered = covers_on tally.covers r.place front.end r.size end rest in
-      let merged = and_on tally.is_merged (not (front.is_free && is_free r.state)) (are_merged parts (is_free r.state) rest) in
+      let merged = and_on tally.is_merged (not (front.is_free && is_free_state r.state)) (are_merged parts (is_free_state r.state) rest) in
       cc
 
   module _ (end : ℕ) (tally : Tally) (front : Front) (slot : ℕ) where
@@ -158,10 +159,10 @@ module _ (parts : Parts) where
   }
 
   module _ (tally : Tally) (pool : Pool) (pools : List (Option Pool)) where
-    joined_on : is_chain parts pool ≡ true → tally_with parts tally (Some pool ∷ pools) ≡ tally_with parts (both tally (tally_of pool)) pools
-    joined_on is =
+    both_on : is_chain parts pool ≡ true → tally_with parts tally (Some pool ∷ pools) ≡ tally_with parts (both tally (tally_of pool)) pools
+    both_on is =
         let one = tally_of pool in
-        let rest = present pools in
+        let rest = entries_of pools in
         let slots = flat_map (chain_of parts) rest in
         let blocks : tally.blocks + length (chain_of parts pool ++ slots) ≡ tally.blocks + one.blocks + length slots = omega (arith, length-append (chain_of parts pool) slots) in
         let covered = and_on tally.covers one.covers (list_all (λ pool. covers parts pool.base (pool.base + pool.bytes) (chain_of parts pool)) rest) in
@@ -173,7 +174,7 @@ module _ (parts : Parts) where
     tally_on found is =
         let there = was_found (is_chain parts pool) (tally_of pool) found is in
         let P : Tally → Type 0 = λ found. tally_with parts tally (Some pool ∷ pools) ≡ tally_with parts (both tally found) pools in
-        subst P there.1 (joined_on there.0)
+        subst P there.1 (both_on there.0)
 
     -- one that is no chain
     pub tally_off : chain_found parts pool ≡ None → tally_with parts tally (Some pool ∷ pools) ≡ None

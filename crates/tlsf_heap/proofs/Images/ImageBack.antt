@@ -8,23 +8,24 @@ use Rattle.tlsf_class.specs.Classes.{unit, classes}
 use Rattle.tlsf_store.specs.declared.records.State.{State}
 use Rattle.tlsf_store.specs.declared.records.State.TheVariants.{Vacant, Free, Live}
 use Rattle.tlsf_store.specs.declared.pools.Pool.{Pool}
-use Rattle.tlsf_store.specs.Records.{blank, record_at as record_of}
+use Rattle.tlsf_store.specs.Records.{blank, record_at}
 use Rattle.tlsf_store.specs.Cells.{head_at as head_of, pool_at, most_pools}
 use Rattle.tlsf_heap.specs.Images.Image.{two_at, count_at, pools_at, pool_in, head_in, record_in, parts_in, Parts}
-use Rattle.tlsf_heap.specs.Images.Rules.{present, is_used}
+use Rattle.tlsf_heap.specs.Images.Rules.{is_used}
 use Rattle.tlsf_heap.specs.Images.Writing.{bytes_in, image_of}
 use Rattle.tlsf_heap.proofs.Images.WritingLemmas.{two_back}
 use Rattle.tlsf_heap.proofs.Images.ReadBack.{IsWritten, LinksFit, head_back, pool_back, block_back, vacant_back}
 use Rattle.tlsf_heap.proofs.Images.ImageLemmas.{records_count, record_read, head_read, pool_read}
+use Rattle.tlsf_heap.specs.Inner.Entries.{entries_of}
 
 -- what parts have to be for their bytes to be read as they are
 pub record AreWritable (parts : Parts) : Type 0 where
   pub pools_count : length parts.pools ≡ most_pools
   pub heads_count : length parts.heads ≡ classes
-  pub packed : (number : ℕ) → number < most_pools → is_some (pool_at parts.pools number) ≡ nat_lt number (length (present parts.pools))
+  pub packed : (number : ℕ) → number < most_pools → is_some (pool_at parts.pools number) ≡ nat_lt number (length (entries_of parts.pools))
   pub heads : (class : ℕ) → class < classes → IsWritten (head_of parts.heads class)
-  pub blocks : (slot : ℕ) → slot < length parts.records → is_used (record_of parts.records slot).state ≡ true → LinksFit (record_of parts.records slot) × ((record_of parts.records slot).size % unit ≡ 0)
-  pub vacant : (slot : ℕ) → slot < length parts.records → is_used (record_of parts.records slot).state ≡ false → record_of parts.records slot ≡ blank
+  pub blocks : (slot : ℕ) → slot < length parts.records → is_used (record_at parts.records slot).state ≡ true → LinksFit (record_at parts.records slot) × ((record_at parts.records slot).size % unit ≡ 0)
+  pub vacant : (slot : ℕ) → slot < length parts.records → is_used (record_at parts.records slot).state ≡ false → record_at parts.records slot ≡ blank
 
 pub the_one : (pool : Option Pool) → is_some pool ≡ true → (one : Pool) × (pool ≡ Some one)
 the_one None is = absurd (cc)
@@ -41,33 +42,33 @@ module _ (parts : Parts) (writable : AreWritable parts) where
   pub count_back : two_at count_at image ≡ length parts.records
   count_back = two_back (length parts.records)
 
-  pub pools_back : two_at pools_at image ≡ length (present parts.pools)
-  pools_back = two_back (length (present parts.pools))
+  pub pools_back : two_at pools_at image ≡ length (entries_of parts.pools)
+  pools_back = two_back (length (entries_of parts.pools))
 
   pool_same : (number : ℕ) → number < most_pools → pool_at (parts_in image).pools number ≡ pool_at parts.pools number
   pool_same number within =
       let read = pool_read image number within ∙ ap (λ count. if nat_lt number count then Some (pool_in image number) else None) pools_back in
       let packed = writable.packed number within in
-      elim (cases_Bool (nat_lt number (length (present parts.pools)))) [
+      elim (cases_Bool (nat_lt number (length (entries_of parts.pools)))) [
         | inl below ↦
             let one = the_one (pool_at parts.pools number) (packed ∙ below) in
             read ∙ ap (λ b. if b then Some (pool_in image number) else None) below ∙ ap Some (pool_back parts writable.pools_count writable.heads_count number one.0 within one.1) ∙ sym one.1
         | inr past ↦ read ∙ ap (λ b. if b then Some (pool_in image number) else None) past ∙ sym (not_one (pool_at parts.pools number) (packed ∙ past))
       ]
 
-  record_same : (slot : ℕ) → slot < length parts.records → record_in image slot ≡ record_of parts.records slot
-  record_same slot within = by_state (record_of parts.records slot).state refl
+  record_same : (slot : ℕ) → slot < length parts.records → record_in image slot ≡ record_at parts.records slot
+  record_same slot within = by_state (record_at parts.records slot).state refl
     where
-      by_state : (state : State) → (record_of parts.records slot).state ≡ state → record_in image slot ≡ record_of parts.records slot
+      by_state : (state : State) → (record_at parts.records slot).state ≡ state → record_in image slot ≡ record_at parts.records slot
       by_state Vacant is =
-          let r = record_of parts.records slot in
+          let r = record_at parts.records slot in
           vacant_back parts writable.pools_count writable.heads_count slot within (ap (λ s. bytes_in s r) is) ∙ sym (writable.vacant slot within (ap is_used is))
       by_state Free is =
-          let r = record_of parts.records slot in
+          let r = record_at parts.records slot in
           let block = writable.blocks slot within (ap is_used is) in
           block_back parts writable.pools_count writable.heads_count slot 1 r within (ap (λ s. bytes_in s r) is) (omega arith) (omega arith) block.1 block.0 ∙ ap (λ (s : State). record r { state = s }) (sym is)
       by_state Live is =
-          let r = record_of parts.records slot in
+          let r = record_at parts.records slot in
           let block = writable.blocks slot within (ap is_used is) in
           block_back parts writable.pools_count writable.heads_count slot 2 r within (ap (λ s. bytes_in s r) is) (omega arith) (omega arith) block.1 block.0 ∙ ap (λ (s : State). record r { state = s }) (sym is)
 

@@ -7,15 +7,16 @@ use Rattle.std.proofs.lemmas.List.FromFn.{length-map-range_with_len, get_or-map-
 use Rattle.std.proofs.lemmas.List.Folds.{list_all-map}
 use Rattle.tlsf_class.specs.Classes.{classes}
 use Rattle.tlsf_store.specs.declared.pools.Pool.{Pool}
-use Rattle.tlsf_store.specs.Records.{blank, record_at as record_of}
+use Rattle.tlsf_store.specs.Records.{blank, record_at}
 use Rattle.tlsf_store.specs.Cells.{head_at as head_of, pool_at, most_pools}
 use Rattle.tlsf_store.specs.Ranges.{can_be_pool}
-use Rattle.tlsf_heap.specs.Images.Image.{two_at, count_at, pools_at, zeros_at, are_zero, record_at, record_in, head_in, pool_in, parts_in}
-use Rattle.tlsf_heap.specs.Images.Rules.{present, is_pool, are_pools, has_magic, has_length, has_pools, has_unused_pools, has_states, IsReadable, first_of, rules_of_parts, first_broken}
+use Rattle.tlsf_heap.specs.Images.Image.{two_at, count_at, pools_at, zeros_at, are_zero, record_start, record_in, head_in, pool_in, parts_in}
+use Rattle.tlsf_heap.specs.Images.Rules.{is_pool, are_pools, has_magic, has_length, has_pools, has_unused_pools, has_states, IsReadable, first_of, rules_of_parts, first_broken}
 use Rattle.tlsf_heap.specs.declared.image.rule.Rule.{Rule}
 use Rattle.tlsf_heap.specs.declared.image.rule.Rule.TheVariants.{Magic, Length, Pools, UnusedPools, States}
 use Rattle.tlsf_heap.proofs.Images.PoolLemmas.{pools_present}
 use Rattle.tlsf_heap.proofs.Images.SizeLemmas.{of_range}
+use Rattle.tlsf_heap.specs.Inner.Entries.{entries_of}
 
 all_pass : (a b c d e : Bool) (more : List (Rule × Bool)) → a ≡ true → b ≡ true → c ≡ true → d ≡ true → e ≡ true
     → first_of ((Magic, a) ∷ (Length, b) ∷ (Pools, c) ∷ (UnusedPools, d) ∷ (States, e) ∷ more) ≡ first_of more
@@ -48,7 +49,7 @@ module _ (bytes : List ℕ) where
   heads_count = length-map-range_with_len (head_in bytes) 0 classes
 
   -- the record of a slot, the head of a class, the pool of a number
-  pub record_read : (slot : ℕ) → slot < two_at count_at bytes → record_of (parts_in bytes).records slot ≡ record_in bytes slot
+  pub record_read : (slot : ℕ) → slot < two_at count_at bytes → record_at (parts_in bytes).records slot ≡ record_in bytes slot
   record_read slot within = get_or-map-range_with_len (record_in bytes) 0 (two_at count_at bytes) slot slot blank within (let same : 0 + slot ≡ slot = omega arith in same)
 
   pub head_read : (class : ℕ) → class < classes → head_of (parts_in bytes).heads class ≡ head_in bytes class
@@ -58,20 +59,20 @@ module _ (bytes : List ℕ) where
   pool_read number within = get_or-map-range_with_len (λ number. if nat_lt number (two_at pools_at bytes) then Some (pool_in bytes number) else None) 0 most_pools number number None within (let same : 0 + number ≡ number = omega arith in same)
 
   module _ (readable : IsReadable bytes) where
-    counts : (nat_lt 0 (two_at count_at bytes) ≡ true) × ((nat_le (two_at pools_at bytes) most_pools && (are_zero zeros_at 4 bytes && (length bytes == record_at (two_at count_at bytes)))) ≡ true)
-    counts = and_parts (nat_lt 0 (two_at count_at bytes)) (nat_le (two_at pools_at bytes) most_pools && (are_zero zeros_at 4 bytes && (length bytes == record_at (two_at count_at bytes)))) readable.length
+    counts : (nat_lt 0 (two_at count_at bytes) ≡ true) × ((nat_le (two_at pools_at bytes) most_pools && (are_zero zeros_at 4 bytes && (length bytes == record_start (two_at count_at bytes)))) ≡ true)
+    counts = and_parts (nat_lt 0 (two_at count_at bytes)) (nat_le (two_at pools_at bytes) most_pools && (are_zero zeros_at 4 bytes && (length bytes == record_start (two_at count_at bytes)))) readable.length
 
     pub some_records : 0 < two_at count_at bytes
     some_records = ltb-true 0 (two_at count_at bytes) counts.0
 
-    behind : (nat_le (two_at pools_at bytes) most_pools ≡ true) × ((are_zero zeros_at 4 bytes && (length bytes == record_at (two_at count_at bytes))) ≡ true)
-    behind = and_parts (nat_le (two_at pools_at bytes) most_pools) (are_zero zeros_at 4 bytes && (length bytes == record_at (two_at count_at bytes))) counts.1
+    behind : (nat_le (two_at pools_at bytes) most_pools ≡ true) × ((are_zero zeros_at 4 bytes && (length bytes == record_start (two_at count_at bytes))) ≡ true)
+    behind = and_parts (nat_le (two_at pools_at bytes) most_pools) (are_zero zeros_at 4 bytes && (length bytes == record_start (two_at count_at bytes))) counts.1
 
     pub few_pools : two_at pools_at bytes ≤ most_pools
     few_pools = leb-true (two_at pools_at bytes) most_pools behind.0
 
-    pub whole_length : length bytes ≡ record_at (two_at count_at bytes)
-    whole_length = eqb-true (length bytes) (record_at (two_at count_at bytes)) (and_parts (are_zero zeros_at 4 bytes) (length bytes == record_at (two_at count_at bytes)) behind.1).1
+    pub whole_length : length bytes ≡ record_start (two_at count_at bytes)
+    whole_length = eqb-true (length bytes) (record_start (two_at count_at bytes)) (and_parts (are_zero zeros_at 4 bytes) (length bytes == record_start (two_at count_at bytes)) behind.1).1
 
   firsts : (count from : ℕ) (pools : List Pool) → are_pools count from pools ≡ true → list_all (λ pool. nat_lt pool.first count) pools ≡ true
   firsts count from [] e = refl
@@ -81,8 +82,8 @@ module _ (bytes : List ℕ) where
       and_from (nat_lt pool.first count) (list_all (λ pool. nat_lt pool.first count) pools) one (firsts count (pool.base + pool.bytes) pools both.1)
 
   -- the pools are where pools can be
-  pub pools_are : IsReadable bytes → are_pools (two_at count_at bytes) 0 (present (parts_in bytes).pools) ≡ true
-  pools_are readable = (and_parts (are_pools (two_at count_at bytes) 0 (present (parts_in bytes).pools)) _ readable.pools).0
+  pub pools_are : IsReadable bytes → are_pools (two_at count_at bytes) 0 (entries_of (parts_in bytes).pools) ≡ true
+  pools_are readable = (and_parts (are_pools (two_at count_at bytes) 0 (entries_of (parts_in bytes).pools)) _ readable.pools).0
 
   -- the first record of a pool is one of the records
   pub first_below : IsReadable bytes → (number : ℕ) → number < two_at pools_at bytes → (pool_in bytes number).first < two_at count_at bytes

@@ -5,24 +5,24 @@ use Rattle.std.specs.List.{flat_map}
 use Rattle.std.proofs.lemmas.Bool.{and_parts}
 use Rattle.std.proofs.lemmas.List.{length-append, at_drop_more, at_drop_all}
 use Rattle.tlsf_class.specs.Classes.{class}
-use Rattle.tlsf_store.specs.Records.{IsBelow}
+use Rattle.tlsf_store.specs.Records.{IsBelow, is_free_state}
 use Rattle.tlsf_store.specs.Cells.{head_at}
 use Rattle.tlsf_store.specs.declared.records.State.{State}
 use Rattle.tlsf_store.specs.declared.records.State.TheVariants.{Vacant, Free, Live}
 use Rattle.tlsf_store.specs.declared.records.Record.{Record}
 use Rattle.tlsf_heap.specs.Images.Image.{Parts}
 use Rattle.tlsf_heap.specs.Images.Links.{follow, is_linked}
-use Rattle.tlsf_heap.specs.Images.Rules.{at, is_used, is_free, is_list, list_of, has_links, has_links_in, is_below}
+use Rattle.tlsf_heap.specs.Images.Rules.{at, is_used, is_list, slots_in_list, has_links, has_links_in, is_below}
 use Rattle.tlsf_heap.specs.Images.Findings.{list_found, lists_with, is_behind}
 use Rattle.tlsf_heap.proofs.Images.LinkLemmas.{linked_on, linked_not_on, linked_end, follow_none}
 use Rattle.tlsf_heap.proofs.Images.ChainLemmas.{record_links, below}
 
-free_is_used : (state : State) → is_free state ≡ true → is_used state ≡ true
+free_is_used : (state : State) → is_free_state state ≡ true → is_used state ≡ true
 free_is_used Vacant e = absurd (cc)
 free_is_used Free e = refl
 free_is_used Live e = absurd (cc)
 
-free_links : (state : State) (count : ℕ) (r : Record) → is_free state ≡ true → has_links_in state count r ≡ true → is_below count r.next_free ≡ true
+free_links : (state : State) (count : ℕ) (r : Record) → is_free_state state ≡ true → has_links_in state count r ≡ true → is_below count r.next_free ≡ true
 free_links Vacant count r e linked = absurd (cc)
 free_links Free count r e linked = (and_parts _ _ linked).1
 free_links Live count r e linked = absurd (cc)
@@ -33,7 +33,7 @@ module _ (parts : Parts) where
 
   abbrev is_list_from : ℕ → ℕ → (before first : Option ℕ) → Bool
   is_list_from number n before first =
-      is_linked (λ slot. is_free (at parts slot).state && (class (at parts slot).size == number)) next_of (λ slot. (at parts slot).prev_free) n before first
+      is_linked (λ slot. is_free_state (at parts slot).state && (class (at parts slot).size == number)) next_of (λ slot. (at parts slot).prev_free) n before first
 
   -- what is found of a list of which some blocks were seen, where at most `n` are left
   abbrev found_with : ℕ → ℕ → ℕ → (before next : Option ℕ) → Option ℕ
@@ -45,13 +45,13 @@ module _ (parts : Parts) where
   module _ (number blocks : ℕ) (before : Option ℕ) (slot : ℕ) where
     on_by : (n : ℕ) → is_behind before number (at parts slot) ≡ true → found_with number (suc n) blocks before (Some slot) ≡ found_with number n (blocks + 1) (Some slot) (next_of slot)
     on_by n on =
-        let whole = linked_on (λ slot. is_free (at parts slot).state && (class (at parts slot).size == number)) next_of (λ slot. (at parts slot).prev_free) n before slot on in
+        let whole = linked_on (λ slot. is_free_state (at parts slot).state && (class (at parts slot).size == number)) next_of (λ slot. (at parts slot).prev_free) n before slot on in
         let one : blocks + suc (length (follow n next_of (next_of slot))) ≡ blocks + 1 + length (follow n next_of (next_of slot)) = omega arith in
         rw (whole, one) refl
 
     stops_by : (n : ℕ) → is_behind before number (at parts slot) ≡ false → found_with number n blocks before (Some slot) ≡ None
     stops_by zero off = refl
-    stops_by (suc n) off = rw (linked_not_on (λ slot. is_free (at parts slot).state && (class (at parts slot).size == number)) next_of (λ slot. (at parts slot).prev_free) n before slot off) refl
+    stops_by (suc n) off = rw (linked_not_on (λ slot. is_free_state (at parts slot).state && (class (at parts slot).size == number)) next_of (λ slot. (at parts slot).prev_free) n before slot off) refl
 
     -- a block behind the one before
     pub found_on : blocks < length parts.records → is_behind before number (at parts slot) ≡ true → rest_found number blocks before (Some slot) ≡ rest_found number (blocks + 1) (Some slot) (next_of slot)
@@ -84,7 +84,7 @@ module _ (parts : Parts) where
       let n = length parts.records - blocks in
       let P : Option ℕ → Type 0 = λ o. found_with number n blocks before o ≡ Some blocks in
       let none : blocks + 0 ≡ blocks = omega arith in
-      subst P (sym is) (rw (linked_end (λ slot. is_free (at parts slot).state && (class (at parts slot).size == number)) next_of (λ slot. (at parts slot).prev_free) n before, follow_none n next_of, none) refl)
+      subst P (sym is) (rw (linked_end (λ slot. is_free_state (at parts slot).state && (class (at parts slot).size == number)) next_of (λ slot. (at parts slot).prev_free) n before, follow_none n next_of, none) refl)
 
   first_by : (number : ℕ) (first : Option ℕ) → found_with number (length parts.records) 0 None first ≡ list_found parts number first
   first_by number first =
@@ -118,14 +118,14 @@ module _ (parts : Parts) where
     list_on found within is =
         let first = head_at parts.heads number in
         let more = drop (number + 1) parts.heads in
-        let there = was_found (is_list parts number first) (length (list_of parts first)) found is in
-        let slots = flat_map (list_of parts) more in
-        let sum : blocks + length (list_of parts first ++ slots) ≡ blocks + found + length slots = omega (arith, length-append (list_of parts first) slots, there.1) in
+        let there = was_found (is_list parts number first) (length (slots_in_list parts first)) found is in
+        let slots = flat_map (slots_in_list parts) more in
+        let sum : blocks + length (slots_in_list parts first ++ slots) ≡ blocks + found + length slots = omega (arith, length-append (slots_in_list parts first) slots, there.1) in
         left_at within ∙ (rw (there.0, sum) refl)
 
     -- one that is no list
     pub list_off : number < length parts.heads → list_found parts number (head_at parts.heads number) ≡ None → lists_with parts blocks number (drop number parts.heads) ≡ None
-    list_off within is = left_at within ∙ (rw (was_missed (is_list parts number (head_at parts.heads number)) (length (list_of parts (head_at parts.heads number))) is) refl)
+    list_off within is = left_at within ∙ (rw (was_missed (is_list parts number (head_at parts.heads number)) (length (slots_in_list parts (head_at parts.heads number))) is) refl)
 
     -- no list is left
     pub lists_end : length parts.heads ≤ number → lists_with parts blocks number (drop number parts.heads) ≡ Some blocks

@@ -12,7 +12,7 @@ use Rattle.tlsf_store.specs.Records.{blank, record_at}
 use Rattle.tlsf_store.specs.Cells.{Cells, most_pools}
 use Rattle.tlsf_heap.specs.declared.image.rule.Rule.TheVariants.{Magic, Length, Pools, UnusedPools, States}
 use Rattle.tlsf_heap.specs.Images.Image.{two_at, count_at, pools_at, size_word, pool_in as pool_of_bytes, head_in, record_in, parts_in}
-use Rattle.tlsf_heap.specs.Images.Rules.{has_magic, has_length, has_pools, has_unused_pools, has_states, present, are_pools, first_of, rules_of_parts, first_broken}
+use Rattle.tlsf_heap.specs.Images.Rules.{has_magic, has_length, has_pools, has_unused_pools, has_states, are_pools, first_of, rules_of_parts, first_broken}
 use Rattle.tlsf_heap.proofs.Images.UnbrokenRules.{holds_first}
 use Rattle.tlsf_heap.specs.Images.Described.{described, parts_of}
 use Rattle.tlsf_heap.specs.Inner.Entries.{entries_of, padded}
@@ -38,18 +38,18 @@ module _ (pool : ℕ → StoredPool) (count : ℕ) where
   none_there (suc n) = none_there n
 
   abbrev padded_to : ℕ → List (Option StoredPool) → List (Option StoredPool)
-  padded_to n pools = map (λ e. Some e) (entries_of pools) ++ replicate (n - length (entries_of pools)) None
+  padded_to n pools = map Some (entries_of pools) ++ replicate (n - length (entries_of pools)) None
 
   packed_from : (from n : ℕ) → entries_from from n ≡ padded_to n (entries_from from n)
   packed_from from zero = refl
   packed_from from (suc n) = elim (cases_lt from count) [
-    | inl below ↦ rw (lt-ltb from count below) (ap (λ rest. Some (pool from) ∷ rest) (packed_from (from + 1) n ∙ ap (λ k. map (λ e. Some e) (entries_of (entries_from (from + 1) n)) ++ replicate k None) (
+    | inl below ↦ rw (lt-ltb from count below) (ap (λ rest. Some (pool from) ∷ rest) (packed_from (from + 1) n ∙ ap (λ k. map Some (entries_of (entries_from (from + 1) n)) ++ replicate k None) (
         let e : n - length (entries_of (entries_from (from + 1) n)) ≡ suc n - suc (length (entries_of (entries_from (from + 1) n))) = omega arith in e
         )))
     | inr past ↦
         let all : entries_from from (suc n) ≡ replicate (suc n) None = none_from from (suc n) past in
         let P : List (Option StoredPool) → Type 0 = λ pools. pools ≡ padded_to (suc n) pools in
-        let none : replicate (suc n) None ≡ padded_to (suc n) (replicate (suc n) None) = sym (ap (λ entries. map (λ e. Some e) entries ++ replicate (suc n - length entries) None) (none_there (suc n)) ∙ ap (λ k. replicate k None) (let e : suc n - 0 ≡ suc n = omega arith in e)) in
+        let none : replicate (suc n) None ≡ padded_to (suc n) (replicate (suc n) None) = sym (ap (λ entries. map Some entries ++ replicate (suc n - length entries) None) (none_there (suc n)) ∙ ap (λ k. replicate k None) (let e : suc n - 0 ≡ suc n = omega arith in e)) in
         subst P (sym all) none
   ]
 
@@ -87,8 +87,8 @@ module _ (bytes : List ℕ) where
     pub parts_hold : first_of (rules_of_parts (parts_in bytes)) ≡ None
     parts_hold = (holds_first (has_states bytes) States _ (holds_first (has_unused_pools bytes) UnusedPools _ pools_hold.1).1).1
 
-    pub ordered : are_pools (length (parts_in bytes).records) 0 (present (parts_in bytes).pools) ≡ true
-    ordered = ap (λ count. are_pools count 0 (present (parts_in bytes).pools)) count_is ∙ (and_parts (are_pools (two_at count_at bytes) 0 (present (parts_in bytes).pools)) _ pools_hold.0).0
+    pub ordered : are_pools (length (parts_in bytes).records) 0 (entries_of (parts_in bytes).pools) ≡ true
+    ordered = ap (λ count. are_pools count 0 (entries_of (parts_in bytes).pools)) count_is ∙ (and_parts (are_pools (two_at count_at bytes) 0 (entries_of (parts_in bytes).pools)) _ pools_hold.0).0
 
     module _ (cells : Cells) (loaded : AreLoaded bytes cells) where
       -- the cells with the records as they are read
@@ -100,7 +100,7 @@ module _ (bytes : List ℕ) where
           let parts : parts_of as_read ≡ parts_in bytes = λ i. record { pools = loaded.pools i; heads = loaded.heads i; records = (parts_in bytes).records } in
           record {
             unbroken = ap (λ p. first_of (rules_of_parts p)) parts ∙ parts_hold;
-            ordered = ap (λ ps. are_pools (length (parts_in bytes).records) 0 (present ps)) loaded.pools ∙ ordered;
+            ordered = ap (λ ps. are_pools (length (parts_in bytes).records) 0 (entries_of ps)) loaded.pools ∙ ordered;
             packed = loaded.pools ∙ packed_from (pool_of_bytes bytes) (two_at pools_at bytes) 0 most_pools ∙ ap (λ ps. padded (entries_of ps)) (sym loaded.pools);
             pools_count = ap length loaded.pools ∙ length-map-range_with_len (entry (pool_of_bytes bytes) (two_at pools_at bytes)) 0 most_pools;
             heads_count = ap length loaded.heads ∙ length-map-range_with_len (head_in bytes) 0 classes;

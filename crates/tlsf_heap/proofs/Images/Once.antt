@@ -8,13 +8,15 @@ use Rattle.tlsf_class.specs.Classes.{class}
 use Rattle.tlsf_store.specs.declared.records.State.{State}
 use Rattle.tlsf_store.specs.declared.records.State.TheVariants.{Vacant, Free, Live}
 use Rattle.tlsf_store.specs.Cells.{head_at}
+use Rattle.tlsf_store.specs.Records.{is_free_state}
 use Rattle.tlsf_heap.specs.Images.Image.{Parts}
 use Rattle.tlsf_heap.specs.Images.Links.{ends_within, is_linked}
-use Rattle.tlsf_heap.specs.Images.Rules.{present, at, is_used, is_free, are_pools, chain_of, has_links, has_chains, has_cover, is_among, has_all_on_chains, list_of, is_list, are_lists, has_lists, has_all_on_lists}
+use Rattle.tlsf_heap.specs.Images.Rules.{at, is_used, are_pools, chain_of, has_links, has_chains, has_cover, is_among, has_all_on_chains, slots_in_list, is_list, are_lists, has_lists, has_all_on_lists}
 use Rattle.tlsf_heap.proofs.Images.Counting.{one_if, times, times-append, any_counts}
 use Rattle.tlsf_heap.proofs.Images.LinkLemmas.{linked_on, linked_not_on, linked_end}
 use Rattle.tlsf_heap.proofs.Images.Distinct.{same_link}
 use Rattle.tlsf_heap.proofs.Images.Totals.{all_below, not_or, among_any, is_block, used_below, chains_once, on_chain_used, is_listed, list_once, listed_here, listed_from, first_list, other_lists}
+use Rattle.tlsf_heap.specs.Inner.Entries.{entries_of}
 
 -- what linked slots tell of the first one, and of those behind it
 pub record IsStep (test : ℕ → Bool) (next back : ℕ → Option ℕ) (n : ℕ) (before : Option ℕ) (slot : ℕ) : Type 0 where
@@ -43,16 +45,16 @@ as_often n false most needs gives = elim (cases_lt 0 n) [
   | inr none ↦ omega (arith, none)
 ]
 
-pub free_used : (state : State) → is_free state ≡ true → is_used state ≡ true
+pub free_used : (state : State) → is_free_state state ≡ true → is_used state ≡ true
 free_used Vacant e = absurd (both_ways false refl e)
 free_used Free e = refl
 free_used Live e = absurd (both_ways false refl e)
 
 module _ (parts : Parts) where
-  pub on_chain_once : has_links parts ≡ true → has_chains parts ≡ true → has_cover parts ≡ true → are_pools (length parts.records) 0 (present parts.pools) ≡ true → has_all_on_chains parts ≡ true
-      → (slot : ℕ) → times slot (flat_map (chain_of parts) (present parts.pools)) ≡ one_if (is_block parts slot)
+  pub on_chain_once : has_links parts ≡ true → has_chains parts ≡ true → has_cover parts ≡ true → are_pools (length parts.records) 0 (entries_of parts.pools) ≡ true → has_all_on_chains parts ≡ true
+      → (slot : ℕ) → times slot (flat_map (chain_of parts) (entries_of parts.pools)) ≡ one_if (is_block parts slot)
   on_chain_once linked chains covered ordered all slot =
-      let pools = present parts.pools in
+      let pools = entries_of parts.pools in
       let slots = flat_map (chain_of parts) pools in
       as_often (times slot slots) (is_block parts slot) (chains_once parts linked (length parts.records) 0 pools ordered chains covered slot) (on_chain_used parts pools chains slot)
       (λ used.
@@ -72,19 +74,19 @@ module _ (parts : Parts) where
       subst P same (list_at (from + 1) number heads (other_lists parts from first heads lists))
 
   -- a listed block stands in the list of its class
-  in_own_list : (from number slot : ℕ) (heads : List (Option ℕ)) → are_lists parts from heads ≡ true → from + number ≡ class (at parts slot).size → 1 ≤ times slot (flat_map (list_of parts) heads)
-      → 1 ≤ times slot (list_of parts (slice_index_or heads number None))
+  in_own_list : (from number slot : ℕ) (heads : List (Option ℕ)) → are_lists parts from heads ≡ true → from + number ≡ class (at parts slot).size → 1 ≤ times slot (flat_map (slots_in_list parts) heads)
+      → 1 ≤ times slot (slots_in_list parts (slice_index_or heads number None))
   in_own_list from number slot [] lists is some = absurd (omega (arith, some))
-  in_own_list from zero slot (first ∷ heads) lists is some = elim (cases_lt 0 (times slot (list_of parts first))) [
+  in_own_list from zero slot (first ∷ heads) lists is some = elim (cases_lt 0 (times slot (slots_in_list parts first))) [
     | inl here ↦ omega (arith, here)
     | inr none ↦
-        let more : 1 ≤ times slot (flat_map (list_of parts) heads) = omega (arith, some, none, times-append slot (list_of parts first) (flat_map (list_of parts) heads)) in
+        let more : 1 ≤ times slot (flat_map (slots_in_list parts) heads) = omega (arith, some, none, times-append slot (slots_in_list parts first) (flat_map (slots_in_list parts) heads)) in
         absurd (omega (arith, is, (listed_from parts (from + 1) heads (other_lists parts from first heads lists) slot more).1))
   ]
-  in_own_list from (suc number) slot (first ∷ heads) lists is some = elim (cases_lt 0 (times slot (list_of parts first))) [
+  in_own_list from (suc number) slot (first ∷ heads) lists is some = elim (cases_lt 0 (times slot (slots_in_list parts first))) [
     | inl here ↦ absurd (omega (arith, is, (listed_here parts from first (first_list parts from first heads lists) slot (omega (arith, here))).1))
     | inr none ↦
-        in_own_list (from + 1) number slot heads (other_lists parts from first heads lists) (omega (arith, is)) (omega (arith, some, none, times-append slot (list_of parts first) (flat_map (list_of parts) heads)))
+        in_own_list (from + 1) number slot heads (other_lists parts from first heads lists) (omega (arith, is)) (omega (arith, some, none, times-append slot (slots_in_list parts first) (flat_map (slots_in_list parts) heads)))
   ]
 
   module _ (lists : has_lists parts ≡ true) where
@@ -94,14 +96,14 @@ module _ (parts : Parts) where
         let same : 0 + number ≡ number = omega arith in
         subst P same (list_at 0 number parts.heads lists)
 
-    pub in_list_once : has_all_on_lists parts ≡ true → (number slot : ℕ) → times slot (list_of parts (head_at parts.heads number)) ≡ one_if (is_listed parts number slot)
+    pub in_list_once : has_all_on_lists parts ≡ true → (number slot : ℕ) → times slot (slots_in_list parts (head_at parts.heads number)) ≡ one_if (is_listed parts number slot)
     in_list_once all number slot =
         let first = head_at parts.heads number in
         let list = list_of_class number in
-        as_often (times slot (list_of parts first)) (is_listed parts number slot) (list_once parts number first list slot)
+        as_often (times slot (slots_in_list parts first)) (is_listed parts number slot) (list_once parts number first list slot)
         (λ some. let free = listed_here parts number first list slot some in and_from _ _ free.0 (eq-eqb _ _ free.1))
         (λ listed.
-        let both = and_parts (is_free (at parts slot).state) (eqb (class (at parts slot).size) number) listed in
-        let here = all_below (λ slot. not (is_free (at parts slot).state) || list_any (λ first. is_among slot (list_of parts first)) parts.heads) (length parts.records) all slot (used_below parts slot (free_used (at parts slot).state both.0)) in
-        let some = any_counts (λ other. eqb other slot) (flat_map (list_of parts) parts.heads) (among_any (list_of parts) parts.heads slot ∙ not_or (is_free (at parts slot).state) _ here both.0) in
+        let both = and_parts (is_free_state (at parts slot).state) (eqb (class (at parts slot).size) number) listed in
+        let here = all_below (λ slot. not (is_free_state (at parts slot).state) || list_any (λ first. is_among slot (slots_in_list parts first)) parts.heads) (length parts.records) all slot (used_below parts slot (free_used (at parts slot).state both.0)) in
+        let some = any_counts (λ other. eqb other slot) (flat_map (slots_in_list parts) parts.heads) (among_any (slots_in_list parts) parts.heads slot ∙ not_or (is_free_state (at parts slot).state) _ here both.0) in
         in_own_list 0 number slot parts.heads lists (omega (arith, eqb-true (class (at parts slot).size) number both.1)) some)

@@ -5,9 +5,9 @@ use Rattle.std.proofs.lemmas.Bool.{ne_eqb, eq-eqb}
 use Rattle.tlsf_class.specs.Classes.{unit, classes}
 use Rattle.tlsf_store.specs.declared.records.Record.{Record}
 use Rattle.tlsf_store.specs.declared.pools.Pool.{Pool}
-use Rattle.tlsf_store.specs.Records.{blank, record_at as record_of}
+use Rattle.tlsf_store.specs.Records.{blank, record_at}
 use Rattle.tlsf_store.specs.Cells.{head_at as head_of, pool_at, most_pools}
-use Rattle.tlsf_heap.specs.Images.Image.{two_at, four_at, entry_at, head_at, record_at, state_of, size_word, pool_in, head_in, record_in, Parts}
+use Rattle.tlsf_heap.specs.Images.Image.{two_at, four_at, entry_at, head_at, record_start, state_of, size_word, pool_in, head_in, record_in, Parts}
 use Rattle.tlsf_store.specs.Slots.{missing, link_of}
 use Rattle.tlsf_heap.specs.Images.Writing.{word_of, entry_bytes, head_bytes, block_bytes, record_bytes, image_of}
 use Rattle.tlsf_heap.proofs.Images.WritingLemmas.{two_back, four_back, entry_byte, head_byte, record_byte}
@@ -70,18 +70,18 @@ module _ (parts : Parts) (pools_count : length parts.pools ≡ most_pools) (head
       λ i. record { base = base i; bytes = bytes i; first = first i }
 
   -- the record of a block
-  module _ (slot code : ℕ) (r : Record) (within : slot < length parts.records) (is : record_bytes (record_of parts.records slot) ≡ block_bytes code r) (some : 0 < code) (low : code < unit) (whole : r.size % unit ≡ 0) where
-    same : (j : ℕ) → j < 16 → slice_index image (record_at slot + j) ≡ slice_index (block_bytes code r) j
+  module _ (slot code : ℕ) (r : Record) (within : slot < length parts.records) (is : record_bytes (record_at parts.records slot) ≡ block_bytes code r) (some : 0 < code) (low : code < unit) (whole : r.size % unit ≡ 0) where
+    same : (j : ℕ) → j < 16 → slice_index image (record_start slot + j) ≡ slice_index (block_bytes code r) j
     same j below = record_byte parts pools_count heads_count slot j within below ∙ ap (λ bytes. slice_index bytes j) is
 
-    place : four_at (record_at slot) image ≡ r.place
-    place = four_first image (block_bytes code r) (record_at slot) 16 same (omega arith) ∙ four_back r.place
+    place : four_at (record_start slot) image ≡ r.place
+    place = four_first image (block_bytes code r) (record_start slot) 16 same (omega arith) ∙ four_back r.place
 
     word : size_word image slot ≡ r.size + code
-    word = four_of image (block_bytes code r) (record_at slot) 16 same 4 (omega arith) ∙ four_back (r.size + code)
+    word = four_of image (block_bytes code r) (record_start slot) 16 same 4 (omega arith) ∙ four_back (r.size + code)
 
-    link_at : (j : ℕ) (link : Option ℕ) → IsWritten link → j + 1 < 16 → two_at j (block_bytes code r) ≡ word_of link → link_of (two_at (record_at slot + j) image) ≡ link
-    link_at j link fits below is = ap link_of (two_of image (block_bytes code r) (record_at slot) 16 same j below ∙ is) ∙ link_back link fits
+    link_at : (j : ℕ) (link : Option ℕ) → IsWritten link → j + 1 < 16 → two_at j (block_bytes code r) ≡ word_of link → link_of (two_at (record_start slot + j) image) ≡ link
+    link_at j link fits below is = ap link_of (two_of image (block_bytes code r) (record_start slot) 16 same j below ∙ is) ∙ link_back link fits
 
     pub code_is : size_word image slot % unit ≡ code
     code_is = omega (arith, word, whole, low)
@@ -96,18 +96,18 @@ module _ (parts : Parts) (pools_count : length parts.pools ≡ most_pools) (head
         let prev_free = link_at 12 r.prev_free links.prev_free (omega arith) (two_back (word_of r.prev_free)) in
         let next_free = link_at 14 r.next_free links.next_free (omega arith) (two_back (word_of r.next_free)) in
         let used : eqb (size_word image slot % unit) 0 ≡ false = ne_eqb (size_word image slot % unit) 0 (λ e. omega (arith, e, code_is, some)) in
-        ap (λ b. if b then blank else record { place = four_at (record_at slot) image; size = size_word image slot - size_word image slot % unit; state = state_of (size_word image slot % unit); prev = link_of (two_at (record_at slot + 8) image); next = link_of (two_at (record_at slot + 10) image); prev_free = link_of (two_at (record_at slot + 12) image); next_free = link_of (two_at (record_at slot + 14) image) }) used
+        ap (λ b. if b then blank else record { place = four_at (record_start slot) image; size = size_word image slot - size_word image slot % unit; state = state_of (size_word image slot % unit); prev = link_of (two_at (record_start slot + 8) image); next = link_of (two_at (record_start slot + 10) image); prev_free = link_of (two_at (record_start slot + 12) image); next_free = link_of (two_at (record_start slot + 14) image) }) used
         ∙ (λ i. record { place = place i; size = size_is i; state = state_of (code_is i); prev = prev i; next = next i; prev_free = prev_free i; next_free = next_free i })
 
   -- a vacant record
-  pub zero_code : (slot : ℕ) → slot < length parts.records → record_bytes (record_of parts.records slot) ≡ replicate 16 0 → size_word image slot % unit ≡ 0
+  pub zero_code : (slot : ℕ) → slot < length parts.records → record_bytes (record_at parts.records slot) ≡ replicate 16 0 → size_word image slot % unit ≡ 0
   zero_code slot within is =
-      let same : (j : ℕ) → j < 16 → slice_index image (record_at slot + j) ≡ slice_index (replicate 16 0) j =
+      let same : (j : ℕ) → j < 16 → slice_index image (record_start slot + j) ≡ slice_index (replicate 16 0) j =
       λ j below. record_byte parts pools_count heads_count slot j within below ∙ ap (λ bytes. slice_index bytes j) is in
-      let word : size_word image slot ≡ 0 = four_of image (replicate 16 0) (record_at slot) 16 same 4 (omega arith) in
+      let word : size_word image slot ≡ 0 = four_of image (replicate 16 0) (record_start slot) 16 same 4 (omega arith) in
       omega (arith, word)
 
-  pub vacant_back : (slot : ℕ) → slot < length parts.records → record_bytes (record_of parts.records slot) ≡ replicate 16 0 → record_in image slot ≡ blank
+  pub vacant_back : (slot : ℕ) → slot < length parts.records → record_bytes (record_at parts.records slot) ≡ replicate 16 0 → record_in image slot ≡ blank
   vacant_back slot within is =
       let code = zero_code slot within is in
-      ap (λ b. if b then blank else record { place = four_at (record_at slot) image; size = size_word image slot - size_word image slot % unit; state = state_of (size_word image slot % unit); prev = link_of (two_at (record_at slot + 8) image); next = link_of (two_at (record_at slot + 10) image); prev_free = link_of (two_at (record_at slot + 12) image); next_free = link_of (two_at (record_at slot + 14) image) }) (eq-eqb (size_word image slot % unit) 0 code)
+      ap (λ b. if b then blank else record { place = four_at (record_start slot) image; size = size_word image slot - size_word image slot % unit; state = state_of (size_word image slot % unit); prev = link_of (two_at (record_start slot + 8) image); next = link_of (two_at (record_start slot + 10) image); prev_free = link_of (two_at (record_start slot + 12) image); next_free = link_of (two_at (record_start slot + 14) image) }) (eq-eqb (size_word image slot % unit) 0 code)

@@ -8,31 +8,31 @@ use Rattle.tlsf_store.specs.declared.records.State.{State}
 use Rattle.tlsf_store.specs.declared.records.State.TheVariants.{Vacant, Free, Live}
 use Rattle.tlsf_store.specs.declared.records.Record.{Record}
 use Rattle.tlsf_store.specs.declared.pools.Pool.{Pool as StoredPool}
-use Rattle.tlsf_store.specs.Records.{record_at}
+use Rattle.tlsf_store.specs.Records.{record_at, is_free_state}
 use Rattle.tlsf_store.specs.Cells.{Cells}
 use Rattle.tlsf_heap.specs.Images.Image.{Parts}
 use Rattle.tlsf_heap.specs.Images.Links.{follow, ends_within, is_linked}
-use Rattle.tlsf_heap.specs.Images.Rules.{present, at, is_used, is_free as is_free_state, is_chain, chain_of, list_of as listed_of}
+use Rattle.tlsf_heap.specs.Images.Rules.{at, is_used, is_chain, chain_of, slots_in_list}
 use Rattle.tlsf_heap.proofs.Images.Counting.{times}
 use Rattle.tlsf_heap.proofs.Images.Totals.{all_first, all_rest}
 use Rattle.tlsf_heap.proofs.Images.Once.{linked_step, linked_ends}
 use Rattle.tlsf_heap.specs.Images.Described.{parts_of}
 use Rattle.tlsf_heap.specs.Inner.Entries.{entries_of}
-use Rattle.tlsf_heap.specs.Inner.Nodes.{Status, InUse, Listed, Node, Area, Layout, nodes_of, has_slot, is_listed, owner_of}
+use Rattle.tlsf_heap.specs.Inner.Nodes.{NodeState, InUse, Listed, Node, Area, Layout, nodes_of, has_slot, is_listed, owner_of}
 use Rattle.tlsf_heap.specs.Inner.Represents.{in_pool, pool_views, state_of, first_slot, AreLinked, IsChain}
 use Rattle.tlsf_heap.proofs.Counts.{count-map}
 
--- the status of a block in this state
-abbrev pub status_in : State → Status
-status_in Vacant = InUse
-status_in Free = Listed
-status_in Live = InUse
+-- the state of the node of a block whose record has this state
+abbrev pub node_state_in : State → NodeState
+node_state_in Vacant = InUse
+node_state_in Free = Listed
+node_state_in Live = InUse
 
 -- the node of a slot
 abbrev pub node_at : List Record → ℕ → Node
 node_at records slot =
     let r = record_at records slot in
-    record { slot = slot; place = r.place; size = r.size; status = status_in r.state }
+    record { slot = slot; place = r.place; size = r.size; state = node_state_in r.state }
 
 -- the area of a pool
 abbrev pub area_from : Parts → StoredPool → Area
@@ -42,25 +42,25 @@ area_from parts pool = record { entry = pool; nodes = map (node_at parts.records
 abbrev pub layout_of : Cells → Layout
 layout_of cells = record {
   count = length cells.records;
-  areas = map (area_from (parts_of cells)) (present cells.pools);
-  lists = map (λ first. map (node_at cells.records) (listed_of (parts_of cells) first)) cells.heads;
+  areas = map (area_from (parts_of cells)) (entries_of cells.pools);
+  lists = map (λ first. map (node_at cells.records) (slots_in_list (parts_of cells) first)) cells.heads;
   taken = [];
 }
 
-pub status_state : (state : State) → is_used state ≡ true → state_of (status_in state) ≡ state
-status_state Vacant used = absurd (both_ways false refl used)
-status_state Free used = refl
-status_state Live used = refl
+pub state_back : (state : State) → is_used state ≡ true → state_of (node_state_in state) ≡ state
+state_back Vacant used = absurd (both_ways false refl used)
+state_back Free used = refl
+state_back Live used = refl
 
-pub status_listed : (state : State) → is_listed (status_in state) ≡ is_free_state state
-status_listed Vacant = refl
-status_listed Free = refl
-status_listed Live = refl
+pub node_state_listed : (state : State) → is_listed (node_state_in state) ≡ is_free_state state
+node_state_listed Vacant = refl
+node_state_listed Free = refl
+node_state_listed Live = refl
 
-pub status_free : (state : State) (slot : ℕ) → is_none (owner_of (status_in state) slot) ≡ is_free_state state
-status_free Vacant slot = refl
-status_free Free slot = refl
-status_free Live slot = refl
+pub node_state_free : (state : State) (slot : ℕ) → is_none (owner_of (node_state_in state) slot) ≡ is_free_state state
+node_state_free Vacant slot = refl
+node_state_free Free slot = refl
+node_state_free Live slot = refl
 
 module _ (records : List Record) where
   pub first_followed : (n : ℕ) (next : ℕ → Option ℕ) (first : Option ℕ) → ends_within n next first ≡ true → first_slot (map (node_at records) (follow n next first)) ≡ first
@@ -93,7 +93,7 @@ module _ (parts : Parts) where
       ∙ sym (map-append (node_at parts.records) (chain_of parts pool) (flat_map (chain_of parts) pools))
 
   chain_says : (slot : ℕ) → is_used (at parts slot).state ≡ true → pool_views parts.records slot ≡ in_pool (at parts slot).prev (node_at parts.records slot) (at parts slot).next
-  chain_says slot used = let r = at parts slot in λ i. record { place = r.place; size = r.size; state = sym (status_state r.state used) i; prev = r.prev; next = r.next }
+  chain_says slot used = let r = at parts slot in λ i. record { place = r.place; size = r.size; state = sym (state_back r.state used) i; prev = r.prev; next = r.next }
 
   -- the chain of each pool is one of nodes
   pub chains_are : (pools : List StoredPool) → list_all (is_chain parts) pools ≡ true → AllByRecursion (IsChain (pool_views parts.records)) (map (area_from parts) pools)
@@ -108,7 +108,7 @@ module _ (parts : Parts) where
     chains_are pools (all_rest (is_chain parts) pool pools all),
   )
 
-  pub entries_are : (pools : List (Option StoredPool)) → map (λ (area : Area). area.entry) (map (area_from parts) (present pools)) ≡ entries_of pools
+  pub entries_are : (pools : List (Option StoredPool)) → map (λ (area : Area). area.entry) (map (area_from parts) (entries_of pools)) ≡ entries_of pools
   entries_are [] = refl
   entries_are (None ∷ pools) = entries_are pools
   entries_are (Some pool ∷ pools) = ap (λ entries. pool ∷ entries) (entries_are pools)

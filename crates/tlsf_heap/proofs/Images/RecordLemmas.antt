@@ -6,12 +6,12 @@ use Rattle.std.proofs.lemmas.Bool.{and_parts, cases_Bool, both_ways}
 use Rattle.std.proofs.lemmas.List.{at_drop_more, at_drop_all}
 use Rattle.std.proofs.lemmas.List.Folds.{list_all_at}
 use Rattle.std.proofs.lemmas.List.Sums.{sum_by-cons}
-use Rattle.tlsf_store.specs.Records.{record_at, blank, IsBelow}
+use Rattle.tlsf_store.specs.Records.{record_at, blank, IsBelow, is_free_state}
 use Rattle.tlsf_store.specs.Cells.{head_at}
 use Rattle.tlsf_store.specs.declared.records.Record.{Record}
 use Rattle.tlsf_heap.specs.declared.image.links.Blocks.{Blocks}
 use Rattle.tlsf_heap.specs.Images.Image.{Parts}
-use Rattle.tlsf_heap.specs.Images.Rules.{is_used, is_free, is_below, has_record_links, has_links}
+use Rattle.tlsf_heap.specs.Images.Rules.{is_used, is_below, has_record_links, has_links}
 use Rattle.tlsf_heap.specs.Images.Findings.{blocks_and, blocks_with, links_found}
 use Rattle.tlsf_heap.proofs.Images.ChainLemmas.{below}
 
@@ -34,7 +34,7 @@ module _ (count : ℕ) where
       let r = record_at records slot in
       let rest = drop (slot + 1) records in
       let all = more (λ r. is_used r.state) blocks.all r rest in
-      let free = more (λ r. is_free r.state) blocks.free r rest in
+      let free = more (λ r. is_free_state r.state) blocks.free r rest in
       left_at blocks records slot within ∙ (rw (linked, all, free) refl)
 
   -- one record more, which doesn't pass it
@@ -61,7 +61,7 @@ module _ (parts : Parts) where
   pub links_of_both : list_all (is_below (length parts.records)) parts.heads ≡ true → blocks_with (length parts.records) (record { all = 0; free = 0 }) parts.records ≡ links_found parts
   links_of_both is =
       let all : 0 + count_by (λ r. is_used r.state) parts.records ≡ count_by (λ r. is_used r.state) parts.records = omega arith in
-      let free : 0 + count_by (λ r. is_free r.state) parts.records ≡ count_by (λ r. is_free r.state) parts.records = omega arith in
+      let free : 0 + count_by (λ r. is_free_state r.state) parts.records ≡ count_by (λ r. is_free_state r.state) parts.records = omega arith in
       rw (is, all, free) refl
 
   pub links_of_none : list_all (is_below (length parts.records)) parts.heads ≡ false → links_found parts ≡ None

@@ -8,20 +8,21 @@ use Rattle.tlsf_class.specs.Classes.{class}
 use Rattle.tlsf_store.specs.declared.records.State.{State}
 use Rattle.tlsf_store.specs.declared.records.State.TheVariants.{Vacant, Free, Live}
 use Rattle.tlsf_store.specs.Cells.{Cells, head_at}
+use Rattle.tlsf_store.specs.Records.{is_free_state}
 use Rattle.tlsf_heap.specs.Images.Image.{Parts}
-use Rattle.tlsf_heap.specs.Images.Rules.{present, at, is_used, is_free, chain_of, are_lists, list_of as listed_of}
+use Rattle.tlsf_heap.specs.Images.Rules.{at, is_used, chain_of, are_lists, slots_in_list}
 use Rattle.tlsf_heap.proofs.Images.LinkLemmas.{follow_none}
 use Rattle.tlsf_heap.proofs.Images.Counting.{one_if, times, times-filter, same_length}
 use Rattle.tlsf_heap.proofs.Images.Totals.{is_block, used_below, is_listed as is_listed_slot, first_list, other_lists}
 use Rattle.tlsf_heap.proofs.Images.Once.{linked_ends, free_used, on_chain_once, list_of_class, in_list_once}
 use Rattle.tlsf_heap.proofs.Images.UnbrokenRules.{IsUnbroken, unbroken}
 use Rattle.tlsf_heap.specs.Images.Described.{parts_of}
-use Rattle.tlsf_heap.specs.Inner.Entries.{padded}
-use Rattle.tlsf_heap.specs.Inner.Nodes.{Node, nodes_of, list_of, has_slot, is_listed_in}
+use Rattle.tlsf_heap.specs.Inner.Entries.{padded, entries_of}
+use Rattle.tlsf_heap.specs.Inner.Nodes.{Node, nodes_of, nodes_in, has_slot, is_listed_in}
 use Rattle.tlsf_heap.specs.Inner.Represents.{in_list, list_views, first_slot, AreLinked, uses_in, Represents}
 use Rattle.tlsf_heap.specs.Inner.Imaged.{AreImaged}
 use Rattle.tlsf_heap.proofs.Counts.{count-map}
-use Rattle.tlsf_heap.proofs.Images.ReadNodes.{node_at, layout_of, status_listed, first_followed, linked_followed, count_slots, nodes_of_areas, chains_are, entries_are}
+use Rattle.tlsf_heap.proofs.Images.ReadNodes.{node_at, layout_of, node_state_listed, first_followed, linked_followed, count_slots, nodes_of_areas, chains_are, entries_are}
 
 uses_one : (state : State) → one_if (is_used state) ≡ uses_in state
 uses_one Vacant = refl
@@ -43,29 +44,29 @@ module _ (cells : Cells) where
   node slot = node_at cells.records slot
 
   abbrev listed : ℕ → List ℕ
-  listed number = listed_of parts (head_at cells.heads number)
+  listed number = slots_in_list parts (head_at cells.heads number)
 
   abbrev chained : List ℕ
-  chained = flat_map (chain_of parts) (present cells.pools)
+  chained = flat_map (chain_of parts) (entries_of cells.pools)
 
   -- the nodes of a class's list
-  pub list_is : (number : ℕ) → list_of number (layout_of cells).lists ≡ map node (listed number)
+  pub list_is : (number : ℕ) → nodes_in number (layout_of cells).lists ≡ map node (listed number)
   list_is number = elim (cases_lt number (length cells.heads)) [
-    | inl below ↦ get_or-map (λ first. map node (listed_of parts first)) cells.heads number None [] below
+    | inl below ↦ get_or-map (λ first. map node (slots_in_list parts first)) cells.heads number None [] below
     | inr past ↦
-        get_or_past (map (λ first. map node (listed_of parts first)) cells.heads) number [] (omega (arith, past, length-map cells.heads (λ first. map node (listed_of parts first))))
-        ∙ sym (ap (λ first. map node (listed_of parts first)) (get_or_past cells.heads number None past) ∙ ap (map node) (follow_none (length cells.records) (λ slot. (at parts slot).next_free)))
+        get_or_past (map (λ first. map node (slots_in_list parts first)) cells.heads) number [] (omega (arith, past, length-map cells.heads (λ first. map node (slots_in_list parts first))))
+        ∙ sym (ap (λ first. map node (slots_in_list parts first)) (get_or_past cells.heads number None past) ∙ ap (map node) (follow_none (length cells.records) (λ slot. (at parts slot).next_free)))
   ]
 
-  heads_from : (from : ℕ) (heads : List (Option ℕ)) → are_lists parts from heads ≡ true → heads ≡ map first_slot (map (λ first. map node (listed_of parts first)) heads)
+  heads_from : (from : ℕ) (heads : List (Option ℕ)) → are_lists parts from heads ≡ true → heads ≡ map first_slot (map (λ first. map node (slots_in_list parts first)) heads)
   heads_from from [] lists = refl
   heads_from from (first ∷ heads) lists =
       let ends = linked_ends (is_listed_slot parts from) (λ slot. (at parts slot).next_free) (λ slot. (at parts slot).prev_free) (length cells.records) None first (first_list parts from first heads lists) in
       let here = first_followed cells.records (length cells.records) (λ slot. (at parts slot).next_free) first ends in
-      ap (λ o. o ∷ heads) (sym here) ∙ ap (λ more. first_slot (map node (listed_of parts first)) ∷ more) (heads_from (from + 1) heads (other_lists parts from first heads lists))
+      ap (λ o. o ∷ heads) (sym here) ∙ ap (λ more. first_slot (map node (slots_in_list parts first)) ∷ more) (heads_from (from + 1) heads (other_lists parts from first heads lists))
 
   listed_used : (number slot : ℕ) → is_listed_slot parts number slot ≡ true → is_block parts slot ≡ true
-  listed_used number slot listed = free_used (at parts slot).state (and_parts (is_free (at parts slot).state) (eqb (class (at parts slot).size) number) listed).0
+  listed_used number slot listed = free_used (at parts slot).state (and_parts (is_free_state (at parts slot).state) (eqb (class (at parts slot).size) number) listed).0
 
   module _ (imaged : AreImaged cells) where
     rules : IsUnbroken parts
@@ -81,13 +82,13 @@ module _ (cells : Cells) where
     once slot =
         omega (
           arith,
-          ap (count_by (has_slot slot)) (nodes_of_areas parts (present cells.pools)),
+          ap (count_by (has_slot slot)) (nodes_of_areas parts (entries_of cells.pools)),
           count_slots cells.records slot chained,
           on_chain slot,
           uses_one (at parts slot).state,
         )
 
-    pub agreed : (number : ℕ) (test : Node → Bool) → count_by test (list_of number (layout_of cells).lists) ≡ count_by (λ n. is_listed_in number n && test n) (nodes_of (layout_of cells).areas)
+    pub agreed : (number : ℕ) (test : Node → Bool) → count_by test (nodes_in number (layout_of cells).lists) ≡ count_by (λ n. is_listed_in number n && test n) (nodes_of (layout_of cells).areas)
     agreed number test =
         let both : Node → Bool = λ n. is_listed_in number n && test n in
         let in_list_passes : ℕ → Bool = λ slot. test (node slot) in
@@ -97,7 +98,7 @@ module _ (cells : Cells) where
         let right : (slot : ℕ) → times slot (filter on_chain_passes chained) ≡ cond (is_listed_slot parts number slot && in_list_passes slot) (one_if (is_block parts slot)) 0 =
         λ slot. times-filter on_chain_passes slot chained
         ∙ ap (λ n. cond (on_chain_passes slot) n 0) (on_chain slot)
-        ∙ ap (λ b. cond ((b && eqb (class (at parts slot).size) number) && in_list_passes slot) (one_if (is_block parts slot)) 0) (status_listed (at parts slot).state) in
+        ∙ ap (λ b. cond ((b && eqb (class (at parts slot).size) number) && in_list_passes slot) (one_if (is_block parts slot)) 0) (node_state_listed (at parts slot).state) in
         let none : (slot : ℕ) → length cells.records ≤ slot → times slot (filter in_list_passes (listed number)) ≡ 0 = λ slot past. left slot ∙ nothing number slot (in_list_passes slot) past in
         ap (count_by test) (list_is number)
         ∙ count-map test node (listed number)
@@ -106,7 +107,7 @@ module _ (cells : Cells) where
         (λ slot. left slot ∙ one_each (in_list_passes slot) (is_listed_slot parts number slot) (is_block parts slot) (listed_used number slot) ∙ sym (right slot)) none
         ∙ length-filter on_chain_passes chained
         ∙ sym (count-map both node chained)
-        ∙ sym (ap (count_by both) (nodes_of_areas parts (present cells.pools)))
+        ∙ sym (ap (count_by both) (nodes_of_areas parts (entries_of cells.pools)))
       where
         nothing : (number slot : ℕ) (passes : Bool) → length cells.records ≤ slot → cond passes (one_if (is_listed_slot parts number slot)) 0 ≡ 0
         nothing number slot false past = refl
@@ -119,10 +120,10 @@ module _ (cells : Cells) where
     represents = record {
       count = refl;
       entries = imaged.packed ∙ ap padded (sym (entries_are parts cells.pools));
-      chains = record { chains = chains_are parts (present cells.pools) rules.chains; once = once };
+      chains = record { chains = chains_are parts (entries_of cells.pools) rules.chains; once = once };
       index = record {
         heads_are = heads_from 0 cells.heads rules.lists;
-        lists_count = length-map cells.heads (λ first. map node (listed_of parts first)) ∙ imaged.heads_count;
+        lists_count = length-map cells.heads (λ first. map node (slots_in_list parts first)) ∙ imaged.heads_count;
         words_count = imaged.words_count;
         linked = λ number.
             let P : List Node → Type 0 = λ nodes. AreLinked in_list (list_views cells.records) None nodes in

@@ -2,14 +2,16 @@
 use Rattle.std.proofs.Common.{◌≡◌, ℕ, ◌+◌, Bool, true, false, length, Some, None, refl, sym, ap, ◌∙◌, arith}
 use Rattle.std.specs.Prelude.{if◌then◌else◌, nat_eq}
 use Rattle.std.specs.List.{flat_map, count_by}
+use Rattle.tlsf_store.specs.Records.{is_free_state}
 use Rattle.tlsf_heap.specs.declared.image.rule.Rule.TheVariants.{OnChains, Merged, Lists, OnLists}
 use Rattle.tlsf_heap.specs.declared.image.chains.Tally.{Tally}
 use Rattle.tlsf_heap.specs.declared.image.links.Blocks.{Blocks}
 use Rattle.tlsf_heap.specs.Images.Image.{Parts}
-use Rattle.tlsf_heap.specs.Images.Rules.{present, is_used, is_free, chain_of, list_of, has_links, has_chains, has_cover, has_merged, has_lists, has_all_on_chains, has_all_on_lists, are_pools, first_of, rules_of_parts}
+use Rattle.tlsf_heap.specs.Images.Rules.{is_used, chain_of, slots_in_list, has_links, has_chains, has_cover, has_merged, has_lists, has_all_on_chains, has_all_on_lists, are_pools, first_of, rules_of_parts}
 use Rattle.tlsf_heap.specs.Images.Findings.{links_found, chains_found, lists_found, HasSizes}
 use Rattle.tlsf_heap.proofs.Images.Totals.{chains_counted, lists_counted}
 use Rattle.tlsf_heap.proofs.Images.SizeLemmas.{sizes}
+use Rattle.tlsf_heap.specs.Inner.Entries.{entries_of}
 
 module _ {A : Type 0} where
   was_found : (b : Bool) (one found : A) → (if b then Some one else None) ≡ Some found → (b ≡ true) × (one ≡ found)
@@ -21,37 +23,37 @@ module _ {A : Type 0} where
   was_missed false one is = refl
 
 module _ (parts : Parts) where
-  pub links_are : (blocks : Blocks) → links_found parts ≡ Some blocks → (has_links parts ≡ true) × ((blocks.all ≡ count_by (λ r. is_used r.state) parts.records) × (blocks.free ≡ count_by (λ r. is_free r.state) parts.records))
+  pub links_are : (blocks : Blocks) → links_found parts ≡ Some blocks → (has_links parts ≡ true) × ((blocks.all ≡ count_by (λ r. is_used r.state) parts.records) × (blocks.free ≡ count_by (λ r. is_free_state r.state) parts.records))
   links_are blocks is =
-      let there = was_found (has_links parts) (record { all = count_by (λ r. is_used r.state) parts.records; free = count_by (λ r. is_free r.state) parts.records }) blocks is in
+      let there = was_found (has_links parts) (record { all = count_by (λ r. is_used r.state) parts.records; free = count_by (λ r. is_free_state r.state) parts.records }) blocks is in
       (there.0, (ap (λ (b : Blocks). b.all) (sym there.1), ap (λ (b : Blocks). b.free) (sym there.1)))
 
   pub links_arent : links_found parts ≡ None → has_links parts ≡ false
-  links_arent is = was_missed (has_links parts) (record { all = count_by (λ r. is_used r.state) parts.records; free = count_by (λ r. is_free r.state) parts.records }) is
+  links_arent is = was_missed (has_links parts) (record { all = count_by (λ r. is_used r.state) parts.records; free = count_by (λ r. is_free_state r.state) parts.records }) is
 
   abbrev all_tally : Tally
-  all_tally = record { blocks = 0 + length (flat_map (chain_of parts) (present parts.pools)); covers = has_cover parts; is_merged = has_merged parts }
+  all_tally = record { blocks = 0 + length (flat_map (chain_of parts) (entries_of parts.pools)); covers = has_cover parts; is_merged = has_merged parts }
 
-  pub chains_are : (tally : Tally) → chains_found parts ≡ Some tally → (has_chains parts ≡ true) × ((tally.blocks ≡ length (flat_map (chain_of parts) (present parts.pools))) × ((tally.covers ≡ has_cover parts) × (tally.is_merged ≡ has_merged parts)))
+  pub chains_are : (tally : Tally) → chains_found parts ≡ Some tally → (has_chains parts ≡ true) × ((tally.blocks ≡ length (flat_map (chain_of parts) (entries_of parts.pools))) × ((tally.covers ≡ has_cover parts) × (tally.is_merged ≡ has_merged parts)))
   chains_are tally is =
       let there = was_found (has_chains parts) all_tally tally is in
-      let none : 0 + length (flat_map (chain_of parts) (present parts.pools)) ≡ length (flat_map (chain_of parts) (present parts.pools)) = omega arith in
+      let none : 0 + length (flat_map (chain_of parts) (entries_of parts.pools)) ≡ length (flat_map (chain_of parts) (entries_of parts.pools)) = omega arith in
       (there.0, (ap (λ (t : Tally). t.blocks) (sym there.1) ∙ none, (ap (λ (t : Tally). t.covers) (sym there.1), ap (λ (t : Tally). t.is_merged) (sym there.1))))
 
   pub chains_arent : chains_found parts ≡ None → has_chains parts ≡ false
   chains_arent is = was_missed (has_chains parts) all_tally is
 
-  pub lists_are : (listed : ℕ) → lists_found parts ≡ Some listed → (has_lists parts ≡ true) × (listed ≡ length (flat_map (list_of parts) parts.heads))
+  pub lists_are : (listed : ℕ) → lists_found parts ≡ Some listed → (has_lists parts ≡ true) × (listed ≡ length (flat_map (slots_in_list parts) parts.heads))
   lists_are listed is =
-      let there = was_found (has_lists parts) (0 + length (flat_map (list_of parts) parts.heads)) listed is in
-      let none : 0 + length (flat_map (list_of parts) parts.heads) ≡ length (flat_map (list_of parts) parts.heads) = omega arith in
+      let there = was_found (has_lists parts) (0 + length (flat_map (slots_in_list parts) parts.heads)) listed is in
+      let none : 0 + length (flat_map (slots_in_list parts) parts.heads) ≡ length (flat_map (slots_in_list parts) parts.heads) = omega arith in
       (there.0, sym there.1 ∙ none)
 
   pub lists_arent : lists_found parts ≡ None → has_lists parts ≡ false
-  lists_arent is = was_missed (has_lists parts) (0 + length (flat_map (list_of parts) parts.heads)) is
+  lists_arent is = was_missed (has_lists parts) (0 + length (flat_map (slots_in_list parts) parts.heads)) is
 
   -- the way through the rules, as far as it is gone
-  module _ (ordered : are_pools (length parts.records) 0 (present parts.pools) ≡ true) (blocks : Blocks) (linked : links_found parts ≡ Some blocks) (tally : Tally) (chained : chains_found parts ≡ Some tally) (covers : tally.covers ≡ true) where
+  module _ (ordered : are_pools (length parts.records) 0 (entries_of parts.pools) ≡ true) (blocks : Blocks) (linked : links_found parts ≡ Some blocks) (tally : Tally) (chained : chains_found parts ≡ Some tally) (covers : tally.covers ≡ true) where
     links : has_links parts ≡ true
     links = (links_are blocks linked).0
 
@@ -63,7 +65,7 @@ module _ (parts : Parts) where
 
     on_chains : has_all_on_chains parts ≡ nat_eq tally.blocks blocks.all
     on_chains =
-        let same : nat_eq (length (flat_map (chain_of parts) (present parts.pools))) (count_by (λ r. is_used r.state) parts.records) ≡ nat_eq tally.blocks blocks.all =
+        let same : nat_eq (length (flat_map (chain_of parts) (entries_of parts.pools))) (count_by (λ r. is_used r.state) parts.records) ≡ nat_eq tally.blocks blocks.all =
         rw ((chains_are tally chained).1.0, (links_are blocks linked).1.0) refl in
         sym (chains_counted parts links chains cover ordered) ∙ same
 
@@ -90,7 +92,7 @@ module _ (parts : Parts) where
 
           on_lists : has_all_on_lists parts ≡ nat_eq listed blocks.free
           on_lists =
-              let same : nat_eq (length (flat_map (list_of parts) parts.heads)) (count_by (λ r. is_free r.state) parts.records) ≡ nat_eq listed blocks.free =
+              let same : nat_eq (length (flat_map (slots_in_list parts) parts.heads)) (count_by (λ r. is_free_state r.state) parts.records) ≡ nat_eq listed blocks.free =
               rw ((lists_are listed found).1, (links_are blocks linked).1.1) refl in
               sym (lists_counted parts lists) ∙ same
 

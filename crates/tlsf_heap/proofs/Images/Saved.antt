@@ -2,7 +2,7 @@
 use Rattle.std.proofs.Common.{◌≡◌, true, List, length, map, refl, ◌∙◌, None}
 use Rattle.tlsf_store.specs.declared.records.Record.{Record}
 use Rattle.tlsf_store.specs.Cells.{Cells}
-use Rattle.tlsf_heap.specs.Images.Rules.{present, are_pools, first_of, rules_of_parts}
+use Rattle.tlsf_heap.specs.Images.Rules.{are_pools, first_of, rules_of_parts}
 use Rattle.tlsf_heap.proofs.Images.UnbrokenRules.{none_broken}
 use Rattle.tlsf_heap.specs.Images.Told.{told, told_parts}
 use Rattle.tlsf_heap.specs.Images.Described.{parts_of}
@@ -17,7 +17,7 @@ module _ (cells : Cells) (stands : Stands cells) (others : List Record) (alike :
   pub saved_unbroken : LiveAlone others → first_of (rules_of_parts (parts_of (record cells { records = others }))) ≡ None
   saved_unbroken alone = none_broken (parts_of (record cells { records = others })) (stand_unbroken (record cells { records = others }) (alike_stand cells others alike stands) alone)
 
-  pub saved_ordered : are_pools (length others) 0 (present cells.pools) ≡ true
+  pub saved_ordered : are_pools (length others) 0 (entries_of cells.pools) ≡ true
   saved_ordered = pools_ordered (record cells { records = others }) (alike_stand cells others alike stands)
 
   content_read : content_from others (entries_of cells.pools) cells.heads ≡ content_of (record cells { records = others })
@@ -32,7 +32,7 @@ module _ (cells : Cells) (stands : Stands cells) where
   pub told_unbroken : first_of (rules_of_parts (told_parts cells)) ≡ None
   told_unbroken = saved_unbroken cells stands (map told cells.records) (told_alike cells.records) (told_alone cells.records)
 
-  pub told_ordered : are_pools (length (told_parts cells).records) 0 (present (told_parts cells).pools) ≡ true
+  pub told_ordered : are_pools (length (told_parts cells).records) 0 (entries_of (told_parts cells).pools) ≡ true
   told_ordered = saved_ordered cells stands (map told cells.records) (told_alike cells.records)
 
   pub told_content : content_from (told_parts cells).records (entries_of (told_parts cells).pools) (told_parts cells).heads ≡ content_of cells

@@ -10,8 +10,9 @@ use Rattle.tlsf_class.specs.Classes.{unit, greatest_size}
 use Rattle.tlsf_store.specs.declared.pools.Pool.{Pool}
 use Rattle.tlsf_heap.specs.Images.Image.{Parts}
 use Rattle.tlsf_store.specs.Ranges.{end_of_places}
-use Rattle.tlsf_heap.specs.Images.Rules.{present, is_pool, are_pools, at, is_used, covers, is_among, chain_of, has_cover, has_all_on_chains}
+use Rattle.tlsf_heap.specs.Images.Rules.{is_pool, are_pools, at, is_used, covers, is_among, chain_of, has_cover, has_all_on_chains}
 use Rattle.tlsf_heap.specs.Images.Findings.{HasSizes}
+use Rattle.tlsf_heap.specs.Inner.Entries.{entries_of}
 
 -- what passes for a range passes for each of its numbers
 pub of_range : (test : ℕ → Bool) (count number : ℕ) → number < count → list_all test (range_with_len 0 count) ≡ true → test number ≡ true
@@ -48,12 +49,12 @@ module _ (parts : Parts) where
         | inr later ↦ omega (arith, covers_sizes (from + (at parts first).size) to slots slot rest later)
       ]
 
-  pub sizes : (count : ℕ) → are_pools count 0 (present parts.pools) ≡ true → has_cover parts ≡ true → has_all_on_chains parts ≡ true → HasSizes parts
+  pub sizes : (count : ℕ) → are_pools count 0 (entries_of parts.pools) ≡ true → has_cover parts ≡ true → has_all_on_chains parts ≡ true → HasSizes parts
   sizes count pools covered on_chains slot within used =
-      let on = of_range (λ slot. not (is_used (at parts slot).state) || list_any (λ pool. is_among slot (chain_of parts pool)) (present parts.pools)) (length parts.records) slot within on_chains in
-      let some : list_any (λ pool. is_among slot (chain_of parts pool)) (present parts.pools) ≡ true = other_one (is_used (at parts slot).state) _ used on in
-      let there = Any-from_list_any (λ pool. is_among slot (chain_of parts pool)) (present parts.pools) some in
+      let on = of_range (λ slot. not (is_used (at parts slot).state) || list_any (λ pool. is_among slot (chain_of parts pool)) (entries_of parts.pools)) (length parts.records) slot within on_chains in
+      let some : list_any (λ pool. is_among slot (chain_of parts pool)) (entries_of parts.pools) ≡ true = other_one (is_used (at parts slot).state) _ used on in
+      let there = Any-from_list_any (λ pool. is_among slot (chain_of parts pool)) (entries_of parts.pools) some in
       let pool = there.1 in
-      let covers_it = subst (λ p. covers parts p.base (p.base + p.bytes) (chain_of parts p) ≡ true) there.3 (AllPass-from_list_all (λ pool. covers parts pool.base (pool.base + pool.bytes) (chain_of parts pool)) (present parts.pools) covered there.0 pool there.2) in
-      let bytes = subst (λ p. nat_le p.bytes greatest_size ≡ true) there.3 (AllPass-from_list_all (λ pool. nat_le pool.bytes greatest_size) (present parts.pools) (pool_bytes count 0 (present parts.pools) pools) there.0 pool there.2) in
+      let covers_it = subst (λ p. covers parts p.base (p.base + p.bytes) (chain_of parts p) ≡ true) there.3 (AllPass-from_list_all (λ pool. covers parts pool.base (pool.base + pool.bytes) (chain_of parts pool)) (entries_of parts.pools) covered there.0 pool there.2) in
+      let bytes = subst (λ p. nat_le p.bytes greatest_size ≡ true) there.3 (AllPass-from_list_all (λ pool. nat_le pool.bytes greatest_size) (entries_of parts.pools) (pool_bytes count 0 (entries_of parts.pools) pools) there.0 pool there.2) in
       omega (arith, covers_sizes pool.base (pool.base + pool.bytes) (chain_of parts pool) slot covers_it there.4, leb-true pool.bytes greatest_size bytes)

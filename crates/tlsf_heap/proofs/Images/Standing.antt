@@ -11,21 +11,22 @@ use Rattle.tlsf_store.specs.declared.pools.Pool.{Pool as StoredPool}
 use Rattle.tlsf_store.specs.Cells.{Cells, most_pools}
 use Rattle.tlsf_heap.specs.Images.Image.{Parts}
 use Rattle.tlsf_store.specs.Ranges.{end_of_places, can_be_pool}
-use Rattle.tlsf_heap.specs.Images.Rules.{present, at, is_free as is_state_free, is_pool, are_pools, is_chain, chain_of, covers, are_merged, list_of as listed_of}
+use Rattle.tlsf_store.specs.Records.{is_free_state}
+use Rattle.tlsf_heap.specs.Images.Rules.{at, is_pool, are_pools, is_chain, chain_of, covers, are_merged, slots_in_list}
 use Rattle.tlsf_heap.proofs.Images.Totals.{all_first, all_rest, is_block, has_bytes, chain_used, begins_at, covered_rest, covers_pool}
 use Rattle.tlsf_heap.proofs.Images.UnbrokenRules.{IsUnbroken, unbroken}
 use Rattle.tlsf_heap.specs.Images.Described.{parts_of}
 use Rattle.tlsf_heap.specs.Content.{blocks_of}
 use Rattle.tlsf_heap.specs.Good.{Covers, NoFreeNeighbours, AreGoodPools, times, is_listed, AreLists, IsGood}
 use Rattle.tlsf_heap.specs.Inner.Entries.{entries_of}
-use Rattle.tlsf_heap.specs.Inner.Nodes.{Node, Area, block_of, pool_of, owner_of, content_by, nodes_of, list_of, has_place, is_listed as is_listed_status, is_listed_in}
-use Rattle.tlsf_heap.specs.Inner.Joined.{is_loose}
+use Rattle.tlsf_heap.specs.Inner.Nodes.{Node, Area, block_of, pool_of, owner_of, content_by, nodes_of, nodes_in, has_place, is_listed as is_listed_state, is_listed_in}
+use Rattle.tlsf_heap.specs.Inner.Merging.{is_loose}
 use Rattle.tlsf_heap.specs.Inner.Following.{Stands}
 use Rattle.tlsf_heap.specs.Inner.Imaged.{AreImaged}
 use Rattle.tlsf_heap.proofs.Counts.{one_if, count-cons, count-map, count_same}
 use Rattle.tlsf_heap.proofs.Inner.Sums.{all_records}
 use Rattle.tlsf_heap.proofs.Meaning.Places.{blocks_of_areas}
-use Rattle.tlsf_heap.proofs.Images.ReadNodes.{status_in, node_at, area_from, layout_of, status_free, nodes_of_areas, entries_are}
+use Rattle.tlsf_heap.proofs.Images.ReadNodes.{node_state_in, node_at, area_from, layout_of, node_state_free, nodes_of_areas, entries_are}
 use Rattle.tlsf_heap.proofs.Images.Represented.{represents, agreed}
 
 module _ (cells : Cells) (imaged : AreImaged cells) where
@@ -50,11 +51,11 @@ module _ (cells : Cells) (imaged : AreImaged cells) where
   merged : (after : Bool) (slots : List ℕ) → are_merged parts after slots ≡ true → NoFreeNeighbours after (map block_of (map node slots))
   merged after [] is = tt
   merged after (slot ∷ slots) is =
-      let both = and_parts (not (after && is_state_free (at parts slot).state)) (are_merged parts (is_state_free (at parts slot).state) slots) is in
-      let free = sym (status_free (at parts slot).state slot) in
+      let both = and_parts (not (after && is_free_state (at parts slot).state)) (are_merged parts (is_free_state (at parts slot).state) slots) is in
+      let free = sym (node_state_free (at parts slot).state slot) in
       let P : Bool → Type 0 = λ b. IsTrue (not (after && b)) in
       let Q : Bool → Type 0 = λ b. NoFreeNeighbours b (map block_of (map node slots)) in
-      (subst P free both.0, subst Q free (merged (is_state_free (at parts slot).state) slots both.1))
+      (subst P free both.0, subst Q free (merged (is_free_state (at parts slot).state) slots both.1))
 
   abbrev is_merged_pool : StoredPool → Bool
   is_merged_pool pool = are_merged parts false (chain_of parts pool)
@@ -83,7 +84,7 @@ module _ (cells : Cells) (imaged : AreImaged cells) where
       )
 
   -- a free block of a class at a place, by its node and by its block
-  alike : (state : State) (slot place size : ℕ) (of_class here : Bool) → (is_none (owner_of (status_in state) slot) && (here && of_class)) ≡ ((is_listed_status (status_in state) && of_class) && here)
+  alike : (state : State) (slot place size : ℕ) (of_class here : Bool) → (is_none (owner_of (node_state_in state) slot) && (here && of_class)) ≡ ((is_listed_state (node_state_in state) && of_class) && here)
   alike Vacant slot place size of_class here = refl
   alike Live slot place size of_class here = refl
   alike Free slot place size true true = refl
@@ -94,17 +95,17 @@ module _ (cells : Cells) (imaged : AreImaged cells) where
   listed : AreLists (blocks_of (map pool_of (layout_of cells).areas)) (map (map (λ n. n.place)) (layout_of cells).lists)
   listed number place below =
       let layout = layout_of cells in
-      let chained = flat_map (chain_of parts) (present cells.pools) in
+      let chained = flat_map (chain_of parts) (entries_of cells.pools) in
       let in_list : Node → Bool = λ n. is_listed_in number n && has_place place n in
       let in_pools : Node → Bool = λ n. is_listed number place (block_of n) in
-      ap (times place) (get_or-map (map (λ (n : Node). n.place)) layout.lists number [] [] (omega (arith, below, imaged.heads_count, length-map cells.heads (λ first. map node (listed_of parts first)))))
-      ∙ count-map (λ other. eqb other place) (λ (n : Node). n.place) (list_of number layout.lists)
+      ap (times place) (get_or-map (map (λ (n : Node). n.place)) layout.lists number [] [] (omega (arith, below, imaged.heads_count, length-map cells.heads (λ first. map node (slots_in_list parts first)))))
+      ∙ count-map (λ other. eqb other place) (λ (n : Node). n.place) (nodes_in number layout.lists)
       ∙ agreed cells imaged number (has_place place)
-      ∙ ap (count_by in_list) (nodes_of_areas parts (present cells.pools))
+      ∙ ap (count_by in_list) (nodes_of_areas parts (entries_of cells.pools))
       ∙ count-map in_list node chained
       ∙ sym (count_same (λ slot. in_pools (node slot)) (λ slot. in_list (node slot)) (λ slot. let r = at parts slot in alike r.state slot r.place r.size (eqb (class r.size) number) (eqb r.place place)) chained)
       ∙ sym (count-map in_pools node chained)
-      ∙ sym (ap (count_by in_pools) (nodes_of_areas parts (present cells.pools)))
+      ∙ sym (ap (count_by in_pools) (nodes_of_areas parts (entries_of cells.pools)))
       ∙ sym (count-map (is_listed number place) block_of (nodes_of layout.areas))
       ∙ sym (ap (count_by (is_listed number place)) (blocks_of_areas layout.areas))
 
@@ -124,26 +125,26 @@ module _ (cells : Cells) (imaged : AreImaged cells) where
       let layout = layout_of cells in
       record {
         pools_few = omega (arith, few_pools, length-map layout.areas pool_of, ap length (entries_are parts cells.pools), length-map layout.areas (λ (area : Area). area.entry));
-        pools_good = good_pools (length cells.records) 0 (present cells.pools) imaged.ordered rules.chains rules.cover rules.merged;
-        lists_count = length-map layout.lists (map (λ (n : Node). n.place)) ∙ length-map cells.heads (λ first. map node (listed_of parts first)) ∙ imaged.heads_count;
+        pools_good = good_pools (length cells.records) 0 (entries_of cells.pools) imaged.ordered rules.chains rules.cover rules.merged;
+        lists_count = length-map layout.lists (map (λ (n : Node). n.place)) ∙ length-map cells.heads (λ first. map node (slots_in_list parts first)) ∙ imaged.heads_count;
         listed = listed;
         blocks_few = omega (arith, ap length (blocks_of_areas layout.areas), length-map (nodes_of layout.areas) block_of, all_records cells layout (represents cells imaged));
       }
 
-  never_loose : (state : State) → is_loose (status_in state) ≡ false
+  never_loose : (state : State) → is_loose (node_state_in state) ≡ false
   never_loose Vacant = refl
   never_loose Free = refl
   never_loose Live = refl
 
-  none_loose : (slots : List ℕ) → count_by (λ n. is_loose n.status) (map node slots) ≡ 0
+  none_loose : (slots : List ℕ) → count_by (λ n. is_loose n.state) (map node slots) ≡ 0
   none_loose [] = refl
-  none_loose (slot ∷ slots) = omega (arith, count-cons (λ (n : Node). is_loose n.status) (node slot) (map node slots), ap one_if (never_loose (at parts slot).state), none_loose slots)
+  none_loose (slot ∷ slots) = omega (arith, count-cons (λ (n : Node). is_loose n.state) (node slot) (map node slots), ap one_if (never_loose (at parts slot).state), none_loose slots)
 
   pub imaged_stand : Stands cells
   imaged_stand = record {
     layout = layout_of cells;
     represented = represents cells imaged;
-    settled = ap (count_by (λ n. is_loose n.status)) (nodes_of_areas parts (present cells.pools)) ∙ none_loose (flat_map (chain_of parts) (present cells.pools));
+    settled = ap (count_by (λ n. is_loose n.state)) (nodes_of_areas parts (entries_of cells.pools)) ∙ none_loose (flat_map (chain_of parts) (entries_of cells.pools));
     none_taken = refl;
     good = good;
   }

@@ -13,7 +13,7 @@ use Rattle.tlsf_store.specs.declared.pools.Pool.{Pool as StoredPool}
 use Rattle.tlsf_store.specs.Records.{blank, IsBelow}
 use Rattle.tlsf_store.specs.Ranges.{can_be_pool}
 use Rattle.tlsf_heap.specs.Images.Image.{Parts, parts_in, record_in, size_word}
-use Rattle.tlsf_heap.specs.Images.Rules.{present, is_pool, are_pools, at, is_used, is_below, has_links_in, covers, is_among, chain_of, has_links, has_cover, has_all_on_chains, first_broken}
+use Rattle.tlsf_heap.specs.Images.Rules.{is_pool, are_pools, at, is_used, is_below, has_links_in, covers, is_among, chain_of, has_links, has_cover, has_all_on_chains, first_broken}
 use Rattle.tlsf_heap.proofs.Images.ChainLemmas.{below, record_links}
 use Rattle.tlsf_heap.proofs.Images.RecordLemmas.{head_below}
 use Rattle.tlsf_heap.proofs.Images.SizeLemmas.{of_range}
@@ -21,6 +21,7 @@ use Rattle.tlsf_heap.proofs.Images.ImageLemmas.{record_read, records_count, head
 use Rattle.tlsf_heap.proofs.Images.UnbrokenRules.{unbroken}
 use Rattle.tlsf_heap.specs.Inner.Loading.{CanBeStored}
 use Rattle.tlsf_heap.proofs.Images.Loaded.{in_units, parts_hold, ordered}
+use Rattle.tlsf_heap.specs.Inner.Entries.{entries_of}
 
 pool_bases : (count from : ℕ) (pools : List StoredPool) → are_pools count from pools ≡ true → list_all (λ pool. pool.base % unit == 0) pools ≡ true
 pool_bases count from [] e = refl
@@ -57,15 +58,15 @@ module _ (parts : Parts) (in_units : (slot : ℕ) → (at parts slot).size % uni
         | inr later ↦ places_in_units (from + (at parts first).size) to slots slot both.1 later (omega (arith, whole, in_units first))
       ]
 
-  module _ (count : ℕ) (linked : has_links parts ≡ true) (pools : are_pools count 0 (present parts.pools) ≡ true) (covered : has_cover parts ≡ true) (on_chains : has_all_on_chains parts ≡ true) where
+  module _ (count : ℕ) (linked : has_links parts ≡ true) (pools : are_pools count 0 (entries_of parts.pools) ≡ true) (covered : has_cover parts ≡ true) (on_chains : has_all_on_chains parts ≡ true) where
     place_in_units : (slot : ℕ) → slot < length parts.records → is_used (at parts slot).state ≡ true → (at parts slot).place % unit ≡ 0
     place_in_units slot within used =
-        let on = of_range (λ slot. not (is_used (at parts slot).state) || list_any (λ pool. is_among slot (chain_of parts pool)) (present parts.pools)) (length parts.records) slot within on_chains in
-        let some : list_any (λ pool. is_among slot (chain_of parts pool)) (present parts.pools) ≡ true = other_one (is_used (at parts slot).state) _ used on in
-        let there = Any-from_list_any (λ pool. is_among slot (chain_of parts pool)) (present parts.pools) some in
+        let on = of_range (λ slot. not (is_used (at parts slot).state) || list_any (λ pool. is_among slot (chain_of parts pool)) (entries_of parts.pools)) (length parts.records) slot within on_chains in
+        let some : list_any (λ pool. is_among slot (chain_of parts pool)) (entries_of parts.pools) ≡ true = other_one (is_used (at parts slot).state) _ used on in
+        let there = Any-from_list_any (λ pool. is_among slot (chain_of parts pool)) (entries_of parts.pools) some in
         let pool = there.1 in
-        let covers_it = subst (λ p. covers parts p.base (p.base + p.bytes) (chain_of parts p) ≡ true) there.3 (AllPass-from_list_all (λ pool. covers parts pool.base (pool.base + pool.bytes) (chain_of parts pool)) (present parts.pools) covered there.0 pool there.2) in
-        let base = subst (λ p. (p.base % unit == 0) ≡ true) there.3 (AllPass-from_list_all (λ pool. pool.base % unit == 0) (present parts.pools) (pool_bases count 0 (present parts.pools) pools) there.0 pool there.2) in
+        let covers_it = subst (λ p. covers parts p.base (p.base + p.bytes) (chain_of parts p) ≡ true) there.3 (AllPass-from_list_all (λ pool. covers parts pool.base (pool.base + pool.bytes) (chain_of parts pool)) (entries_of parts.pools) covered there.0 pool there.2) in
+        let base = subst (λ p. (p.base % unit == 0) ≡ true) there.3 (AllPass-from_list_all (λ pool. pool.base % unit == 0) (entries_of parts.pools) (pool_bases count 0 (entries_of parts.pools) pools) there.0 pool there.2) in
         places_in_units pool.base (pool.base + pool.bytes) (chain_of parts pool) slot covers_it there.4 (eqb-true (pool.base % unit) 0 base)
 
     pub storable : ((slot : ℕ) → slot < length parts.records → is_used (at parts slot).state ≡ false → at parts slot ≡ blank) → length parts.heads ≡ classes → CanBeStored parts

@@ -5,8 +5,8 @@ use Rattle.std.proofs.lemmas.List.{get_or-map, get_or_past, length-map}
 use Rattle.tlsf_store.specs.declared.records.State.{State}
 use Rattle.tlsf_store.specs.declared.records.State.TheVariants.{Vacant, Free, Live}
 use Rattle.tlsf_store.specs.declared.records.Record.{Record}
-use Rattle.tlsf_store.specs.Records.{blank, record_at}
-use Rattle.tlsf_heap.specs.Images.Rules.{is_used, is_free}
+use Rattle.tlsf_store.specs.Records.{blank, record_at, is_free_state}
+use Rattle.tlsf_heap.specs.Images.Rules.{is_used}
 use Rattle.tlsf_heap.specs.Images.Told.{told_in, told}
 use Rattle.tlsf_heap.specs.Inner.Represents.{pool_view, list_view, pool_views, list_views}
 use Rattle.tlsf_heap.specs.Inner.Imaged.{AreAlike, LiveAlone}
@@ -30,7 +30,7 @@ told_in_pool Vacant r used = absurd (cc)
 told_in_pool Free r used = refl
 told_in_pool Live r used = refl
 
-told_in_list : (state : State) (r : Record) → is_free state ≡ true → list_view (told_in state r) ≡ list_view r
+told_in_list : (state : State) (r : Record) → is_free_state state ≡ true → list_view (told_in state r) ≡ list_view r
 told_in_list Vacant r free = absurd (cc)
 told_in_list Free r free = refl
 told_in_list Live r free = absurd (cc)

@@ -10,11 +10,12 @@ use Rattle.std.proofs.lemmas.List.Sums.{AllPass-from_list_all, list_all-from_All
 use Rattle.tlsf_class.specs.Classes.{class}
 use Rattle.tlsf_store.specs.declared.pools.Pool.{Pool}
 use Rattle.tlsf_store.specs.declared.records.Record.{Record}
-use Rattle.tlsf_store.specs.Records.{blank, record_at}
+use Rattle.tlsf_store.specs.Records.{blank, record_at, is_free_state}
 use Rattle.tlsf_heap.specs.Images.Image.{Parts}
-use Rattle.tlsf_heap.specs.Images.Rules.{present, at, is_used, is_free, is_pool, are_pools, is_chain, chain_of, has_record_links, has_links, has_chains, covers, has_cover, is_among, has_all_on_chains, list_of, is_list, are_lists, has_lists, has_all_on_lists}
+use Rattle.tlsf_heap.specs.Images.Rules.{at, is_used, is_pool, are_pools, is_chain, chain_of, has_record_links, has_links, has_chains, covers, has_cover, is_among, has_all_on_chains, slots_in_list, is_list, are_lists, has_lists, has_all_on_lists}
 use Rattle.tlsf_heap.proofs.Images.Counting.{one_if, times, times-cons, times-append, any_counts, counts_any, sum_below-same, sum_below-apart, items_sum, places_sum}
 use Rattle.tlsf_heap.proofs.Images.Distinct.{stands_once}
+use Rattle.tlsf_heap.specs.Inner.Entries.{entries_of}
 
 -- a test of all numbers below one
 pub all_below : (test : ℕ → Bool) (n : ℕ) → list_all test (range_with_len 0 n) ≡ true → (k : ℕ) → k < n → test k ≡ true
@@ -223,28 +224,28 @@ module _ (parts : Parts) where
   ]
 
   -- as many blocks stand on the chains as there are exactly where each is on a chain
-  pub chains_counted : has_links parts ≡ true → has_chains parts ≡ true → has_cover parts ≡ true → are_pools (length parts.records) 0 (present parts.pools) ≡ true
-      → (length (flat_map (chain_of parts) (present parts.pools)) == count_by (λ r. is_used r.state) parts.records) ≡ has_all_on_chains parts
+  pub chains_counted : has_links parts ≡ true → has_chains parts ≡ true → has_cover parts ≡ true → are_pools (length parts.records) 0 (entries_of parts.pools) ≡ true
+      → (length (flat_map (chain_of parts) (entries_of parts.pools)) == count_by (λ r. is_used r.state) parts.records) ≡ has_all_on_chains parts
   chains_counted linked chains covered ordered =
-      let pools = present parts.pools in
+      let pools = entries_of parts.pools in
       counted parts.records (λ r. is_used r.state) (flat_map (chain_of parts) pools) refl (chains_once linked (length parts.records) 0 pools ordered chains covered) (on_chain_used pools chains)
       ∙ ap (λ test. list_all test (range_with_len 0 (length parts.records))) (λ i slot. not (is_block slot) || among_any (chain_of parts) pools slot i)
 
   -- ---- lists
 
   abbrev pub is_listed : ℕ → ℕ → Bool
-  is_listed number slot = is_free (at parts slot).state && (class (at parts slot).size == number)
+  is_listed number slot = is_free_state (at parts slot).state && (class (at parts slot).size == number)
 
-  pub list_free : (number : ℕ) (first : Option ℕ) → is_list parts number first ≡ true → list_all (is_listed number) (list_of parts first) ≡ true
+  pub list_free : (number : ℕ) (first : Option ℕ) → is_list parts number first ≡ true → list_all (is_listed number) (slots_in_list parts first) ≡ true
   list_free number first list = (and_parts _ _ (and_parts _ _ list).1).0
 
-  pub list_once : (number : ℕ) (first : Option ℕ) → is_list parts number first ≡ true → (slot : ℕ) → times slot (list_of parts first) ≤ 1
-  list_once number first list slot = stands_once (λ slot. (at parts slot).prev_free) (list_of parts first) (and_parts _ _ (and_parts _ _ list).1).1 slot
+  pub list_once : (number : ℕ) (first : Option ℕ) → is_list parts number first ≡ true → (slot : ℕ) → times slot (slots_in_list parts first) ≤ 1
+  list_once number first list slot = stands_once (λ slot. (at parts slot).prev_free) (slots_in_list parts first) (and_parts _ _ (and_parts _ _ list).1).1 slot
 
   -- a block in a list is free, and of its class
-  pub listed_here : (number : ℕ) (first : Option ℕ) → is_list parts number first ≡ true → (slot : ℕ) → 1 ≤ times slot (list_of parts first) → (is_free (at parts slot).state ≡ true) × (class (at parts slot).size ≡ number)
+  pub listed_here : (number : ℕ) (first : Option ℕ) → is_list parts number first ≡ true → (slot : ℕ) → 1 ≤ times slot (slots_in_list parts first) → (is_free_state (at parts slot).state ≡ true) × (class (at parts slot).size ≡ number)
   listed_here number first list slot some =
-      let both = and_parts (is_free (at parts slot).state) (eqb (class (at parts slot).size) number) (all_among (is_listed number) (list_of parts first) (list_free number first list) slot some) in
+      let both = and_parts (is_free_state (at parts slot).state) (eqb (class (at parts slot).size) number) (all_among (is_listed number) (slots_in_list parts first) (list_free number first list) slot some) in
       (both.0, eqb-true (class (at parts slot).size) number both.1)
 
   module _ (number : ℕ) (first : Option ℕ) (heads : List (Option ℕ)) (lists : are_lists parts number (first ∷ heads) ≡ true) where
@@ -255,35 +256,35 @@ module _ (parts : Parts) where
     other_lists = (and_parts (is_list parts number first) (are_lists parts (number + 1) heads) lists).1
 
   -- a slot in the lists from a class on is of a free block, of that class or a higher one
-  pub listed_from : (number : ℕ) (heads : List (Option ℕ)) → are_lists parts number heads ≡ true → (slot : ℕ) → 1 ≤ times slot (flat_map (list_of parts) heads) → (is_free (at parts slot).state ≡ true) × (number ≤ class (at parts slot).size)
+  pub listed_from : (number : ℕ) (heads : List (Option ℕ)) → are_lists parts number heads ≡ true → (slot : ℕ) → 1 ≤ times slot (flat_map (slots_in_list parts) heads) → (is_free_state (at parts slot).state ≡ true) × (number ≤ class (at parts slot).size)
   listed_from number [] lists slot some = absurd (omega (arith, some))
-  listed_from number (first ∷ heads) lists slot some = elim (cases_lt 0 (times slot (list_of parts first))) [
+  listed_from number (first ∷ heads) lists slot some = elim (cases_lt 0 (times slot (slots_in_list parts first))) [
     | inl here ↦
         let free = listed_here number first (first_list number first heads lists) slot (omega (arith, here)) in
         (free.0, let e : number ≤ class (at parts slot).size = omega (arith, free.1) in e)
     | inr none ↦
-        let free = listed_from (number + 1) heads (other_lists number first heads lists) slot (omega (arith, some, none, times-append slot (list_of parts first) (flat_map (list_of parts) heads))) in
+        let free = listed_from (number + 1) heads (other_lists number first heads lists) slot (omega (arith, some, none, times-append slot (slots_in_list parts first) (flat_map (slots_in_list parts) heads))) in
         (free.0, let e : number ≤ class (at parts slot).size = omega (arith, free.1) in e)
   ]
 
-  pub lists_once : (number : ℕ) (heads : List (Option ℕ)) → are_lists parts number heads ≡ true → (slot : ℕ) → times slot (flat_map (list_of parts) heads) ≤ 1
+  pub lists_once : (number : ℕ) (heads : List (Option ℕ)) → are_lists parts number heads ≡ true → (slot : ℕ) → times slot (flat_map (slots_in_list parts) heads) ≤ 1
   lists_once number [] lists slot = omega arith
   lists_once number (first ∷ heads) lists slot =
       let list = first_list number first heads lists in
       let others = other_lists number first heads lists in
       let here = list_once number first list slot in
       let rest = lists_once (number + 1) heads others slot in
-      let both = times-append slot (list_of parts first) (flat_map (list_of parts) heads) in
-      elim (cases_lt 0 (times slot (list_of parts first))) [
+      let both = times-append slot (slots_in_list parts first) (flat_map (slots_in_list parts) heads) in
+      elim (cases_lt 0 (times slot (slots_in_list parts first))) [
         | inr none ↦ omega (arith, none, rest, both)
-        | inl some ↦ elim (cases_lt 0 (times slot (flat_map (list_of parts) heads))) [
+        | inl some ↦ elim (cases_lt 0 (times slot (flat_map (slots_in_list parts) heads))) [
           | inr none ↦ omega (arith, none, here, both)
           | inl more ↦ absurd (omega (arith, (listed_here number first list slot (omega (arith, some))).1, (listed_from (number + 1) heads others slot (omega (arith, more))).1))
         ]
       ]
 
   -- as many blocks stand in the lists as are free exactly where each of these is in a list
-  pub lists_counted : has_lists parts ≡ true → (length (flat_map (list_of parts) parts.heads) == count_by (λ r. is_free r.state) parts.records) ≡ has_all_on_lists parts
+  pub lists_counted : has_lists parts ≡ true → (length (flat_map (slots_in_list parts) parts.heads) == count_by (λ r. is_free_state r.state) parts.records) ≡ has_all_on_lists parts
   lists_counted lists =
-      counted parts.records (λ r. is_free r.state) (flat_map (list_of parts) parts.heads) refl (lists_once 0 parts.heads lists) (λ slot some. (listed_from 0 parts.heads lists slot some).0)
-      ∙ ap (λ test. list_all test (range_with_len 0 (length parts.records))) (λ i slot. not (is_free (at parts slot).state) || among_any (list_of parts) parts.heads slot i)
+      counted parts.records (λ r. is_free_state r.state) (flat_map (slots_in_list parts) parts.heads) refl (lists_once 0 parts.heads lists) (λ slot some. (listed_from 0 parts.heads lists slot some).0)
+      ∙ ap (λ test. list_all test (range_with_len 0 (length parts.records))) (λ i slot. not (is_free_state (at parts slot).state) || among_any (slots_in_list parts) parts.heads slot i)

@@ -12,12 +12,12 @@ use Rattle.tlsf_class.proofs.ClassLaws.{class-lt}
 use Rattle.tlsf_store.specs.declared.records.State.{State}
 use Rattle.tlsf_store.specs.declared.records.State.TheVariants.{Vacant, Free, Live}
 use Rattle.tlsf_store.specs.declared.pools.Pool.{Pool as StoredPool}
-use Rattle.tlsf_store.specs.Records.{blank, IsBelow}
+use Rattle.tlsf_store.specs.Records.{blank, IsBelow, is_free_state}
 use Rattle.tlsf_store.specs.Cells.{Cells, most_pools}
 use Rattle.tlsf_heap.specs.Images.Image.{Parts}
 use Rattle.tlsf_store.specs.Ranges.{end_of_places, can_be_pool}
 use Rattle.tlsf_heap.specs.Images.Links.{follow, is_linked}
-use Rattle.tlsf_heap.specs.Images.Rules.{present, at, is_below, is_used, is_free as is_state_free, has_links_in, has_record_links, is_pool, are_pools, is_chain, chain_of, covers, is_among, are_merged, is_list, are_lists, list_of as listed_of}
+use Rattle.tlsf_heap.specs.Images.Rules.{at, is_below, is_used, has_links_in, has_record_links, is_pool, are_pools, is_chain, chain_of, covers, is_among, are_merged, is_list, are_lists, slots_in_list}
 use Rattle.tlsf_heap.proofs.Images.LinkLemmas.{linked_on, linked_end}
 use Rattle.tlsf_heap.proofs.Images.Counting.{counts_any}
 use Rattle.tlsf_heap.proofs.Images.Totals.{from_all_below, among_any}
@@ -25,12 +25,12 @@ use Rattle.tlsf_heap.proofs.Images.UnbrokenRules.{IsUnbroken}
 use Rattle.tlsf_heap.specs.Images.Described.{parts_of}
 use Rattle.tlsf_heap.specs.Content.{is_free}
 use Rattle.tlsf_heap.specs.Good.{Covers, NoFreeNeighbours, AreGoodPools}
-use Rattle.tlsf_heap.specs.Inner.Entries.{padded}
-use Rattle.tlsf_heap.specs.Inner.Nodes.{Status, InUse, Listed, Loose, Node, Area, owner_of, block_of, pool_of, nodes_of, list_of, has_slot}
+use Rattle.tlsf_heap.specs.Inner.Entries.{padded, entries_of}
+use Rattle.tlsf_heap.specs.Inner.Nodes.{NodeState, InUse, Listed, Loose, Node, Area, owner_of, block_of, pool_of, nodes_of, nodes_in, has_slot}
 use Rattle.tlsf_heap.specs.Inner.Represents.{InPool, InList, in_pool, in_list, pool_views, list_views, state_of, first_slot, AreLinked, IsChain, uses_in}
 use Rattle.tlsf_heap.specs.Inner.Following.{Stands}
 use Rattle.tlsf_heap.specs.Inner.Imaged.{LiveAlone}
-use Rattle.tlsf_heap.proofs.Counts.{one_if, count-cons, count-plug, count-map, Split, split_at}
+use Rattle.tlsf_heap.proofs.Counts.{one_if, count-cons, count-plug, count-map, FirstPassing, first_passing}
 use Rattle.tlsf_heap.proofs.Inner.Plugs.{count-nodes}
 use Rattle.tlsf_heap.proofs.Inner.Links.{first_stands, linked_parts}
 use Rattle.tlsf_heap.proofs.Inner.Chains.{listed_within}
@@ -62,15 +62,15 @@ linked_slots says at next back tells tells_back test (suc n) before (node ∷ no
     ∙ ap (is_linked test (λ slot. next (at slot)) (λ slot. back (at slot)) n (Some node.slot)) (ap next linked.0 ∙ tells before node (first_slot nodes))
     ∙ rest
 
-used_status : (status : Status) → is_used (state_of status) ≡ true
-used_status InUse = refl
-used_status Listed = refl
-used_status Loose = refl
+used_node_state : (node_state : NodeState) → is_used (state_of node_state) ≡ true
+used_node_state InUse = refl
+used_node_state Listed = refl
+used_node_state Loose = refl
 
-free_status : (status : Status) (slot : ℕ) → is_none (owner_of status slot) ≡ is_state_free (state_of status)
-free_status InUse slot = refl
-free_status Listed slot = refl
-free_status Loose slot = refl
+free_node_state : (node_state : NodeState) (slot : ℕ) → is_none (owner_of node_state slot) ≡ is_free_state (state_of node_state)
+free_node_state InUse slot = refl
+free_node_state Listed slot = refl
+free_node_state Loose slot = refl
 
 pub uses_one : (state : State) → is_used state ≡ true → 1 ≤ uses_in state
 uses_one Vacant used = absurd (cc)
@@ -81,14 +81,14 @@ below_is : (count : ℕ) (link : Option ℕ) → IsBelow count link → is_below
 below_is count None below = refl
 below_is count (Some slot) below = lt-ltb slot count below
 
-pub present_padded : (entries : List StoredPool) → present (padded entries) ≡ entries
+pub present_padded : (entries : List StoredPool) → entries_of (padded entries) ≡ entries
 present_padded entries = present_on entries (most_pools - length entries)
   where
-    nothing : (n : ℕ) → present (replicate n None) ≡ []
+    nothing : (n : ℕ) → entries_of (replicate n None) ≡ []
     nothing zero = refl
     nothing (suc n) = nothing n
 
-    present_on : (entries : List StoredPool) (n : ℕ) → present (map (λ e. Some e) entries ++ replicate n None) ≡ entries
+    present_on : (entries : List StoredPool) (n : ℕ) → entries_of (map Some entries ++ replicate n None) ≡ entries
     present_on [] n = nothing n
     present_on (entry ∷ entries) n = ap (λ pools. entry ∷ pools) (present_on entries n)
 
@@ -120,14 +120,14 @@ module _ (cells : Cells) (stands : Stands cells) where
   abbrev slots : List Node → List ℕ
   slots nodes = map (λ node. node.slot) nodes
 
-  pools_are : present cells.pools ≡ pools_of areas
-  pools_are = ap present stands.represented.entries ∙ present_padded (map (λ (area : Area). area.entry) areas)
+  pools_are : entries_of cells.pools ≡ pools_of areas
+  pools_are = ap entries_of stands.represented.entries ∙ present_padded (map (λ (area : Area). area.entry) areas)
 
   none_vacant : (before : Option ℕ) (nodes : List Node) → AreLinked in_pool (pool_views cells.records) before nodes → count_by (λ node. not (used node.slot)) nodes ≡ 0
   none_vacant before [] linked = refl
   none_vacant before (node ∷ nodes) linked =
-      let state : (at parts node.slot).state ≡ state_of node.status = ap (λ (v : InPool). v.state) linked.0 in
-      omega (arith, count-cons (λ (other : Node). not (used other.slot)) node nodes, ap (λ s. one_if (not (is_used s))) state, ap (λ b. one_if (not b)) (used_status node.status), none_vacant (Some node.slot) nodes linked.1)
+      let state : (at parts node.slot).state ≡ state_of node.state = ap (λ (v : InPool). v.state) linked.0 in
+      omega (arith, count-cons (λ (other : Node). not (used other.slot)) node nodes, ap (λ s. one_if (not (is_used s))) state, ap (λ b. one_if (not b)) (used_node_state node.state), none_vacant (Some node.slot) nodes linked.1)
 
   -- what is known of an area: its nodes are linked, and not too many
   abbrev AreKnown : List Area → Type 0
@@ -170,11 +170,11 @@ module _ (cells : Cells) (stands : Stands cells) where
   merged : (before : Option ℕ) (after : Bool) (nodes : List Node) → AreLinked in_pool (pool_views cells.records) before nodes → NoFreeNeighbours after (map block_of nodes) → are_merged parts after (slots nodes) ≡ true
   merged before after [] linked is = refl
   merged before after (node ∷ nodes) linked is =
-      let free : is_free (block_of node) ≡ is_state_free (at parts node.slot).state = free_status node.status node.slot ∙ ap is_state_free (sym (ap (λ (v : InPool). v.state) linked.0)) in
+      let free : is_free (block_of node) ≡ is_free_state (at parts node.slot).state = free_node_state node.state node.slot ∙ ap is_free_state (sym (ap (λ (v : InPool). v.state) linked.0)) in
       let P : Bool → Type 0 = λ b. IsTrue (not (after && b)) in
       let Q : Bool → Type 0 = λ b. NoFreeNeighbours b (map block_of nodes) in
-      and_from (not (after && is_state_free (at parts node.slot).state)) (are_merged parts (is_state_free (at parts node.slot).state) (slots nodes)) (subst P free is.0)
-      (merged (Some node.slot) (is_state_free (at parts node.slot).state) nodes linked.1 (subst Q free is.1))
+      and_from (not (after && is_free_state (at parts node.slot).state)) (are_merged parts (is_free_state (at parts node.slot).state) (slots nodes)) (subst P free is.0)
+      (merged (Some node.slot) (is_free_state (at parts node.slot).state) nodes linked.1 (subst Q free is.1))
 
   cover : (from : ℕ) (some : List Area) → AreKnown some → AreGoodPools from (map pool_of some) → list_all (λ pool. covers parts pool.base (pool.base + pool.bytes) (chain_of parts pool)) (pools_of some) ≡ true
   cover from [] known good = refl
@@ -217,56 +217,56 @@ module _ (cells : Cells) (stands : Stands cells) where
 
   -- ---- the lists
 
-  head_is : (number : ℕ) (d : Option ℕ) → number < length cells.heads → slice_index_or cells.heads number d ≡ first_slot (list_of number stands.layout.lists)
+  head_is : (number : ℕ) (d : Option ℕ) → number < length cells.heads → slice_index_or cells.heads number d ≡ first_slot (nodes_in number stands.layout.lists)
   head_is number d below =
       ap (λ heads. slice_index_or heads number d) stands.represented.index.heads_are
       ∙ get_or-map first_slot stands.layout.lists number [] d (omega (arith, below, ap length stands.represented.index.heads_are, length-map stands.layout.lists first_slot))
 
   abbrev is_listed_here : ℕ → ℕ → Bool
-  is_listed_here number slot = is_state_free (at parts slot).state && eqb (class (at parts slot).size) number
+  is_listed_here number slot = is_free_state (at parts slot).state && eqb (class (at parts slot).size) number
 
-  list_is : (number : ℕ) → is_list parts number (first_slot (list_of number stands.layout.lists)) ≡ true
+  list_is : (number : ℕ) → is_list parts number (first_slot (nodes_in number stands.layout.lists)) ≡ true
   list_is number =
-      linked_slots in_list (list_views cells.records) (λ v. v.next) (λ v. v.prev) (λ prev node after. refl) (λ prev node after. refl) (is_listed_here number) (length cells.records) None (list_of number stands.layout.lists)
+      linked_slots in_list (list_views cells.records) (λ v. v.next) (λ v. v.prev) (λ prev node after. refl) (λ prev node after. refl) (is_listed_here number) (length cells.records) None (nodes_in number stands.layout.lists)
       (list_few cells stands.layout stands.represented number) (stands.represented.index.linked number)
-      (none_strange cells stands number (λ slot. not (is_listed_here number slot)) (λ slot listed. ap not (and_from _ _ (ap is_state_free listed.free) (eq-eqb _ _ listed.of_class))))
+      (none_strange cells stands number (λ slot. not (is_listed_here number slot)) (λ slot listed. ap not (and_from _ _ (ap is_free_state listed.free) (eq-eqb _ _ listed.of_class))))
 
-  list_slots : (number : ℕ) → listed_of parts (first_slot (list_of number stands.layout.lists)) ≡ slots (list_of number stands.layout.lists)
+  list_slots : (number : ℕ) → slots_in_list parts (first_slot (nodes_in number stands.layout.lists)) ≡ slots (nodes_in number stands.layout.lists)
   list_slots number =
-      follow_linked in_list (list_views cells.records) (λ v. v.next) (λ prev node after. refl) (length cells.records) None (list_of number stands.layout.lists) (list_few cells stands.layout stands.represented number)
+      follow_linked in_list (list_views cells.records) (λ v. v.next) (λ prev node after. refl) (length cells.records) None (nodes_in number stands.layout.lists) (list_few cells stands.layout stands.represented number)
       (stands.represented.index.linked number)
 
-  on_lists : (slot : ℕ) → (not (is_state_free (at parts slot).state) || list_any (λ first. is_among slot (listed_of parts first)) cells.heads) ≡ true
+  on_lists : (slot : ℕ) → (not (is_free_state (at parts slot).state) || list_any (λ first. is_among slot (slots_in_list parts first)) cells.heads) ≡ true
   on_lists slot = by (at parts slot).state refl
     where
-      by : (state : State) → (at parts slot).state ≡ state → (not (is_state_free state) || list_any (λ first. is_among slot (listed_of parts first)) cells.heads) ≡ true
+      by : (state : State) → (at parts slot).state ≡ state → (not (is_free_state state) || list_any (λ first. is_among slot (slots_in_list parts first)) cells.heads) ≡ true
       by Vacant is = refl
       by Live is = refl
       by Free is =
           let number = class (at parts slot).size in
           let within : number < length cells.heads = omega (arith, class-lt (at parts slot).size, ap length stands.represented.index.heads_are, length-map stands.layout.lists first_slot, stands.represented.index.lists_count) in
           let some = free_stands cells stands slot is in
-          let among : is_among slot (slots (list_of number stands.layout.lists)) ≡ true = counts_any (λ other. eqb other slot) (slots (list_of number stands.layout.lists))
-          (omega (arith, some, count-map (λ other. eqb other slot) (λ (node : Node). node.slot) (list_of number stands.layout.lists))) in
-          list_any_at (λ first. is_among slot (listed_of parts first)) cells.heads number None within (ap (λ first. is_among slot (listed_of parts first)) (head_is number None within) ∙ ap (is_among slot) (list_slots number) ∙ among)
+          let among : is_among slot (slots (nodes_in number stands.layout.lists)) ≡ true = counts_any (λ other. eqb other slot) (slots (nodes_in number stands.layout.lists))
+          (omega (arith, some, count-map (λ other. eqb other slot) (λ (node : Node). node.slot) (nodes_in number stands.layout.lists))) in
+          list_any_at (λ first. is_among slot (slots_in_list parts first)) cells.heads number None within (ap (λ first. is_among slot (slots_in_list parts first)) (head_is number None within) ∙ ap (is_among slot) (list_slots number) ∙ among)
 
-  on_chains : (slot : ℕ) → (not (used slot) || list_any (λ pool. is_among slot (chain_of parts pool)) (present cells.pools)) ≡ true
+  on_chains : (slot : ℕ) → (not (used slot) || list_any (λ pool. is_among slot (chain_of parts pool)) (entries_of cells.pools)) ≡ true
   on_chains slot = elim (cases_Bool (used slot)) [
-    | inr apart ↦ ap (λ b. not b || list_any (λ pool. is_among slot (chain_of parts pool)) (present cells.pools)) apart
+    | inr apart ↦ ap (λ b. not b || list_any (λ pool. is_among slot (chain_of parts pool)) (entries_of cells.pools)) apart
     | inl here ↦
         let some = used_stands cells stands slot (uses_one (at parts slot).state here) in
         let among = counts_any (λ other. eqb other slot) (slots (nodes_of areas)) (omega (arith, some, count-map (λ other. eqb other slot) (λ (node : Node). node.slot) (nodes_of areas))) in
         or_right (not (used slot)) _ (
-        sym (among_any (chain_of parts) (present cells.pools) slot) ∙ ap (λ pools. is_among slot (flat_map (chain_of parts) pools)) pools_are ∙ ap (is_among slot) (slots_of areas known) ∙ among
+        sym (among_any (chain_of parts) (entries_of cells.pools) slot) ∙ ap (λ pools. is_among slot (flat_map (chain_of parts) pools)) pools_are ∙ ap (is_among slot) (slots_of areas known) ∙ among
         )
   ]
 
   -- ---- links
 
   head_below : (number : ℕ) (d : Option ℕ) → number < length cells.heads → is_below (length cells.records) (slice_index_or cells.heads number d) ≡ true
-  head_below number d within = ap (is_below (length cells.records)) (head_is number d within) ∙ by (list_of number stands.layout.lists) refl
+  head_below number d within = ap (is_below (length cells.records)) (head_is number d within) ∙ by (nodes_in number stands.layout.lists) refl
     where
-      by : (nodes : List Node) → list_of number stands.layout.lists ≡ nodes → is_below (length cells.records) (first_slot nodes) ≡ true
+      by : (nodes : List Node) → nodes_in number stands.layout.lists ≡ nodes → is_below (length cells.records) (first_slot nodes) ≡ true
       by [] is = refl
       by (node ∷ nodes) is =
           lt-ltb node.slot (length cells.records) (
@@ -274,23 +274,23 @@ module _ (cells : Cells) (stands : Stands cells) where
           (omega (arith, first_stands (node ∷ nodes) node.slot refl, ap (count_by (has_slot node.slot)) is, listed_within areas stands.layout.lists stands.represented.agree number node.slot))
           )
 
-  listed_below : (number slot : ℕ) → 1 ≤ count_by (has_slot slot) (list_of number stands.layout.lists) → slot < length cells.records
+  listed_below : (number slot : ℕ) → 1 ≤ count_by (has_slot slot) (nodes_in number stands.layout.lists) → slot < length cells.records
   listed_below number slot some = slot_below cells stands slot (omega (arith, some, listed_within areas stands.layout.lists stands.represented.agree number slot))
 
   -- both neighbours in a list
-  links_listed : (number slot : ℕ) → 1 ≤ count_by (has_slot slot) (list_of number stands.layout.lists) → (is_below (length cells.records) (at parts slot).prev_free && is_below (length cells.records) (at parts slot).next_free) ≡ true
+  links_listed : (number slot : ℕ) → 1 ≤ count_by (has_slot slot) (nodes_in number stands.layout.lists) → (is_below (length cells.records) (at parts slot).prev_free && is_below (length cells.records) (at parts slot).next_free) ≡ true
   links_listed number slot some =
-      let list = list_of number stands.layout.lists in
-      let split : Split (has_slot slot) list = split_at (has_slot slot) list some in
+      let list = nodes_in number stands.layout.lists in
+      let item_at : FirstPassing (has_slot slot) list = first_passing (has_slot slot) list some in
       let P : List Node → Type 0 = λ nodes. AreLinked in_list (list_views cells.records) None nodes in
-      let linked = (linked_parts in_list (list_views cells.records) split.front (split.item ∷ split.behind) (subst P split.whole (stands.represented.index.linked number))).1 in
-      let same : split.item.slot ≡ slot = eqb-true split.item.slot slot split.passes in
-      let count : (q : ℕ) → count_by (has_slot q) list ≡ count_by (has_slot q) split.front + (one_if (has_slot q split.item) + count_by (has_slot q) split.behind) =
-      λ q. ap (count_by (has_slot q)) split.whole ∙ count-plug (has_slot q) split.front (split.item ∷ split.behind) ∙ ap (λ n. count_by (has_slot q) split.front + n) (count-cons (has_slot q) split.item split.behind) in
-      let says : list_views cells.records slot ≡ in_list (first_slot split.front) split.item (first_slot split.behind) = ap (list_views cells.records) (sym same) ∙ linked.0 in
+      let linked = (linked_parts in_list (list_views cells.records) item_at.front (item_at.item ∷ item_at.behind) (subst P item_at.whole (stands.represented.index.linked number))).1 in
+      let same : item_at.item.slot ≡ slot = eqb-true item_at.item.slot slot item_at.passes in
+      let count : (q : ℕ) → count_by (has_slot q) list ≡ count_by (has_slot q) item_at.front + (one_if (has_slot q item_at.item) + count_by (has_slot q) item_at.behind) =
+      λ q. ap (count_by (has_slot q)) item_at.whole ∙ count-plug (has_slot q) item_at.front (item_at.item ∷ item_at.behind) ∙ ap (λ n. count_by (has_slot q) item_at.front + n) (count-cons (has_slot q) item_at.item item_at.behind) in
+      let says : list_views cells.records slot ≡ in_list (first_slot item_at.front) item_at.item (first_slot item_at.behind) = ap (list_views cells.records) (sym same) ∙ linked.0 in
       and_from (is_below (length cells.records) (at parts slot).prev_free) (is_below (length cells.records) (at parts slot).next_free)
-      (ap (λ (v : InList). is_below (length cells.records) v.prev) says ∙ first_is split.front (λ q h. listed_below number q (omega (arith, h, count q))))
-      (ap (λ (v : InList). is_below (length cells.records) v.next) says ∙ first_is split.behind (λ q h. listed_below number q (omega (arith, h, count q))))
+      (ap (λ (v : InList). is_below (length cells.records) v.prev) says ∙ first_is item_at.front (λ q h. listed_below number q (omega (arith, h, count q))))
+      (ap (λ (v : InList). is_below (length cells.records) v.next) says ∙ first_is item_at.behind (λ q h. listed_below number q (omega (arith, h, count q))))
     where
       first_is : (nodes : List Node) → ((q : ℕ) → 1 ≤ count_by (has_slot q) nodes → q < length cells.records) → is_below (length cells.records) (first_slot nodes) ≡ true
       first_is [] below = refl
@@ -336,17 +336,17 @@ module _ (cells : Cells) (stands : Stands cells) where
               (list_all-from_AllPass (has_record_links (length cells.records)) cells.records (λ slot d within. ap (has_record_links (length cells.records)) (get_or_default cells.records slot d blank within) ∙ record_links slot));
           chains = ap (list_all (is_chain parts)) pools_are ∙ chains areas areas_known;
           cover = ap (list_all (λ pool. covers parts pool.base (pool.base + pool.bytes) (chain_of parts pool))) pools_are ∙ cover 0 areas areas_known good;
-          on_chains = from_all_below (λ slot. not (used slot) || list_any (λ pool. is_among slot (chain_of parts pool)) (present cells.pools)) (length cells.records) (λ slot within. on_chains slot);
+          on_chains = from_all_below (λ slot. not (used slot) || list_any (λ pool. is_among slot (chain_of parts pool)) (entries_of cells.pools)) (length cells.records) (λ slot within. on_chains slot);
           merged = ap (list_all (λ pool. are_merged parts false (chain_of parts pool))) pools_are ∙ all_merged 0 areas areas_known good;
           lists = lists_from parts 0 cells.heads (λ number within. ap (is_list parts (0 + number)) (head_is number None within) ∙ list_at_zero number);
-          on_lists = from_all_below (λ slot. not (is_state_free (at parts slot).state) || list_any (λ first. is_among slot (listed_of parts first)) cells.heads) (length cells.records) (λ slot within. on_lists slot);
+          on_lists = from_all_below (λ slot. not (is_free_state (at parts slot).state) || list_any (λ first. is_among slot (slots_in_list parts first)) cells.heads) (length cells.records) (λ slot within. on_lists slot);
         }
       where
-        list_at_zero : (number : ℕ) → is_list parts (0 + number) (first_slot (list_of number stands.layout.lists)) ≡ true
+        list_at_zero : (number : ℕ) → is_list parts (0 + number) (first_slot (nodes_in number stands.layout.lists)) ≡ true
         list_at_zero number =
-            let P : ℕ → Type 0 = λ k. is_list parts k (first_slot (list_of number stands.layout.lists)) ≡ true in
+            let P : ℕ → Type 0 = λ k. is_list parts k (first_slot (nodes_in number stands.layout.lists)) ≡ true in
             let same : number ≡ 0 + number = omega arith in
             subst P same (list_is number)
 
-  pub pools_ordered : are_pools (length cells.records) 0 (present cells.pools) ≡ true
+  pub pools_ordered : are_pools (length cells.records) 0 (entries_of cells.pools) ≡ true
   pools_ordered = ap (are_pools (length cells.records) 0) pools_are ∙ ordered 0 areas known (slot_below cells stands) stands.good.pools_good

@@ -8,9 +8,9 @@ use Rattle.tlsf_store.specs.declared.records.State.{State}
 use Rattle.tlsf_store.specs.declared.records.State.TheVariants.{Vacant, Free, Live}
 use Rattle.tlsf_store.specs.declared.records.Record.{Record}
 use Rattle.tlsf_store.specs.declared.pools.Pool.{Pool}
-use Rattle.tlsf_store.specs.Records.{blank, record_at as record_of}
+use Rattle.tlsf_store.specs.Records.{blank, record_at}
 use Rattle.tlsf_store.specs.Cells.{head_at as head_of, pool_at, most_pools}
-use Rattle.tlsf_heap.specs.Images.Image.{two_at, entry_at, head_at, record_at, Parts}
+use Rattle.tlsf_heap.specs.Images.Image.{two_at, entry_at, head_at, record_start, Parts}
 use Rattle.tlsf_heap.specs.Images.Writing.{entry_bytes, head_bytes, bytes_in, record_bytes, header_bytes, image_of}
 
 -- pieces of one length
@@ -85,7 +85,7 @@ module _ (parts : Parts) (pools_count : length parts.pools ≡ most_pools) (head
   heads_long : length heads_part ≡ 1408
   heads_long = omega (arith, pieces_length head_bytes 2 head_size parts.heads, heads_count)
 
-  pub image_long : length image ≡ record_at (length parts.records)
+  pub image_long : length image ≡ record_start (length parts.records)
   image_long = omega (
     arith,
     length-append entries_part (heads_part ++ records_part),
@@ -107,9 +107,9 @@ module _ (parts : Parts) (pools_count : length parts.pools ≡ most_pools) (head
       ∙ behind entries_part (heads_part ++ records_part) 96 (96 + (class * 2 + j)) (class * 2 + j) entries_long refl
       ∙ piece_at head_bytes 2 head_size parts.heads None records_part class j (omega (arith, within, heads_count)) below
 
-  pub record_byte : (slot j : ℕ) → slot < length parts.records → j < 16 → slice_index image (record_at slot + j) ≡ slice_index (record_bytes (record_of parts.records slot)) j
+  pub record_byte : (slot j : ℕ) → slot < length parts.records → j < 16 → slice_index image (record_start slot + j) ≡ slice_index (record_bytes (record_at parts.records slot)) j
   record_byte slot j within below =
-      behind (header_bytes parts) (entries_part ++ (heads_part ++ records_part)) 16 (record_at slot + j) (96 + (1408 + (slot * 16 + j))) refl (omega arith)
+      behind (header_bytes parts) (entries_part ++ (heads_part ++ records_part)) 16 (record_start slot + j) (96 + (1408 + (slot * 16 + j))) refl (omega arith)
       ∙ behind entries_part (heads_part ++ records_part) 96 (96 + (1408 + (slot * 16 + j))) (1408 + (slot * 16 + j)) entries_long refl
       ∙ behind heads_part records_part 1408 (1408 + (slot * 16 + j)) (slot * 16 + j) heads_long refl
       ∙ ap (λ bytes. slice_index bytes (slot * 16 + j)) (sym (append-nil records_part))

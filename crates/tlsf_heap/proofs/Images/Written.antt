@@ -11,7 +11,7 @@ use Rattle.tlsf_store.specs.declared.records.Record.{Record}
 use Rattle.tlsf_store.specs.Records.{blank, record_at, most_records}
 use Rattle.tlsf_store.specs.Cells.{Cells, pool_at, head_at, most_pools}
 use Rattle.tlsf_heap.specs.Images.Image.{Parts}
-use Rattle.tlsf_heap.specs.Images.Rules.{present, is_used, is_below, has_record_links, first_broken}
+use Rattle.tlsf_heap.specs.Images.Rules.{is_used, is_below, has_record_links, first_broken}
 use Rattle.tlsf_heap.specs.Images.Told.{told, told_in, told_parts}
 use Rattle.tlsf_heap.specs.Images.Writing.{image_of}
 use Rattle.tlsf_heap.proofs.Images.UnbrokenRules.{IsUnbroken, unbroken}
@@ -56,17 +56,17 @@ module _ (cells : Cells) (stands : Stands cells) (few : length cells.records ≤
   pools_count : length cells.pools ≡ most_pools
   pools_count = ap length stands.represented.entries ∙ length-padded entries (few_entries cells stands)
 
-  present_count : length (present cells.pools) ≡ length entries
-  present_count = ap (λ ps. length (present ps)) stands.represented.entries ∙ ap length (present_padded entries)
+  present_count : length (entries_of cells.pools) ≡ length entries
+  present_count = ap (λ ps. length (entries_of ps)) stands.represented.entries ∙ ap length (present_padded entries)
 
-  packed : (number : ℕ) → number < most_pools → is_some (pool_at cells.pools number) ≡ nat_lt number (length (present cells.pools))
+  packed : (number : ℕ) → number < most_pools → is_some (pool_at cells.pools number) ≡ nat_lt number (length (entries_of cells.pools))
   packed number within = elim (cases_lt number (length entries)) [
     | inl below ↦
         ap is_some (entry_at cells stands number within ∙ get_or-map (λ (e : StoredPool). Some e) entries number (record { base = 0; bytes = 0; first = 0 }) None below)
-        ∙ sym (lt-ltb number (length (present cells.pools)) (omega (arith, below, present_count)))
+        ∙ sym (lt-ltb number (length (entries_of cells.pools)) (omega (arith, below, present_count)))
     | inr past ↦
         ap is_some (entry_at cells stands number within ∙ get_or_past (map (λ (e : StoredPool). Some e) entries) number None (omega (arith, past, length-map entries (λ (e : StoredPool). Some e))))
-        ∙ sym (le-ltb number (length (present cells.pools)) (omega (arith, past, present_count)))
+        ∙ sym (le-ltb number (length (entries_of cells.pools)) (omega (arith, past, present_count)))
   ]
 
   head_written : (class : ℕ) → class < classes → IsWritten (head_at cells.heads class)

@@ -16,7 +16,7 @@ use Rattle.tlsf_heap.specs.Inner.Entries.{is_entry_apart}
 use Rattle.tlsf_heap.specs.Inner.Entries.{entries_of}
 use Rattle.tlsf_heap.specs.Inner.Nodes.{Node, Listed, turned, content_by}
 use Rattle.tlsf_heap.specs.Inner.Represents.{Represents}
-use Rattle.tlsf_heap.specs.Inner.Joined.{is_loose}
+use Rattle.tlsf_heap.specs.Inner.Merging.{is_loose}
 use Rattle.tlsf_heap.specs.Inner.Following.{content_of, Stands}
 use Rattle.tlsf_heap.specs.Inner.Entering.{pool_node, pool_laid}
 use Rattle.tlsf_heap.proofs.Good.Calls.{add_pool_is_good}
@@ -65,7 +65,7 @@ module _ (cells : Cells) (stands : Stands cells) (base bytes : ℕ) where
         pub pool_added : (new : Cells) → Represents new (pool_laid (record { base = base; bytes = bytes; first = slot }) stands.layout) → Stands new × (add_pool base bytes (content_of cells) ≡ Ok (content_of new))
         pool_added new after =
             let entry : StoredPool = record { base = base; bytes = bytes; first = slot } in
-            let loose : Node → Bool = λ node. is_loose node.status in
+            let loose : Node → Bool = λ node. is_loose node.state in
             let is : content_by (pool_laid entry stands.layout) ≡ with_pool base bytes (content_of cells) =
             pool_laid_is entry stands.layout stands.represented.index.lists_count (λ e. omega (arith, e, least_bytes base bytes (and_parts _ _ allowed).0)) ∙ ap (with_pool base bytes) (sym (stood_for cells stands)) in
             let added : add_pool base bytes (content_of cells) ≡ Ok (content_by (pool_laid entry stands.layout)) = is_added ∙ ap (λ content. Ok content) (sym is) in (

@@ -8,10 +8,10 @@ use Rattle.tlsf_store.specs.Cells.{Cells, with_taken}
 use Rattle.tlsf_heap.specs.Good.{Covers}
 use Rattle.tlsf_heap.specs.Inner.Edits.{IsUsed, unlinked}
 use Rattle.tlsf_heap.specs.Inner.Chains.{split}
-use Rattle.tlsf_heap.specs.Inner.Nodes.{Status, InUse, Listed, Loose, Node, turned, rest_node, block_of, is_listed, Layout, pool_of, nodes_of}
-use Rattle.tlsf_heap.specs.Inner.Joined.{is_loose}
+use Rattle.tlsf_heap.specs.Inner.Nodes.{NodeState, InUse, Listed, Loose, Node, turned, rest_node, block_of, is_listed, Layout, pool_of, nodes_of}
+use Rattle.tlsf_heap.specs.Inner.Merging.{is_loose}
 use Rattle.tlsf_heap.specs.Inner.Represents.{Represents}
-use Rattle.tlsf_heap.specs.Inner.At.{At, layout_at, StandsAt, at_unlisted, with_slot, at_split, AreCovered, at_cut, at_trimmed}
+use Rattle.tlsf_heap.specs.Inner.At.{At, layout_at, StandsAt, at_unlisted, with_slot, at_split, AreCovered, at_split_off, at_split_rest}
 use Rattle.tlsf_heap.proofs.Counts.{one_if, count-cons}
 use Rattle.tlsf_heap.proofs.Inner.Plugs.{count-filled}
 use Rattle.tlsf_heap.proofs.Content.FreeLists.{times-cons}
@@ -29,7 +29,7 @@ module _ (cells : Cells) (slot : ℕ) (at : At) (stands : StandsAt slot Listed c
   listed_was : Represents cells (layout_at (record at { node = turned Listed at.node }))
   listed_was =
       let P : Node → Type 0 = λ n. Represents cells (layout_at (record at { node = n })) in
-      let same : at.node ≡ turned Listed at.node = ap (λ s. turned s at.node) stands.1.status_is in
+      let same : at.node ≡ turned Listed at.node = ap (λ s. turned s at.node) stands.1.node_state_is in
       subst P same stands.0
 
   pub prev_used : IsUsed cells.records (record_at cells.records slot).prev_free
@@ -46,21 +46,21 @@ module _ (cells : Cells) (slot : ℕ) (at : At) (stands : StandsAt slot Listed c
   unlinked_stands =
       let P : ℕ → Type 0 = λ q. Represents (unlinked (class at.node.size) q cells) (layout_at (at_unlisted at)) in (
         subst P stands.1.slot_is (unlinked_laid cells at.count at.position (turned Listed at.node) at.nodes at.lists at.taken listed_was),
-        record { slot_is = stands.1.slot_is; status_is = refl; others_settled = stands.1.others_settled; covered = covered_turned cells slot Listed at stands Loose },
+        record { slot_is = stands.1.slot_is; node_state_is = refl; others_settled = stands.1.others_settled; covered = covered_turned cells slot Listed at stands Loose },
       )
 
 -- a vacant record was taken meanwhile
-pub slot_stands : (cells : Cells) (slot : ℕ) (status : Status) (at : At) (rest : ℕ) → StandsAt slot status cells at → rest < length cells.records → record_at cells.records rest ≡ blank → StandsAt slot status (with_taken cells (Some rest)) (with_slot rest at)
-slot_stands cells slot status at rest stands within vacant =
-    (slot_taken cells (layout_at at) rest stands.0 within vacant, record { slot_is = stands.1.slot_is; status_is = stands.1.status_is; others_settled = stands.1.others_settled; covered = stands.1.covered })
+pub slot_stands : (cells : Cells) (slot : ℕ) (node_state : NodeState) (at : At) (rest : ℕ) → StandsAt slot node_state cells at → rest < length cells.records → record_at cells.records rest ≡ blank → StandsAt slot node_state (with_taken cells (Some rest)) (with_slot rest at)
+slot_stands cells slot node_state at rest stands within vacant =
+    (slot_taken cells (layout_at at) rest stands.0 within vacant, record { slot_is = stands.1.slot_is; node_state_is = stands.1.node_state_is; others_settled = stands.1.others_settled; covered = stands.1.covered })
 
-covers_cut : (rest bytes : ℕ) (node : Node) (nodes : List Node) → 0 < bytes → bytes < node.size → bytes % unit ≡ 0 → (from to : ℕ) → Covers from to (map block_of (node ∷ nodes)) → Covers from to (map block_of (record node { size = bytes } ∷ rest_node rest bytes node ∷ nodes))
-covers_cut rest bytes node nodes some less whole from to c =
+covers_split : (rest bytes : ℕ) (node : Node) (nodes : List Node) → 0 < bytes → bytes < node.size → bytes % unit ≡ 0 → (from to : ℕ) → Covers from to (map block_of (node ∷ nodes)) → Covers from to (map block_of (record node { size = bytes } ∷ rest_node rest bytes node ∷ nodes))
+covers_split rest bytes node nodes some less whole from to c =
     let P : ℕ → Type 0 = λ n. Covers n to (map block_of nodes) in
     let same : from + node.size ≡ (from + bytes) + (node.size - bytes) = omega (arith, less) in
     (c.0, some, whole, (omega (arith, c.0), omega (arith, less), omega (arith, c.2, whole, less), subst P same c.3))
 
-module _ (cells : Cells) (slot rest : ℕ) (status : Status) (at : At) (stands : StandsAt slot status cells (with_slot rest at)) where
+module _ (cells : Cells) (slot rest : ℕ) (node_state : NodeState) (at : At) (stands : StandsAt slot node_state cells (with_slot rest at)) where
   pub rest_used : IsUsed cells.records (Some rest)
   rest_used = stands_used cells (layout_at (with_slot rest at)) rest stands.0 (omega (arith, times-cons rest rest at.taken, ap one_if (eq-eqb rest rest refl)))
 
@@ -74,49 +74,49 @@ module _ (cells : Cells) (slot rest : ℕ) (at : At) (stands : StandsAt slot InU
     pub split_stands : StandsAt rest Loose (split slot rest bytes cells) (at_split rest bytes at)
     split_stands =
         let P : ℕ → Type 0 = λ q. Represents (split q rest bytes cells) (layout_at (at_split rest bytes at)) in
-        let loose : Node → Bool = λ n. is_loose n.status in
+        let loose : Node → Bool = λ n. is_loose n.state in
         let first : Node = record at.node { size = bytes } in (
-          subst P stands.1.slot_is (split_laid cells at.count at.position at.node at.nodes at.lists rest at.taken bytes stands.0 (ap is_listed stands.1.status_is)),
+          subst P stands.1.slot_is (split_laid cells at.count at.position at.node at.nodes at.lists rest at.taken bytes stands.0 (ap is_listed stands.1.node_state_is)),
           record {
             slot_is = refl;
-            status_is = refl;
+            node_state_is = refl;
             others_settled = omega (
               arith,
               stands.1.others_settled,
               count-filled loose at.position at.nodes,
               count-filled loose (record at.position { before = first ∷ at.position.before }) at.nodes,
               count-cons loose first at.position.before,
-              ap (λ s. one_if (is_loose s)) stands.1.status_is,
+              ap (λ s. one_if (is_loose s)) stands.1.node_state_is,
             );
-            covered = covered_refilled at.position (at.node ∷ at.nodes) (first ∷ rest_node rest bytes at.node ∷ at.nodes) (covers_cut rest bytes at.node at.nodes some less whole) stands.1.covered;
+            covered = covered_refilled at.position (at.node ∷ at.nodes) (first ∷ rest_node rest bytes at.node ∷ at.nodes) (covers_split rest bytes at.node at.nodes some less whole) stands.1.covered;
           },
         )
 
 -- a gap of no bytes is none, and another is a node
-trimmed_all : (rest : ℕ) (at : At) → at_trimmed rest at.node.size at ≡ at
-trimmed_all rest at =
+rest_split_all : (rest : ℕ) (at : At) → at_split_rest rest at.node.size at ≡ at
+rest_split_all rest at =
     let nothing : ((at.node.size - at.node.size) == 0) ≡ true = eq-eqb (at.node.size - at.node.size) 0 (omega arith) in
     rw nothing refl
 
-trimmed_cut : (rest bytes : ℕ) (at : At) → bytes < at.node.size → layout_at (at_cut rest bytes at) ≡ layout_at (at_trimmed rest bytes at)
-trimmed_cut rest bytes at less =
+rest_split_off : (rest bytes : ℕ) (at : At) → bytes < at.node.size → layout_at (at_split_off rest bytes at) ≡ layout_at (at_split_rest rest bytes at)
+rest_split_off rest bytes at less =
     let some : ((at.node.size - bytes) == 0) ≡ false = ne_eqb (at.node.size - bytes) 0 (λ e. omega (arith, e, less)) in
     rw some refl
 
 -- the node keeps all
-pub trimmed_none : (cells : Cells) (slot rest bytes : ℕ) (at : At) → StandsAt slot InUse cells at → bytes ≡ at.node.size → StandsAt slot InUse cells (at_trimmed rest bytes at)
-trimmed_none cells slot rest bytes at stands all =
+pub rest_split_none : (cells : Cells) (slot rest bytes : ℕ) (at : At) → StandsAt slot InUse cells at → bytes ≡ at.node.size → StandsAt slot InUse cells (at_split_rest rest bytes at)
+rest_split_none cells slot rest bytes at stands all =
     let P : At → Type 0 = λ a. StandsAt slot InUse cells a in
-    let Q : ℕ → Type 0 = λ n. StandsAt slot InUse cells (at_trimmed rest n at) in
-    subst Q (sym all) (subst P (sym (trimmed_all rest at)) stands)
+    let Q : ℕ → Type 0 = λ n. StandsAt slot InUse cells (at_split_rest rest n at) in
+    subst Q (sym all) (subst P (sym (rest_split_all rest at)) stands)
 
 -- the node keeps its first bytes, and the rest was linked
-pub trimmed_stands : (old new : Cells) (slot rest bytes : ℕ) (at : At) → StandsAt slot InUse old at → bytes < at.node.size → StandsAt rest Listed new (at_cut rest bytes at) → StandsAt slot InUse new (at_trimmed rest bytes at)
-trimmed_stands old new slot rest bytes at was less stands =
-    let loose : Node → Bool = λ n. is_loose n.status in
+pub rest_split_stands : (old new : Cells) (slot rest bytes : ℕ) (at : At) → StandsAt slot InUse old at → bytes < at.node.size → StandsAt rest Listed new (at_split_off rest bytes at) → StandsAt slot InUse new (at_split_rest rest bytes at)
+rest_split_stands old new slot rest bytes at was less stands =
+    let loose : Node → Bool = λ n. is_loose n.state in
     let first : Node = record at.node { size = bytes } in
-    let second : Node = record { slot = rest; place = at.node.place + bytes; size = at.node.size - bytes; status = Listed } in
-    let same = trimmed_cut rest bytes at less in
+    let second : Node = record { slot = rest; place = at.node.place + bytes; size = at.node.size - bytes; state = Listed } in
+    let same = rest_split_off rest bytes at less in
     let some : ((at.node.size - bytes) == 0) ≡ false = ne_eqb (at.node.size - bytes) 0 (λ e. omega (arith, e, less)) in
     let P : Layout → Type 0 = λ l. Represents new l in
     let Q : Layout → Type 0 = λ l. AreCovered 0 (map pool_of l.areas) in
@@ -124,7 +124,7 @@ trimmed_stands old new slot rest bytes at was less stands =
       subst P same stands.0,
       record {
         slot_is = was.1.slot_is;
-        status_is = was.1.status_is;
+        node_state_is = was.1.node_state_is;
         others_settled = subst R (sym some) (omega (arith, was.1.others_settled, count-filled loose at.position at.nodes, count-filled loose at.position (second ∷ at.nodes), count-cons loose second at.nodes));
         covered = subst Q same stands.1.covered;
       },

@@ -2,14 +2,13 @@
 use Rattle.std.proofs.Common.{◌≡◌, ℕ, zero, suc, ◌<◌, true, false, ◌&&◌, List, [], ◌∷◌, ◌++◌, length, map, get_or, refl, sym, ap, ◌∙◌, arith, Some}
 use Rattle.std.specs.Prelude.{is_none, remove}
 use Rattle.tlsf_store.specs.declared.records.Record.{Record}
-use Rattle.tlsf_store.specs.Records.{record_at}
+use Rattle.tlsf_store.specs.Records.{record_at, is_free_state}
 use Rattle.tlsf_store.specs.declared.pools.Pool.{Pool as StoredPool}
 use Rattle.std.specs.List.{list_all}
 use Rattle.std.proofs.lemmas.Bool.{ne_eqb}
 use Rattle.tlsf_heap.specs.Content.{Block, is_free}
 use Rattle.tlsf_heap.specs.Pools.{is_unused}
-use Rattle.tlsf_heap.specs.Inner.States.{is_state_free}
-use Rattle.tlsf_heap.specs.Inner.Nodes.{Status, InUse, Listed, Loose, Node, Area, block_of, pool_of}
+use Rattle.tlsf_heap.specs.Inner.Nodes.{NodeState, InUse, Listed, Loose, Node, Area, block_of, pool_of}
 use Rattle.tlsf_heap.specs.Inner.Positions.{plug}
 use Rattle.tlsf_heap.specs.Inner.Entering.{entries_in}
 use Rattle.tlsf_heap.specs.Inner.Represents.{InPool, state_of, pool_views, first_slot, IsChain}
@@ -55,7 +54,7 @@ area_at (suc number) (first ∷ areas) within =
       others = ap (λ entries. first.entry ∷ entries) rest.others ∙ ap entries_in (sym (plug-first rest.front first rest.behind));
     }
 
-state_free : (status : Status) (node : Node) → (is_free (block_of (record node { status = status })) && true) ≡ (is_state_free (state_of status) && true)
+state_free : (node_state : NodeState) (node : Node) → (is_free (block_of (record node { state = node_state })) && true) ≡ (is_free_state (state_of node_state) && true)
 state_free InUse node = refl
 state_free Listed node = refl
 state_free Loose node = refl
@@ -70,10 +69,10 @@ pub record FirstNode (records : List Record) (area : Area) : Type 0 where
   pub nodes : List Node
   pub whole : area.nodes ≡ node ∷ nodes
   pub slot_is : node.slot ≡ area.entry.first
-  pub state_is : (record_at records node.slot).state ≡ state_of node.status
+  pub state_is : (record_at records node.slot).state ≡ state_of node.state
   pub next_is : (record_at records node.slot).next ≡ first_slot nodes
   -- the pool is one free block
-  pub unused : is_unused (pool_of area) ≡ (is_state_free (record_at records node.slot).state && is_none (record_at records node.slot).next)
+  pub unused : is_unused (pool_of area) ≡ (is_free_state (record_at records node.slot).state && is_none (record_at records node.slot).next)
 
 pub first_node : (records : List Record) (area : Area) → IsChain (pool_views records) area → FirstNode records area
 first_node records area chain = of area.nodes refl
@@ -95,8 +94,8 @@ first_node records area chain = of area.nodes refl
           unused = rw (is, state, next) (alone nodes);
         }
       where
-        alone : (ns : List Node) → is_unused (pool_of (record area { nodes = node ∷ ns })) ≡ (is_state_free (state_of node.status) && is_none (first_slot ns))
-        alone [] = state_free node.status node
+        alone : (ns : List Node) → is_unused (pool_of (record area { nodes = node ∷ ns })) ≡ (is_free_state (state_of node.state) && is_none (first_slot ns))
+        alone [] = state_free node.state node
         alone (n ∷ ns) =
             let blocks : List (Block ℕ) = map block_of (node ∷ n ∷ ns) in
-            ap (λ b. b && list_all is_free blocks) (ne_eqb (length blocks) 1 (λ e. absurd (omega (arith, e)))) ∙ sym (never_alone (is_state_free (state_of node.status)))
+            ap (λ b. b && list_all is_free blocks) (ne_eqb (length blocks) 1 (λ e. absurd (omega (arith, e)))) ∙ sym (never_alone (is_free_state (state_of node.state)))

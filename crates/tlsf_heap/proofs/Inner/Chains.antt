@@ -11,7 +11,7 @@ use Rattle.tlsf_class.specs.Classes.{class}
 use Rattle.tlsf_store.specs.Cells.{Cells}
 use Rattle.tlsf_heap.specs.Inner.Entries.{padded}
 use Rattle.tlsf_heap.specs.Good.{times}
-use Rattle.tlsf_heap.specs.Inner.Nodes.{Status, InUse, Listed, Loose, Node, Area, nodes_of, list_of, has_slot, is_listed, is_listed_in}
+use Rattle.tlsf_heap.specs.Inner.Nodes.{NodeState, InUse, Listed, Loose, Node, Area, nodes_of, nodes_in, has_slot, is_listed, is_listed_in}
 use Rattle.tlsf_heap.specs.Inner.Positions.{plug, Position, filled, laid}
 use Rattle.tlsf_heap.specs.Inner.Represents.{InPool, InList, in_pool, in_list, pool_view, pool_views, list_views, state_of, first_slot, AreLinked, IsChain, uses_in, AreChains, IsIndex, Agree, Represented, Represents}
 use Rattle.tlsf_heap.proofs.Counts.{one_if, count-cons, count_and}
@@ -95,28 +95,28 @@ agree_refilled position olds news lists agree same number test =
     omega (arith, agree number test, same number test, count-filled listed position olds, count-filled listed position news)
 
 -- a node that is in no list counts in none
-pub unlisted : (number : ℕ) (test : Node → Bool) (node : Node) → is_listed node.status ≡ false → one_if (is_listed_in number node && test node) ≡ 0
+pub unlisted : (number : ℕ) (test : Node → Bool) (node : Node) → is_listed node.state ≡ false → one_if (is_listed_in number node && test node) ≡ 0
 unlisted number test node not_listed = ap (λ b. one_if ((b && eqb (class node.size) number) && test node)) not_listed
 
 -- the index where no listed slot reads otherwise
 pub index_same : (at new : ℕ → InList) (heads : List (Option ℕ)) (step_words : List ℕ) (level_word : ℕ) (lists : List (List Node))
-    → ((number q : ℕ) → 1 ≤ count_by (has_slot q) (list_of number lists) → new q ≡ at q) → IsIndex at heads step_words level_word lists → IsIndex new heads step_words level_word lists
+    → ((number q : ℕ) → 1 ≤ count_by (has_slot q) (nodes_in number lists) → new q ≡ at q) → IsIndex at heads step_words level_word lists → IsIndex new heads step_words level_word lists
 index_same at new heads step_words level_word lists same index = record {
   heads_are = index.heads_are;
   lists_count = index.lists_count;
   words_count = index.words_count;
-  linked = λ number. linked_same in_list at new None (list_of number lists) (λ q h. same number q h) (index.linked number);
+  linked = λ number. linked_same in_list at new None (nodes_in number lists) (λ q h. same number q h) (index.linked number);
   bitmaps = index.bitmaps;
 }
 
 module _ (areas : List Area) (lists : List (List Node)) (agree : Agree areas lists) where
   -- what stands in a list stands in the areas
-  pub listed_within : (number q : ℕ) → count_by (has_slot q) (list_of number lists) ≤ count_by (has_slot q) (nodes_of areas)
+  pub listed_within : (number q : ℕ) → count_by (has_slot q) (nodes_in number lists) ≤ count_by (has_slot q) (nodes_of areas)
   listed_within number q = omega (arith, agree number (has_slot q), count_and (is_listed_in number) (has_slot q) (nodes_of areas))
 
 -- the slot of a node that is in no list stands in none
 pub unlisted_nowhere : (at : ℕ → InPool) (position : Position) (node : Node) (nodes : List Node) (lists : List (List Node)) (taken : List ℕ)
-    → AreChains at (filled position (node ∷ nodes)) taken → Agree (filled position (node ∷ nodes)) lists → is_listed node.status ≡ false → (number : ℕ) → count_by (has_slot node.slot) (list_of number lists) ≡ 0
+    → AreChains at (filled position (node ∷ nodes)) taken → Agree (filled position (node ∷ nodes)) lists → is_listed node.state ≡ false → (number : ℕ) → count_by (has_slot node.slot) (nodes_in number lists) ≡ 0
 unlisted_nowhere at position node nodes lists taken chains agree not_listed number =
     let listed : Node → Bool = λ other. is_listed_in number other && has_slot node.slot other in
     omega (
@@ -135,7 +135,7 @@ unlisted_nowhere at position node nodes lists taken chains agree not_listed numb
     )
 
 -- the record of a node is in use
-pub uses_node : (status : Status) → uses_in (state_of status) ≡ 1
+pub uses_node : (node_state : NodeState) → uses_in (state_of node_state) ≡ 1
 uses_node InUse = refl
 uses_node Listed = refl
 uses_node Loose = refl
@@ -165,7 +165,7 @@ at_node records position node nodes taken were =
     let once = slots_once (pool_views records) position (node ∷ nodes) taken were in
     let most = slots_most (pool_views records) position (node ∷ nodes) taken were in
     let counts : (q : ℕ) → count_by (has_slot q) (node ∷ nodes) ≡ one_if (eqb node.slot q) + count_by (has_slot q) nodes = λ q. count-cons (has_slot q) node nodes in
-    let used : uses_in (record_at records node.slot).state ≡ 1 = ap (λ (v : InPool). uses_in v.state) links.0 ∙ uses_node node.status in
+    let used : uses_in (record_at records node.slot).state ≡ 1 = ap (λ (v : InPool). uses_in v.state) links.0 ∙ uses_node node.state in
     let own : (q : ℕ) → q ≡ node.slot → one_if (eqb node.slot q) ≡ 1 = λ q e. ap one_if (eq-eqb node.slot q (sym e)) in
     record {
       says = links.0;
@@ -189,7 +189,7 @@ pub refilled : (cells : Cells) (count : ℕ) (position : Position) (olds news : 
     → first_slot news ≡ first_slot olds
     → AreLinked in_pool (pool_views new) (first_slot position.before) news
     → ((q : ℕ) → count_by (has_slot q) news + times q left + uses_in (record_at cells.records q).state ≡ count_by (has_slot q) olds + times q taken + uses_in (record_at new q).state)
-    → ((number q : ℕ) → 1 ≤ count_by (has_slot q) (list_of number lists) → list_views new q ≡ list_views cells.records q)
+    → ((number q : ℕ) → 1 ≤ count_by (has_slot q) (nodes_in number lists) → list_views new q ≡ list_views cells.records q)
     → ((number : ℕ) (test : Node → Bool) → count_by (λ node. is_listed_in number node && test node) news ≡ count_by (λ node. is_listed_in number node && test node) olds)
     → Represented new cells.heads cells.level_word cells.step_words cells.pools (laid count position news lists left)
 refilled cells count position olds news lists taken left new was same_count same first linked counts listed_same listed = record {

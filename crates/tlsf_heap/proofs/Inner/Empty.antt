@@ -12,7 +12,7 @@ use Rattle.tlsf_heap.specs.Content.{Content}
 use Rattle.tlsf_heap.specs.Pools.{created}
 use Rattle.tlsf_heap.specs.Good.{IsGood}
 use Rattle.tlsf_heap.specs.Images.Bitmaps.{head_bit, word_bit}
-use Rattle.tlsf_heap.specs.Inner.Nodes.{Node, Layout, content_by, list_of}
+use Rattle.tlsf_heap.specs.Inner.Nodes.{Node, Layout, content_by, nodes_in}
 use Rattle.tlsf_heap.specs.Inner.Represents.{list_views, in_list, first_slot, uses_in, AreLinked, Represents}
 use Rattle.tlsf_heap.specs.Inner.Following.{content_of, Stands}
 use Rattle.tlsf_heap.proofs.Good.Calls.{created_is_good}
@@ -37,7 +37,7 @@ empty_content count = ap (λ lists. record { records = count; pools = []; lists 
 
 empty_represents : (count : ℕ) → Represents (empty_cells count) (empty count)
 empty_represents count =
-    let none : (number : ℕ) → list_of number (replicate classes []) ≡ [] = λ number. get_or-same {A = List Node} classes number [] in
+    let none : (number : ℕ) → nodes_in number (replicate classes []) ≡ [] = λ number. get_or-same {A = List Node} classes number [] in
     let word : (level : ℕ) → get_or (replicate levels 0) level 0 ≡ 0 = λ level. get_or-same levels level 0 in
     let P : List Node → Type 0 = λ nodes. AreLinked in_list (list_views (replicate count blank)) None nodes in
     record {

@@ -39,13 +39,13 @@ entries_below_more count entries (Some pool) all below = All-push (FirstBelow co
 
 -- the entries of what was written from them
 pub entries_of-padded : (entries : List StoredPool) → entries_of (padded entries) ≡ entries
-entries_of-padded entries = entries_of-append (map (λ e. Some e) entries) (replicate (most_pools - length entries) None) ∙ whole entries (most_pools - length entries)
+entries_of-padded entries = entries_of-append (map Some entries) (replicate (most_pools - length entries) None) ∙ whole entries (most_pools - length entries)
   where
     nothing : (n : ℕ) → entries_of (replicate n None) ≡ []
     nothing zero = refl
     nothing (suc n) = nothing n
 
-    whole : (es : List StoredPool) (n : ℕ) → entries_of (map (λ e. Some e) es) ++ entries_of (replicate n None) ≡ es
+    whole : (es : List StoredPool) (n : ℕ) → entries_of (map Some es) ++ entries_of (replicate n None) ≡ es
     whole [] n = nothing n
     whole (e ∷ es) n = ap (λ r. e ∷ r) (whole es n)
 
@@ -60,7 +60,7 @@ length-padded entries few = omega (
 
 pub padded_at_is : (entries : List StoredPool) (k : ℕ) → k < most_pools → padded_at entries k ≡ pool_at (padded entries) k
 padded_at_is entries k within =
-    let pools : List (Option StoredPool) = map (λ e. Some e) entries in
+    let pools : List (Option StoredPool) = map Some entries in
     let same : length pools ≡ length entries = length-map entries (λ e. Some e) in
     elim (cases_lt k (length pools)) [
       | inl below ↦ sym (get_or_append_left pools (replicate (most_pools - length entries) None) None k below)

@@ -10,7 +10,7 @@ use Rattle.tlsf_store.specs.Records.{record_at}
 use Rattle.tlsf_store.specs.Cells.{Cells}
 use Rattle.tlsf_heap.specs.Inner.Entries.{entries_of}
 use Rattle.tlsf_heap.proofs.Inner.EntryLists.{entries_of-padded}
-use Rattle.tlsf_heap.specs.Inner.Nodes.{Status, InUse, Listed, Loose, Node, Area, Layout, owner_of, block_of, pool_of, content_by, nodes_of, list_of, is_listed_in}
+use Rattle.tlsf_heap.specs.Inner.Nodes.{NodeState, InUse, Listed, Loose, Node, Area, Layout, owner_of, block_of, pool_of, content_by, nodes_of, nodes_in, is_listed_in}
 use Rattle.tlsf_heap.specs.Inner.Represents.{InPool, in_pool, in_list, pool_views, list_views, state_of, first_slot, AreLinked, IsChain, Represents}
 use Rattle.tlsf_heap.specs.Inner.Following.{follow, owner_in, block_at, pool_from, list_from, content_of, Stands}
 use Rattle.tlsf_heap.proofs.Counts.{one_if, count-cons, count_and, count_all}
@@ -27,7 +27,7 @@ follow_linked says at next tells (suc n) before (node ∷ nodes) few l =
     ap (λ first. node.slot ∷ follow n (λ slot. next (at slot)) first) (ap next l.0 ∙ tells before node (first_slot nodes))
     ∙ ap (λ slots. node.slot ∷ slots) (follow_linked says at next tells n (Some node.slot) nodes (omega (arith, few)) l.1)
 
-owner_is : (status : Status) (slot : ℕ) → owner_in (state_of status) slot ≡ owner_of status slot
+owner_is : (node_state : NodeState) (slot : ℕ) → owner_in (state_of node_state) slot ≡ owner_of node_state slot
 owner_is InUse slot = refl
 owner_is Listed slot = refl
 owner_is Loose slot = refl
@@ -37,7 +37,7 @@ module _ (records : List Record) where
   blocks_read before [] l = refl
   blocks_read before (node ∷ nodes) l =
       let here : block_at records node.slot ≡ block_of node =
-      ap (λ (v : InPool). record { place = v.place; size = v.size; owner = owner_in v.state node.slot }) l.0 ∙ ap (λ o. record { place = node.place; size = node.size; owner = o }) (owner_is node.status node.slot) in
+      ap (λ (v : InPool). record { place = v.place; size = v.size; owner = owner_in v.state node.slot }) l.0 ∙ ap (λ o. record { place = node.place; size = node.size; owner = o }) (owner_is node.state node.slot) in
       ap (λ block. block ∷ map (block_at records) (map (λ n. n.slot) nodes)) here ∙ ap (λ blocks. block_of node ∷ blocks) (blocks_read (Some node.slot) nodes l.1)
 
   pools_read : (areas : List Area) → length (nodes_of areas) ≤ length records → AllByRecursion (IsChain (pool_views records)) areas → map (pool_from records) (map (λ (area : Area). area.entry) areas) ≡ map pool_of areas
@@ -76,17 +76,17 @@ module _ (cells : Cells) (layout : Layout) (was : Represents cells layout) where
   pub few : length (nodes_of layout.areas) ≤ length cells.records
   few = omega (arith, all_records cells layout was)
 
-  pub list_few : (number : ℕ) → length (list_of number layout.lists) ≤ length cells.records
+  pub list_few : (number : ℕ) → length (nodes_in number layout.lists) ≤ length cells.records
   list_few number =
       let all : Node → Bool = λ node. true in
-      omega (arith, few, count_all (list_of number layout.lists), was.agree number all, count_by-le-length (λ node. is_listed_in number node && true) (nodes_of layout.areas))
+      omega (arith, few, count_all (nodes_in number layout.lists), was.agree number all, count_by-le-length (λ node. is_listed_in number node && true) (nodes_of layout.areas))
 
-  pub list_strays : (number : ℕ) → count_by (strays cells.records) (list_of number layout.lists) ≡ 0
+  pub list_strays : (number : ℕ) → count_by (strays cells.records) (nodes_in number layout.lists) ≡ 0
   list_strays number =
       omega (arith, was.agree number (strays cells.records), count_and (is_listed_in number) (strays cells.records) (nodes_of layout.areas), none_in_areas cells.records layout.areas was.chains.chains)
 
   -- the lists, one after the other
-  lists_read : (lists : List (List Node)) → ((number : ℕ) → (length (list_of number lists) ≤ length cells.records) × (count_by (strays cells.records) (list_of number lists) ≡ 0) × AreLinked in_list (list_views cells.records) None (list_of number lists))
+  lists_read : (lists : List (List Node)) → ((number : ℕ) → (length (nodes_in number lists) ≤ length cells.records) × (count_by (strays cells.records) (nodes_in number lists) ≡ 0) × AreLinked in_list (list_views cells.records) None (nodes_in number lists))
       → map (λ first. map (λ slot. (record_at cells.records slot).place) (list_from cells.records first)) (map first_slot lists) ≡ map (map (λ node. node.place)) lists
   lists_read [] facts = refl
   lists_read (list ∷ lists) facts =

@@ -9,7 +9,7 @@ use Rattle.tlsf_store.specs.Cells.{Cells, with_head, head_at}
 use Rattle.tlsf_heap.specs.Images.Bitmaps.{head_bit, AreBitmapsOf}
 use Rattle.tlsf_heap.specs.Inner.Entries.{padded}
 use Rattle.tlsf_heap.specs.Inner.Edits.{edited_in, with_prev_free, with_free_links, with_bit_before, linked}
-use Rattle.tlsf_heap.specs.Inner.Nodes.{Status, Node, Area, Listed, Loose, turned, nodes_of, has_slot, list_of, is_listed_in, entered}
+use Rattle.tlsf_heap.specs.Inner.Nodes.{NodeState, Node, Area, Listed, Loose, turned, nodes_of, has_slot, nodes_in, is_listed_in, entered}
 use Rattle.tlsf_heap.specs.Inner.Positions.{Position, laid, filled}
 use Rattle.tlsf_heap.specs.Inner.Represents.{InPool, pool_view, list_view, pool_views, list_views, state_of, in_pool, in_list, first_slot, AreLinked, AreChains, Agree, Represented, Represents}
 use Rattle.tlsf_heap.proofs.Bits.Edits.{bits_set, bits_kept}
@@ -22,21 +22,21 @@ use Rattle.tlsf_heap.proofs.Inner.Chains.{chains_refilled, linked_at, uses_most,
 use Rattle.tlsf_heap.proofs.Inner.Taken.{counted_apart}
 
 -- a node at a position enters or leaves its list: its pool doesn't see it
-pub chains_turned : (at new : ℕ → InPool) (position : Position) (node : Node) (nodes : List Node) (old status : Status) (taken : List ℕ) → state_of status ≡ state_of old → new ≡ at
-    → AreChains at (filled position (turned old node ∷ nodes)) taken → AreChains new (filled position (turned status node ∷ nodes)) taken
-chains_turned at new position node nodes old status taken alike same were =
-    let P : (ℕ → InPool) → Type 0 = λ views. AreChains views (filled position (turned status node ∷ nodes)) taken in
+pub chains_turned : (at new : ℕ → InPool) (position : Position) (node : Node) (nodes : List Node) (old node_state : NodeState) (taken : List ℕ) → state_of node_state ≡ state_of old → new ≡ at
+    → AreChains at (filled position (turned old node ∷ nodes)) taken → AreChains new (filled position (turned node_state node ∷ nodes)) taken
+chains_turned at new position node nodes old node_state taken alike same were =
+    let P : (ℕ → InPool) → Type 0 = λ views. AreChains views (filled position (turned node_state node ∷ nodes)) taken in
     let links = linked_at at position (turned old node ∷ nodes) taken were in
-    let said : at node.slot ≡ in_pool (first_slot position.before) (turned status node) (first_slot nodes) = links.0 ∙ ap (λ s. record { place = node.place; size = node.size; state = s; prev = first_slot position.before; next = first_slot nodes }) (sym alike) in
-    subst P (sym same) (chains_refilled at at position (turned old node ∷ nodes) (turned status node ∷ nodes) taken taken were (λ q h. refl) refl (said, links.1)
-    (λ q. omega (arith, count-cons (has_slot q) (turned old node) nodes, count-cons (has_slot q) (turned status node) nodes)))
+    let said : at node.slot ≡ in_pool (first_slot position.before) (turned node_state node) (first_slot nodes) = links.0 ∙ ap (λ s. record { place = node.place; size = node.size; state = s; prev = first_slot position.before; next = first_slot nodes }) (sym alike) in
+    subst P (sym same) (chains_refilled at at position (turned old node ∷ nodes) (turned node_state node ∷ nodes) taken taken were (λ q h. refl) refl (said, links.1)
+    (λ q. omega (arith, count-cons (has_slot q) (turned old node) nodes, count-cons (has_slot q) (turned node_state node) nodes)))
 
 module _ (cells : Cells) (count : ℕ) (position : Position) (node : Node) (nodes : List Node) (lists : List (List Node)) (taken : List ℕ) (was : Represents cells (laid count position (turned Loose node ∷ nodes) lists taken)) where
   abbrev number : ℕ
   number = class node.size
 
   abbrev list : List Node
-  list = list_of (class node.size) lists
+  list = nodes_in (class node.size) lists
 
   abbrev areas : List Area
   areas = filled position (turned Loose node ∷ nodes)
@@ -57,19 +57,19 @@ module _ (cells : Cells) (count : ℕ) (position : Position) (node : Node) (node
   here = at_node cells.records position (turned Loose node) nodes taken was.chains
 
   -- the slot stands in no list, and each slot in one list at most
-  nowhere : (other : ℕ) → count_by (has_slot node.slot) (list_of other lists) ≡ 0
+  nowhere : (other : ℕ) → count_by (has_slot node.slot) (nodes_in other lists) ≡ 0
   nowhere other = unlisted_nowhere (pool_views cells.records) position (turned Loose node) nodes lists taken was.chains was.agree refl other
 
-  listed_apart : (other q : ℕ) → 1 ≤ count_by (has_slot q) (list_of other lists) → Some node.slot ≢ Some q
-  listed_apart other q h e = counted_apart (λ n. count_by (has_slot n) (list_of other lists)) q node.slot h (nowhere other) (let same : node.slot ≡ q = cc in sym same)
+  listed_apart : (other q : ℕ) → 1 ≤ count_by (has_slot q) (nodes_in other lists) → Some node.slot ≢ Some q
+  listed_apart other q h e = counted_apart (λ n. count_by (has_slot n) (nodes_in other lists)) q node.slot h (nowhere other) (let same : node.slot ≡ q = cc in sym same)
 
   slots_few : (q : ℕ) → count_by (has_slot q) (nodes_of areas) ≤ 1
   slots_few q = omega (arith, was.chains.once q, uses_most (record_at cells.records q).state)
 
-  first_apart : (other q : ℕ) → other ≢ class node.size → 1 ≤ count_by (has_slot q) (list_of other lists) → first_slot list ≢ Some q
+  first_apart : (other q : ℕ) → other ≢ class node.size → 1 ≤ count_by (has_slot q) (nodes_in other lists) → first_slot list ≢ Some q
   first_apart other q apart h e = omega (arith, first_stands list q e, h, slots_few q, lists_apart areas lists other (class node.size) q was.agree apart)
 
-  at_other : (other q : ℕ) → 1 ≤ count_by (has_slot q) (list_of other lists) → first_slot list ≢ Some q → record_at new q ≡ record_at cells.records q
+  at_other : (other q : ℕ) → 1 ≤ count_by (has_slot q) (nodes_in other lists) → first_slot list ≢ Some q → record_at new q ≡ record_at cells.records q
   at_other other q h isnt = edited_apart moved (first_slot list) one q isnt ∙ edited_apart opened (Some node.slot) cells.records q (listed_apart other q h)
 
   at_slot : record_at new node.slot ≡ opened (record_at cells.records node.slot)
@@ -86,7 +86,7 @@ module _ (cells : Cells) (count : ℕ) (position : Position) (node : Node) (node
   pools_same : pool_views new ≡ pool_views cells.records
   pools_same = λ i q. (edited_kept pool_view moved (λ r. refl) (first_slot list) one q ∙ edited_kept pool_view opened (λ r. refl) (Some node.slot) cells.records q) i
 
-  links : (other : ℕ) → AreLinked in_list (list_views new) None (list_of other (set lists (class node.size) (turned Listed node ∷ list)))
+  links : (other : ℕ) → AreLinked in_list (list_views new) None (nodes_in other (set lists (class node.size) (turned Listed node ∷ list)))
   links =
       each_written node lists was.index.lists_count (turned Listed node ∷ list) (λ ns. AreLinked in_list (list_views new) None ns) (
         ap list_view at_slot,
@@ -96,7 +96,7 @@ module _ (cells : Cells) (count : ℕ) (position : Position) (node : Node) (node
             (λ q isnt h. ap list_view (at_other (class node.size) q h isnt))
             (was.index.linked (class node.size)),
       )
-      (λ other apart. linked_same in_list (list_views cells.records) (list_views new) None (list_of other lists) (λ q h. ap list_view (at_other other q h (first_apart other q apart h))) (was.index.linked other))
+      (λ other apart. linked_same in_list (list_views cells.records) (list_views new) None (nodes_in other lists) (λ q h. ap list_view (at_other other q h (first_apart other q apart h))) (was.index.linked other))
 
   agrees : Agree (filled position (turned Listed node ∷ nodes)) (entered (turned Listed node) lists)
   agrees other test =

@@ -3,7 +3,7 @@ use Rattle.std.proofs.Common.{◌≡◌, ◌≤◌, Bool, true, List, [], ◌∷
 use Rattle.std.proofs.lemmas.Bool.{cases_lt}
 use Rattle.tlsf_heap.specs.Inner.Nodes.{Node, Area, nodes_of}
 use Rattle.tlsf_heap.specs.Inner.Positions.{plug, Position, filled}
-use Rattle.tlsf_heap.proofs.Counts.{Split, split_at}
+use Rattle.tlsf_heap.proofs.Counts.{FirstPassing, first_passing}
 use Rattle.tlsf_heap.proofs.Inner.Plugs.{count-nodes}
 
 -- the first node that passes the test, at its position
@@ -18,7 +18,7 @@ located_behind : (test : Node → Bool) (front areas : List Area) → 1 ≤ coun
 located_behind test front [] some = absurd (omega (arith, some))
 located_behind test front (area ∷ areas) some = elim (cases_lt 0 (count_by test area.nodes)) [
   | inl here ↦
-      let at : Split test area.nodes = split_at test area.nodes (omega (arith, here)) in
+      let at : FirstPassing test area.nodes = first_passing test area.nodes (omega (arith, here)) in
       record {
         position = record { areas_before = front; entry = area.entry; before = at.front; areas_behind = areas };
         node = at.item;

@@ -8,13 +8,12 @@ use Rattle.tlsf_class.specs.Classes.{class, need}
 use Rattle.tlsf_store.specs.declared.records.State.{State}
 use Rattle.tlsf_store.specs.declared.records.State.TheVariants.{Vacant, Free, Live}
 use Rattle.tlsf_store.specs.declared.records.Record.{Record}
-use Rattle.tlsf_store.specs.Records.{record_at}
+use Rattle.tlsf_store.specs.Records.{record_at, is_free_state}
 use Rattle.tlsf_store.specs.Cells.{Cells}
 use Rattle.tlsf_heap.specs.Content.{Content}
 use Rattle.tlsf_heap.specs.Lists.{first_of_lists, pick}
 use Rattle.tlsf_heap.specs.Inner.Bitmaps.{first_head}
-use Rattle.tlsf_heap.specs.Inner.States.{is_state_free}
-use Rattle.tlsf_heap.specs.Inner.Nodes.{Status, InUse, Listed, Loose, Node, Area, nodes_of, list_of, is_listed, is_listed_in}
+use Rattle.tlsf_heap.specs.Inner.Nodes.{NodeState, InUse, Listed, Loose, Node, Area, nodes_of, nodes_in, is_listed, is_listed_in}
 use Rattle.tlsf_heap.specs.Inner.Represents.{InPool, in_pool, pool_views, state_of, first_slot, AreLinked, IsChain}
 use Rattle.tlsf_heap.specs.Inner.Following.{content_of, Stands}
 use Rattle.tlsf_heap.proofs.Counts.{one_if, count-cons}
@@ -38,7 +37,7 @@ places_first [] = refl
 places_first ([] ∷ lists) = places_first lists
 places_first ((node ∷ nodes) ∷ lists) = refl
 
-first_in : (lists : List (List Node)) (node : Node) → first_node lists ≡ Some node → (number : ℕ) × (nodes : List Node) × (list_of number lists ≡ node ∷ nodes)
+first_in : (lists : List (List Node)) (node : Node) → first_node lists ≡ Some node → (number : ℕ) × (nodes : List Node) × (nodes_in number lists ≡ node ∷ nodes)
 first_in [] node is = absurd (cc)
 first_in ([] ∷ lists) node is = let later = first_in lists node is in (suc later.0, later.1, later.2)
 first_in ((other ∷ nodes) ∷ lists) node is = (zero, nodes, ap (λ n. n ∷ nodes) (same other node is))
@@ -49,19 +48,19 @@ first_in ((other ∷ nodes) ∷ lists) node is = (zero, nodes, ap (λ n. n ∷ n
 module _ (records : List Record) where
   -- a node whose record isn't free
   abbrev unfree : Node → Bool
-  unfree node = not (is_state_free (record_at records node.slot).state)
+  unfree node = not (is_free_state (record_at records node.slot).state)
 
-  listed_free : (number : ℕ) (node : Node) → (record_at records node.slot).state ≡ state_of node.status → one_if (is_listed_in number node && unfree node) ≡ 0
-  listed_free number node is = by_status node.status (ap is_state_free is)
+  listed_free : (number : ℕ) (node : Node) → (record_at records node.slot).state ≡ state_of node.state → one_if (is_listed_in number node && unfree node) ≡ 0
+  listed_free number node is = by_node_state node.state (ap is_free_state is)
     where
-      by_status : (status : Status) → is_state_free (record_at records node.slot).state ≡ is_state_free (state_of status) → one_if ((is_listed status && eqb (class node.size) number) && unfree node) ≡ 0
-      by_status InUse is = refl
-      by_status Listed is = rw is (nothing (eqb (class node.size) number))
+      by_node_state : (node_state : NodeState) → is_free_state (record_at records node.slot).state ≡ is_free_state (state_of node_state) → one_if ((is_listed node_state && eqb (class node.size) number) && unfree node) ≡ 0
+      by_node_state InUse is = refl
+      by_node_state Listed is = rw is (nothing (eqb (class node.size) number))
         where
           nothing : (b : Bool) → one_if (b && false) ≡ 0
           nothing true = refl
           nothing false = refl
-      by_status Loose is = refl
+      by_node_state Loose is = refl
 
   all_free : (number : ℕ) (before : Option ℕ) (nodes : List Node) → AreLinked in_pool (pool_views records) before nodes → count_by (λ node. is_listed_in number node && unfree node) nodes ≡ 0
   all_free number before [] l = refl
@@ -73,18 +72,18 @@ module _ (records : List Record) where
   free_in_areas number (area ∷ areas) chains =
       omega (arith, count-nodes (λ n. is_listed_in number n && unfree n) area areas, all_free number None area.nodes chains.0.linked, free_in_areas number areas chains.1)
 
-free_is : (s : State) → is_state_free s ≡ true → s ≡ Free
+free_is : (s : State) → is_free_state s ≡ true → s ≡ Free
 free_is Vacant is = absurd (false≢true is)
 free_is Free is = refl
 free_is Live is = absurd (false≢true is)
 
 module _ (cells : Cells) (stands : Stands cells) where
   -- what the record of the first node of a list says
-  first_says : (number : ℕ) (node : Node) (nodes : List Node) → list_of number stands.layout.lists ≡ node ∷ nodes → ((record_at cells.records node.slot).state ≡ Free) × ((record_at cells.records node.slot).place ≡ node.place)
+  first_says : (number : ℕ) (node : Node) (nodes : List Node) → nodes_in number stands.layout.lists ≡ node ∷ nodes → ((record_at cells.records node.slot).state ≡ Free) × ((record_at cells.records node.slot).place ≡ node.place)
   first_says number node nodes is =
       let stray = ap (count_by (strays cells.records)) (sym is) ∙ list_strays cells stands.layout stands.represented number in
       let free = ap (count_by (unfree cells.records)) (sym is) ∙ stands.represented.agree number (unfree cells.records) ∙ free_in_areas cells.records number stands.layout.areas stands.represented.chains.chains in (
-        elim (cases_Bool (is_state_free (record_at cells.records node.slot).state)) [
+        elim (cases_Bool (is_free_state (record_at cells.records node.slot).state)) [
           | inl yes_free ↦ free_is (record_at cells.records node.slot).state yes_free
           | inr not_free ↦ absurd (omega (arith, free, count-cons (unfree cells.records) node nodes, ap (λ b. one_if (not b)) not_free))
         ],

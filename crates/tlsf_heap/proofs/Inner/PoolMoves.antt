@@ -9,7 +9,7 @@ use Rattle.tlsf_store.proofs.RecordLaws.{record_at-set_same, record_at-set_other
 use Rattle.tlsf_store.specs.declared.pools.Pool.{Pool as StoredPool}
 use Rattle.tlsf_heap.specs.Inner.Entries.{free_record}
 use Rattle.tlsf_heap.specs.Good.{times}
-use Rattle.tlsf_heap.specs.Inner.Nodes.{Node, Area, has_slot, nodes_of, list_of, is_listed, is_listed_in}
+use Rattle.tlsf_heap.specs.Inner.Nodes.{Node, Area, has_slot, nodes_of, nodes_in, is_listed, is_listed_in}
 use Rattle.tlsf_heap.specs.Inner.Positions.{plug, Position}
 use Rattle.tlsf_heap.specs.Inner.Represents.{pool_view, list_view, pool_views, list_views, IsChain, uses_in, Represents}
 use Rattle.tlsf_heap.specs.Inner.CellEdits.{pool_put, pool_dropped}
@@ -79,7 +79,7 @@ module _ (cells : Cells) (count : ℕ) (front behind : List Area) (lists : List 
       }
 
 module _ (cells : Cells) (count : ℕ) (front behind : List Area) (lists : List (List Node)) (entry : StoredPool) (node : Node) (taken : List ℕ)
-    (was : Represents cells (record { count = count; areas = plug front (area_of_one entry node ∷ behind); lists = lists; taken = taken })) (was_not : is_listed node.status ≡ false) where
+    (was : Represents cells (record { count = count; areas = plug front (area_of_one entry node ∷ behind); lists = lists; taken = taken })) (was_not : is_listed node.state ≡ false) where
   abbrev emptied : List Record
   emptied = set cells.records node.slot blank
 
@@ -121,6 +121,6 @@ module _ (cells : Cells) (count : ℕ) (front behind : List Area) (lists : List 
         };
         index = index_same (list_views cells.records) (list_views emptied) cells.heads cells.step_words cells.level_word lists
             (λ number q h. ap list_view (record_at-set_other cells.records node.slot q blank
-            (counted_apart (λ n. count_by (has_slot n) (list_of number lists)) q node.slot h (unlisted_nowhere (pool_views cells.records) position node [] lists taken was.chains was.agree was_not number)))) was.index;
+            (counted_apart (λ n. count_by (has_slot n) (nodes_in number lists)) q node.slot h (unlisted_nowhere (pool_views cells.records) position node [] lists taken was.chains was.agree was_not number)))) was.index;
         agree = λ number test. omega (arith, was.agree number test, counts (λ other. is_listed_in number other && test other), unlisted number test node was_not);
       }

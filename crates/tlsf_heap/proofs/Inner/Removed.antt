@@ -7,7 +7,7 @@ use Rattle.std.proofs.lemmas.List.{length-map, map-append}
 use Rattle.std.proofs.lemmas.List.Elements.{recursion_from_All}
 use Rattle.tlsf_store.specs.declared.records.State.{State}
 use Rattle.tlsf_store.specs.declared.records.State.TheVariants.{Vacant, Free, Live}
-use Rattle.tlsf_store.specs.Records.{record_at}
+use Rattle.tlsf_store.specs.Records.{record_at, is_free_state}
 use Rattle.tlsf_store.specs.Cells.{Cells}
 use Rattle.tlsf_store.specs.declared.pools.Pool.{Pool as StoredPool}
 use Rattle.tlsf_heap.specs.declared.refusal.Refusal.TheVariants.{NoPool, PoolInUse}
@@ -16,11 +16,10 @@ use Rattle.tlsf_heap.specs.Lists.{unlink}
 use Rattle.tlsf_heap.specs.Good.{AreGoodPools, IsGood}
 use Rattle.tlsf_heap.specs.Pools.{is_based, is_unused, without_pool, remove_found, remove_pool}
 use Rattle.tlsf_heap.specs.Inner.Entries.{entries_of, padded}
-use Rattle.tlsf_heap.specs.Inner.States.{is_state_free}
 use Rattle.tlsf_heap.specs.Inner.Nodes.{InUse, Listed, Node, Area, turned, left, has_slot, nodes_of, block_of, pool_of, content_by}
 use Rattle.tlsf_heap.specs.Inner.Positions.{plug, Position, filled}
 use Rattle.tlsf_heap.specs.Inner.Entering.{entries_in}
-use Rattle.tlsf_heap.specs.Inner.Joined.{is_loose}
+use Rattle.tlsf_heap.specs.Inner.Merging.{is_loose}
 use Rattle.tlsf_heap.specs.Inner.Represents.{IsChain, pool_views, first_slot, Represents}
 use Rattle.tlsf_heap.specs.Inner.At.{At, layout_at, StandsAt, at_taken, without_area}
 use Rattle.tlsf_heap.specs.Inner.CellEdits.{pool_dropped}
@@ -29,7 +28,7 @@ use Rattle.tlsf_heap.proofs.Good.RemovedPool.{others, found_among, none_found, o
 use Rattle.tlsf_heap.proofs.Inner.Plugs.{map-plug, all_parts, count-nodes, count-nodes-plug}
 use Rattle.tlsf_heap.proofs.Inner.Areas.{AreaAt, area_at, FirstNode, first_node}
 use Rattle.tlsf_heap.proofs.Inner.Followed.{content_is, stood_for}
-use Rattle.tlsf_heap.proofs.Inner.Live.{NodeAt, at_found, found_laid, found_stands, found_listed, node_told}
+use Rattle.tlsf_heap.proofs.Inner.Live.{NodeAt, at_found, found_laid, found_stands, found_listed, node_agrees_once}
 use Rattle.tlsf_heap.proofs.Inner.Located.{Located}
 use Rattle.tlsf_heap.proofs.Inner.Standing.{entries_are, content_is_good}
 use Rattle.tlsf_heap.proofs.Inner.PoolMoves.{pool_leaves}
@@ -42,7 +41,7 @@ found_used pool content used = rw used refl
 found_unused : (pool : Pool ℕ) (content : Content ℕ) → is_unused pool ≡ true → remove_found (Some pool) content ≡ Ok (without_pool pool content)
 found_unused pool content unused = rw unused refl
 
-free_state : (state : State) → is_state_free state ≡ true → state ≡ Free
+free_state : (state : State) → is_free_state state ≡ true → state ≡ Free
 free_state Vacant is = absurd (cc)
 free_state Free is = refl
 free_state Live is = absurd (cc)
@@ -116,14 +115,14 @@ module _ (cells : Cells) (stands : Stands cells) (base : ℕ) where
 
     -- its first record tells whether the pool is one free block
     module _ (slot : ℕ) (slot_is : slot ≡ at.area.entry.first) where
-      unused_is : is_unused (pool_of at.area) ≡ (is_state_free (record_at cells.records slot).state && is_none (record_at cells.records slot).next)
-      unused_is = first.unused ∙ ap (λ q. is_state_free (record_at cells.records q).state && is_none (record_at cells.records q).next) (first.slot_is ∙ sym slot_is)
+      unused_is : is_unused (pool_of at.area) ≡ (is_free_state (record_at cells.records slot).state && is_none (record_at cells.records slot).next)
+      unused_is = first.unused ∙ ap (λ q. is_free_state (record_at cells.records q).state && is_none (record_at cells.records q).next) (first.slot_is ∙ sym slot_is)
 
-      pub refused_used : (is_state_free (record_at cells.records slot).state && is_none (record_at cells.records slot).next) ≡ false → remove_pool base (content_of cells) ≡ Err PoolInUse
+      pub refused_used : (is_free_state (record_at cells.records slot).state && is_none (record_at cells.records slot).next) ≡ false → remove_pool base (content_of cells) ≡ Err PoolInUse
       refused_used used = ap (λ o. remove_found o (content_of cells)) found.0 ∙ found_used (pool_of at.area) (content_of cells) (unused_is ∙ used)
 
       -- where it is
-      module _ (unused : (is_state_free (record_at cells.records slot).state && is_none (record_at cells.records slot).next) ≡ true) where
+      module _ (unused : (is_free_state (record_at cells.records slot).state && is_none (record_at cells.records slot).next) ≡ true) where
         abbrev here : Located (has_slot slot) stands.layout.areas
         here = record {
           position = record { areas_before = at.front; entry = at.area.entry; before = []; areas_behind = at.behind };
@@ -137,7 +136,7 @@ module _ (cells : Cells) (stands : Stands cells) (base : ℕ) where
         abbrev pub node_there : At
         node_there = at_found cells stands (has_slot slot) here
 
-        listed : (first.node.status ≡ Listed) × (first.node.place ≡ (record_at cells.records slot).place)
+        listed : (first.node.state ≡ Listed) × (first.node.place ≡ (record_at cells.records slot).place)
         listed = found_listed cells stands slot here (free_state (record_at cells.records slot).state (and_parts _ _ unused).0)
 
         pub stands_there : StandsAt slot Listed cells node_there
@@ -166,12 +165,12 @@ module _ (cells : Cells) (stands : Stands cells) (base : ℕ) where
         content_left =
             let node : Node = first.node in
             let lists : List (List Node) = stands.layout.lists in
-            let told = node_told cells stands first.node.place slot Listed by in
+            let agreed = node_agrees_once cells stands first.node.place slot Listed by in
             let records : stands.layout.count ≡ (content_of cells).records = ap (λ (content : Content ℕ). content.records) (sym (stood_for cells stands)) in
             let pools : map pool_of (plug at.front at.behind) ≡ others at.area.entry.base (content_of cells).pools =
             ap (map pool_of) (at.same at.behind) ∙ map-append pool_of at.before at.behind ∙ sym found.1 ∙ ap (λ b. others {A = ℕ} b (content_of cells).pools) (sym base_is) in
             let out : by_places (left (turned Listed node) lists) ≡ unlink at.area.entry.base at.area.entry.bytes (content_of cells).lists =
-            places-left (turned Listed node) lists told.full (alike (turned Listed node) lists node_there.position (turned Listed node) first.nodes refl refl told)
+            places-left (turned Listed node) lists agreed.full (alike (turned Listed node) lists node_there.position (turned Listed node) first.nodes refl refl agreed)
             ∙ ap (λ p. unlink p node.size (by_places lists)) block_there.0
             ∙ ap (λ n. unlink at.area.entry.base n (by_places lists)) block_there.1
             ∙ ap (λ (content : Content ℕ). unlink at.area.entry.base at.area.entry.bytes content.lists) (sym (stood_for cells stands)) in
@@ -179,7 +178,7 @@ module _ (cells : Cells) (stands : Stands cells) (base : ℕ) where
 
         pub removed_stands : (new : Cells) → Represents new (without_area node_there) → Stands new × (remove_pool base (content_of cells) ≡ Ok (content_of new))
         removed_stands new after =
-            let loose : Node → Bool = λ node. is_loose node.status in
+            let loose : Node → Bool = λ node. is_loose node.state in
             let P : Content ℕ → Type 0 = λ x. IsGood x in
             let gone : remove_pool base (content_of cells) ≡ Ok (without_pool (pool_of at.area) (content_of cells)) =
             ap (λ o. remove_found o (content_of cells)) found.0 ∙ found_unused (pool_of at.area) (content_of cells) unused_pool in (

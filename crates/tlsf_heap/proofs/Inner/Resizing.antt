@@ -11,31 +11,31 @@ use Rattle.tlsf_heap.specs.Free.{is_live, if_free, free_next, size_of}
 use Rattle.tlsf_heap.specs.Realloc.{fits_in_place, resized}
 use Rattle.tlsf_heap.specs.Inner.Nodes.{InUse, Node, Layout, turned, block_of, content_by, nodes_of, is_listed}
 use Rattle.tlsf_heap.specs.Inner.Positions.{filled}
-use Rattle.tlsf_heap.specs.Inner.Joined.{is_loose, listed_first, past, grown_behind}
+use Rattle.tlsf_heap.specs.Inner.Merging.{is_loose, listed_first, past, merged_with_behind}
 use Rattle.tlsf_heap.specs.Inner.Following.{content_of, Stands}
-use Rattle.tlsf_heap.specs.Inner.At.{areas_at, layout_at, StandsAt, next_joined, at_trimmed}
+use Rattle.tlsf_heap.specs.Inner.At.{areas_at, layout_at, StandsAt, next_merged, at_split_rest}
 use Rattle.tlsf_heap.proofs.Counts.{count_all}
 use Rattle.tlsf_heap.proofs.Inner.Plugs.{count-filled}
 use Rattle.tlsf_heap.proofs.Inner.Sums.{all_records}
 use Rattle.tlsf_heap.proofs.Inner.Followed.{stood_for, records_are}
 use Rattle.tlsf_heap.proofs.Inner.Steps.{size_read, slot_used}
 use Rattle.tlsf_heap.proofs.Inner.Served.{used_is}
-use Rattle.tlsf_heap.proofs.Inner.Live.{NodeAt, node_stood, node_good, node_told, node_size, node_taken, live_at, stands_with}
+use Rattle.tlsf_heap.proofs.Inner.Live.{NodeAt, node_stood, node_good, node_agrees_once, node_size, node_taken, live_at, stands_with}
 use Rattle.tlsf_heap.proofs.Inner.Standing.{used_are, content_is_good}
-use Rattle.tlsf_heap.proofs.Meaning.Places.{Told, alone}
+use Rattle.tlsf_heap.proofs.Meaning.Places.{AgreeOnce, alone}
 use Rattle.tlsf_heap.proofs.Meaning.NodeBlocks.{back_is}
 use Rattle.tlsf_heap.proofs.Meaning.Freed.{NoneLoose, listed_is_free}
-use Rattle.tlsf_heap.proofs.Meaning.Resized.{trimmed_is}
+use Rattle.tlsf_heap.proofs.Meaning.Resized.{rest_split_is}
 use Rattle.tlsf_heap.proofs.Meaning.ResizedIsGood.{resized_is_good}
 use Rattle.tlsf_store.specs.declared.records.Record.{Record}
 
 module _ (cells : Cells) (stands : Stands cells) (place slot : ℕ) (by : NodeAt place slot InUse cells stands.layout) where
-  told : Told (filled by.at.position (turned InUse by.at.node ∷ by.at.nodes)) by.at.lists
-  told = node_told cells stands place slot InUse by
+  agreed : AgreeOnce (filled by.at.position (turned InUse by.at.node ∷ by.at.nodes)) by.at.lists
+  agreed = node_agrees_once cells stands place slot InUse by
 
   none_loose : NoneLoose by.at.nodes
   none_loose =
-      let loose : Node → Bool = λ n. is_loose n.status in
+      let loose : Node → Bool = λ n. is_loose n.state in
       omega (arith, by.stands.1.others_settled, count-filled loose by.at.position by.at.nodes)
 
   -- its size
@@ -47,7 +47,7 @@ module _ (cells : Cells) (stands : Stands cells) (place slot : ℕ) (by : NodeAt
   next_there =
       ap (free_next place) (node_stood cells stands place slot InUse by)
       ∙ ap (λ p. free_next p (content_by (layout_at (record by.at { node = turned InUse by.at.node })))) (sym by.place_is)
-      ∙ ap if_free (back_is by.at.position (turned InUse by.at.node) by.at.nodes (alone by.at.position (turned InUse by.at.node) by.at.nodes told.places))
+      ∙ ap if_free (back_is by.at.position (turned InUse by.at.node) by.at.nodes (alone by.at.position (turned InUse by.at.node) by.at.nodes agreed.places))
       ∙ listed_is_free by.at.nodes none_loose
 
   -- where it fits, by the node and the one behind it
@@ -66,30 +66,30 @@ module _ (cells : Cells) (stands : Stands cells) (place slot : ℕ) (by : NodeAt
   pub vacant_there : used_records (content_of cells) + vacant_count cells.records ≡ (content_of cells).records
   vacant_there = omega (arith, used_are cells stands, records_are cells)
 
-  -- once it took in the free one behind it and was cut
+  -- once it was merged with the free one behind it and split
   pub resized_stands : (new : Cells) (m rest : ℕ) → is_live (λ owner. owner == slot) place (blocks_of (content_of cells).pools) ≡ true → fits_in_place place m (content_of cells) ≡ true → m ≢ size_at place (blocks_of (content_of cells).pools) → 0 < m → m % unit ≡ 0
-      → StandsAt slot InUse new (at_trimmed rest m (next_joined by.at)) → Stands new × (content_of new ≡ resized slot place m (content_of cells))
+      → StandsAt slot InUse new (at_split_rest rest m (next_merged by.at)) → Stands new × (content_of new ≡ resized slot place m (content_of cells))
   resized_stands new m rest live fits other some whole after =
-      let is : content_by (layout_at (at_trimmed rest m (next_joined by.at))) ≡ resized slot place m (content_of cells) =
-      ap (λ s. content_by (layout_at (at_trimmed rest m (next_joined (record by.at { node = turned s by.at.node }))))) by.stands.1.status_is
-      ∙ trimmed_is by.at.count by.at.position by.at.node by.at.nodes by.at.lists by.at.taken told none_loose (node_good cells stands place slot InUse by) rest m by.at.taken some whole
+      let is : content_by (layout_at (at_split_rest rest m (next_merged by.at))) ≡ resized slot place m (content_of cells) =
+      ap (λ s. content_by (layout_at (at_split_rest rest m (next_merged (record by.at { node = turned s by.at.node }))))) by.stands.1.node_state_is
+      ∙ rest_split_is by.at.count by.at.position by.at.node by.at.nodes by.at.lists by.at.taken agreed none_loose (node_good cells stands place slot InUse by) rest m by.at.taken some whole
       ∙ ap (λ s. resized s by.at.node.place m (content_by (layout_at (record by.at { node = turned InUse by.at.node })))) by.stands.1.slot_is
       ∙ ap (λ p. resized slot p m (content_by (layout_at (record by.at { node = turned InUse by.at.node })))) by.place_is
       ∙ ap (resized slot place m) (sym (node_stood cells stands place slot InUse by)) in
-      stands_with new slot InUse (at_trimmed rest m (next_joined by.at)) (resized slot place m (content_of cells)) after refl (node_taken cells stands place slot InUse by) is
+      stands_with new slot InUse (at_split_rest rest m (next_merged by.at)) (resized slot place m (content_of cells)) after refl (node_taken cells stands place slot InUse by) is
       (resized_is_good (λ owner. owner == slot) slot place m (content_of cells) (content_is_good cells stands) live some whole fits other)
 
-  grown_size : (node : Node) (o : Option Node) → (grown_behind o node).size ≡ node.size + size_of (option_map block_of o)
+  grown_size : (node : Node) (o : Option Node) → (merged_with_behind o node).size ≡ node.size + size_of (option_map block_of o)
   grown_size node None = omega arith
   grown_size node (Some b) = refl
 
   past_length : (nodes : List Node) → length (past nodes) + cond {A = ℕ} (is_some (listed_first nodes)) 1 0 ≡ length nodes
   past_length [] = refl
-  past_length (node ∷ nodes) = elim (is_listed node.status) as (λ b. length (cond b nodes (node ∷ nodes)) + cond {A = ℕ} (is_some (cond b (Some node) None)) 1 0 ≡ length (node ∷ nodes)) [ true ↦ omega arith | false ↦ omega arith ]
+  past_length (node ∷ nodes) = elim (is_listed node.state) as (λ b. length (cond b nodes (node ∷ nodes)) + cond {A = ℕ} (is_some (cond b (Some node) None)) 1 0 ≡ length (node ∷ nodes)) [ true ↦ omega arith | false ↦ omega arith ]
 
-  -- after the join there are the bytes asked for, and a record for what is left
-  pub joined_holds : (new : Cells) (m : ℕ) → fits_in_place place m (content_of cells) ≡ true → StandsAt slot InUse new (next_joined by.at) → (m ≤ (next_joined by.at).node.size) × (m < (record_at new.records slot).size → 0 < vacant_count new.records)
-  joined_holds new m fits after = (most, room)
+  -- after the merge there are the bytes asked for, and a record for what is left
+  pub merged_holds : (new : Cells) (m : ℕ) → fits_in_place place m (content_of cells) ≡ true → StandsAt slot InUse new (next_merged by.at) → (m ≤ (next_merged by.at).node.size) × (m < (record_at new.records slot).size → 0 < vacant_count new.records)
+  merged_holds new m fits after = (most, room)
     where
       next : Option Node
       next = listed_first by.at.nodes
@@ -97,13 +97,13 @@ module _ (cells : Cells) (stands : Stands cells) (place slot : ℕ) (by : NodeAt
       size : ℕ
       size = by.at.node.size
 
-      grown : (next_joined by.at).node.size ≡ by.at.node.size + size_of (option_map block_of (listed_first by.at.nodes))
+      grown : (next_merged by.at).node.size ≡ by.at.node.size + size_of (option_map block_of (listed_first by.at.nodes))
       grown = grown_size by.at.node (listed_first by.at.nodes)
 
       told_so : cond (nat_lt m by.at.node.size) (is_some (listed_first by.at.nodes) || nat_lt (used_records (content_of cells)) (content_of cells).records) (nat_le m (by.at.node.size + size_of (option_map block_of (listed_first by.at.nodes)))) ≡ true
       told_so = sym (fits_there m) ∙ fits
 
-      most : m ≤ (next_joined by.at).node.size
+      most : m ≤ (next_merged by.at).node.size
       most = elim (cases_Bool (nat_lt m by.at.node.size)) [
         | inl less ↦ omega (arith, ltb-true m by.at.node.size less, grown)
         | inr more ↦
@@ -112,25 +112,25 @@ module _ (cells : Cells) (stands : Stands cells) (place slot : ℕ) (by : NodeAt
       ]
 
       -- the blocks before and after
-      counted : length (nodes_of (areas_at (next_joined by.at))) + cond {A = ℕ} (is_some (listed_first by.at.nodes)) 1 0 ≡ length (nodes_of (areas_at by.at))
+      counted : length (nodes_of (areas_at (next_merged by.at))) + cond {A = ℕ} (is_some (listed_first by.at.nodes)) 1 0 ≡ length (nodes_of (areas_at by.at))
       counted =
           let all : Node → Bool = λ n. true in
           omega (
             arith,
-            count_all (nodes_of (areas_at (next_joined by.at))),
+            count_all (nodes_of (areas_at (next_merged by.at))),
             count_all (nodes_of (areas_at by.at)),
-            count-filled all by.at.position ((next_joined by.at).node ∷ past by.at.nodes),
+            count-filled all by.at.position ((next_merged by.at).node ∷ past by.at.nodes),
             count-filled all by.at.position (by.at.node ∷ by.at.nodes),
-            count_all ((next_joined by.at).node ∷ past by.at.nodes),
+            count_all ((next_merged by.at).node ∷ past by.at.nodes),
             count_all (by.at.node ∷ by.at.nodes),
             past_length by.at.nodes,
           )
 
-      vacant_after : length (nodes_of (areas_at (next_joined by.at))) + vacant_count new.records ≡ (content_of cells).records
+      vacant_after : length (nodes_of (areas_at (next_merged by.at))) + vacant_count new.records ≡ (content_of cells).records
       vacant_after =
           omega (
             arith,
-            all_records new (layout_at (next_joined by.at)) after.0,
+            all_records new (layout_at (next_merged by.at)) after.0,
             after.0.count,
             ap (λ (xs : List ℕ). length xs) (node_taken cells stands place slot InUse by),
             ap (λ (x : Content ℕ). x.records) (stood_for cells stands),
@@ -143,8 +143,8 @@ module _ (cells : Cells) (stands : Stands cells) (place slot : ℕ) (by : NodeAt
       room : m < (record_at new.records slot).size → 0 < vacant_count new.records
       room less = go (cases_Bool (is_some (listed_first by.at.nodes)))
         where
-          sized : (record_at new.records slot).size ≡ (next_joined by.at).node.size
-          sized = size_read new slot InUse (next_joined by.at) after
+          sized : (record_at new.records slot).size ≡ (next_merged by.at).node.size
+          sized = size_read new slot InUse (next_merged by.at) after
 
           size_none : (o : Option Node) → is_some o ≡ false → size_of (option_map block_of o) ≡ 0
           size_none None none = refl

@@ -12,10 +12,10 @@ use Rattle.tlsf_heap.specs.Free.{after_free}
 use Rattle.tlsf_heap.specs.Malloc.{malloc}
 use Rattle.tlsf_heap.specs.Pools.{created, with_pool}
 use Rattle.std.specs.Prelude.{Ok}
-use Rattle.tlsf_heap.specs.Inner.Nodes.{Node, Layout, InUse, Listed, content_by, list_of, left, entered}
+use Rattle.tlsf_heap.specs.Inner.Nodes.{Node, Layout, InUse, Listed, content_by, nodes_in, left, entered}
 use Rattle.tlsf_heap.specs.Inner.Positions.{Position, filled, laid}
 use Rattle.tlsf_heap.specs.Inner.Represents.{pool_views, list_views, in_pool, in_list, AreLinked, first_slot}
-use Rattle.tlsf_heap.specs.Inner.Joined.{freed_layout}
+use Rattle.tlsf_heap.specs.Inner.Merging.{freed_layout}
 
 -- a pool of 1024 bytes in a store of 4 records
 abbrev entry : StoredPool
@@ -29,10 +29,10 @@ abbrev first_split : Cells
 first_split = with_state 0 Live (linked 57 1 (split 0 1 112 (unlinked 64 0 (with_taken (pool_entered entry (with_taken (empty_cells 4) (Some 0))) (Some 1)))))
 
 abbrev taken : Node
-taken = record { slot = 0; place = 0; size = 112; status = InUse }
+taken = record { slot = 0; place = 0; size = 112; state = InUse }
 
 abbrev rest : Node
-rest = record { slot = 1; place = 112; size = 912; status = Listed }
+rest = record { slot = 1; place = 112; size = 912; state = Listed }
 
 abbrev split_layout : Layout
 split_layout = laid 4 (position []) (taken ∷ rest ∷ []) (entered rest (replicate classes [])) []
@@ -41,7 +41,7 @@ in_the_pool : AreLinked in_pool (pool_views first_split.records) None (taken ∷
 unfolding class low
 in_the_pool = (refl, (refl, tt))
 
-in_the_list : AreLinked in_list (list_views first_split.records) None (list_of 57 split_layout.lists)
+in_the_list : AreLinked in_list (list_views first_split.records) None (nodes_in 57 split_layout.lists)
 unfolding class low entered
 in_the_list = (refl, tt)
 
@@ -60,13 +60,13 @@ the_row = refl
 
 -- sixteen bytes more are taken, and the first block is freed; then the one between two free ones is freed
 abbrev front : Node
-front = record { slot = 0; place = 0; size = 112; status = Listed }
+front = record { slot = 0; place = 0; size = 112; state = Listed }
 
 abbrev middle : Node
-middle = record { slot = 1; place = 112; size = 16; status = InUse }
+middle = record { slot = 1; place = 112; size = 16; state = InUse }
 
 abbrev back : Node
-back = record { slot = 2; place = 128; size = 896; status = Listed }
+back = record { slot = 2; place = 128; size = 896; state = Listed }
 
 abbrev before_free : Layout
 before_free = laid 4 (position (front ∷ [])) (middle ∷ back ∷ []) (entered front (entered back (replicate classes []))) []

@@ -8,7 +8,7 @@ use Rattle.std.proofs.lemmas.List.FromFn.{get_or-map-range_with_len, length-rang
 use Rattle.tlsf_store.specs.declared.records.Record.{Record}
 use Rattle.tlsf_store.specs.declared.records.State.{State}
 use Rattle.tlsf_store.specs.declared.records.State.TheVariants.{Vacant, Free, Live}
-use Rattle.tlsf_store.specs.Records.{blank, record_at, is_vacant}
+use Rattle.tlsf_store.specs.Records.{blank, record_at, is_vacant, is_live_state}
 use Rattle.tlsf_store.specs.Cells.{Cells, pool_at, most_pools}
 use Rattle.tlsf_store.specs.declared.pools.Pool.{Pool as StoredPool}
 use Rattle.tlsf_heap.specs.declared.refusal.Refusal.TheVariants.{NoPool}
@@ -18,7 +18,6 @@ use Rattle.tlsf_heap.specs.Good.{times, AreGoodPools}
 use Rattle.tlsf_heap.specs.Inner.Edits.{IsUsed}
 use Rattle.tlsf_heap.specs.Rows.{row_of, rows_from}
 use Rattle.tlsf_heap.specs.Cursors.{rows_at, rows_by, rest_of, stands_at, slot_for, begins_below, slot_if, AreInOrder, IsNarrowed}
-use Rattle.tlsf_heap.specs.Inner.States.{is_state_live}
 use Rattle.tlsf_heap.specs.Inner.Entries.{padded, padded_at, entries_of}
 use Rattle.tlsf_heap.proofs.Inner.EntryLists.{padded_at_is, length-padded, entries_of-padded}
 use Rattle.tlsf_heap.specs.Inner.Nodes.{Node, Area, Layout, block_of, pool_of, nodes_of, has_slot}
@@ -286,7 +285,7 @@ module _ (cells : Cells) (stands : Stands cells) where
   pub first_stands_so : (base slot : ℕ) → slot_for base (entries_of cells.pools) ≡ Some slot → stands_at (rows_by cells.records) (Some slot)
   first_stands_so base slot is = used_stands (Some slot) (first_used base slot is)
 
-pub live_is_used : (s : State) (slot : ℕ) (place size : ℕ) → not (is_free (record { place = place; size = size; owner = owner_in s slot })) ≡ is_state_live s
+pub live_is_used : (s : State) (slot : ℕ) (place size : ℕ) → not (is_free (record { place = place; size = size; owner = owner_in s slot })) ≡ is_live_state s
 live_is_used Vacant slot place size = refl
 live_is_used Free slot place size = refl
 live_is_used Live slot place size = refl

@@ -14,17 +14,17 @@ use Rattle.tlsf_heap.specs.Content.{Block, Content, blocks_of, size_at, used_rec
 use Rattle.tlsf_heap.specs.Lists.{pick}
 use Rattle.tlsf_heap.specs.Malloc.{allocated, malloc_picked}
 use Rattle.tlsf_heap.specs.Good.{IsGood}
-use Rattle.tlsf_heap.specs.Inner.Nodes.{Status, InUse, Listed, Node, Layout, turned, owner_of, block_of, content_by, nodes_of, has_slot, gap_nodes, entered_gap}
+use Rattle.tlsf_heap.specs.Inner.Nodes.{NodeState, InUse, Listed, Node, Layout, turned, owner_of, block_of, content_by, nodes_of, has_slot, gap_nodes, entered_gap}
 use Rattle.tlsf_heap.specs.Inner.Following.{content_of, Stands}
-use Rattle.tlsf_heap.specs.Inner.At.{At, areas_at, layout_at, StandsAt, at_taken, at_cut, at_trimmed}
+use Rattle.tlsf_heap.specs.Inner.At.{At, areas_at, layout_at, StandsAt, at_taken, at_split_off, at_split_rest}
 use Rattle.tlsf_heap.proofs.Good.Calls.{picked, allocated_is_good}
-use Rattle.tlsf_heap.specs.Inner.Joined.{is_loose}
+use Rattle.tlsf_heap.specs.Inner.Merging.{is_loose}
 use Rattle.tlsf_heap.proofs.Counts.{one_if, count-cons, count-map}
 use Rattle.tlsf_heap.proofs.Inner.Plugs.{count-filled}
 use Rattle.tlsf_heap.proofs.Inner.Followed.{stood_for, records_are}
 use Rattle.tlsf_heap.proofs.Inner.Chains.{uses_most}
 use Rattle.tlsf_heap.proofs.Inner.Steps.{slot_used}
-use Rattle.tlsf_heap.proofs.Inner.Live.{NodeAt, node_stood, node_told, node_size, node_taken, stands_with}
+use Rattle.tlsf_heap.proofs.Inner.Live.{NodeAt, node_stood, node_agrees_once, node_size, node_taken, stands_with}
 use Rattle.tlsf_heap.proofs.Inner.Standing.{used_are, content_is_good, owners_few}
 use Rattle.tlsf_heap.proofs.Meaning.Places.{blocks_of_areas}
 use Rattle.tlsf_heap.proofs.Meaning.Aligned.{allocated_is}
@@ -69,13 +69,13 @@ module _ (cells : Cells) (stands : Stands cells) (place slot asked : ℕ) (by : 
       ∙ ap (λ p. allocated slot p bytes by.at.node.size (content_of cells)) by.place_is
 
   -- what stands where the node keeps the bytes asked for
-  served : (new : Cells) (rest s : ℕ) (status : Status) (left_at : At) → StandsAt s status new left_at → is_loose status ≡ false → left_at.taken ≡ by.at.taken → layout_at left_at ≡ layout_at (at_trimmed rest asked (at_taken by.at))
+  served : (new : Cells) (rest s : ℕ) (node_state : NodeState) (left_at : At) → StandsAt s node_state new left_at → is_loose node_state ≡ false → left_at.taken ≡ by.at.taken → layout_at left_at ≡ layout_at (at_split_rest rest asked (at_taken by.at))
       → (asked < by.at.node.size → used_records (content_of cells) < (content_of cells).records) → Stands new × (malloc_picked slot asked (Some place) (content_of cells) ≡ Ok (place, content_of new))
-  served new rest s status left_at after settled kept same_left room =
+  served new rest s node_state left_at after settled kept same_left room =
       let given = gives room in
       let is : content_by (layout_at left_at) ≡ allocated slot place asked by.at.node.size (content_of cells) =
-      ap content_by same_left ∙ allocated_is by.at.count by.at.position (turned Listed by.at.node) by.at.nodes by.at.lists (node_told cells stands place slot Listed by) rest asked by.at.taken by.at.taken ∙ renamed asked in
-      let after_all = stands_with new s status left_at (allocated slot place asked by.at.node.size (content_of cells)) after settled (kept ∙ node_taken cells stands place slot Listed by) is given.1 in
+      ap content_by same_left ∙ allocated_is by.at.count by.at.position (turned Listed by.at.node) by.at.nodes by.at.lists (node_agrees_once cells stands place slot Listed by) rest asked by.at.taken by.at.taken ∙ renamed asked in
+      let after_all = stands_with new s node_state left_at (allocated slot place asked by.at.node.size (content_of cells)) after settled (kept ∙ node_taken cells stands place slot Listed by) is given.1 in
       (after_all.0, given.0 ∙ ap (λ x. Ok (place, x)) (sym after_all.1))
 
   pub whole_stands : (new : Cells) → StandsAt slot InUse new (at_taken by.at) → asked ≡ by.at.node.size → Stands new × (malloc_picked slot asked (Some place) (content_of cells) ≡ Ok (place, content_of new))
@@ -89,11 +89,11 @@ module _ (cells : Cells) (stands : Stands cells) (place slot asked : ℕ) (by : 
       let same_left : of by.at.node.size 0 ≡ of asked (by.at.node.size - asked) = λ i. of (sym all i) (nothing i) in
       served new 0 slot InUse (at_taken by.at) after refl refl same_left (λ larger. absurd (omega (arith, larger, all)))
 
-  pub part_stands : (new : Cells) (rest : ℕ) → StandsAt rest Listed new (at_cut rest asked (at_taken by.at)) → asked < by.at.node.size → used_records (content_of cells) < (content_of cells).records
+  pub part_stands : (new : Cells) (rest : ℕ) → StandsAt rest Listed new (at_split_off rest asked (at_taken by.at)) → asked < by.at.node.size → used_records (content_of cells) < (content_of cells).records
       → Stands new × (malloc_picked slot asked (Some place) (content_of cells) ≡ Ok (place, content_of new))
   part_stands new rest after less room =
       let some = ne_eqb (by.at.node.size - asked) 0 (λ e. omega (arith, e, less)) in
-      served new rest rest Listed (at_cut rest asked (at_taken by.at)) after refl refl (rw some refl) (λ larger. room)
+      served new rest rest Listed (at_split_off rest asked (at_taken by.at)) after refl refl (rw some refl) (λ larger. room)
 
   pub full_refused : vacant_count cells.records ≡ 0 → asked < by.at.node.size → (owner : ℕ) → malloc_picked owner asked (Some place) (content_of cells) ≡ Err TableFull
   full_refused no_vacant less owner =
@@ -106,9 +106,9 @@ module _ (cells : Cells) (stands : Stands cells) (place slot asked : ℕ) (by : 
 pub slot_new : (cells : Cells) (stands : Stands cells) (place slot : ℕ) → NodeAt place slot Listed cells stands.layout → slot_times slot (blocks_of (content_of cells).pools) ≡ 0
 slot_new cells stands place slot by =
     let at : At = by.at in
-    let owns : Node → Bool = λ n. is_slot slot (owner_of n.status n.slot) in
+    let owns : Node → Bool = λ n. is_slot slot (owner_of n.state n.slot) in
     let blocks = ap (λ (x : Content ℕ). slot_times slot (blocks_of x.pools)) (stood_for cells stands ∙ ap content_by by.layout_is) ∙ ap (slot_times slot) (blocks_of_areas (areas_at at)) ∙ count-map (λ (b : Block ℕ). is_slot slot b.owner) block_of (nodes_of (areas_at at)) in
-    let free : one_if (owns at.node) ≡ 0 = ap (λ s. one_if (is_slot slot (owner_of s at.node.slot))) by.stands.1.status_is in
+    let free : one_if (owns at.node) ≡ 0 = ap (λ s. one_if (is_slot slot (owner_of s at.node.slot))) by.stands.1.node_state_is in
     omega (
       arith,
       blocks,

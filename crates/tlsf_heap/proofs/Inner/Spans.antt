@@ -11,11 +11,11 @@ use Rattle.tlsf_store.specs.Cells.{Cells, with_record}
 use Rattle.tlsf_store.proofs.RecordLaws.{record_at-set_same, record_at-set_other}
 use Rattle.tlsf_heap.specs.declared.span.Span.{Span}
 use Rattle.tlsf_heap.specs.Inner.Edits.{IsUsed, edited_in, with_prev_free, with_behind, unlinked, unlinked_by}
-use Rattle.tlsf_heap.specs.Inner.Chains.{with_prev, with_state, split, absorbed, rest_record}
-use Rattle.tlsf_heap.specs.Inner.Nodes.{Status, InUse, Listed, Loose, is_listed}
+use Rattle.tlsf_heap.specs.Inner.Chains.{with_prev, with_state, split, merged_behind, rest_record}
+use Rattle.tlsf_heap.specs.Inner.Nodes.{NodeState, InUse, Listed, Loose, is_listed}
 use Rattle.tlsf_heap.specs.Inner.Represents.{InPool, state_of}
 use Rattle.tlsf_heap.specs.Inner.At.{At, StandsAt, with_slot, at_turned, at_unlisted, at_split}
-use Rattle.tlsf_heap.specs.Inner.Spans.{span_of, IsRead, IsSpanOf, rest_of, split_by, absorbed_by, joined_by, CanJoin}
+use Rattle.tlsf_heap.specs.Inner.Spans.{span_of, IsRead, IsSpanOf, rest_of, split_by, merged_behind_by, merged_by, CanMerge}
 use Rattle.tlsf_heap.proofs.Counts.{one_if}
 use Rattle.tlsf_heap.proofs.Content.FreeLists.{times-cons}
 use Rattle.tlsf_heap.proofs.Inner.Chains.{at_node}
@@ -24,14 +24,14 @@ use Rattle.tlsf_heap.proofs.Inner.Reads.{edited_kept}
 use Rattle.tlsf_heap.proofs.Inner.Unlinked.{cleared_is}
 use Rattle.tlsf_heap.proofs.Inner.Steps.{slot_used, size_read, place_read, whole_at, turned_stands}
 use Rattle.tlsf_heap.proofs.Inner.Allotted.{split_stands, prev_used as prev_free_used, behind_used, unlinked_stands}
-use Rattle.tlsf_heap.proofs.Inner.Joinable.{Joins, next_is}
+use Rattle.tlsf_heap.proofs.Inner.Mergeable.{Merges, next_is}
 
 -- the state that a node's record says
-pub state_read : (cells : Cells) (slot : ℕ) (status : Status) (at : At) → StandsAt slot status cells at → (record_at cells.records slot).state ≡ state_of status
-state_read cells slot status at stands =
+pub state_read : (cells : Cells) (slot : ℕ) (node_state : NodeState) (at : At) → StandsAt slot node_state cells at → (record_at cells.records slot).state ≡ state_of node_state
+state_read cells slot node_state at stands =
     ap (λ q. (record_at cells.records q).state) (sym stands.1.slot_is)
     ∙ ap (λ (v : InPool). v.state) (at_node cells.records at.position at.node at.nodes at.taken stands.0.chains).says
-    ∙ ap state_of stands.1.status_is
+    ∙ ap state_of stands.1.node_state_is
 
 -- a record that was read
 pub read_of : (records : List Record) (slot : ℕ) (block : Record) → block ≡ record_at records slot → block.place % unit ≡ 0 → IsRead (span_of slot block) records
@@ -42,33 +42,33 @@ read_of records slot block read in_units = record {
   in_units = in_units;
 }
 
-module _ (cells : Cells) (status : Status) (at : At) (span : Span) (stands : StandsAt span.slot status cells at) where
+module _ (cells : Cells) (node_state : NodeState) (at : At) (span : Span) (stands : StandsAt span.slot node_state cells at) where
   pub by_node : IsRead span cells.records → IsSpanOf span at
   by_node read = record {
     slot = sym stands.1.slot_is;
-    place = read.place ∙ place_read cells span.slot status at stands;
-    size = read.size ∙ size_read cells span.slot status at stands;
-    next = read.next ∙ next_is cells at span.slot status stands;
+    place = read.place ∙ place_read cells span.slot node_state at stands;
+    size = read.size ∙ size_read cells span.slot node_state at stands;
+    next = read.next ∙ next_is cells at span.slot node_state stands;
     in_units = read.in_units;
   }
 
   pub by_record : IsSpanOf span at → IsRead span cells.records
   by_record of = record {
-    place = of.place ∙ sym (place_read cells span.slot status at stands);
-    size = of.size ∙ sym (size_read cells span.slot status at stands);
-    next = of.next ∙ sym (next_is cells at span.slot status stands);
+    place = of.place ∙ sym (place_read cells span.slot node_state at stands);
+    size = of.size ∙ sym (size_read cells span.slot node_state at stands);
+    next = of.next ∙ sym (next_is cells at span.slot node_state stands);
     in_units = of.in_units;
   }
 
 -- a taken slot is another
-pub rest_apart : (cells : Cells) (slot rest : ℕ) (status : Status) (at : At) → StandsAt slot status cells (with_slot rest at) → rest ≢ slot
-rest_apart cells slot rest status at stands e =
+pub rest_apart : (cells : Cells) (slot rest : ℕ) (node_state : NodeState) (at : At) → StandsAt slot node_state cells (with_slot rest at) → rest ≢ slot
+rest_apart cells slot rest node_state at stands e =
     (at_node cells.records at.position at.node at.nodes (rest ∷ at.taken) stands.0.chains).taken_apart rest
     (omega (arith, times-cons rest rest at.taken, ap one_if (eq-eqb rest rest refl)))
     (e ∙ sym stands.1.slot_is)
 
 -- the blocks beside one in its pool are in use
-module _ (cells : Cells) (slot : ℕ) (status : Status) (at : At) (stands : StandsAt slot status cells at) where
+module _ (cells : Cells) (slot : ℕ) (node_state : NodeState) (at : At) (stands : StandsAt slot node_state cells at) where
   pub front_used : IsUsed cells.records (record_at cells.records slot).prev
   front_used =
       let P : ℕ → Type 0 = λ q. IsUsed cells.records (record_at cells.records q).prev in
@@ -125,12 +125,12 @@ module _ (cells : Cells) (span : Span) (rest bytes : ℕ) (apart : rest ≢ span
   split_by_is = λ i. record cells { records = edited_in (λ r. record r { prev = Some rest }) (next_same i) (records_same i) }
 
 -- once it was split
-pub span_splits : (old new : Cells) (span : Span) (status : Status) (rest bytes : ℕ) (at : At) → is_listed status ≡ false → StandsAt span.slot status old (with_slot rest at) → IsRead span old.records → 0 < bytes → bytes < span.size → bytes % unit ≡ 0
+pub span_splits : (old new : Cells) (span : Span) (node_state : NodeState) (rest bytes : ℕ) (at : At) → is_listed node_state ≡ false → StandsAt span.slot node_state old (with_slot rest at) → IsRead span old.records → 0 < bytes → bytes < span.size → bytes % unit ≡ 0
     → new ≡ split_by span rest bytes old → StandsAt rest Loose new (at_split rest bytes (at_turned InUse at))
-span_splits old new span status rest bytes at unlisted stands read some less whole is =
-    let live : StandsAt span.slot InUse (with_state span.slot Live old) (with_slot rest (at_turned InUse at)) = turned_stands old span.slot status (with_slot rest at) stands InUse unlisted refl in
-    let same = split_by_is old span rest bytes (rest_apart old span.slot rest status at stands) (slot_used old span.slot status (with_slot rest at) stands).0 read in
-    let size = size_read old span.slot status (with_slot rest at) stands in
+span_splits old new span node_state rest bytes at unlisted stands read some less whole is =
+    let live : StandsAt span.slot InUse (with_state span.slot Live old) (with_slot rest (at_turned InUse at)) = turned_stands old span.slot node_state (with_slot rest at) stands InUse unlisted refl in
+    let same = split_by_is old span rest bytes (rest_apart old span.slot rest node_state at stands) (slot_used old span.slot node_state (with_slot rest at) stands).0 read in
+    let size = size_read old span.slot node_state (with_slot rest at) stands in
     subst (λ c. StandsAt rest Loose c (at_split rest bytes (at_turned InUse at))) (sym (is ∙ same))
     (split_stands (with_state span.slot Live old) span.slot rest (at_turned InUse at) live bytes some (omega (arith, less, read.size, size)) whole)
 
@@ -147,37 +147,37 @@ module _ {V : Type 0} (view : Record → V) (blind_prev : (o : Option ℕ) (r : 
       behind_kept number block.prev_free block.next_free (with_prev_free block.next_free block.prev_free cells) q
       ∙ edited_kept view (λ r. record r { prev_free = block.prev_free }) (blind_prev block.prev_free) block.next_free cells.records q
 
-absorbed_is : (cells : Cells) (span : Span) (state : State) (behind : ℕ) → state ≡ (record_at cells.records span.slot).state → span.size ≡ (record_at cells.records span.slot).size + (record_at cells.records behind).size → span.next ≡ (record_at cells.records behind).next
-    → absorbed_by span state behind cells ≡ absorbed span.slot behind cells
-absorbed_is cells span state behind same size next =
+merged_behind_is : (cells : Cells) (span : Span) (state : State) (behind : ℕ) → state ≡ (record_at cells.records span.slot).state → span.size ≡ (record_at cells.records span.slot).size + (record_at cells.records behind).size → span.next ≡ (record_at cells.records behind).next
+    → merged_behind_by span state behind cells ≡ merged_behind span.slot behind cells
+merged_behind_is cells span state behind same size next =
     λ i. with_record (with_prev (next i) (Some span.slot) (with_record cells span.slot (record (record_at cells.records span.slot) { size = size i; state = same i; next = next i }))) behind blank
 
--- what a join by what is known leads to
-pub record JoinsBy (span : Span) (state : State) (behind : ℕ) (listed : Record) (status : Status) (cells : Cells) (after : At) : Type 0 where
-  pub ready : CanJoin span behind listed cells.records (unlinked_by (class listed.size) listed cells).records
-  pub leads : StandsAt span.slot status (joined_by span state behind listed cells) after
-  pub read : IsRead span (joined_by span state behind listed cells).records
+-- what a merge by what is known leads to
+pub record MergesBy (span : Span) (state : State) (behind : ℕ) (listed : Record) (node_state : NodeState) (cells : Cells) (after : At) : Type 0 where
+  pub ready : CanMerge span behind listed cells.records (unlinked_by (class listed.size) listed cells).records
+  pub leads : StandsAt span.slot node_state (merged_by span state behind listed cells) after
+  pub read : IsRead span (merged_by span state behind listed cells).records
 
-pub joins_by : (cells : Cells) (span : Span) (state : State) (behind listed : ℕ) (r : Record) (status : Status) (after : At) → Joins span.slot behind listed r.size span.slot status cells after → r ≡ record_at cells.records listed
+pub merges_by : (cells : Cells) (span : Span) (state : State) (behind listed : ℕ) (r : Record) (node_state : NodeState) (after : At) → Merges span.slot behind listed r.size span.slot node_state cells after → r ≡ record_at cells.records listed
     → span.place ≡ (record_at cells.records span.slot).place → span.size ≡ (record_at cells.records span.slot).size + (record_at cells.records behind).size → span.next ≡ (record_at cells.records behind).next → span.place % unit ≡ 0
-    → state ≡ (record_at cells.records span.slot).state → JoinsBy span state behind r status cells after
-joins_by cells span state behind listed r status after joins is place size next in_units same =
+    → state ≡ (record_at cells.records span.slot).state → MergesBy span state behind r node_state cells after
+merges_by cells span state behind listed r node_state after merges is place size next in_units same =
     let out : Cells = unlinked_by (class r.size) r cells in
     let out_is : out ≡ unlinked (class r.size) listed cells = ap (λ x. unlinked_by (class r.size) x cells) is in
     let sizes : span.size ≡ (record_at out.records span.slot).size + (record_at out.records behind).size =
     omega (arith, size, unlinked_kept (λ x. x.size) (λ o x. refl) (λ o x. refl) (class r.size) r cells span.slot, unlinked_kept (λ x. x.size) (λ o x. refl) (λ o x. refl) (class r.size) r cells behind) in
     let behind_next : span.next ≡ (record_at out.records behind).next = next ∙ sym (unlinked_kept (λ x. x.next) (λ o x. refl) (λ o x. refl) (class r.size) r cells behind) in
     let state_out : state ≡ (record_at out.records span.slot).state = same ∙ sym (unlinked_kept (λ x. x.state) (λ o x. refl) (λ o x. refl) (class r.size) r cells span.slot) in
-    let P : Cells → Type 0 = λ c. StandsAt span.slot status (absorbed span.slot behind c) after in
-    let there : StandsAt span.slot status (absorbed span.slot behind out) after = subst P (sym out_is) joins.leads in
-    let leads : StandsAt span.slot status (joined_by span state behind r cells) after = subst (λ c. StandsAt span.slot status c after) (sym (absorbed_is out span state behind state_out sizes behind_next)) there in
-    let whole = whole_at (joined_by span state behind r cells) span.slot status after leads in
-    let size_of : (c : Cells) → c ≡ unlinked (class r.size) listed cells → (record_at c.records span.slot).size + (record_at c.records behind).size ≡ after.node.size = λ c e. ap (λ (x : Cells). (record_at x.records span.slot).size + (record_at x.records behind).size) e ∙ joins.size_is in
+    let P : Cells → Type 0 = λ c. StandsAt span.slot node_state (merged_behind span.slot behind c) after in
+    let there : StandsAt span.slot node_state (merged_behind span.slot behind out) after = subst P (sym out_is) merges.leads in
+    let leads : StandsAt span.slot node_state (merged_by span state behind r cells) after = subst (λ c. StandsAt span.slot node_state c after) (sym (merged_behind_is out span state behind state_out sizes behind_next)) there in
+    let whole = whole_at (merged_by span state behind r cells) span.slot node_state after leads in
+    let size_of : (c : Cells) → c ≡ unlinked (class r.size) listed cells → (record_at c.records span.slot).size + (record_at c.records behind).size ≡ after.node.size = λ c e. ap (λ (x : Cells). (record_at x.records span.slot).size + (record_at x.records behind).size) e ∙ merges.size_is in
     let known : IsSpanOf span after = record {
       slot = sym leads.1.slot_is;
-      place = place ∙ sym (unlinked_kept (λ x. x.place) (λ o x. refl) (λ o x. refl) (class r.size) r cells span.slot) ∙ ap (λ (x : Cells). (record_at x.records span.slot).place) out_is ∙ joins.place_is;
+      place = place ∙ sym (unlinked_kept (λ x. x.place) (λ o x. refl) (λ o x. refl) (class r.size) r cells span.slot) ∙ ap (λ (x : Cells). (record_at x.records span.slot).place) out_is ∙ merges.place_is;
       size = sizes ∙ size_of out out_is;
-      next = behind_next ∙ ap (λ (x : Cells). (record_at x.records behind).next) out_is ∙ joins.next_is;
+      next = behind_next ∙ ap (λ (x : Cells). (record_at x.records behind).next) out_is ∙ merges.next_is;
       in_units = in_units;
     } in
     let U : Option ℕ → Type 0 = λ o. IsUsed cells.records o in
@@ -186,18 +186,18 @@ joins_by cells span state behind listed r status after joins is place size next 
     let X : Cells → Type 0 = λ c. IsUsed c.records (record_at c.records behind).next in
     record {
       ready = record {
-        some = joins.ready.some;
-        whole = joins.ready.whole;
-        most = joins.ready.most;
-        prev_used = subst U (ap (λ (x : Record). x.prev_free) (sym is)) joins.ready.prev_used;
-        next_used = subst U (ap (λ (x : Record). x.next_free) (sym is)) joins.ready.next_used;
-        front_used = subst V (sym out_is) joins.ready.front_used;
-        behind_used = subst W (sym out_is) joins.ready.behind_used;
-        last_used = subst (λ o. IsUsed out.records o) (sym behind_next) (subst X (sym out_is) joins.ready.last_used);
+        some = merges.ready.some;
+        whole = merges.ready.whole;
+        most = merges.ready.most;
+        prev_used = subst U (ap (λ (x : Record). x.prev_free) (sym is)) merges.ready.prev_used;
+        next_used = subst U (ap (λ (x : Record). x.next_free) (sym is)) merges.ready.next_used;
+        front_used = subst V (sym out_is) merges.ready.front_used;
+        behind_used = subst W (sym out_is) merges.ready.behind_used;
+        last_used = subst (λ o. IsUsed out.records o) (sym behind_next) (subst X (sym out_is) merges.ready.last_used);
         in_units = ap (λ n. n % unit) known.size ∙ whole.in_units;
       };
       leads = leads;
-      read = by_record (joined_by span state behind r cells) status after span leads known;
+      read = by_record (merged_by span state behind r cells) node_state after span leads known;
     }
 
 -- what is known of a listed block whose record was read
@@ -228,7 +228,7 @@ read_leaves old new slot number block at stands read number_is left =
     let P : Cells → Type 0 = λ c. StandsAt slot Loose c (at_unlisted at) in
     subst P (sym (left ∙ (λ i. unlinked_by ((number_is ∙ ap class size) i) (read i) old))) (unlinked_stands old slot at stands)
 
--- the sizes of two neighbours that join have a sum that fits
-pub join_fits : (cells : Cells) (slot behind listed size result : ℕ) (status : Status) (after : At) → Joins slot behind listed size result status cells after → (record_at cells.records slot).size + (record_at cells.records behind).size < 2 ^ 32
-join_fits cells slot behind listed size result status after joins =
-    omega (arith, joins.ready.fits, unlinked_kept (λ x. x.size) (λ o x. refl) (λ o x. refl) (class size) (record_at cells.records listed) cells slot, unlinked_kept (λ x. x.size) (λ o x. refl) (λ o x. refl) (class size) (record_at cells.records listed) cells behind)
+-- the sizes of two neighbours that merge have a sum that fits
+pub merge_fits : (cells : Cells) (slot behind listed size result : ℕ) (node_state : NodeState) (after : At) → Merges slot behind listed size result node_state cells after → (record_at cells.records slot).size + (record_at cells.records behind).size < 2 ^ 32
+merge_fits cells slot behind listed size result node_state after merges =
+    omega (arith, merges.ready.fits, unlinked_kept (λ x. x.size) (λ o x. refl) (λ o x. refl) (class size) (record_at cells.records listed) cells slot, unlinked_kept (λ x. x.size) (λ o x. refl) (λ o x. refl) (class size) (record_at cells.records listed) cells behind)

@@ -10,7 +10,7 @@ use Rattle.tlsf_store.proofs.RecordLaws.{record_at-set_same, record_at-set_other
 use Rattle.tlsf_heap.specs.Inner.Edits.{edited_in}
 use Rattle.tlsf_heap.specs.Inner.Chains.{rest_record, split}
 use Rattle.tlsf_heap.specs.Good.{times}
-use Rattle.tlsf_heap.specs.Inner.Nodes.{Node, rest_node, has_slot, list_of, is_listed, is_listed_in}
+use Rattle.tlsf_heap.specs.Inner.Nodes.{Node, rest_node, has_slot, nodes_in, is_listed, is_listed_in}
 use Rattle.tlsf_heap.specs.Inner.Positions.{Position, laid, filled}
 use Rattle.tlsf_heap.specs.Inner.Represents.{InPool, pool_view, list_view, pool_views, list_views, in_pool, first_slot, uses_in, Represented, Represents}
 use Rattle.tlsf_heap.proofs.Counts.{one_if, count-cons}
@@ -21,7 +21,7 @@ use Rattle.tlsf_heap.proofs.Content.FreeLists.{times-cons}
 use Rattle.tlsf_heap.proofs.Inner.Chains.{not_taken, unlisted, listed_within, AtNode, at_node, refilled}
 
 module _ (cells : Cells) (count : ℕ) (position : Position) (node : Node) (nodes : List Node) (lists : List (List Node)) (rest : ℕ) (taken : List ℕ) (bytes : ℕ)
-    (was : Represents cells (laid count position (node ∷ nodes) lists (rest ∷ taken))) (was_not : is_listed node.status ≡ false) where
+    (was : Represents cells (laid count position (node ∷ nodes) lists (rest ∷ taken))) (was_not : is_listed node.state ≡ false) where
   abbrev old : Record
   old = record_at cells.records node.slot
 
@@ -83,7 +83,7 @@ module _ (cells : Cells) (count : ℕ) (position : Position) (node : Node) (node
       let rest_used : 1 ≡ uses_in (record_at cells.records rest).state = omega (arith, here.once rest, rest_counts, here.most rest) in
       seen view (λ r. refl) refl q (set_kept view cells.records rest (rest_record node.slot bytes old) rest_used q)
 
-  listed_same : (number q : ℕ) → 1 ≤ count_by (has_slot q) (list_of number lists) → list_views new q ≡ list_views cells.records q
+  listed_same : (number q : ℕ) → 1 ≤ count_by (has_slot q) (nodes_in number lists) → list_views new q ≡ list_views cells.records q
   listed_same number q h =
       seen list_view (λ r. refl) refl q (ap list_view (record_at-set_other cells.records rest q _
       (not_taken q rest taken (omega (arith, h, listed_within (filled position (node ∷ nodes)) lists was.agree number q, was.chains.once q, here.most q, here.once q))).0))

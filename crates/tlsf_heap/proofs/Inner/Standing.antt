@@ -12,7 +12,7 @@ use Rattle.tlsf_heap.specs.GoodSlots.{is_slot, slot_times, HasGoodSlots}
 use Rattle.tlsf_heap.specs.Counted.{range_of}
 use Rattle.tlsf_heap.specs.Inner.Entries.{is_entry_apart, entry_range}
 use Rattle.tlsf_heap.specs.Inner.Entries.{entries_of}
-use Rattle.tlsf_heap.specs.Inner.Nodes.{Status, InUse, Listed, Loose, Node, Area, owner_of, block_of, pool_of, nodes_of, has_slot}
+use Rattle.tlsf_heap.specs.Inner.Nodes.{NodeState, InUse, Listed, Loose, Node, Area, owner_of, block_of, pool_of, nodes_of, has_slot}
 use Rattle.tlsf_heap.specs.Inner.Represents.{uses_in}
 use Rattle.tlsf_heap.specs.Inner.Entering.{entries_in}
 use Rattle.tlsf_heap.specs.Inner.Following.{content_of, Stands}
@@ -32,13 +32,13 @@ ranges_areas [] = refl
 ranges_areas (area ∷ areas) = ap (λ ranges. (area.entry.base, area.entry.bytes) ∷ ranges) (ranges_areas areas)
 
 -- a live block's slot is that of its node
-owner_is : (slot q : ℕ) (status : Status) → one_if (is_slot slot (owner_of status q)) ≤ one_if (eqb q slot)
+owner_is : (slot q : ℕ) (node_state : NodeState) → one_if (is_slot slot (owner_of node_state q)) ≤ one_if (eqb q slot)
 owner_is slot q InUse = omega arith
 owner_is slot q Listed = omega arith
 owner_is slot q Loose = omega arith
 
-pub owners_few : (slot : ℕ) (nodes : List Node) → count_by (λ node. is_slot slot (owner_of node.status node.slot)) nodes ≤ count_by (has_slot slot) nodes
-owners_few slot nodes = omega (arith, count_apart (λ (node : Node). is_slot slot (owner_of node.status node.slot)) (λ node. false) (has_slot slot) (λ node. omega (arith, owner_is slot node.slot node.status)) nodes)
+pub owners_few : (slot : ℕ) (nodes : List Node) → count_by (λ node. is_slot slot (owner_of node.state node.slot)) nodes ≤ count_by (has_slot slot) nodes
+owners_few slot nodes = omega (arith, count_apart (λ (node : Node). is_slot slot (owner_of node.state node.slot)) (λ node. false) (has_slot slot) (λ node. omega (arith, owner_is slot node.slot node.state)) nodes)
 
 module _ (cells : Cells) (stands : Stands cells) where
   pub entries_are : entries_of cells.pools ≡ entries_in stands.layout.areas

@@ -6,7 +6,7 @@ use Rattle.tlsf_store.specs.Cells.{Cells, head_at}
 use Rattle.tlsf_heap.specs.Inner.Edits.{IsUsed, linked}
 use Rattle.tlsf_heap.specs.Inner.Chains.{with_state}
 use Rattle.tlsf_heap.specs.Inner.At.{AreCovered}
-use Rattle.tlsf_heap.specs.Inner.Nodes.{Status, Listed, Loose, Node, turned, block_of, pool_of, is_listed}
+use Rattle.tlsf_heap.specs.Inner.Nodes.{NodeState, Listed, Loose, Node, turned, block_of, pool_of, is_listed}
 use Rattle.tlsf_heap.specs.Inner.Represents.{InPool, state_of, Represents}
 use Rattle.tlsf_heap.specs.Inner.At.{At, areas_at, layout_at, StandsAt, at_turned, at_listed}
 use Rattle.tlsf_heap.proofs.Good.Calls.{IsWhole}
@@ -16,7 +16,7 @@ use Rattle.tlsf_heap.proofs.Inner.StateSet.{state_set}
 use Rattle.tlsf_heap.proofs.Inner.Linked.{linked_laid}
 use Rattle.tlsf_heap.proofs.Meaning.Covered.{node_whole, covered_refilled}
 
-module _ (cells : Cells) (slot : ℕ) (status : Status) (at : At) (stands : StandsAt slot status cells at) where
+module _ (cells : Cells) (slot : ℕ) (node_state : NodeState) (at : At) (stands : StandsAt slot node_state cells at) where
   here : AtNode cells.records at.position at.node at.nodes at.taken
   here = at_node cells.records at.position at.node at.nodes at.taken stands.0.chains
 
@@ -37,15 +37,15 @@ module _ (cells : Cells) (slot : ℕ) (status : Status) (at : At) (stands : Stan
   pub first_used : IsUsed cells.records (head_at cells.heads (class at.node.size))
   first_used = head_used cells (layout_at at) at.node stands.0
 
-  -- the node in another status covers the same
-  pub covered_turned : (new : Status) → AreCovered 0 (map pool_of (areas_at (at_turned new at)))
+  -- the node in another state covers the same
+  pub covered_turned : (new : NodeState) → AreCovered 0 (map pool_of (areas_at (at_turned new at)))
   covered_turned new = covered_refilled at.position (at.node ∷ at.nodes) (turned new at.node ∷ at.nodes) (λ from to c. c) stands.1.covered
 
-  pub turned_stands : (new : Status) → is_listed status ≡ false → is_listed new ≡ false → StandsAt slot new (with_state slot (state_of new) cells) (at_turned new at)
+  pub turned_stands : (new : NodeState) → is_listed node_state ≡ false → is_listed new ≡ false → StandsAt slot new (with_state slot (state_of new) cells) (at_turned new at)
   turned_stands new was_not is_not =
       let P : ℕ → Type 0 = λ q. Represents (with_state q (state_of new) cells) (layout_at (at_turned new at)) in (
-        subst P stands.1.slot_is (state_set cells at.count at.position at.node at.nodes at.lists at.taken stands.0 new (ap is_listed stands.1.status_is ∙ was_not) is_not),
-        record { slot_is = stands.1.slot_is; status_is = refl; others_settled = stands.1.others_settled; covered = covered_turned new },
+        subst P stands.1.slot_is (state_set cells at.count at.position at.node at.nodes at.lists at.taken stands.0 new (ap is_listed stands.1.node_state_is ∙ was_not) is_not),
+        record { slot_is = stands.1.slot_is; node_state_is = refl; others_settled = stands.1.others_settled; covered = covered_turned new },
       )
 
 -- the node enters its list
@@ -53,7 +53,7 @@ pub listed_stands : (cells : Cells) (slot : ℕ) (at : At) → StandsAt slot Loo
 listed_stands cells slot at stands =
     let P : Node → Type 0 = λ n. Represents cells (layout_at (record at { node = n })) in
     let Q : ℕ → Type 0 = λ q. Represents (linked (class at.node.size) q cells) (layout_at (at_listed at)) in
-    let loose : at.node ≡ turned Loose at.node = ap (λ s. turned s at.node) stands.1.status_is in (
+    let loose : at.node ≡ turned Loose at.node = ap (λ s. turned s at.node) stands.1.node_state_is in (
       subst Q stands.1.slot_is (linked_laid cells at.count at.position at.node at.nodes at.lists at.taken (subst P loose stands.0)),
-      record { slot_is = stands.1.slot_is; status_is = refl; others_settled = stands.1.others_settled; covered = covered_turned cells slot Loose at stands Listed },
+      record { slot_is = stands.1.slot_is; node_state_is = refl; others_settled = stands.1.others_settled; covered = covered_turned cells slot Loose at stands Listed },
     )

@@ -10,11 +10,11 @@ use Rattle.tlsf_store.specs.Cells.{Cells, with_head, with_level_word, with_step_
 use Rattle.tlsf_heap.specs.Images.Bitmaps.{AreBitmapsOf, head_bit}
 use Rattle.tlsf_heap.specs.Inner.Entries.{padded}
 use Rattle.tlsf_heap.specs.Inner.Edits.{edited_in, without_bit, IsUsed, with_prev_free, with_behind, with_level_cleared, unlinked}
-use Rattle.tlsf_heap.specs.Inner.Nodes.{Node, Area, Listed, Loose, turned, nodes_of, has_slot, list_of, is_listed_in, without_slot, left}
+use Rattle.tlsf_heap.specs.Inner.Nodes.{Node, Area, Listed, Loose, turned, nodes_of, has_slot, nodes_in, is_listed_in, without_slot, left}
 use Rattle.tlsf_heap.specs.Inner.Positions.{plug, Position, laid, filled}
 use Rattle.tlsf_heap.specs.Inner.Represents.{InList, pool_view, list_view, pool_views, list_views, in_list, first_slot, AreLinked, AreChains, Agree, Represented, Represents}
 use Rattle.tlsf_heap.proofs.Bits.Edits.{bits_kept, bits_cleared}
-use Rattle.tlsf_heap.proofs.Counts.{one_if, count-cons, count-plug, count_but, filter_one, Split, split_at}
+use Rattle.tlsf_heap.proofs.Counts.{one_if, count-cons, count-plug, count_but, filter_one, FirstPassing, first_passing}
 use Rattle.tlsf_heap.proofs.Inner.Plugs.{count-filled}
 use Rattle.tlsf_heap.proofs.Inner.Links.{first-plug, from_behind, linked_same, linked_parts, linked_plugged, linked_moved, first_stands}
 use Rattle.tlsf_heap.proofs.Inner.Reads.{length-edited, edited_here, edited_apart, edited_kept}
@@ -34,7 +34,7 @@ module _ (cells : Cells) (count : ℕ) (position : Position) (node : Node) (node
   number = class node.size
 
   abbrev list : List Node
-  list = list_of (class node.size) lists
+  list = nodes_in (class node.size) lists
 
   abbrev areas : List Area
   areas = filled position (turned Listed node ∷ nodes)
@@ -45,7 +45,7 @@ module _ (cells : Cells) (count : ℕ) (position : Position) (node : Node) (node
   slots_few : (q : ℕ) → count_by (has_slot q) (nodes_of areas) ≤ 1
   slots_few q = omega (arith, was.chains.once q, uses_most (record_at cells.records q).state)
 
-  listed_below : (other q : ℕ) → 1 ≤ count_by (has_slot q) (list_of other lists) → q < length cells.records
+  listed_below : (other q : ℕ) → 1 ≤ count_by (has_slot q) (nodes_in other lists) → q < length cells.records
   listed_below other q h = used_below cells.records q (omega (arith, was.chains.once q, h, listed_within areas lists was.agree other q))
 
   stands : 1 ≤ count_by (has_slot node.slot) list
@@ -91,8 +91,8 @@ module _ (cells : Cells) (count : ℕ) (position : Position) (node : Node) (node
     at_other : (q : ℕ) → prev ≢ Some q → next ≢ Some q → list_views (new front behind) q ≡ list_views cells.records q
     at_other q a b = ap list_view (edited_apart (λ r. record r { next_free = next }) prev (edited_in (λ r. record r { prev_free = prev }) next cells.records) q a ∙ edited_apart (λ r. record r { prev_free = prev }) next cells.records q b)
 
-    rejoined : AreLinked in_list (list_views (new front behind)) None (plug front behind)
-    rejoined =
+    relinked : AreLinked in_list (list_views (new front behind)) None (plug front behind)
+    relinked =
         linked_plugged in_list (list_views (new front behind)) front behind
         (linked_moved (from_behind in_list) (list_views cells.records) (list_views (new front behind)) (λ v. record v { next = next }) (Some item.slot) next (λ other after. refl) front
         (λ q. omega (arith, few q)) at_prev (λ q isnt h. at_other q isnt (λ e. omega (arith, h, few q, first_stands behind q e))) links.0)
@@ -105,10 +105,10 @@ module _ (cells : Cells) (count : ℕ) (position : Position) (node : Node) (node
         let own_too : eqb item.slot node.slot ≡ true = eq-eqb item.slot node.slot own in
         ap (without_slot node.slot) whole ∙ filter_one (has_slot node.slot) front item behind own_too (omega (arith, few node.slot, ap one_if own_too)) (omega (arith, few node.slot, ap one_if own_too))
 
-    linked_after : (other : ℕ) → AreLinked in_list (list_views (new front behind)) None (list_of other (set lists (class node.size) (plug front behind)))
+    linked_after : (other : ℕ) → AreLinked in_list (list_views (new front behind)) None (nodes_in other (set lists (class node.size) (plug front behind)))
     linked_after =
-        each_written node lists was.index.lists_count (plug front behind) (λ ns. AreLinked in_list (list_views (new front behind)) None ns) rejoined
-        (λ other apart. linked_same in_list (list_views cells.records) (list_views (new front behind)) None (list_of other lists)
+        each_written node lists was.index.lists_count (plug front behind) (λ ns. AreLinked in_list (list_views (new front behind)) None ns) relinked
+        (λ other apart. linked_same in_list (list_views cells.records) (list_views (new front behind)) None (nodes_in other lists)
         (λ q h. at_other q
         (λ e. omega (arith, h, first_stands front q e, counts q, slots_few q, lists_apart areas lists other (class node.size) q was.agree apart))
         (λ e. omega (arith, h, first_stands behind q e, counts q, slots_few q, lists_apart areas lists other (class node.size) q was.agree apart)))
@@ -125,7 +125,7 @@ module _ (cells : Cells) (count : ℕ) (position : Position) (node : Node) (node
         let loose_here = count-cons listed (turned Loose node) nodes in
         elim (cases_eq other (class node.size)) [
           | inl same ↦
-              let P : ℕ → Type 0 = λ n. count_by test (list_of n (left node lists)) ≡ count_by (λ m. is_listed_in n m && test m) (nodes_of (filled position (turned Loose node ∷ nodes))) in
+              let P : ℕ → Type 0 = λ n. count_by test (nodes_in n (left node lists)) ≡ count_by (λ m. is_listed_in n m && test m) (nodes_of (filled position (turned Loose node ∷ nodes))) in
               let in_it : Node → Bool = λ n. is_listed_in (class node.size) n && test n in
               let in_but : Node → Bool = λ n. is_listed_in (class node.size) n && (not (has_slot node.slot n) && test n) in
               let not_own : one_if (in_but (turned Listed node)) ≡ 0 = rw (eq-eqb (class node.size) (class node.size) refl, eq-eqb node.slot node.slot refl) refl in
@@ -160,7 +160,7 @@ module _ (cells : Cells) (count : ℕ) (position : Position) (node : Node) (node
     unfolding left
     after heads level_word step_words heads_are words_are bitmaps =
         let lists_are : set lists (class node.size) (plug front behind) ≡ left node lists = ap (set lists (class node.size)) (sym without_is) in
-        let P : List (List Node) → Type 0 = λ ls. (other : ℕ) → AreLinked in_list (list_views (new front behind)) None (list_of other ls) in
+        let P : List (List Node) → Type 0 = λ ls. (other : ℕ) → AreLinked in_list (list_views (new front behind)) None (nodes_in other ls) in
         record {
           count = length-edited (λ r. record r { next_free = next }) prev (edited_in (λ r. record r { prev_free = prev }) next cells.records) ∙ length-edited (λ r. record r { prev_free = prev }) next cells.records ∙ was.count;
           entries = was.entries ∙ ap padded (sym (entries-filled position (turned Listed node ∷ nodes) (turned Loose node ∷ nodes)));
@@ -201,7 +201,7 @@ module _ (cells : Cells) (count : ℕ) (position : Position) (node : Node) (node
 
   pub unlinked_laid : Represents (unlinked (class node.size) node.slot cells) (laid count position (turned Loose node ∷ nodes) (left node lists) taken)
   unlinked_laid =
-      let at : Split (has_slot node.slot) list = split_at (has_slot node.slot) list stands in
+      let at : FirstPassing (has_slot node.slot) list = first_passing (has_slot node.slot) list stands in
       let own : at.item.slot ≡ node.slot = eqb-true at.item.slot node.slot at.passes in
       let said : list_views cells.records node.slot ≡ in_list (first_slot at.front) at.item (first_slot at.behind) = says at.front at.item at.behind at.whole own in
       let P : Option ℕ → Type 0 = λ prev. Represents (with_behind (class node.size) prev (record_at cells.records node.slot).next_free (with_prev_free (record_at cells.records node.slot).next_free prev cells)) (laid count position (turned Loose node ∷ nodes) (left node lists) taken) in
@@ -211,7 +211,7 @@ module _ (cells : Cells) (count : ℕ) (position : Position) (node : Node) (node
   -- those beside it in its list are in use
   pub prev_free_used : IsUsed cells.records (record_at cells.records node.slot).prev_free
   prev_free_used =
-      let at : Split (has_slot node.slot) list = split_at (has_slot node.slot) list stands in
+      let at : FirstPassing (has_slot node.slot) list = first_passing (has_slot node.slot) list stands in
       let own : at.item.slot ≡ node.slot = eqb-true at.item.slot node.slot at.passes in
       let P : Option ℕ → Type 0 = λ o. IsUsed cells.records o in
       subst P (sym (ap (λ (v : InList). v.prev) (says at.front at.item at.behind at.whole own)))
@@ -219,7 +219,7 @@ module _ (cells : Cells) (count : ℕ) (position : Position) (node : Node) (node
 
   pub next_free_used : IsUsed cells.records (record_at cells.records node.slot).next_free
   next_free_used =
-      let at : Split (has_slot node.slot) list = split_at (has_slot node.slot) list stands in
+      let at : FirstPassing (has_slot node.slot) list = first_passing (has_slot node.slot) list stands in
       let own : at.item.slot ≡ node.slot = eqb-true at.item.slot node.slot at.passes in
       let P : Option ℕ → Type 0 = λ o. IsUsed cells.records o in
       subst P (sym (ap (λ (v : InList). v.next) (says at.front at.item at.behind at.whole own)))

@@ -8,7 +8,7 @@ use Rattle.tlsf_store.specs.Records.{record_at}
 use Rattle.tlsf_store.specs.Cells.{Cells, head_at}
 use Rattle.tlsf_heap.specs.Good.{times}
 use Rattle.tlsf_heap.specs.Inner.Edits.{IsUsed}
-use Rattle.tlsf_heap.specs.Inner.Nodes.{Node, Layout, nodes_of, has_slot, list_of}
+use Rattle.tlsf_heap.specs.Inner.Nodes.{Node, Layout, nodes_of, has_slot, nodes_in}
 use Rattle.tlsf_heap.specs.Inner.Positions.{Position}
 use Rattle.tlsf_heap.specs.Inner.Represents.{InPool, first_slot, uses_in, Represents}
 use Rattle.tlsf_heap.proofs.Counts.{count-cons}
@@ -33,7 +33,7 @@ pub stands_used : (cells : Cells) (layout : Layout) (q : ℕ) → Represents cel
 stands_used cells layout q was h = is_used cells.records q (omega (arith, h, was.chains.once q))
 
 -- the first of some nodes that stand in a list
-pub listed_used : (cells : Cells) (layout : Layout) (number : ℕ) (o : Option ℕ) → Represents cells layout → ((q : ℕ) → o ≡ Some q → 1 ≤ count_by (has_slot q) (list_of number layout.lists)) → IsUsed cells.records o
+pub listed_used : (cells : Cells) (layout : Layout) (number : ℕ) (o : Option ℕ) → Represents cells layout → ((q : ℕ) → o ≡ Some q → 1 ≤ count_by (has_slot q) (nodes_in number layout.lists)) → IsUsed cells.records o
 listed_used cells layout number o was h = option_used cells.records o (λ q e. omega (arith, h q e, was.chains.once q, listed_within layout.areas layout.lists was.agree number q))
 
 -- the first of a class's list
@@ -41,7 +41,7 @@ pub head_used : (cells : Cells) (layout : Layout) (node : Node) → Represents c
 head_used cells layout node was =
     let P : Option ℕ → Type 0 = λ o. IsUsed cells.records o in
     subst P (sym (ap (λ heads. head_at heads (class node.size)) was.index.heads_are ∙ head_of node layout.lists was.index.lists_count))
-    (listed_used cells layout (class node.size) (first_slot (list_of (class node.size) layout.lists)) was (λ q e. first_stands (list_of (class node.size) layout.lists) q e))
+    (listed_used cells layout (class node.size) (first_slot (nodes_in (class node.size) layout.lists)) was (λ q e. first_stands (nodes_in (class node.size) layout.lists) q e))
 
 module _ (records : List Record) (position : Position) (node : Node) (nodes : List Node) (taken : List ℕ) (here : AtNode records position node nodes taken) where
   pub node_is_used : IsUsed records (Some node.slot)

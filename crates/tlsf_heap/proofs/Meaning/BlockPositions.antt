@@ -7,7 +7,7 @@ use Rattle.tlsf_heap.specs.Malloc.{replaced, replaced_in}
 use Rattle.tlsf_heap.specs.Free.{previous_of, next_of, first_in_pools}
 use Rattle.tlsf_heap.specs.Inner.Positions.{plug}
 use Rattle.tlsf_heap.proofs.Content.Blocks.{Ascends, NoneAt, NoneAt-below}
-use Rattle.tlsf_heap.proofs.Counts.{one_if, count-cons, count-append, count-plug, Split, split_at}
+use Rattle.tlsf_heap.proofs.Counts.{one_if, count-cons, count-append, count-plug, FirstPassing, first_passing}
 use Rattle.tlsf_heap.proofs.Inner.Plugs.{map-plug}
 
 option_or-None : {B : Type 0} (o : Option B) → option_or o None ≡ o
@@ -61,7 +61,7 @@ module _ {A : Type 0} where
   located_behind test front [] some = absurd (omega (arith, some))
   located_behind test front (pool ∷ pools) some = elim (cases_lt 0 (count_by test pool.blocks)) [
     | inl here ↦
-        let at : Split test pool.blocks = split_at test pool.blocks (omega (arith, here)) in
+        let at : FirstPassing test pool.blocks = first_passing test pool.blocks (omega (arith, here)) in
         record {
           position = record { pools_before = front; base = pool.base; bytes = pool.bytes; before = at.front; pools_behind = pools };
           block = at.item;

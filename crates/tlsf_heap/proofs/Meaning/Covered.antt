@@ -4,7 +4,7 @@ use Rattle.std.specs.List.{AllByRecursion}
 use Rattle.tlsf_heap.specs.Content.{Block, Pool}
 use Rattle.tlsf_heap.specs.Good.{Covers, AreGoodPools}
 use Rattle.tlsf_heap.specs.Inner.At.{IsCovered, AreCovered}
-use Rattle.tlsf_heap.specs.Inner.Nodes.{Status, Node, Area, block_of, pool_of}
+use Rattle.tlsf_heap.specs.Inner.Nodes.{NodeState, Node, Area, block_of, pool_of}
 use Rattle.tlsf_heap.specs.Inner.Positions.{plug, Position, filled}
 use Rattle.tlsf_heap.proofs.Good.Calls.{IsWhole, whole_in_pool}
 use Rattle.tlsf_heap.proofs.Inner.Plugs.{map-plug, all_parts}
@@ -48,8 +48,8 @@ covered_refilled position olds news covers c =
     )) 0 c
 
 -- two blocks side by side, and one of both their sizes
-pub covers_both : (status : Status) (front node : Node) (nodes : List Node) → (from to : ℕ) → Covers from to (map block_of (front ∷ node ∷ nodes)) → Covers from to (map block_of (record front { size = front.size + node.size; status = status } ∷ nodes))
-covers_both status front node nodes from to c =
+pub covers_both : (node_state : NodeState) (front node : Node) (nodes : List Node) → (from to : ℕ) → Covers from to (map block_of (front ∷ node ∷ nodes)) → Covers from to (map block_of (record front { size = front.size + node.size; state = node_state } ∷ nodes))
+covers_both node_state front node nodes from to c =
     let P : ℕ → Type 0 = λ n. Covers n to (map block_of nodes) in
     let same : (from + front.size) + node.size ≡ from + (front.size + node.size) = omega arith in
     (c.0, omega (arith, c.1), omega (arith, c.2, c.3.2), subst P same c.3.3)

@@ -7,47 +7,47 @@ use Rattle.tlsf_heap.specs.Content.{Block, Pool, Content}
 use Rattle.tlsf_heap.specs.Lists.{link}
 use Rattle.tlsf_heap.specs.Free.{if_free, unlink_block, size_of, start_of, free_block, after_free}
 use Rattle.tlsf_heap.specs.Good.{IsGood}
-use Rattle.tlsf_heap.specs.Inner.Nodes.{Status, InUse, Listed, Loose, Node, turned, owner_of, block_of, pool_of, content_by, is_listed}
+use Rattle.tlsf_heap.specs.Inner.Nodes.{NodeState, InUse, Listed, Loose, Node, turned, owner_of, block_of, pool_of, content_by, is_listed}
 use Rattle.tlsf_heap.specs.Inner.Positions.{Position, filled, laid}
-use Rattle.tlsf_heap.specs.Inner.Joined.{is_loose, listed_first, past, left_by, grown_in_front, grown_behind, position_past, merged_node, freed_layout}
+use Rattle.tlsf_heap.specs.Inner.Merging.{is_loose, listed_first, past, left_by, merged_with_front, merged_with_behind, position_past, merged_node, freed_layout}
 use Rattle.tlsf_heap.proofs.Counts.{one_if, count-cons}
 use Rattle.tlsf_heap.proofs.Inner.Lists.{length-left}
 use Rattle.tlsf_heap.proofs.Meaning.BlockPositions.{filled_pools}
-use Rattle.tlsf_heap.proofs.Meaning.Places.{block_position, pools_are, Told, Alike, alike, alike-left, by_places, places-entered, places-left}
+use Rattle.tlsf_heap.proofs.Meaning.Places.{block_position, pools_are, AgreeOnce, Alike, alike, alike-left, by_places, places-entered, places-left}
 use Rattle.tlsf_heap.proofs.Meaning.NodeBlocks.{first_block}
 use Rattle.tlsf_heap.proofs.Meaning.FreeFirst.{past_free, free_first, merged_of}
 use Rattle.tlsf_heap.proofs.Meaning.FreedIsGood.{after_is}
 
 -- no node is loose
 abbrev pub NoneLoose : List Node → Type 0
-NoneLoose nodes = count_by (λ node. is_loose node.status) nodes ≡ 0
+NoneLoose nodes = count_by (λ node. is_loose node.state) nodes ≡ 0
 
 -- where no node is loose, the free ones are listed
-free_is : (node : Node) (nodes : List Node) → NoneLoose (node ∷ nodes) → is_none (owner_of node.status node.slot) ≡ is_listed node.status
-free_is node nodes none = by_status node.status (elim (cases_Bool (is_loose node.status)) [
-  | inl loose ↦ absurd (omega (arith, none, count-cons (λ n. is_loose n.status) node nodes, ap one_if loose))
+free_is : (node : Node) (nodes : List Node) → NoneLoose (node ∷ nodes) → is_none (owner_of node.state node.slot) ≡ is_listed node.state
+free_is node nodes none = by_node_state node.state (elim (cases_Bool (is_loose node.state)) [
+  | inl loose ↦ absurd (omega (arith, none, count-cons (λ n. is_loose n.state) node nodes, ap one_if loose))
   | inr settled ↦ settled
 ])
   where
-    by_status : (status : Status) → is_loose status ≡ false → is_none (owner_of status node.slot) ≡ is_listed status
-    by_status InUse settled = refl
-    by_status Listed settled = refl
-    by_status Loose settled = absurd (cc)
+    by_node_state : (node_state : NodeState) → is_loose node_state ≡ false → is_none (owner_of node_state node.slot) ≡ is_listed node_state
+    by_node_state InUse settled = refl
+    by_node_state Listed settled = refl
+    by_node_state Loose settled = absurd (cc)
 
 pub listed_is_free : (nodes : List Node) → NoneLoose nodes → if_free (first_block nodes) ≡ option_map block_of (listed_first nodes)
 listed_is_free [] none = refl
 listed_is_free (node ∷ nodes) none =
     ap (λ b. cond b (Some (block_of node)) None) (free_is node nodes none)
-    ∙ elim (is_listed node.status) as (λ b. cond b (Some (block_of node)) None ≡ option_map block_of (cond b (Some node) None)) [ true ↦ refl | false ↦ refl ]
+    ∙ elim (is_listed node.state) as (λ b. cond b (Some (block_of node)) None ≡ option_map block_of (cond b (Some node) None)) [ true ↦ refl | false ↦ refl ]
 
 -- and what is behind the first is the same
 pub past_is : (nodes : List Node) → NoneLoose nodes → past_free (map block_of nodes) ≡ map block_of (past nodes)
 past_is [] none = refl
 past_is (node ∷ nodes) none =
     ap (λ b. cond b (map block_of nodes) (block_of node ∷ map block_of nodes)) (free_is node nodes none)
-    ∙ elim (is_listed node.status) as (λ b. cond b (map block_of nodes) (block_of node ∷ map block_of nodes) ≡ map block_of (cond b nodes (node ∷ nodes))) [ true ↦ refl | false ↦ refl ]
+    ∙ elim (is_listed node.state) as (λ b. cond b (map block_of nodes) (block_of node ∷ map block_of nodes) ≡ map block_of (cond b nodes (node ∷ nodes))) [ true ↦ refl | false ↦ refl ]
 
-module _ (position : Position) (node : Node) (nodes : List Node) (lists : List (List Node)) (told : Told (filled position (node ∷ nodes)) lists) where
+module _ (position : Position) (node : Node) (nodes : List Node) (lists : List (List Node)) (agreed : AgreeOnce (filled position (node ∷ nodes)) lists) where
   abbrev front : Option Node
   front = listed_first position.before
 
@@ -55,8 +55,8 @@ module _ (position : Position) (node : Node) (nodes : List Node) (lists : List (
   back = listed_first nodes
 
   pub full_front : (o : Option Node) → length (left_by o lists) ≡ classes
-  full_front None = told.full
-  full_front (Some f) = length-left f lists told.full
+  full_front None = agreed.full
+  full_front (Some f) = length-left f lists agreed.full
 
   full_back : (o p : Option Node) → length (left_by p (left_by o lists)) ≡ classes
   full_back o None = full_front o
@@ -64,32 +64,32 @@ module _ (position : Position) (node : Node) (nodes : List Node) (lists : List (
 
   still_alike : (b : Node) (o : Option Node) → Alike b lists → Alike b (left_by o lists)
   still_alike b None same = same
-  still_alike b (Some f) same = alike-left b f lists told.full same
+  still_alike b (Some f) same = alike-left b f lists agreed.full same
 
   -- a listed neighbour leaves its list, also where the other left
-  neighbour_left : (at : Position) (n : Node) (others : List Node) (o : Option Node) → Told (filled at (n ∷ others)) lists
-      → by_places (left_by (cond (is_listed n.status) (Some n) None) (left_by o lists)) ≡ unlink_block (option_map block_of (cond (is_listed n.status) (Some n) None)) (by_places (left_by o lists))
-  neighbour_left at n others o there = elim (is_listed n.status) as (λ b. by_places (left_by (cond b (Some n) None) (left_by o lists)) ≡ unlink_block (option_map block_of (cond b (Some n) None)) (by_places (left_by o lists))) [
+  neighbour_left : (at : Position) (n : Node) (others : List Node) (o : Option Node) → AgreeOnce (filled at (n ∷ others)) lists
+      → by_places (left_by (cond (is_listed n.state) (Some n) None) (left_by o lists)) ≡ unlink_block (option_map block_of (cond (is_listed n.state) (Some n) None)) (by_places (left_by o lists))
+  neighbour_left at n others o there = elim (is_listed n.state) as (λ b. by_places (left_by (cond b (Some n) None) (left_by o lists)) ≡ unlink_block (option_map block_of (cond b (Some n) None)) (by_places (left_by o lists))) [
     | true ↦ places-left n (left_by o lists) (full_front o) (still_alike n o (alike n lists at n others refl refl there))
     | false ↦ refl
   ]
 
   lists_front : by_places (left_by front lists) ≡ unlink_block (option_map block_of front) (by_places lists)
-  lists_front = go position.before told
+  lists_front = go position.before agreed
     where
-      go : (before : List Node) → Told (filled (record position { before = before }) (node ∷ nodes)) lists → by_places (left_by (listed_first before) lists) ≡ unlink_block (option_map block_of (listed_first before)) (by_places lists)
+      go : (before : List Node) → AgreeOnce (filled (record position { before = before }) (node ∷ nodes)) lists → by_places (left_by (listed_first before) lists) ≡ unlink_block (option_map block_of (listed_first before)) (by_places lists)
       go [] there = refl
       go (f ∷ before) there = neighbour_left (record position { before = before }) f (node ∷ nodes) None there
 
   pub lists_back : (o : Option Node) → by_places (left_by back (left_by o lists)) ≡ unlink_block (option_map block_of back) (by_places (left_by o lists))
-  lists_back o = go nodes told
+  lists_back o = go nodes agreed
     where
-      go : (others : List Node) → Told (filled position (node ∷ others)) lists → by_places (left_by (listed_first others) (left_by o lists)) ≡ unlink_block (option_map block_of (listed_first others)) (by_places (left_by o lists))
+      go : (others : List Node) → AgreeOnce (filled position (node ∷ others)) lists → by_places (left_by (listed_first others) (left_by o lists)) ≡ unlink_block (option_map block_of (listed_first others)) (by_places (left_by o lists))
       go [] there = refl
       go (b ∷ others) there = neighbour_left (record position { before = node ∷ position.before }) b others o there
 
   -- the block that is left
-  block_merged : (f b : Option Node) → block_of (turned Listed (grown_behind b (grown_in_front f (turned Loose node)))) ≡ merged_of (option_map block_of f) (block_of node) (option_map block_of b)
+  block_merged : (f b : Option Node) → block_of (turned Listed (merged_with_behind b (merged_with_front f (turned Loose node)))) ≡ merged_of (option_map block_of f) (block_of node) (option_map block_of b)
   block_merged None None = let n : node.size ≡ 0 + node.size + 0 = omega arith in ap (free_block node.place) n
   block_merged None (Some b) = let n : node.size + b.size ≡ 0 + node.size + b.size = omega arith in ap (free_block node.place) n
   block_merged (Some f) None = let n : f.size + node.size ≡ f.size + node.size + 0 = omega arith in ap (free_block f.place) n
@@ -103,7 +103,7 @@ module _ (position : Position) (node : Node) (nodes : List Node) (lists : List (
     lists = link (start_of f node.place) (size_of f + node.size + size_of b) (unlink_block b (unlink_block f (by_places lists)));
   }
 
-  pub freed_is : (count : ℕ) (taken kept : List ℕ) → node.status ≡ InUse → NoneLoose position.before → NoneLoose nodes → IsGood (content_by (laid count position (node ∷ nodes) lists taken))
+  pub freed_is : (count : ℕ) (taken kept : List ℕ) → node.state ≡ InUse → NoneLoose position.before → NoneLoose nodes → IsGood (content_by (laid count position (node ∷ nodes) lists taken))
       → content_by (freed_layout count position node nodes lists kept) ≡ after_free node.place (content_by (laid count position (node ∷ nodes) lists taken))
   freed_is count taken kept in_use before_settled behind_settled good =
       let merged : Node = turned Listed (merged_node position node nodes) in
@@ -120,5 +120,5 @@ module _ (position : Position) (node : Node) (nodes : List Node) (lists : List (
       let of : List (Pool ℕ) → Content ℕ = λ pools. record { records = count; pools = pools; lists = by_places lists } in
       let P : Content ℕ → Type 0 = λ x. IsGood x in
       let is : of (map pool_of (filled position (node ∷ nodes))) ≡ of (filled_pools (block_position position) (map block_of (node ∷ nodes))) = ap of (pools_are position (node ∷ nodes)) in
-      let live : is_none (owner_of node.status node.slot) ≡ false = ap (λ s. is_none (owner_of s node.slot)) in_use in
+      let live : is_none (owner_of node.state node.slot) ≡ false = ap (λ s. is_none (owner_of s node.slot)) in_use in
       new_is ∙ sym by_blocks ∙ sym (ap (after_free node.place) is ∙ after_is count (block_position position) (block_of node) (map block_of nodes) (by_places lists) (subst P is good) live)

@@ -4,7 +4,7 @@ use Rattle.std.specs.Prelude.{◌==◌}
 use Rattle.std.proofs.lemmas.Bool.{cases_Bool, eqb-true, eqb-false}
 use Rattle.tlsf_class.specs.Classes.{unit}
 use Rattle.tlsf_heap.specs.Content.{Block}
-use Rattle.tlsf_heap.specs.Malloc.{gap, cut}
+use Rattle.tlsf_heap.specs.Malloc.{gap, split}
 use Rattle.tlsf_heap.specs.Good.{Covers, NoFreeNeighbours}
 
 module _ {A : Type 0} where
@@ -35,23 +35,23 @@ module _ {A : Type 0} where
       ]
 
   -- a live block and what is left behind it
-  pub covers_cut : (owner : A) (from to place m size : ℕ) (blocks : List (Block A)) → place ≡ from → 0 < m → m % unit ≡ 0 → m ≤ size → size % unit ≡ 0 → Covers (from + size) to blocks → Covers from to (cut owner place m size ++ blocks)
-  covers_cut owner from to place m size blocks begins some whole fits size_whole c =
-      let P : ℕ → Type 0 = λ p. Covers from to (cut owner p m size ++ blocks) in
+  pub covers_split : (owner : A) (from to place m size : ℕ) (blocks : List (Block A)) → place ≡ from → 0 < m → m % unit ≡ 0 → m ≤ size → size % unit ≡ 0 → Covers (from + size) to blocks → Covers from to (split owner place m size ++ blocks)
+  covers_split owner from to place m size blocks begins some whole fits size_whole c =
+      let P : ℕ → Type 0 = λ p. Covers from to (split owner p m size ++ blocks) in
       let Q : ℕ → Type 0 = λ n. Covers n to blocks in
       let ends : from + size ≡ from + m + (size - m) = omega (arith, fits) in
       subst P (sym begins) (refl, some, whole, covers_gap (from + m) to (size - m) blocks (omega (arith, whole, fits, size_whole)) (subst Q ends c))
 
-  pub apart_cut : (owner : A) (place m size : ℕ) (was : Bool) (blocks : List (Block A)) → NoFreeNeighbours true blocks → NoFreeNeighbours was (cut owner place m size ++ blocks)
-  apart_cut owner place m size was blocks n = (elim was as (λ w. IsTrue (not (w && false))) [ true ↦ refl | false ↦ refl ], apart_gap (place + m) (size - m) blocks n)
+  pub apart_split : (owner : A) (place m size : ℕ) (was : Bool) (blocks : List (Block A)) → NoFreeNeighbours true blocks → NoFreeNeighbours was (split owner place m size ++ blocks)
+  apart_split owner place m size was blocks n = (elim was as (λ w. IsTrue (not (w && false))) [ true ↦ refl | false ↦ refl ], apart_gap (place + m) (size - m) blocks n)
 
   -- they are two at most
-  pub length-cut : (owner : A) (place m size : ℕ) → length (cut owner place m size) ≡ cond ((size - m) == 0) 1 2
-  length-cut owner place m size =
+  pub length-split : (owner : A) (place m size : ℕ) → length (split owner place m size) ≡ cond ((size - m) == 0) 1 2
+  length-split owner place m size =
       let rest : Block A = record { place = place + m; size = size - m; owner = None } in
       elim ((size - m) == 0) as (λ b. suc (length (cond b [] (rest ∷ []))) ≡ cond b 1 2) [ true ↦ refl | false ↦ refl ]
 
-  pub length-cut_most : (owner : A) (place m size : ℕ) → length (cut owner place m size) ≤ 2
-  length-cut_most owner place m size =
+  pub length-split_most : (owner : A) (place m size : ℕ) → length (split owner place m size) ≤ 2
+  length-split_most owner place m size =
       let most : cond ((size - m) == 0) 1 2 ≤ 2 = (elim ((size - m) == 0) as (λ b. cond b 1 2 ≤ 2) [ true ↦ omega arith | false ↦ omega arith ]) in
-      omega (arith, most, length-cut owner place m size)
+      omega (arith, most, length-split owner place m size)

@@ -5,9 +5,9 @@ use Rattle.std.proofs.lemmas.List.{map-set, get_or-map, map-append}
 use Rattle.tlsf_class.specs.Classes.{classes, class}
 use Rattle.tlsf_class.proofs.ClassLaws.{class-lt}
 use Rattle.tlsf_heap.specs.Content.{Block, blocks_of, is_at}
-use Rattle.tlsf_heap.specs.Lists.{list_of as places_of, without, link, unlink}
+use Rattle.tlsf_heap.specs.Lists.{list_of, without, link, unlink}
 use Rattle.tlsf_heap.specs.Good.{IsGood}
-use Rattle.tlsf_heap.specs.Inner.Nodes.{Node, Area, Layout, block_of, pool_of, content_by, nodes_of, has_slot, has_place, list_of, is_listed_in, without_slot, left, entered}
+use Rattle.tlsf_heap.specs.Inner.Nodes.{Node, Area, Layout, block_of, pool_of, content_by, nodes_of, has_slot, has_place, nodes_in, is_listed_in, without_slot, left, entered}
 use Rattle.tlsf_heap.specs.Inner.Positions.{plug, Position, filled}
 use Rattle.tlsf_heap.specs.Inner.Represents.{Agree}
 use Rattle.tlsf_heap.proofs.Content.Blocks.{Ascends-pools}
@@ -34,7 +34,7 @@ places_once layout good place =
     omega (arith, at_most_one 0 blocks (Ascends-pools 0 (map pool_of layout.areas) good.pools_good) place, ap (count_by (is_at place)) (blocks_of_areas layout.areas), count-map (is_at place) block_of (nodes_of layout.areas))
 
 -- the lists agree with areas of which each place and each slot is that of one node
-pub record Told (areas : List Area) (lists : List (List Node)) : Type 0 where
+pub record AgreeOnce (areas : List Area) (lists : List (List Node)) : Type 0 where
   pub full : length lists ≡ classes
   pub agree : Agree areas lists
   pub slots : SlotsOnce areas
@@ -94,10 +94,10 @@ by_places lists = map (map (λ node. node.place)) lists
 
 -- in the list of the node's class, its slot and its place tell the same
 pub record Alike (node : Node) (lists : List (List Node)) : Type 0 where
-  pub none : count_by (λ other. differ (has_slot node.slot other) (has_place node.place other)) (list_of (class node.size) lists) ≡ 0
+  pub none : count_by (λ other. differ (has_slot node.slot other) (has_place node.place other)) (nodes_in (class node.size) lists) ≡ 0
 
-pub alike : (node : Node) (lists : List (List Node)) (position : Position) (at : Node) (nodes : List Node) → at.slot ≡ node.slot → at.place ≡ node.place → Told (filled position (at ∷ nodes)) lists → Alike node lists
-alike node lists position at nodes same_slot same_place told =
+pub alike : (node : Node) (lists : List (List Node)) (position : Position) (at : Node) (nodes : List Node) → at.slot ≡ node.slot → at.place ≡ node.place → AgreeOnce (filled position (at ∷ nodes)) lists → Alike node lists
+alike node lists position at nodes same_slot same_place agreed =
     let test : Node → Bool = λ other. differ (has_slot node.slot other) (has_place node.place other) in
     let either : (others : List Node) → count_by test others ≤ count_by (has_slot node.slot) others + count_by (has_place node.place) others =
     count_either test (has_slot node.slot) (has_place node.place) (λ other. differ_most (has_slot node.slot other) (has_place node.place other)) in
@@ -105,16 +105,16 @@ alike node lists position at nodes same_slot same_place told =
     record {
       none = omega (
         arith,
-        told.agree (class node.size) test,
+        agreed.agree (class node.size) test,
         count_and (is_listed_in (class node.size)) test (nodes_of (filled position (at ∷ nodes))),
         count-filled test position (at ∷ nodes),
         count-cons test at nodes,
         here,
-        told.slots node.slot,
+        agreed.slots node.slot,
         count-filled (has_slot node.slot) position (at ∷ nodes),
         count-cons (has_slot node.slot) at nodes,
         ap one_if (eq-eqb at.slot node.slot same_slot),
-        told.places node.place,
+        agreed.places node.place,
         count-filled (has_place node.place) position (at ∷ nodes),
         count-cons (has_place node.place) at nodes,
         ap one_if (eq-eqb at.place node.place same_place),
@@ -132,24 +132,24 @@ alike-left node other lists full same =
     record {
       none = elim (cases_eq (class node.size) (class other.size)) [
         | inl together ↦
-            let P : ℕ → Type 0 = λ n. count_by test (list_of n lists) ≡ 0 → count_by test (list_of n (left other lists)) ≡ 0 in
-            subst P (sym together) (λ none. omega (arith, none, count-left_same other lists full test, count_and (λ x. not (has_slot other.slot x)) test (list_of (class other.size) lists))) same.none
+            let P : ℕ → Type 0 = λ n. count_by test (nodes_in n lists) ≡ 0 → count_by test (nodes_in n (left other lists)) ≡ 0 in
+            subst P (sym together) (λ none. omega (arith, none, count-left_same other lists full test, count_and (λ x. not (has_slot other.slot x)) test (nodes_in (class other.size) lists))) same.none
         | inr apart ↦ count-left_other other lists full (class node.size) test apart ∙ same.none
       ];
     }
 
 module _ (node : Node) (lists : List (List Node)) (full : length lists ≡ classes) where
-  place_list : places_of (class node.size) (by_places lists) ≡ map (λ other. other.place) (list_of (class node.size) lists)
+  place_list : list_of (class node.size) (by_places lists) ≡ map (λ other. other.place) (nodes_in (class node.size) lists)
   place_list = get_or-map (map (λ other. other.place)) lists (class node.size) [] [] (omega (arith, full, class-lt node.size))
 
   pub places-entered : by_places (entered node lists) ≡ link node.place node.size (by_places lists)
   unfolding entered
   places-entered =
-      map-set (map (λ other. other.place)) lists (class node.size) (node ∷ list_of (class node.size) lists)
+      map-set (map (λ other. other.place)) lists (class node.size) (node ∷ nodes_in (class node.size) lists)
       ∙ ap (λ places. set (by_places lists) (class node.size) (node.place ∷ places)) (sym place_list)
 
   pub places-left : Alike node lists → by_places (left node lists) ≡ unlink node.place node.size (by_places lists)
   unfolding left
   places-left same =
-      map-set (map (λ other. other.place)) lists (class node.size) (without_slot node.slot (list_of (class node.size) lists))
-      ∙ ap (set (by_places lists) (class node.size)) (places-without node.slot node.place (list_of (class node.size) lists) same.none ∙ sym (ap (without node.place) place_list))
+      map-set (map (λ other. other.place)) lists (class node.size) (without_slot node.slot (nodes_in (class node.size) lists))
+      ∙ ap (set (by_places lists) (class node.size)) (places-without node.slot node.place (nodes_in (class node.size) lists) same.none ∙ sym (ap (without node.place) place_list))

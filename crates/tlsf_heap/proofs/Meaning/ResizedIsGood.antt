@@ -4,23 +4,23 @@ use Rattle.std.specs.Prelude.{◌==◌, ◌||◌, is_some, nat_lt, nat_le}
 use Rattle.tlsf_class.specs.Classes.{unit, classes, class, greatest_size}
 use Rattle.tlsf_heap.specs.Content.{Block, Content, blocks_of, is_free, is_at, size_at, Pool}
 use Rattle.tlsf_heap.specs.Lists.{list_of}
-use Rattle.tlsf_heap.specs.Malloc.{link_gap, cut, replaced_in}
+use Rattle.tlsf_heap.specs.Malloc.{link_gap, split, replaced_in}
 use Rattle.tlsf_heap.specs.Free.{if_free, free_next, unlink_block, without_block, size_of, is_owned_by, is_live}
 use Rattle.tlsf_heap.specs.Realloc.{size_with_next, fits_in_place, resized}
 use Rattle.tlsf_heap.specs.Pools.{end_of_places}
 use Rattle.tlsf_heap.proofs.Good.Calls.{Covers-le}
 use Rattle.tlsf_heap.specs.Good.{Covers, NoFreeNeighbours, times, is_listed, IsGood}
 use Rattle.tlsf_heap.proofs.Content.Blocks.{Ascends-pools}
-use Rattle.tlsf_heap.proofs.Content.FreeLists.{count_listed-cut, times-link_gap, length-link_gap}
+use Rattle.tlsf_heap.proofs.Content.FreeLists.{count_listed-split, times-link_gap, length-link_gap}
 use Rattle.tlsf_heap.proofs.Counts.{one_if, count-cons, count-append, count_all, any_counts}
 use Rattle.tlsf_heap.proofs.Meaning.BlockPositions.{BlockPosition, pool_at, filled_pools, count-filled_pools, at_most_one, IsAlone, block_alone, replaced_at, back_at, size_here, LocatedBlock, located_block}
 use Rattle.tlsf_heap.proofs.Meaning.FreeFirst.{past_free, free_first, few_past, past_apart, count_past, times-unlink_block, length-unlink_block, covers_behind, without_next, next_once}
-use Rattle.tlsf_heap.proofs.Meaning.Gaps.{covers_cut, apart_cut, length-cut_most}
+use Rattle.tlsf_heap.proofs.Meaning.Gaps.{covers_split, apart_split, length-split_most}
 use Rattle.tlsf_heap.proofs.Meaning.Refilled.{refilled_is_good}
 use Rattle.std.proofs.lemmas.Bool.{cases_Bool, eqb-true, and_parts, or_cases, ltb-true, ltb-false, leb-true}
 use Rattle.tlsf_heap.proofs.Meaning.FreedIsGood.{owned_is_live, good_behind, within_plug}
 use Rattle.tlsf_heap.specs.GoodSlots.{is_slot, HasGoodSlots}
-use Rattle.tlsf_heap.proofs.Good.Slots.{slot_times-append, slot_times-cut, slots_fewer}
+use Rattle.tlsf_heap.proofs.Good.Slots.{slot_times-append, slot_times-split, slots_fewer}
 
 module _ {A : Type 0} where
   module _ (owner : A) (m : ℕ) (block : Block A) (blocks : List (Block A)) (lists : List (List ℕ)) (live : is_free block ≡ false) (some : 0 < m) (whole : m % unit ≡ 0) where
@@ -31,16 +31,16 @@ module _ {A : Type 0} where
     size = block.size + size_of next
 
     abbrev news : List (Block A)
-    news = cut owner block.place m size ++ past_free blocks
+    news = split owner block.place m size ++ past_free blocks
 
     abbrev new_lists : List (List ℕ)
     new_lists = link_gap (block.place + m) (size - m) (unlink_block next lists)
 
     covers : m ≤ size → (from to : ℕ) → Covers from to (block ∷ blocks) → Covers from to news
-    covers fits from to c = let one = covers_behind block blocks from to c in covers_cut owner from to block.place m size (past_free blocks) c.0 some whole fits one.2 one.3
+    covers fits from to c = let one = covers_behind block blocks from to c in covers_split owner from to block.place m size (past_free blocks) c.0 some whole fits one.2 one.3
 
     apart : (was : Bool) → NoFreeNeighbours was (block ∷ blocks) → NoFreeNeighbours was news
-    apart was n = let P : Bool → Type 0 = λ f. NoFreeNeighbours f blocks in apart_cut owner block.place m size was (past_free blocks) (past_apart blocks (subst P live n.1))
+    apart was n = let P : Bool → Type 0 = λ f. NoFreeNeighbours f blocks in apart_split owner block.place m size was (past_free blocks) (past_apart blocks (subst P live n.1))
 
     listed : length lists ≡ classes → ((other : Block A) → next ≡ Some other → times other.place (list_of (class other.size) lists) ≡ 1) → (q p : ℕ)
         → times p (list_of q new_lists) + count_by (is_listed q p) (block ∷ blocks) ≡ times p (list_of q lists) + count_by (is_listed q p) news
@@ -53,8 +53,8 @@ module _ {A : Type 0} where
           count_past q p blocks,
           count-cons kind block blocks,
           ap (λ b. one_if (b && (is_at p block && (class block.size == q)))) live,
-          count-append kind (cut owner block.place m size) (past_free blocks),
-          count_listed-cut owner q p block.place m size,
+          count-append kind (split owner block.place m size) (past_free blocks),
+          count_listed-split owner q p block.place m size,
         )
 
     module _ (records : ℕ) (position : BlockPosition A) (good : IsGood (record { records = records; pools = filled_pools position (block ∷ blocks); lists = lists })) where
@@ -82,7 +82,7 @@ module _ {A : Type 0} where
       -- the content, where this is the next block and this is the size
       abbrev after : Option (Block A) → ℕ → Content A
       after o n = record old {
-        pools = map (replaced_in block.place (cut owner block.place m (n + size_of o))) (without_block o (filled_pools position (block ∷ blocks)));
+        pools = map (replaced_in block.place (split owner block.place m (n + size_of o))) (without_block o (filled_pools position (block ∷ blocks)));
         lists = link_gap (block.place + m) ((n + size_of o) - m) (unlink_block o lists);
       }
 
@@ -91,8 +91,8 @@ module _ {A : Type 0} where
           let alone : IsAlone position block blocks = block_alone position block blocks once_here in
           let next_is : free_next block.place old ≡ next = ap if_free (back_at position block blocks alone) in
           let by_pools : (after next block.size).pools ≡ new.pools =
-          ap (map (replaced_in block.place (cut owner block.place m size))) (without_next position block blocks once_here)
-          ∙ replaced_at position block (past_free blocks) (block_alone position block (past_free blocks) once_past) (cut owner block.place m size) in
+          ap (map (replaced_in block.place (split owner block.place m size))) (without_next position block blocks once_here)
+          ∙ replaced_at position block (past_free blocks) (block_alone position block (past_free blocks) once_past) (split owner block.place m size) in
           ap (λ o. after o (size_at block.place (blocks_of old.pools))) next_is
           ∙ ap (after next) (size_here position block blocks alone)
           ∙ ap (λ pools. record new { pools = pools }) by_pools
@@ -119,11 +119,11 @@ module _ {A : Type 0} where
           let parts = count_all news in
           let old_count = count_all (blocks_of old.pools) in
           let new_count = count_all (blocks_of (filled_pools position news)) in
-          let both = length-append (cut owner block.place m size) (past_free blocks) in
+          let both = length-append (split owner block.place m size) (past_free blocks) in
           let past = past_length blocks in
           elim (or_cases (is_some next) (nat_lt (length (blocks_of old.pools)) records) room) [
-            | inl there ↦ omega (arith, before, behind, parts, old_count, new_count, both, past, ap {B = ℕ} (λ b. cond b 1 0) there, length-cut_most owner block.place m size, count_all (block ∷ blocks), good.blocks_few)
-            | inr left ↦ omega (arith, before, behind, parts, old_count, new_count, both, past, length-cut_most owner block.place m size, count_all (block ∷ blocks), ltb-true (length (blocks_of old.pools)) records left)
+            | inl there ↦ omega (arith, before, behind, parts, old_count, new_count, both, past, ap {B = ℕ} (λ b. cond b 1 0) there, length-split_most owner block.place m size, count_all (block ∷ blocks), good.blocks_few)
+            | inr left ↦ omega (arith, before, behind, parts, old_count, new_count, both, past, length-split_most owner block.place m size, count_all (block ∷ blocks), ltb-true (length (blocks_of old.pools)) records left)
           ]
 
       resized_good : m ≤ size → (is_some next || nat_lt (length (blocks_of old.pools)) records) ≡ true → IsGood (resized owner block.place m old)
@@ -219,7 +219,7 @@ resized_slots known place m content good live some whole slots =
     let here : IsGood (of all) → HasGoodSlots (of all) → Q at.block.place = λ g s.
     let is = resized_is known m at.block at.blocks content.lists (owned_is_live (λ owner. owner == known) at.block.owner parts.1) some whole content.records at.position g in
     let R : Content ℕ → Type 0 = λ x. HasGoodSlots x in
-    let news : List (Block ℕ) = cut known at.block.place m (at.block.size + size_of (free_first at.blocks)) ++ past_free at.blocks in
+    let news : List (Block ℕ) = split known at.block.place m (at.block.size + size_of (free_first at.blocks)) ++ past_free at.blocks in
     let own : at.block.owner ≡ Some known = owner_is at.block.owner parts.1 in
     subst R (sym is)
     (slots_fewer (of all) (record { records = content.records; pools = filled_pools at.position news; lists = new_lists known m at.block at.blocks content.lists (owned_is_live (λ owner. owner == known) at.block.owner parts.1) some whole }) refl
@@ -231,8 +231,8 @@ resized_slots known place m content good live some whole slots =
       count-filled_pools has at.position news,
       count-cons has at.block at.blocks,
       ap (λ o. one_if (is_slot slot o)) own,
-      slot_times-append slot (cut known at.block.place m (at.block.size + size_of (free_first at.blocks))) (past_free at.blocks),
-      slot_times-cut slot known at.block.place m (at.block.size + size_of (free_first at.blocks)),
+      slot_times-append slot (split known at.block.place m (at.block.size + size_of (free_first at.blocks))) (past_free at.blocks),
+      slot_times-split slot known at.block.place m (at.block.size + size_of (free_first at.blocks)),
       few_past has at.blocks,
     )) s) in
     subst P (sym at.whole) (λ g s. subst Q (eqb-true at.block.place place parts.0) (here g s)) good slots

@@ -16,16 +16,16 @@ use Rattle.tlsf_heap.specs.GoodSlots.{slot_times}
 use Rattle.tlsf_heap.proofs.Content.MemalignCases.{few_gap, used_aligned}
 use Rattle.tlsf_heap.proofs.Good.Slots.{aligned_slots}
 use Rattle.tlsf_heap.proofs.Good.SlotsLeft.{free_found}
-use Rattle.tlsf_heap.proofs.Meaning.AlignedIsGood.{IsCarving, carving}
-use Rattle.tlsf_heap.proofs.Meaning.Carved.{aligned_is_good}
+use Rattle.tlsf_heap.proofs.Meaning.AlignedIsGood.{CanSplitAligned, can_split_aligned}
+use Rattle.tlsf_heap.proofs.Meaning.SplitInThree.{aligned_is_good}
 
 abbrev Plain : Type 0
 Plain = Content ℕ
 
--- what the code has to know of the block that it carves
-pub record IsCarved (align asked place start size : ℕ) (content : Plain) : Type 0 where
+-- what the code has to know of the block that it splits
+pub record IsSplitAligned (align asked place start size : ℕ) (content : Plain) : Type 0 where
   pub picked : pick (size_asked align asked) content.lists ≡ Some place
-  pub carves : IsCarving align asked place content
+  pub can_split : CanSplitAligned align asked place content
   pub start_is : start ≡ next_multiple_of place align
   pub size_is : size ≡ size_at place (blocks_of content.pools)
   pub begins : place ≤ start
@@ -39,11 +39,11 @@ pub record IsCarved (align asked place start size : ℕ) (content : Plain) : Typ
   pub ends : (start + asked) + ((size - (start - place)) - asked) ≤ end_of_places
   pub some_free : 1 ≤ count_by is_free (blocks_of content.pools)
 
-pub is_carved : {align asked place start size bytes : ℕ} {content : Plain} {pick_gave : Option ℕ} → IsPlain content → is_alignment align ≡ true → asked % unit ≡ 0 → 0 < asked → bytes ≡ size_asked align asked
-    → pick_gave ≡ pick bytes content.lists → pick_gave ≡ Some place → size ≡ size_at place (blocks_of content.pools) → start ≡ next_multiple_of place align → IsCarved align asked place start size content
-is_carved {align} {asked} {place} {start} {size} {bytes} {content} {pick_gave} plain is whole some bytes_is picks gave size_is start_is =
+pub is_split_aligned : {align asked place start size bytes : ℕ} {content : Plain} {pick_gave : Option ℕ} → IsPlain content → is_alignment align ≡ true → asked % unit ≡ 0 → 0 < asked → bytes ≡ size_asked align asked
+    → pick_gave ≡ pick bytes content.lists → pick_gave ≡ Some place → size ≡ size_at place (blocks_of content.pools) → start ≡ next_multiple_of place align → IsSplitAligned align asked place start size content
+is_split_aligned {align} {asked} {place} {start} {size} {bytes} {content} {pick_gave} plain is whole some bytes_is picks gave size_is start_is =
     let found : pick (size_asked align asked) content.lists ≡ Some place = ap (λ n. pick n content.lists) (sym bytes_is) ∙ sym picks ∙ gave in
-    let at = carving align asked place content plain.good is found in
+    let at = can_split_aligned align asked place content plain.good is found in
     let block = at.picked.whole in
     let here : at.picked.found.block.size ≡ size = at.picked.size_is ∙ sym size_is in
     let size_whole : size % unit ≡ 0 = ap (λ n. n % unit) (sym here) ∙ block.in_units in
@@ -52,7 +52,7 @@ is_carved {align} {asked} {place} {start} {size} {bytes} {content} {pick_gave} p
     let begins : place ≤ start = omega (arith, at.start.begins, start_is) in
     record {
       picked = found;
-      carves = at;
+      can_split = at;
       start_is = start_is;
       size_is = size_is;
       begins = begins;
@@ -67,13 +67,13 @@ is_carved {align} {asked} {place} {start} {size} {bytes} {content} {pick_gave} p
       some_free = free_found place _ at.picked.found at.picked.free;
     }
 
-module _ {align asked place start size : ℕ} {content : Plain} (by : IsCarved align asked place start size content) where
+module _ {align asked place start size : ℕ} {content : Plain} (by : IsSplitAligned align asked place start size content) where
   -- two blocks more, at most
   pub used_few : (slot : ℕ) → used_records (aligned slot start asked place size content) ≤ used_records content + 2
-  used_few slot = omega (arith, used_aligned slot start asked place size content by.carves.picked.found, few_gap (start - place), few_gap ((size - (start - place)) - asked))
+  used_few slot = omega (arith, used_aligned slot start asked place size content by.can_split.picked.found, few_gap (start - place), few_gap ((size - (start - place)) - asked))
 
   used_same : (slot other : ℕ) → used_records (aligned slot start asked place size content) ≡ used_records (aligned other start asked place size content)
-  used_same slot other = used_aligned slot start asked place size content by.carves.picked.found ∙ sym (used_aligned other start asked place size content by.carves.picked.found)
+  used_same slot other = used_aligned slot start asked place size content by.can_split.picked.found ∙ sym (used_aligned other start asked place size content by.can_split.picked.found)
 
   picked_is : (slot : ℕ) → memalign_rounded slot align (Some asked) content ≡ if_recorded start (aligned slot start asked place size content)
   picked_is slot =
@@ -82,25 +82,25 @@ module _ {align asked place start size : ℕ} {content : Plain} (by : IsCarved a
       ∙ ap (λ s. if_recorded s (aligned slot s asked place size content)) (sym by.start_is)
 
   -- whether it would be too many blocks
-  pub carved_or_full : (slot : ℕ) (full : _) → full ≡ nat_lt content.records (used_records (aligned slot start asked place size content)) → (other : ℕ)
+  pub split_aligned_or_full : (slot : ℕ) (full : _) → full ≡ nat_lt content.records (used_records (aligned slot start asked place size content)) → (other : ℕ)
       → memalign_rounded other align (Some asked) content ≡ cond {A = Result (ℕ × Plain) _} full (Err TableFull) (Ok (start, aligned other start asked place size content))
-  carved_or_full slot full is other =
+  split_aligned_or_full slot full is other =
       picked_is other ∙ ap (λ b. cond b (Err TableFull) (Ok (start, aligned other start asked place size content))) (ap (nat_lt content.records) (used_same other slot) ∙ sym is)
 
-  pub carved_is_plain : (slot : ℕ) → IsPlain content → 0 < asked → asked % unit ≡ 0 → nat_lt content.records (used_records (aligned slot start asked place size content)) ≡ false → slot < content.records
+  pub split_aligned_is_plain : (slot : ℕ) → IsPlain content → 0 < asked → asked % unit ≡ 0 → nat_lt content.records (used_records (aligned slot start asked place size content)) ≡ false → slot < content.records
       → slot_times slot (blocks_of content.pools) ≡ 0 → IsPlain (aligned slot start asked place size content)
-  carved_is_plain slot plain some whole room below new =
+  split_aligned_is_plain slot plain some whole room below new =
       let of : ℕ → ℕ → Plain = λ s n. aligned slot s asked place n content in
       let same : of (next_multiple_of place align) (size_at place (blocks_of content.pools)) ≡ of start size = ap (of (next_multiple_of place align)) (sym by.size_is) ∙ ap (λ s. of s size) (sym by.start_is) in
       let P : Plain → Type 0 = λ x. used_records x ≤ content.records → IsPlain x in
       subst P same (λ few. record {
-        good = aligned_is_good slot (next_multiple_of place align) asked place content plain.good by.carves.picked.once by.carves.start.begins by.carves.fits some whole by.carves.start.gap_whole few;
+        good = aligned_is_good slot (next_multiple_of place align) asked place content plain.good by.can_split.picked.once by.can_split.start.begins by.can_split.fits some whole by.can_split.start.gap_whole few;
         slots = aligned_slots slot (size_asked align asked) place content plain.good by.picked (next_multiple_of place align) asked plain.slots below new;
         records_few = plain.records_few;
       }) (ltb-false _ _ room)
 
 -- the steps of the code are those of the definition
-pub carved_by : (slot place start asked size : ℕ) (front rest : Option (Block ℕ)) (content copy out first second after : Plain)
+pub aligned_by : (slot place start asked size : ℕ) (front rest : Option (Block ℕ)) (content copy out first second after : Plain)
     → copy ≡ content
     → out ≡ record copy { lists = unlink place size copy.lists }
     → first ≡ record out { lists = link_block front out.lists }
@@ -109,7 +109,7 @@ pub carved_by : (slot place start asked size : ℕ) (front rest : Option (Block 
     → front ≡ gap_block place (start - place)
     → rest ≡ gap_block (start + asked) ((size - (start - place)) - asked)
     → after ≡ aligned slot start asked place size content
-carved_by slot place start asked size front rest content copy out first second after a b c d e front_is rest_is =
+aligned_by slot place start asked size front rest content copy out first second after a b c d e front_is rest_is =
     let live : Block ℕ = record { place = start; size = asked; owner = Some slot } in
     let of : Option (Block ℕ) → Option (Block ℕ) → Plain → Plain = λ f r x. record x { pools = map (replaced_in place (blocks_among (f ∷ Some live ∷ r ∷ []))) x.pools; lists = link_block r (link_block f x.lists) } in
     let left : Plain = record content { lists = unlink place size content.lists } in

@@ -5,11 +5,13 @@ use Rattle.std.specs.Option.{option_eq}
 use Rattle.std.specs.List.{list_all, flat_map, count_by}
 use Rattle.tlsf_store.specs.declared.pools.Pool.{Pool}
 use Rattle.tlsf_store.specs.declared.records.Record.{Record}
+use Rattle.tlsf_store.specs.Records.{is_free_state}
 use Rattle.tlsf_heap.specs.declared.image.chains.Tally.{Tally}
 use Rattle.tlsf_heap.specs.declared.image.chains.Front.{Front}
 use Rattle.tlsf_heap.specs.declared.image.links.Blocks.{Blocks}
 use Rattle.tlsf_heap.specs.Images.Image.{Parts}
-use Rattle.tlsf_heap.specs.Images.Rules.{present, has_record_links, has_links, at, is_used, is_free, is_chain, chain_of, covers, are_merged, is_list, are_lists, list_of}
+use Rattle.tlsf_heap.specs.Images.Rules.{has_record_links, has_links, at, is_used, is_chain, chain_of, covers, are_merged, is_list, are_lists, slots_in_list}
+use Rattle.tlsf_heap.specs.Inner.Entries.{entries_of}
 
 -- a pool's chain: how many blocks it has, whether they cover the pool, and whether no two free ones are neighbours
 abbrev pub chain_found : Parts → Pool → Option Tally
@@ -25,11 +27,11 @@ chain_found parts pool =
 -- the chains of these pools together, where each is one, with the tally of those before
 abbrev pub tally_with : Parts → Tally → List (Option Pool) → Option Tally
 tally_with parts tally pools =
-    if list_all (is_chain parts) (present pools)
+    if list_all (is_chain parts) (entries_of pools)
     then Some (record {
-      blocks = tally.blocks + length (flat_map (chain_of parts) (present pools));
-      covers = tally.covers && list_all (λ pool. covers parts pool.base (pool.base + pool.bytes) (chain_of parts pool)) (present pools);
-      is_merged = tally.is_merged && list_all (λ pool. are_merged parts false (chain_of parts pool)) (present pools);
+      blocks = tally.blocks + length (flat_map (chain_of parts) (entries_of pools));
+      covers = tally.covers && list_all (λ pool. covers parts pool.base (pool.base + pool.bytes) (chain_of parts pool)) (entries_of pools);
+      is_merged = tally.is_merged && list_all (λ pool. are_merged parts false (chain_of parts pool)) (entries_of pools);
     })
     else None
 
@@ -47,14 +49,14 @@ both one other = record { blocks = one.blocks + other.blocks; covers = one.cover
 
 -- what stands in front of the block behind this one
 abbrev pub front_of : ℕ → Record → Front
-front_of slot block = record { block = Some slot; end = block.place + block.size; is_free = is_free block.state }
+front_of slot block = record { block = Some slot; end = block.place + block.size; is_free = is_free_state block.state }
 
 -- the tally with a block behind a front
 abbrev pub with_block : Front → Record → Tally → Tally
 with_block front block tally = record {
   blocks = tally.blocks + 1;
   covers = tally.covers && (block.place == front.end);
-  is_merged = tally.is_merged && not (front.is_free && is_free block.state);
+  is_merged = tally.is_merged && not (front.is_free && is_free_state block.state);
 }
 
 -- whether a record is of a block that this stands in front of
@@ -63,11 +65,11 @@ is_before front block = is_used block.state && option_eq nat_eq block.prev front
 
 -- the list of a class: how many blocks it has, where it is one
 abbrev pub list_found : Parts → ℕ → Option ℕ → Option ℕ
-list_found parts number first = if is_list parts number first then Some (length (list_of parts first)) else None
+list_found parts number first = if is_list parts number first then Some (length (slots_in_list parts first)) else None
 
 -- the lists of the classes from this number on, where each is one, with this many blocks before
 abbrev pub lists_with : Parts → ℕ → ℕ → List (Option ℕ) → Option ℕ
-lists_with parts blocks number heads = if are_lists parts number heads then Some (blocks + length (flat_map (list_of parts) heads)) else None
+lists_with parts blocks number heads = if are_lists parts number heads then Some (blocks + length (flat_map (slots_in_list parts) heads)) else None
 
 -- all lists, where each is one
 abbrev pub lists_found : Parts → Option ℕ
@@ -79,25 +81,25 @@ HasSizes parts = (slot : ℕ) → slot < length parts.records → is_used (at pa
 
 -- whether a record is of a free block of the class, behind this one in its list
 abbrev pub is_behind : Option ℕ → ℕ → Record → Bool
-is_behind before number block = (is_free block.state && (class block.size == number)) && option_eq nat_eq block.prev_free before
+is_behind before number block = (is_free_state block.state && (class block.size == number)) && option_eq nat_eq block.prev_free before
 
 -- the count of blocks, of those before and of these records, where each record passes `has_record_links`
 abbrev pub blocks_with : ℕ → Blocks → List Record → Option Blocks
 blocks_with count blocks records =
     if list_all (has_record_links count) records
-    then Some (record { all = blocks.all + count_by (λ r. is_used r.state) records; free = blocks.free + count_by (λ r. is_free r.state) records })
+    then Some (record { all = blocks.all + count_by (λ r. is_used r.state) records; free = blocks.free + count_by (λ r. is_free_state r.state) records })
     else None
 
 -- the count of blocks of all records, where `has_links` holds
 abbrev pub links_found : Parts → Option Blocks
 links_found parts =
     if has_links parts
-    then Some (record { all = count_by (λ r. is_used r.state) parts.records; free = count_by (λ r. is_free r.state) parts.records })
+    then Some (record { all = count_by (λ r. is_used r.state) parts.records; free = count_by (λ r. is_free_state r.state) parts.records })
     else None
 
 -- the blocks and one record more
 abbrev pub blocks_and : Record → Blocks → Blocks
 blocks_and r blocks = record {
   all = (if is_used r.state then blocks.all + 1 else blocks.all);
-  free = (if is_free r.state then blocks.free + 1 else blocks.free);
+  free = (if is_free_state r.state then blocks.free + 1 else blocks.free);
 }

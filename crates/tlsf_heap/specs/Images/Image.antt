@@ -45,8 +45,8 @@ abbrev pub head_at : ℕ → ℕ
 head_at class = 112 + 2 * class
 
 -- the records
-abbrev pub record_at : ℕ → ℕ
-record_at slot = head_at classes + 16 * slot
+abbrev pub record_start : ℕ → ℕ
+record_start slot = head_at classes + 16 * slot
 
 -- the state of a block's code
 abbrev pub state_of : ℕ → State
@@ -64,20 +64,20 @@ head_in bytes class = link_of (two_at (head_at class) bytes)
 
 -- the size of a record with the code of its state below the unit
 abbrev pub size_word : List ℕ → ℕ → ℕ
-size_word bytes slot = four_at (record_at slot + 4) bytes
+size_word bytes slot = four_at (record_start slot + 4) bytes
 
 -- a vacant record has no block and no links
 abbrev pub record_in : List ℕ → ℕ → Record
 record_in bytes slot =
     if size_word bytes slot % unit == 0 then blank
     else record {
-      place = four_at (record_at slot) bytes;
+      place = four_at (record_start slot) bytes;
       size = size_word bytes slot - size_word bytes slot % unit;
       state = state_of (size_word bytes slot % unit);
-      prev = link_of (two_at (record_at slot + 8) bytes);
-      next = link_of (two_at (record_at slot + 10) bytes);
-      prev_free = link_of (two_at (record_at slot + 12) bytes);
-      next_free = link_of (two_at (record_at slot + 14) bytes);
+      prev = link_of (two_at (record_start slot + 8) bytes);
+      next = link_of (two_at (record_start slot + 10) bytes);
+      prev_free = link_of (two_at (record_start slot + 12) bytes);
+      next_free = link_of (two_at (record_start slot + 14) bytes);
     }
 
 -- what an image describes: the pools by number, the head of each class, and the records by slot

@@ -1,33 +1,30 @@
 -- The rules of an image, in order, each a test; and the first that is broken.
 use Rattle.std.specs.Prelude.{◌≡◌, ℕ, ◌+◌, ◌-◌, ◌*◌, ◌%◌, ◌==◌, nat_lt, nat_le, ◌&&◌, ◌||◌, not, Bool, true, false, List, [], ◌∷◌, length, Option, Some, None, is_none, if◌then◌else◌, nat_eq}
-use Rattle.std.specs.List.{range_with_len, list_all, list_any, filter_map, starts_with}
+use Rattle.std.specs.List.{range_with_len, list_all, list_any, starts_with}
 use Rattle.tlsf_class.specs.Classes.{unit, class}
 use Rattle.tlsf_store.specs.declared.records.State.{State}
 use Rattle.tlsf_store.specs.declared.records.State.TheVariants.{Vacant, Free, Live}
 use Rattle.tlsf_store.specs.declared.records.Record.{Record}
 use Rattle.tlsf_store.specs.declared.pools.Pool.{Pool}
-use Rattle.tlsf_store.specs.Records.{record_at as record_of}
+use Rattle.tlsf_store.specs.Records.{record_at, is_free_state}
 use Rattle.tlsf_store.specs.Cells.{most_pools}
 use Rattle.tlsf_heap.specs.declared.image.rule.Rule.{Rule}
 use Rattle.tlsf_heap.specs.declared.image.rule.Rule.TheVariants.{Magic, Length, Pools, UnusedPools, States, Links, Chains, Cover, OnChains, Merged, Lists, OnLists}
-use Rattle.tlsf_heap.specs.Images.Image.{two_at, are_zero, magic, count_at, pools_at, zeros_at, entry_at, record_at, size_word, Parts, parts_in}
+use Rattle.tlsf_heap.specs.Images.Image.{two_at, are_zero, magic, count_at, pools_at, zeros_at, entry_at, record_start, size_word, Parts, parts_in}
 use Rattle.tlsf_heap.specs.Images.Links.{chain_from, list_from, is_linked}
+use Rattle.tlsf_heap.specs.Inner.Entries.{entries_of}
 use Rattle.tlsf_store.specs.Ranges.{can_be_pool}
 
 -- ---- of the bytes
 
 -- 1: nothing is missing in front of the records, and the magic stands first
 abbrev pub has_magic : List ℕ → Bool
-has_magic bytes = nat_le (record_at 0) (length bytes) && starts_with nat_eq bytes magic
+has_magic bytes = nat_le (record_start 0) (length bytes) && starts_with nat_eq bytes magic
 
 -- 2: there is a record, there are at most as many pools as there can be, and the records end the image
 abbrev pub has_length : List ℕ → Bool
 has_length bytes =
-    nat_lt 0 (two_at count_at bytes) && (nat_le (two_at pools_at bytes) most_pools && (are_zero zeros_at 4 bytes && (length bytes == record_at (two_at count_at bytes))))
-
--- the pools that there are
-abbrev pub present : List (Option Pool) → List Pool
-present pools = filter_map (λ pool. pool) pools
+    nat_lt 0 (two_at count_at bytes) && (nat_le (two_at pools_at bytes) most_pools && (are_zero zeros_at 4 bytes && (length bytes == record_start (two_at count_at bytes))))
 
 -- a pool can be at its range, from a place on, and its first record is one of this many
 abbrev pub is_pool : ℕ → ℕ → Pool → Bool
@@ -40,12 +37,12 @@ are_pools count from (pool ∷ pools) = is_pool count from pool && are_pools cou
 
 -- the pools of these parts pass `are_pools` from place 0 on
 abbrev pub has_ordered_pools : Parts → Bool
-has_ordered_pools parts = are_pools (length parts.records) 0 (present parts.pools)
+has_ordered_pools parts = are_pools (length parts.records) 0 (entries_of parts.pools)
 
 -- 3: the pools pass `are_pools` from place 0 on, and their entries end with zeros
 abbrev pub has_pools : List ℕ → Bool
 has_pools bytes =
-    are_pools (two_at count_at bytes) 0 (present (parts_in bytes).pools) && list_all (λ number. are_zero (entry_at number + 10) 2 bytes) (range_with_len 0 (two_at pools_at bytes))
+    are_pools (two_at count_at bytes) 0 (entries_of (parts_in bytes).pools) && list_all (λ number. are_zero (entry_at number + 10) 2 bytes) (range_with_len 0 (two_at pools_at bytes))
 
 -- 4: the entries behind them are zero
 abbrev pub has_unused_pools : List ℕ → Bool
@@ -53,7 +50,7 @@ has_unused_pools bytes = are_zero (entry_at (two_at pools_at bytes)) (12 * (most
 
 -- a record's state is one of three; a vacant record is zero
 abbrev pub has_state : List ℕ → ℕ → Bool
-has_state bytes slot = nat_lt (size_word bytes slot % unit) 3 && (nat_lt 0 (size_word bytes slot % unit) || are_zero (record_at slot) 16 bytes)
+has_state bytes slot = nat_lt (size_word bytes slot % unit) 3 && (nat_lt 0 (size_word bytes slot % unit) || are_zero (record_start slot) 16 bytes)
 
 -- 5: each record's state is one of three, and a vacant record is zero
 abbrev pub has_states : List ℕ → Bool
@@ -86,11 +83,6 @@ is_used Vacant = false
 is_used Free = true
 is_used Live = true
 
-abbrev pub is_free : State → Bool
-is_free Vacant = false
-is_free Free = true
-is_free Live = false
-
 -- a block has bytes and links of records, a live one no links in a list
 abbrev pub has_record_links : ℕ → Record → Bool
 has_record_links count r = not (is_used r.state) || (nat_lt 0 r.size && ((is_below count r.prev && is_below count r.next) && has_links_in r.state count r))
@@ -105,7 +97,7 @@ chain_of parts pool = chain_from parts.records (Some pool.first)
 
 -- the record of a slot
 abbrev pub at : Parts → ℕ → Record
-at parts slot = record_of parts.records slot
+at parts slot = record_at parts.records slot
 
 -- a chain ends, has blocks alone, and is linked back
 abbrev pub is_chain : Parts → Pool → Bool
@@ -113,7 +105,7 @@ is_chain parts pool = is_linked (λ slot. is_used (at parts slot).state) (λ slo
 
 -- 7: the chain of each pool ends, has blocks alone, and is linked back
 abbrev pub has_chains : Parts → Bool
-has_chains parts = list_all (is_chain parts) (present parts.pools)
+has_chains parts = list_all (is_chain parts) (entries_of parts.pools)
 
 -- each block begins where the one before ends, from one place up to another
 abbrev pub covers : Parts → ℕ → ℕ → List ℕ → Bool
@@ -122,7 +114,7 @@ covers parts from to (slot ∷ slots) = ((at parts slot).place == from) && cover
 
 -- 8: the blocks of each chain cover its pool
 abbrev pub has_cover : Parts → Bool
-has_cover parts = list_all (λ pool. covers parts pool.base (pool.base + pool.bytes) (chain_of parts pool)) (present parts.pools)
+has_cover parts = list_all (λ pool. covers parts pool.base (pool.base + pool.bytes) (chain_of parts pool)) (entries_of parts.pools)
 
 -- whether the slot is one of these
 abbrev pub is_among : ℕ → List ℕ → Bool
@@ -131,25 +123,25 @@ is_among slot slots = list_any (λ other. other == slot) slots
 -- 9: each block is on the chain of a pool
 abbrev pub has_all_on_chains : Parts → Bool
 has_all_on_chains parts =
-    list_all (λ slot. not (is_used (at parts slot).state) || list_any (λ pool. is_among slot (chain_of parts pool)) (present parts.pools)) (range_with_len 0 (length parts.records))
+    list_all (λ slot. not (is_used (at parts slot).state) || list_any (λ pool. is_among slot (chain_of parts pool)) (entries_of parts.pools)) (range_with_len 0 (length parts.records))
 
 -- no free block stands behind a free one; after_free: one stands in front of the first
 abbrev pub are_merged : Parts → Bool → List ℕ → Bool
 are_merged parts after_free [] = true
-are_merged parts after_free (slot ∷ slots) = not (after_free && is_free (at parts slot).state) && are_merged parts (is_free (at parts slot).state) slots
+are_merged parts after_free (slot ∷ slots) = not (after_free && is_free_state (at parts slot).state) && are_merged parts (is_free_state (at parts slot).state) slots
 
 -- 10: no two free blocks stand side by side on a chain
 abbrev pub has_merged : Parts → Bool
-has_merged parts = list_all (λ pool. are_merged parts false (chain_of parts pool)) (present parts.pools)
+has_merged parts = list_all (λ pool. are_merged parts false (chain_of parts pool)) (entries_of parts.pools)
 
 -- the list of a class with this head
-abbrev pub list_of : Parts → Option ℕ → List ℕ
-list_of parts first = list_from parts.records first
+abbrev pub slots_in_list : Parts → Option ℕ → List ℕ
+slots_in_list parts first = list_from parts.records first
 
 -- a list ends, has free blocks of its class alone, and is linked back
 abbrev pub is_list : Parts → ℕ → Option ℕ → Bool
 is_list parts number first =
-    is_linked (λ slot. is_free (at parts slot).state && (class (at parts slot).size == number)) (λ slot. (at parts slot).next_free) (λ slot. (at parts slot).prev_free) (length parts.records) None first
+    is_linked (λ slot. is_free_state (at parts slot).state && (class (at parts slot).size == number)) (λ slot. (at parts slot).next_free) (λ slot. (at parts slot).prev_free) (length parts.records) None first
 
 -- each list passes `is_list`, from the class of this number on
 abbrev pub are_lists : Parts → ℕ → List (Option ℕ) → Bool
@@ -163,7 +155,7 @@ has_lists parts = are_lists parts 0 parts.heads
 -- 12: each free block is on the list of a class
 abbrev pub has_all_on_lists : Parts → Bool
 has_all_on_lists parts =
-    list_all (λ slot. not (is_free (at parts slot).state) || list_any (λ first. is_among slot (list_of parts first)) parts.heads) (range_with_len 0 (length parts.records))
+    list_all (λ slot. not (is_free_state (at parts slot).state) || list_any (λ first. is_among slot (slots_in_list parts first)) parts.heads) (range_with_len 0 (length parts.records))
 
 -- ---- all of them
 

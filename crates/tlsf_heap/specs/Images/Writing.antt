@@ -7,7 +7,7 @@ use Rattle.tlsf_store.specs.declared.records.Record.{Record}
 use Rattle.tlsf_store.specs.declared.pools.Pool.{Pool}
 use Rattle.tlsf_store.specs.Slots.{missing}
 use Rattle.tlsf_heap.specs.Images.Image.{magic, Parts}
-use Rattle.tlsf_heap.specs.Images.Rules.{present}
+use Rattle.tlsf_heap.specs.Inner.Entries.{entries_of}
 
 -- a text of a known length is appended
 pub record Appends (old new text : List ℕ) (count : ℕ) : Type 0 where
@@ -49,7 +49,7 @@ head_bytes link = two (word_of link)
 
 -- the magic, how many records and pools there are, and zeros
 abbrev pub header_bytes : Parts → List ℕ
-header_bytes parts = magic ++ (two (length parts.records) ++ (two (length (present parts.pools)) ++ replicate 4 0))
+header_bytes parts = magic ++ (two (length parts.records) ++ (two (length (entries_of parts.pools)) ++ replicate 4 0))
 
 abbrev pub image_of : Parts → List ℕ
 image_of parts = header_bytes parts ++ (flat_map entry_bytes parts.pools ++ (flat_map head_bytes parts.heads ++ flat_map record_bytes parts.records))

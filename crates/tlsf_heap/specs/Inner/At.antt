@@ -8,9 +8,9 @@ use Rattle.tlsf_heap.specs.Inner.Edits.{IsUsed}
 use Rattle.tlsf_heap.specs.Content.{Pool}
 use Rattle.tlsf_heap.specs.Good.{Covers}
 use Rattle.tlsf_heap.specs.Pools.{end_of_places}
-use Rattle.tlsf_heap.specs.Inner.Nodes.{Status, InUse, Listed, Loose, Node, Area, Layout, turned, rest_node, pool_of, nodes_of, left, entered, gap_nodes, entered_gap}
+use Rattle.tlsf_heap.specs.Inner.Nodes.{NodeState, InUse, Listed, Loose, Node, Area, Layout, turned, rest_node, pool_of, nodes_of, left, entered, gap_nodes, entered_gap}
 use Rattle.tlsf_heap.specs.Inner.Positions.{Position, plug, filled, laid}
-use Rattle.tlsf_heap.specs.Inner.Joined.{is_loose, listed_first, past, left_by, grown_in_front, grown_behind, position_past}
+use Rattle.tlsf_heap.specs.Inner.Merging.{is_loose, listed_first, past, left_by, merged_with_front, merged_with_behind, position_past}
 use Rattle.tlsf_heap.specs.Inner.Represents.{Represents}
 
 -- the blocks of the pool cover it
@@ -38,24 +38,24 @@ areas_at at = filled at.position (at.node ∷ at.nodes)
 abbrev pub layout_at : At → Layout
 layout_at at = laid at.count at.position (at.node ∷ at.nodes) at.lists at.taken
 
--- the node has this slot and this status, no other is loose, and the blocks cover their pools
-pub record IsAt (slot : ℕ) (status : Status) (at : At) : Type 0 where
+-- the node has this slot and this state, no other is loose, and the blocks cover their pools
+pub record IsAt (slot : ℕ) (node_state : NodeState) (at : At) : Type 0 where
   pub slot_is : at.node.slot ≡ slot
-  pub status_is : at.node.status ≡ status
-  pub others_settled : count_by (λ node. is_loose node.status) (nodes_of (filled at.position at.nodes)) ≡ 0
+  pub node_state_is : at.node.state ≡ node_state
+  pub others_settled : count_by (λ node. is_loose node.state) (nodes_of (filled at.position at.nodes)) ≡ 0
   pub covered : AreCovered 0 (map pool_of (areas_at at))
 
--- the node in another status
-abbrev pub at_turned : Status → At → At
-at_turned status at = record at { node = turned status at.node }
+-- the node in another state
+abbrev pub at_turned : NodeState → At → At
+at_turned node_state at = record at { node = turned node_state at.node }
 
--- a free node in front, if there is one, left its list and took in the node
-abbrev pub previous_joined : At → At
-previous_joined at = record at { position = position_past at.position; node = grown_in_front (listed_first at.position.before) at.node; lists = left_by (listed_first at.position.before) at.lists }
+-- a free node in front, if there is one, left its list and was merged with the node
+abbrev pub previous_merged : At → At
+previous_merged at = record at { position = position_past at.position; node = merged_with_front (listed_first at.position.before) at.node; lists = left_by (listed_first at.position.before) at.lists }
 
--- a free node behind, if there is one, left its list, and the node took it in
-abbrev pub next_joined : At → At
-next_joined at = record at { node = grown_behind (listed_first at.nodes) at.node; nodes = past at.nodes; lists = left_by (listed_first at.nodes) at.lists }
+-- a free node behind, if there is one, left its list and was merged with the node
+abbrev pub next_merged : At → At
+next_merged at = record at { node = merged_with_behind (listed_first at.nodes) at.node; nodes = past at.nodes; lists = left_by (listed_first at.nodes) at.lists }
 
 -- the node entered its list
 abbrev pub at_listed : At → At
@@ -78,12 +78,12 @@ abbrev pub at_split : ℕ → ℕ → At → At
 at_split rest bytes at = record at { position = record at.position { before = record at.node { size = bytes } ∷ at.position.before }; node = rest_node rest bytes at.node }
 
 -- and it entered its list
-abbrev pub at_cut : ℕ → ℕ → At → At
-at_cut rest bytes at = at_listed (at_split rest bytes at)
+abbrev pub at_split_off : ℕ → ℕ → At → At
+at_split_off rest bytes at = at_listed (at_split rest bytes at)
 
 -- the node keeps its first bytes, and a listed one of what is left stands behind it, where anything is
-abbrev pub at_trimmed : ℕ → ℕ → At → At
-at_trimmed rest bytes at = record at {
+abbrev pub at_split_rest : ℕ → ℕ → At → At
+at_split_rest rest bytes at = record at {
   node = record at.node { size = bytes };
   nodes = gap_nodes rest (at.node.place + bytes) (at.node.size - bytes) ++ at.nodes;
   lists = entered_gap rest (at.node.place + bytes) (at.node.size - bytes) at.lists;
@@ -99,19 +99,19 @@ at_gapped live bytes at = record at {
 
 -- a node in use became free, one with the free ones beside it, and listed
 abbrev pub at_freed : At → At
-at_freed at = at_listed (next_joined (previous_joined (at_turned Loose at)))
+at_freed at = at_listed (next_merged (previous_merged (at_turned Loose at)))
 
 -- the layout without the node's area, whose node left its list
 abbrev pub without_area : At → Layout
 without_area at = record { count = at.count; areas = plug at.position.areas_before at.position.areas_behind; lists = left (turned Listed at.node) at.lists; taken = at.taken }
 
--- the cells represent the layout, and the node has this slot and this status
-abbrev pub StandsAt : ℕ → Status → Cells → At → Type 0
-StandsAt slot status cells at = Represents cells (layout_at at) × IsAt slot status at
+-- the cells represent the layout, and the node has this slot and this state
+abbrev pub StandsAt : ℕ → NodeState → Cells → At → Type 0
+StandsAt slot node_state cells at = Represents cells (layout_at at) × IsAt slot node_state at
 
--- one of two neighbours, the listed one of this size, can leave its list. The front one can then take in the other.
+-- one of two neighbours, the listed one of this size, can leave its list. The two can then be merged.
 -- out: the records once the listed one left
-pub record IsJoinable (front behind listed size : ℕ) (records out : List Record) : Type 0 where
+pub record IsMergeable (front behind listed size : ℕ) (records out : List Record) : Type 0 where
   pub some : 0 < size
   pub whole : size % unit ≡ 0
   pub most : size ≤ greatest_size

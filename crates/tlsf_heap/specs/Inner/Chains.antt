@@ -1,4 +1,4 @@
--- Edits of a store's cells: blocks linked in their pool, a block split, and one that takes in the block behind it.
+-- Edits of a store's cells: blocks linked in their pool, a block split, and one merged with the block behind it.
 use Rattle.std.specs.Prelude.{ℕ, ◌+◌, ◌-◌, Option, Some, None}
 use Rattle.tlsf_store.specs.declared.records.State.{State}
 use Rattle.tlsf_store.specs.declared.records.State.TheVariants.{Free}
@@ -26,13 +26,13 @@ split slot rest bytes cells =
     let old = record_at cells.records slot in
     with_prev old.next (Some rest) (with_record (with_record cells rest (rest_record slot bytes old)) slot (record old { size = bytes; next = Some rest }))
 
--- the slot's block takes in the one behind it, whose slot becomes vacant
-abbrev pub absorbed : ℕ → ℕ → Cells → Cells
-absorbed slot behind cells =
+-- the slot's block is merged with the one behind it, whose slot becomes vacant
+abbrev pub merged_behind : ℕ → ℕ → Cells → Cells
+merged_behind slot behind cells =
     let old = record_at cells.records slot in
     let taken = record_at cells.records behind in
     with_record (with_prev taken.next (Some slot) (with_record cells slot (record old { size = old.size + taken.size; next = taken.next }))) behind blank
 
--- one of two neighbours, of this size, left its list, and the first took in the other
-abbrev pub joined : ℕ → ℕ → ℕ → ℕ → Cells → Cells
-joined front behind listed size cells = absorbed front behind (unlinked (class size) listed cells)
+-- one of two neighbours, of this size, left its list, and the two are merged
+abbrev pub merged_listed : ℕ → ℕ → ℕ → ℕ → Cells → Cells
+merged_listed front behind listed size cells = merged_behind front behind (unlinked (class size) listed cells)

@@ -6,7 +6,7 @@ use Rattle.tlsf_heap.specs.Inner.Nodes.{Node, Area, Layout, Listed, Loose, turne
 
 -- the one node of the entry's pool
 abbrev pub pool_node : StoredPool → Node
-pool_node entry = record { slot = entry.first; place = entry.base; size = entry.bytes; status = Loose }
+pool_node entry = record { slot = entry.first; place = entry.base; size = entry.bytes; state = Loose }
 
 abbrev pub area_of_one : StoredPool → Node → Area
 area_of_one entry node = record { entry = entry; nodes = node ∷ [] }

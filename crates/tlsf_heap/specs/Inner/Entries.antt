@@ -1,6 +1,6 @@
 -- The pool entries of a store, and a pool that enters it.
 use Rattle.std.specs.Prelude.{ℕ, ◌+◌, ◌-◌, ◌||◌, nat_le, Bool, List, [], ◌∷◌, ◌++◌, length, map, replicate, slice_index_or, Option, Some, None, if◌then◌else◌, nat_lt}
-use Rattle.std.specs.List.{position_or_len}
+use Rattle.std.specs.List.{position_or_len, filter_map}
 use Rattle.tlsf_class.specs.Classes.{class}
 use Rattle.tlsf_store.specs.declared.records.State.TheVariants.{Free}
 use Rattle.tlsf_store.specs.declared.records.Record.{Record}
@@ -10,17 +10,15 @@ use Rattle.tlsf_heap.specs.Inner.Edits.{linked}
 
 -- the entries, and none behind them
 abbrev pub padded : List StoredPool → List (Option StoredPool)
-padded entries = map (λ entry. Some entry) entries ++ replicate (most_pools - length entries) None
+padded entries = map Some entries ++ replicate (most_pools - length entries) None
 
 -- the pool of this number, none behind the last entry
 abbrev pub padded_at : List StoredPool → ℕ → Option StoredPool
-padded_at entries number = slice_index_or (map (λ entry. Some entry) entries) number None
+padded_at entries number = slice_index_or (map Some entries) number None
 
 -- the entries that there are
 abbrev pub entries_of : List (Option StoredPool) → List StoredPool
-entries_of [] = []
-entries_of (None ∷ pools) = entries_of pools
-entries_of (Some pool ∷ pools) = pool ∷ entries_of pools
+entries_of pools = filter_map (λ pool. pool) pools
 
 -- how many entries stand in front of the first that begins behind the base
 abbrev pub entry_place : ℕ → List StoredPool → ℕ

@@ -11,7 +11,7 @@ use Rattle.tlsf_heap.specs.Content.{Block, Pool, Content}
 use Rattle.tlsf_heap.specs.Good.{IsGood}
 use Rattle.tlsf_heap.specs.Inner.Entries.{entries_of}
 use Rattle.tlsf_heap.specs.Inner.Nodes.{Layout, content_by, nodes_of}
-use Rattle.tlsf_heap.specs.Inner.Joined.{is_loose}
+use Rattle.tlsf_heap.specs.Inner.Merging.{is_loose}
 use Rattle.tlsf_heap.specs.Inner.Represents.{Represents}
 
 -- a live block is known by its slot
@@ -46,6 +46,6 @@ content_of cells = content_from cells.records (entries_of cells.pools) cells.hea
 pub record Stands (cells : Cells) : Type 0 where
   pub layout : Layout
   pub represented : Represents cells layout
-  pub settled : count_by (λ node. is_loose node.status) (nodes_of layout.areas) ≡ 0
+  pub settled : count_by (λ node. is_loose node.state) (nodes_of layout.areas) ≡ 0
   pub none_taken : layout.taken ≡ []
   pub good : IsGood (content_by layout)

@@ -5,15 +5,15 @@ use Rattle.tlsf_store.specs.declared.pools.Pool.{Pool as StoredPool}
 use Rattle.tlsf_heap.specs.Content.{Block, Pool, Content}
 
 -- live; free and in its class's list; or free and on its way, in no list
-pub data Status : Type 0 where
-  InUse Listed Loose : Status
+pub data NodeState : Type 0 where
+  InUse Listed Loose : NodeState
 
 -- a block, and the slot of its record
 pub record Node : Type 0 where
   pub slot : ℕ
   pub place : ℕ
   pub size : ℕ
-  pub status : Status
+  pub state : NodeState
 
 -- a pool's entry, and its nodes in order of place
 pub record Area : Type 0 where
@@ -31,13 +31,13 @@ pub record Layout : Type 0 where
   pub taken : List ℕ
 
 -- a live block is known by its slot
-abbrev pub owner_of : Status → ℕ → Option ℕ
+abbrev pub owner_of : NodeState → ℕ → Option ℕ
 owner_of InUse slot = Some slot
 owner_of Listed slot = None
 owner_of Loose slot = None
 
 abbrev pub block_of : Node → Block ℕ
-block_of node = record { place = node.place; size = node.size; owner = owner_of node.status node.slot }
+block_of node = record { place = node.place; size = node.size; owner = owner_of node.state node.slot }
 
 abbrev pub pool_of : Area → Pool ℕ
 pool_of area = record { base = area.entry.base; bytes = area.entry.bytes; blocks = map block_of area.nodes }
@@ -50,21 +50,21 @@ content_by layout = record {
   lists = map (map (λ node. node.place)) layout.lists;
 }
 
--- the node in another status
-abbrev pub turned : Status → Node → Node
-turned status node = record node { status = status }
+-- the node in another state
+abbrev pub turned : NodeState → Node → Node
+turned node_state node = record node { state = node_state }
 
 -- the loose node of what is left of a node behind its first bytes
 abbrev pub rest_node : ℕ → ℕ → Node → Node
-rest_node rest bytes node = record { slot = rest; place = node.place + bytes; size = node.size - bytes; status = Loose }
+rest_node rest bytes node = record { slot = rest; place = node.place + bytes; size = node.size - bytes; state = Loose }
 
 -- all nodes, area after area
 abbrev pub nodes_of : List Area → List Node
 nodes_of areas = flat_map (λ area. area.nodes) areas
 
 -- the list of a class
-abbrev pub list_of : ℕ → List (List Node) → List Node
-list_of number lists = slice_index_or lists number []
+abbrev pub nodes_in : ℕ → List (List Node) → List Node
+nodes_in number lists = slice_index_or lists number []
 
 -- whether the node has the slot
 abbrev pub has_slot : ℕ → Node → Bool
@@ -74,14 +74,14 @@ has_slot slot node = node.slot == slot
 abbrev pub has_place : ℕ → Node → Bool
 has_place place node = node.place == place
 
-abbrev pub is_listed : Status → Bool
+abbrev pub is_listed : NodeState → Bool
 is_listed InUse = false
 is_listed Listed = true
 is_listed Loose = false
 
 -- whether the node is to stand in the list of the class
 abbrev pub is_listed_in : ℕ → Node → Bool
-is_listed_in number node = is_listed node.status && (class node.size == number)
+is_listed_in number node = is_listed node.state && (class node.size == number)
 
 -- the nodes but that of the slot, in order
 abbrev pub without_slot : ℕ → List Node → List Node
@@ -89,16 +89,16 @@ without_slot slot nodes = filter (λ node. not (has_slot slot node)) nodes
 
 -- the node leaves its class's list
 unfoldable pub left : Node → List (List Node) → List (List Node)
-left node lists = slice_set lists (class node.size) (without_slot node.slot (list_of (class node.size) lists))
+left node lists = slice_set lists (class node.size) (without_slot node.slot (nodes_in (class node.size) lists))
 
 -- the node enters its class's list, in front of the others
 unfoldable pub entered : Node → List (List Node) → List (List Node)
-entered node lists = slice_set lists (class node.size) (node ∷ list_of (class node.size) lists)
+entered node lists = slice_set lists (class node.size) (node ∷ nodes_in (class node.size) lists)
 
 -- a listed node of these bytes, or none where there are none
 abbrev pub gap_nodes : (slot place size : ℕ) → List Node
-gap_nodes slot place size = if size == 0 then [] else record { slot = slot; place = place; size = size; status = Listed } ∷ []
+gap_nodes slot place size = if size == 0 then [] else record { slot = slot; place = place; size = size; state = Listed } ∷ []
 
 -- it enters its class's list
 abbrev pub entered_gap : (slot place size : ℕ) → List (List Node) → List (List Node)
-entered_gap slot place size lists = if size == 0 then lists else entered (record { slot = slot; place = place; size = size; status = Listed }) lists
+entered_gap slot place size lists = if size == 0 then lists else entered (record { slot = slot; place = place; size = size; state = Listed }) lists

@@ -12,7 +12,7 @@ use Rattle.tlsf_store.specs.Cells.{Cells}
 use Rattle.tlsf_heap.specs.Good.{times}
 use Rattle.tlsf_heap.specs.Images.Bitmaps.{AreBitmapsOf}
 use Rattle.tlsf_heap.specs.Inner.Entries.{padded}
-use Rattle.tlsf_heap.specs.Inner.Nodes.{Status, InUse, Listed, Loose, Node, Area, Layout, nodes_of, list_of, has_slot, is_listed_in}
+use Rattle.tlsf_heap.specs.Inner.Nodes.{NodeState, InUse, Listed, Loose, Node, Area, Layout, nodes_of, nodes_in, has_slot, is_listed_in}
 
 -- what a record says of its block, and of the blocks in front and behind in its pool
 pub record InPool : Type 0 where
@@ -41,14 +41,14 @@ abbrev pub list_views : List Record → ℕ → InList
 list_views records slot = list_view (record_at records slot)
 
 -- the state of a node's record
-abbrev pub state_of : Status → State
+abbrev pub state_of : NodeState → State
 state_of InUse = Live
 state_of Listed = Free
 state_of Loose = Free
 
 -- what a node's record is to say between these neighbours
 abbrev pub in_pool : Option ℕ → Node → Option ℕ → InPool
-in_pool prev node next = record { place = node.place; size = node.size; state = state_of node.status; prev = prev; next = next }
+in_pool prev node next = record { place = node.place; size = node.size; state = state_of node.state; prev = prev; next = next }
 
 abbrev pub in_list : Option ℕ → Node → Option ℕ → InList
 in_list prev node next = record { prev = prev; next = next }
@@ -85,12 +85,12 @@ pub record IsIndex (at : ℕ → InList) (heads : List (Option ℕ)) (step_words
   pub heads_are : heads ≡ map first_slot lists
   pub lists_count : length lists ≡ classes
   pub words_count : length step_words ≡ levels
-  pub linked : (number : ℕ) → AreLinked in_list at None (list_of number lists)
+  pub linked : (number : ℕ) → AreLinked in_list at None (nodes_in number lists)
   pub bitmaps : AreBitmapsOf heads step_words level_word
 
 -- each class's list has the nodes of the areas that are to stand in it, each as often, and no others
 abbrev pub Agree : List Area → List (List Node) → Type 0
-Agree areas lists = (number : ℕ) (test : Node → Bool) → count_by test (list_of number lists) ≡ count_by (λ node. is_listed_in number node && test node) (nodes_of areas)
+Agree areas lists = (number : ℕ) (test : Node → Bool) → count_by test (nodes_in number lists) ≡ count_by (λ node. is_listed_in number node && test node) (nodes_of areas)
 
 -- the parts of a store's cells represent the layout
 pub record Represented (records : List Record) (heads : List (Option ℕ)) (level_word : ℕ) (step_words : List ℕ) (pools : List (Option StoredPool)) (layout : Layout) : Type 0 where

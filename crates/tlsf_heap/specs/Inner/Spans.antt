@@ -51,17 +51,17 @@ abbrev pub split_by : Span → ℕ → ℕ → Cells → Cells
 split_by span rest bytes cells =
     with_prev span.next (Some rest) (with_block span.slot bytes Live (Some rest) (with_record cells rest (rest_of span bytes)))
 
--- the block, which is in this state, takes in the one behind it, whose slot becomes vacant; the span says what it is then
-abbrev pub absorbed_by : Span → State → ℕ → Cells → Cells
-absorbed_by span state behind cells = with_record (with_prev span.next (Some span.slot) (with_block span.slot span.size state span.next cells)) behind blank
+-- the block, in this state, is merged with the one behind it, whose slot becomes vacant; the span says what it is then
+abbrev pub merged_behind_by : Span → State → ℕ → Cells → Cells
+merged_behind_by span state behind cells = with_record (with_prev span.next (Some span.slot) (with_block span.slot span.size state span.next cells)) behind blank
 
--- one of two neighbours, of this record, left its list, and the first took in the other
-abbrev pub joined_by : Span → State → ℕ → Record → Cells → Cells
-joined_by span state behind listed cells = absorbed_by span state behind (unlinked_by (class listed.size) listed cells)
+-- one of two neighbours, of this record, left its list, and the two are merged
+abbrev pub merged_by : Span → State → ℕ → Record → Cells → Cells
+merged_by span state behind listed cells = merged_behind_by span state behind (unlinked_by (class listed.size) listed cells)
 
--- one of two neighbours, the listed one of this record, can leave its list. The first can then take in the other.
+-- one of two neighbours, the listed one of this record, can leave its list. The two can then be merged.
 -- out: the records once the listed one left
-pub record CanJoin (span : Span) (behind : ℕ) (listed : Record) (records out : List Record) : Type 0 where
+pub record CanMerge (span : Span) (behind : ℕ) (listed : Record) (records out : List Record) : Type 0 where
   pub some : 0 < listed.size
   pub whole : listed.size % unit ≡ 0
   pub most : listed.size ≤ greatest_size

@@ -4,9 +4,9 @@ ghost use Rattle.std.specs.Prelude.{◌≡◌, ◌<◌, ◌≤◌, IsTrue, lengt
 ghost use Rattle.tlsf_store.specs.Records.{most_records};
 ghost use Rattle.tlsf_heap.specs.Images.Rules.{has_links};
 ghost use Rattle.tlsf_heap.specs.Images.Findings.{chain_found, chains_found, no_tally, both, front_of, is_before, with_block};
-ghost use Rattle.tlsf_heap.specs.Images.Table.{OnlyReads};
+ghost use Rattle.tlsf_heap.specs.Images.HasParts.{OnlyReads};
 
-use super::Table;
+use super::HasParts;
 use tlsf_store::{MOST_POOLS, Pool, Record, Slot, State};
 
 /// What is found where chains are followed to their ends.
@@ -37,7 +37,7 @@ impl Front {
         Front {
             block: Some(slot),
             end: u64::from(block.place) + u64::from(block.size),
-            is_free: block.state == State::Free,
+            is_free: block.state.is_free(),
         }
     }
 
@@ -81,13 +81,13 @@ impl Tally {
         Tally {
             blocks: self.blocks + 1,
             covers: self.covers && u64::from(block.place) == front.end,
-            is_merged: self.is_merged && !(front.is_free && block.state == State::Free),
+            is_merged: self.is_merged && !(front.is_free && block.state.is_free()),
         }
     }
 }
 
 /// What is found in the chain of a pool, if it ends, has blocks alone, and is linked back.
-fn look_at_chain<T: Table>(table: &mut T, pool: Pool) -> Option<Tally>
+fn look_at_chain<T: HasParts>(table: &mut T, pool: Pool) -> Option<Tally>
     requires links { IsTrue (has_links (T.parts table.old)) }
     requires within { pool.first < length (T.parts table.old).records }
     ensures value { result ≡ chain_found (T.parts table.old) pool }
@@ -117,7 +117,7 @@ fn look_at_chain<T: Table>(table: &mut T, pool: Pool) -> Option<Tally>
 }
 
 /// What is found in the chains of all pools, if each ends, has blocks alone, and is linked back.
-pub(crate) fn look_at_chains<T: Table>(table: &mut T) -> Option<Tally>
+pub(crate) fn look_at_chains<T: HasParts>(table: &mut T) -> Option<Tally>
     requires links { IsTrue (has_links (T.parts table.old)) }
     ensures value { result ≡ chains_found (T.parts table.old) }
     ensures read { OnlyReads T.parts T.cells T.touches table.old table.new }

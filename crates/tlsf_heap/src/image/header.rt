@@ -3,7 +3,7 @@
 ghost use Rattle.std.specs.Prelude.{◌≡◌, ◌+◌, ◌*◌, ◌<◌, ◌≤◌, IsTrue, length};
 ghost use Rattle.tlsf_class.specs.Classes.{classes};
 ghost use Rattle.tlsf_store.specs.Cells.{most_pools};
-ghost use Rattle.tlsf_heap.specs.Images.Image.{record_at, two_at as number_at, count_at, pools_at, pool_in};
+ghost use Rattle.tlsf_heap.specs.Images.Image.{record_start, two_at as number_at, count_at, pools_at, pool_in};
 ghost use Rattle.tlsf_heap.specs.Images.Rules.{has_magic, has_length, has_unused_pools, has_pools, has_state, has_states};
 
 use super::bytes::{are_zero, four_at, two_at};
@@ -45,7 +45,7 @@ pub(crate) fn has_magic(bytes: &[u8]) -> bool
 
 /// Whether there is a record, there are at most as many pools as there can be, and the records end the image.
 pub(crate) fn has_length(bytes: &[u8]) -> bool
-    requires { record_at 0 ≤ length bytes.now }
+    requires { record_start 0 ≤ length bytes.now }
     ensures { result ≡ has_length bytes.now }
 {
     let count = usize::from(two_at(bytes, COUNT_AT));
@@ -57,7 +57,7 @@ pub(crate) fn has_length(bytes: &[u8]) -> bool
 
 /// Whether the entries behind the pools are zero.
 pub(crate) fn has_unused_pools(bytes: &[u8]) -> bool
-    requires whole { record_at 0 ≤ length bytes.now }
+    requires whole { record_start 0 ≤ length bytes.now }
     requires few { number_at pools_at bytes.now ≤ most_pools }
     ensures { result ≡ has_unused_pools bytes.now }
 {
@@ -71,7 +71,7 @@ pub(crate) fn has_unused_pools(bytes: &[u8]) -> bool
 
 /// The pool of an entry.
 pub(crate) fn pool_in(bytes: &[u8], number: usize) -> Pool
-    requires whole { record_at 0 ≤ length bytes.now }
+    requires whole { record_start 0 ≤ length bytes.now }
     requires few { number < most_pools }
     ensures { result ≡ pool_in bytes.now number }
 {
@@ -86,7 +86,7 @@ pub(crate) fn pool_in(bytes: &[u8], number: usize) -> Pool
 /// Whether the pools pass `is_pool`, each from the end of the one before on, and their entries end with
 /// zeros.
 pub(crate) fn has_pools(bytes: &[u8]) -> bool
-    requires whole { record_at 0 ≤ length bytes.now }
+    requires whole { record_start 0 ≤ length bytes.now }
     requires few { number_at pools_at bytes.now ≤ most_pools }
     ensures { result ≡ has_pools bytes.now }
 {
@@ -106,7 +106,7 @@ pub(crate) fn has_pools(bytes: &[u8]) -> bool
 
 /// Whether the record's state is vacant, free or live, and a vacant record is zero.
 fn has_state(bytes: &[u8], slot: usize) -> bool
-    requires { record_at slot + 16 ≤ length bytes.now }
+    requires { record_start slot + 16 ≤ length bytes.now }
     ensures { result ≡ has_state bytes.now slot }
 {
     let at = RECORDS_AT + RECORD_BYTES * slot;
@@ -118,7 +118,7 @@ fn has_state(bytes: &[u8], slot: usize) -> bool
 
 /// Whether each record's state is vacant, free or live, and each vacant record is zero.
 pub(crate) fn has_states(bytes: &[u8]) -> bool
-    requires { record_at (number_at count_at bytes.now) ≡ length bytes.now }
+    requires { record_start (number_at count_at bytes.now) ≡ length bytes.now }
     ensures { result ≡ has_states bytes.now }
 {
     for slot in 0..usize::from(two_at(bytes, COUNT_AT)) {

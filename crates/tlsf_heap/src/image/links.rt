@@ -5,9 +5,9 @@ ghost use Rattle.std.specs.List.{list_all};
 ghost use Rattle.tlsf_store.specs.Records.{most_records};
 ghost use Rattle.tlsf_heap.specs.Images.Rules.{is_below, has_record_links};
 ghost use Rattle.tlsf_heap.specs.Images.Findings.{blocks_and, blocks_with, links_found};
-ghost use Rattle.tlsf_heap.specs.Images.Table.{OnlyReads};
+ghost use Rattle.tlsf_heap.specs.Images.HasParts.{OnlyReads};
 
-use super::Table;
+use super::HasParts;
 use tlsf_class::{CLASSES, Class};
 use tlsf_store::{Record, Slot, State};
 
@@ -62,7 +62,7 @@ fn has_links(block: &Record, count: u32) -> bool
 }
 
 /// Whether each head is none, or one of the records.
-fn has_head_links<T: Table>(table: &mut T) -> bool
+fn has_head_links<T: HasParts>(table: &mut T) -> bool
     ensures value { result ≡ list_all (is_below (length (T.parts table.old).records)) (T.parts table.old).heads }
     ensures read { OnlyReads T.parts T.cells T.touches table.old table.new }
 {
@@ -76,7 +76,7 @@ fn has_head_links<T: Table>(table: &mut T) -> bool
 }
 
 /// How many blocks the records are of, if each passes `has_links`.
-fn look_at_records<T: Table>(table: &mut T) -> Option<Blocks>
+fn look_at_records<T: HasParts>(table: &mut T) -> Option<Blocks>
     ensures value { result ≡ blocks_with (length (T.parts table.old).records) (record { all = 0; free = 0 }) (T.parts table.old).records }
     ensures read { OnlyReads T.parts T.cells T.touches table.old table.new }
 {
@@ -94,7 +94,7 @@ fn look_at_records<T: Table>(table: &mut T) -> Option<Blocks>
 
 /// How many blocks the records are of, if the heads pass `has_head_links` and each record
 /// `has_links`.
-pub(crate) fn look_at_links<T: Table>(table: &mut T) -> Option<Blocks>
+pub(crate) fn look_at_links<T: HasParts>(table: &mut T) -> Option<Blocks>
     ensures value { result ≡ links_found (T.parts table.old) }
     ensures read { OnlyReads T.parts T.cells T.touches table.old table.new }
 {

@@ -2,31 +2,28 @@
 
 ghost use Rattle.std.specs.Prelude.{◌≡◌, ◌%◌, ◌<◌, ◌≤◌, IsTrue, true, length, IfSome};
 ghost use Rattle.tlsf_class.specs.Classes.{unit, classes, greatest_size};
-ghost use Rattle.tlsf_store.specs.Records.{most_records};
+ghost use Rattle.tlsf_store.specs.Records.{most_records, is_free_state};
 ghost use Rattle.tlsf_store.specs.Cells.{head_at};
-ghost use Rattle.tlsf_heap.specs.Images.Rules.{has_links, is_free};
+ghost use Rattle.tlsf_heap.specs.Images.Rules.{has_links};
 ghost use Rattle.tlsf_heap.specs.Images.Findings.{list_found, lists_found, is_behind, HasSizes};
-ghost use Rattle.tlsf_heap.specs.Images.Table.{OnlyReads};
+ghost use Rattle.tlsf_heap.specs.Images.HasParts.{OnlyReads};
 
-use super::Table;
+use super::HasParts;
 use tlsf_class::{CLASSES, Class, class_of};
-use tlsf_store::{Record, Slot, State};
+use tlsf_store::{Record, Slot};
 
 /// Whether the record is of a free block of the class, behind the one before it in its list, if there is one.
 fn is_behind(before: Option<Slot>, block: &Record, class: Class) -> bool
     requires whole { block.now.size % unit ≡ 0 }
-    requires least { is_free block.now.state ≡ true → unit ≤ block.now.size }
-    requires most { is_free block.now.state ≡ true → block.now.size ≤ greatest_size }
+    requires least { is_free_state block.now.state ≡ true → unit ≤ block.now.size }
+    requires most { is_free_state block.now.state ≡ true → block.now.size ≤ greatest_size }
     ensures { result ≡ is_behind before class block.now }
 {
-    match block.state {
-        State::Vacant | State::Live => false,
-        State::Free => class_of(block.size) == class && block.prev_free == before,
-    }
+    block.state.is_free() && class_of(block.size) == class && block.prev_free == before
 }
 
 /// How many blocks the list of a class has, if it ends, has free blocks of the class alone, and is linked back.
-fn look_at_list<T: Table>(table: &mut T, class: Class) -> Option<u32>
+fn look_at_list<T: HasParts>(table: &mut T, class: Class) -> Option<u32>
     requires links { IsTrue (has_links (T.parts table.old)) }
     requires sizes { HasSizes (T.parts table.old) }
     ensures value { result ≡ list_found (T.parts table.old) class (head_at (T.parts table.old).heads class) }
@@ -52,7 +49,7 @@ fn look_at_list<T: Table>(table: &mut T, class: Class) -> Option<u32>
 
 /// How many blocks the lists of all classes have, if each ends, has free blocks of its class alone, and is linked
 /// back.
-pub(crate) fn look_at_lists<T: Table>(table: &mut T) -> Option<u32>
+pub(crate) fn look_at_lists<T: HasParts>(table: &mut T) -> Option<u32>
     requires links { IsTrue (has_links (T.parts table.old)) }
     requires sizes { HasSizes (T.parts table.old) }
     ensures value { result ≡ lists_found (T.parts table.old) }

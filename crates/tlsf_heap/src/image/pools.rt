@@ -1,10 +1,10 @@
 //! The pools of a table.
 
 ghost use Rattle.std.specs.Prelude.{◌≡◌, ◌≤◌, length};
-ghost use Rattle.tlsf_heap.specs.Images.Rules.{present, is_pool as can_be_pool_from, are_pools, has_ordered_pools};
-ghost use Rattle.tlsf_heap.specs.Images.Table.{OnlyReads};
+ghost use Rattle.tlsf_heap.specs.Images.Rules.{is_pool as can_be_pool_from, are_pools, has_ordered_pools};
+ghost use Rattle.tlsf_heap.specs.Images.HasParts.{OnlyReads};
 
-use super::Table;
+use super::HasParts;
 use tlsf_store::{MOST_POOLS, Pool, can_be_pool};
 
 /// Whether the pool can be at its range, from a place on, and its first record is one of this many.
@@ -16,7 +16,7 @@ pub(crate) fn is_pool(count: u32, from: u64, pool: &Pool) -> bool
 }
 
 /// Whether the pools pass `is_pool`, each from the end of the one before on.
-pub(crate) fn has_ordered_pools<T: Table>(table: &mut T) -> bool
+pub(crate) fn has_ordered_pools<T: HasParts>(table: &mut T) -> bool
     ensures value { result ≡ has_ordered_pools (T.parts table.old) }
     ensures read { OnlyReads T.parts T.cells T.touches table.old table.new }
 {

@@ -2,17 +2,17 @@
 
 ghost use Rattle.std.specs.Prelude.{◌≡◌, ◌≤◌, true};
 ghost use Rattle.tlsf_heap.specs.Images.Rules.{first_of, has_ordered_pools, rules_of_parts, rules_of_table};
-ghost use Rattle.tlsf_heap.specs.Images.Table.{OnlyReads};
+ghost use Rattle.tlsf_heap.specs.Images.HasParts.{OnlyReads};
 
 use super::chains::look_at_chains;
 use super::links::look_at_links;
 use super::lists::look_at_lists;
 use super::pools::has_ordered_pools;
-use super::{Rule, Table};
+use super::{HasParts, Rule};
 
 /// The first rule, of those on pools, records, chains and lists, that a table breaks: `None` where it is that of a heap.
 /// Its time is linear in the records.
-pub fn first_broken<T: Table>(table: &mut T) -> Option<Rule>
+pub fn first_broken<T: HasParts>(table: &mut T) -> Option<Rule>
     ensures value { result ≡ first_of (rules_of_table (T.parts table.old)) }
     ensures read { OnlyReads T.parts T.cells T.touches table.old table.new }
 {
@@ -24,7 +24,7 @@ pub fn first_broken<T: Table>(table: &mut T) -> Option<Rule>
 }
 
 /// The first rule, of those on records, chains and lists, that a table breaks, whose pools are where pools can be.
-pub(crate) fn first_behind_pools<T: Table>(table: &mut T) -> Option<Rule>
+pub(crate) fn first_behind_pools<T: HasParts>(table: &mut T) -> Option<Rule>
     requires { has_ordered_pools (T.parts table.old) ≡ true }
     ensures value { result ≡ first_of (rules_of_parts (T.parts table.old)) }
     ensures read { OnlyReads T.parts T.cells T.touches table.old table.new }

@@ -3,7 +3,7 @@
 ghost use Rattle.std.specs.Prelude.{◌≡◌};
 ghost use Rattle.tlsf_heap.specs.Images.Told.{told as what_is_told};
 
-use super::{Table, VACANT};
+use super::{HasParts, VACANT};
 use tlsf_class::Class;
 use tlsf_store::{Pool, Record, Slot, State, Store};
 
@@ -22,7 +22,7 @@ fn told(block: Record) -> Record
     }
 }
 
-impl Table for Store {
+impl HasParts for Store {
     ghost use Rattle.tlsf_heap.specs.Images.Told.{told_parts};
 
     ghost parts = { λ store. told_parts store.cells };

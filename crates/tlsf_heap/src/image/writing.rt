@@ -7,11 +7,11 @@ ghost use Rattle.tlsf_class.specs.Classes.{unit, classes};
 ghost use Rattle.tlsf_store.specs.Records.{most_records};
 ghost use Rattle.tlsf_store.specs.Cells.{most_pools};
 ghost use Rattle.mtrace_log.specs.Output.{Puts};
-ghost use Rattle.tlsf_heap.specs.Images.Rules.{present};
 ghost use Rattle.tlsf_heap.specs.Images.Writing.{Appends, two, four, word_of, block_bytes, record_bytes, entry_bytes, head_bytes, header_bytes, image_of};
-ghost use Rattle.tlsf_heap.specs.Images.Table.{OnlyReads};
+ghost use Rattle.tlsf_heap.specs.Images.HasParts.{OnlyReads};
+ghost use Rattle.tlsf_heap.specs.Inner.Entries.{entries_of};
 
-use super::Table;
+use super::HasParts;
 use super::header::MAGIC;
 use arrayvec::ArrayVec;
 use mtrace_log::{Failed, Sink, put_all};
@@ -105,8 +105,8 @@ fn push_record(piece: &mut Piece, block: &Record)
 }
 
 /// How many pools there are.
-fn count_pools<T: Table>(table: &mut T) -> u16
-    ensures value { result ≡ length (present (T.parts table.old).pools) }
+fn count_pools<T: HasParts>(table: &mut T) -> u16
+    ensures value { result ≡ length (entries_of (T.parts table.old).pools) }
     ensures read { OnlyReads T.parts T.cells T.touches table.old table.new }
 {
     let mut pools = 0;
@@ -119,7 +119,7 @@ fn count_pools<T: Table>(table: &mut T) -> u16
 }
 
 /// Appends the magic, how many records and pools there are, and zeros.
-fn push_header<T: Table>(piece: &mut Piece, table: &mut T)
+fn push_header<T: HasParts>(piece: &mut Piece, table: &mut T)
     requires { array_vec_len piece.old + 16 ≤ PIECE }
     ensures appended { Appends piece.old.items piece.new.items (header_bytes (T.parts table.old)) 16 }
     ensures read { OnlyReads T.parts T.cells T.touches table.old table.new }
@@ -132,7 +132,7 @@ fn push_header<T: Table>(piece: &mut Piece, table: &mut T)
 }
 
 /// Appends the entries of all pools.
-fn push_entries<T: Table>(piece: &mut Piece, table: &mut T)
+fn push_entries<T: HasParts>(piece: &mut Piece, table: &mut T)
     requires { array_vec_len piece.old + 12 * most_pools ≤ PIECE }
     ensures appended { Appends piece.old.items piece.new.items (flat_map entry_bytes (T.parts table.old).pools) (12 * most_pools) }
     ensures read { OnlyReads T.parts T.cells T.touches table.old table.new }
@@ -143,7 +143,7 @@ fn push_entries<T: Table>(piece: &mut Piece, table: &mut T)
 }
 
 /// Appends the heads of all classes.
-fn push_heads<T: Table>(piece: &mut Piece, table: &mut T)
+fn push_heads<T: HasParts>(piece: &mut Piece, table: &mut T)
     requires { array_vec_len piece.old + 2 * classes ≤ PIECE }
     ensures appended { Appends piece.old.items piece.new.items (flat_map head_bytes (T.parts table.old).heads) (2 * classes) }
     ensures read { OnlyReads T.parts T.cells T.touches table.old table.new }
@@ -158,7 +158,7 @@ fn push_heads<T: Table>(piece: &mut Piece, table: &mut T)
 /// # Errors
 ///
 /// `Failed` where the writer failed, or took no byte of some: then a beginning of the image is put.
-pub fn put_image<T: Table, W: Sink>(table: &mut T, writer: &mut W) -> Result<(), Failed>
+pub fn put_image<T: HasParts, W: Sink>(table: &mut T, writer: &mut W) -> Result<(), Failed>
     ensures put { Puts W.taken W.trace result (image_of (T.parts table.old)) writer.old writer.new }
     ensures some { 0 < length (T.parts table.old).records }
     ensures few { length (T.parts table.old).records ≤ most_records }

@@ -53,7 +53,7 @@ impl Block {
         Some(Block::free(place as u32, size))
     }
 
-    /// Where the block that a neighbour before the place takes in begins.
+    /// Where the block begins that is merged with this neighbour before the place, if there is one.
     pub fn start_of(block: &Option<Block>, place: u32) -> u32
         ensures { result ≡ start_of block.now place }
     {

@@ -1,7 +1,7 @@
 use super::content::Content;
 use super::free::freed;
 use super::malloc::allocate;
-use super::memalign::carve;
+use super::memalign::split_aligned;
 use super::realloc::resize;
 use crate::memalign::is_alignment;
 use crate::{Cursor, Heaped, Ptr, Refusal, Row};
@@ -138,7 +138,7 @@ impl Heaped for PlainHeap {
             return Err(Refusal::ZeroSize);
         }
         let asked = round(n).ok_or(Refusal::NoFit)?;
-        let (next, ptr) = carve(&self.content, align as u32, asked)?;
+        let (next, ptr) = split_aligned(&self.content, align as u32, asked)?;
         self.content = next;
         Ok(ptr)
     }

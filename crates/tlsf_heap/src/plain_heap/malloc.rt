@@ -10,7 +10,7 @@ use super::block::Block;
 use super::content::Content;
 use crate::{Ptr, Refusal};
 
-/// The content in which the block picked is cut to a live one of `asked` bytes, and its pointer.
+/// The content in which the block picked is split for a live one of `asked` bytes, and its pointer.
 ///
 /// # Errors
 ///

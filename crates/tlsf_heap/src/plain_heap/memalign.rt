@@ -11,14 +11,14 @@ use super::content::Content;
 use crate::memalign::{size_asked, start_of};
 use crate::{Ptr, Refusal};
 
-/// The content in which the block picked is carved, and the pointer of the live block. That has `asked` bytes
+/// The content in which the block picked is split, and the pointer of the live block. That has `asked` bytes
 /// and begins at a multiple of the alignment.
 ///
 /// # Errors
 ///
 /// `NoFit` where none is picked; `TableFull` where it would have more blocks than records; `OutOfMemory` where
 /// memory is refused.
-pub fn carve(content: &Content, align: u32, asked: u32) -> Result<(Content, Ptr), Refusal>
+pub fn split_aligned(content: &Content, align: u32, asked: u32) -> Result<(Content, Ptr), Refusal>
     requires plain { IsPlain content.now }
     requires is { is_one align ≡ true }
     requires whole { asked % unit ≡ 0 }

@@ -6,10 +6,10 @@ use Rattle.tlsf_class.specs.Classes.{unit}
 use Rattle.tlsf_heap.specs.declared.span.Span.{Span}
 use Rattle.tlsf_heap.specs.Inner.Chains.{with_state}
 use Rattle.tlsf_heap.specs.Inner.Nodes.{InUse, Loose}
-use Rattle.tlsf_heap.specs.Inner.At.{At, StandsAt, at_turned, previous_joined, next_joined}
+use Rattle.tlsf_heap.specs.Inner.At.{At, StandsAt, at_turned, previous_merged, next_merged}
 use Rattle.tlsf_heap.specs.Inner.Spans.{span_of}
 use Rattle.tlsf_heap.proofs.Inner.Steps.{slot_used, size_read, whole_at, turned_stands}
-use Rattle.tlsf_heap.proofs.Inner.Joinable.{prev_is}
+use Rattle.tlsf_heap.proofs.Inner.Mergeable.{prev_is}
 use Rattle.tlsf_heap.proofs.Inner.Spans.{read_of, by_node, by_record, back_used, state_read}
 use Rattle.tlsf_heap.proofs.free.release.Goals as goal
 
@@ -35,19 +35,19 @@ turned old new span slot block is left = left ∙ ap (λ (s : Span). with_state 
 loose : (old new : Cells) (slot : ℕ) (at : At) → StandsAt slot InUse old at → new ≡ with_state slot Free old → StandsAt slot Loose new (at_turned Loose at)
 loose old new slot at stands is = rw is (turned_stands old slot InUse at stands Loose refl refl)
 
-pub join_previous-merged-requires-clause-stands : goal.join_previous-merged-requires-clause-stands
-join_previous-merged-requires-clause-stands c =
+pub merge_previous-merged-requires-clause-stands : goal.merge_previous-merged-requires-clause-stands
+merge_previous-merged-requires-clause-stands c =
     rw c.of-whole.ensures (at_turned Loose c.requires.stands.0, loose c.args.store.now.cells c.turn.new.store.cells c.args.slot c.requires.stands.0 c.requires.stands.1 (turned c.args.store.now.cells c.turn.new.store.cells c.of-whole.result c.args.slot c.args.block.now c.of-whole.ensures c.turn.ensures.cells))
 
-pub join_previous-merged-requires-clause-read : goal.join_previous-merged-requires-clause-read
-join_previous-merged-requires-clause-read c =
+pub merge_previous-merged-requires-clause-read : goal.merge_previous-merged-requires-clause-read
+merge_previous-merged-requires-clause-read c =
     let at : At = c.requires.stands.0 in
     let known = by_node c.args.store.now.cells InUse at (span_of c.args.slot c.args.block.now) c.requires.stands.1 (read_of c.args.store.now.cells.records c.args.slot c.args.block.now c.requires.read c.requires.in_units) in
     rw c.of-whole.ensures (by_record c.turn.new.store.cells Loose (at_turned Loose at) (span_of c.args.slot c.args.block.now) (loose c.args.store.now.cells c.turn.new.store.cells c.args.slot at c.requires.stands.1 (turned c.args.store.now.cells c.turn.new.store.cells c.of-whole.result c.args.slot c.args.block.now c.of-whole.ensures c.turn.ensures.cells))
     (record { slot = known.slot; place = known.place; size = known.size; next = known.next; in_units = known.in_units }))
 
-pub join_previous-merged-requires-clause-previous : goal.join_previous-merged-requires-clause-previous
-join_previous-merged-requires-clause-previous c =
+pub merge_previous-merged-requires-clause-previous : goal.merge_previous-merged-requires-clause-previous
+merge_previous-merged-requires-clause-previous c =
     let at : At = c.requires.stands.0 in
     let mid : Cells = c.turn.new.store.cells in
     rw c.of-whole.ensures (
@@ -56,27 +56,27 @@ join_previous-merged-requires-clause-previous c =
     ∙ sym (prev_is mid (at_turned Loose at) c.args.slot Loose (loose c.args.store.now.cells mid c.args.slot at c.requires.stands.1 (turned c.args.store.now.cells c.turn.new.store.cells c.of-whole.result c.args.slot c.args.block.now c.of-whole.ensures c.turn.ensures.cells)))
     )
 
-pub join_next-all-requires-clause-stands : goal.join_next-all-requires-clause-stands
-join_next-all-requires-clause-stands c =
+pub merge_next-all-requires-clause-stands : goal.merge_next-all-requires-clause-stands
+merge_next-all-requires-clause-stands c =
     let at : At = at_turned Loose c.requires.stands.0 in
     let first : StandsAt c.of-whole.result.slot Loose c.turn.new.store.cells at = rw c.of-whole.ensures (loose c.args.store.now.cells c.turn.new.store.cells c.args.slot c.requires.stands.0 c.requires.stands.1 (turned c.args.store.now.cells c.turn.new.store.cells c.of-whole.result c.args.slot c.args.block.now c.of-whole.ensures c.turn.ensures.cells)) in
-    (Loose, previous_joined at, refl, c.join_previous-merged.ensures.leads at first)
+    (Loose, previous_merged at, refl, c.merge_previous-merged.ensures.leads at first)
 
-pub join_next-all-requires-clause-state : goal.join_next-all-requires-clause-state
-join_next-all-requires-clause-state c =
+pub merge_next-all-requires-clause-state : goal.merge_next-all-requires-clause-state
+merge_next-all-requires-clause-state c =
     let at : At = at_turned Loose c.requires.stands.0 in
     let first : StandsAt c.of-whole.result.slot Loose c.turn.new.store.cells at = rw c.of-whole.ensures (loose c.args.store.now.cells c.turn.new.store.cells c.args.slot c.requires.stands.0 c.requires.stands.1 (turned c.args.store.now.cells c.turn.new.store.cells c.of-whole.result c.args.slot c.args.block.now c.of-whole.ensures c.turn.ensures.cells)) in
-    sym (state_read c.join_previous-merged.new.store.cells c.join_previous-merged.result.slot Loose (previous_joined at) (c.join_previous-merged.ensures.leads at first))
+    sym (state_read c.merge_previous-merged.new.store.cells c.merge_previous-merged.result.slot Loose (previous_merged at) (c.merge_previous-merged.ensures.leads at first))
 
 pub enter-requires-clause-stands : goal.enter-requires-clause-stands
 enter-requires-clause-stands c =
     let at : At = at_turned Loose c.requires.stands.0 in
     let first : StandsAt c.of-whole.result.slot Loose c.turn.new.store.cells at = rw c.of-whole.ensures (loose c.args.store.now.cells c.turn.new.store.cells c.args.slot c.requires.stands.0 c.requires.stands.1 (turned c.args.store.now.cells c.turn.new.store.cells c.of-whole.result c.args.slot c.args.block.now c.of-whole.ensures c.turn.ensures.cells)) in
-    (next_joined (previous_joined at), rw c.join_next-all.ensures.slot (c.join_next-all.ensures.leads Loose (previous_joined at) refl (c.join_previous-merged.ensures.leads at first)))
+    (next_merged (previous_merged at), rw c.merge_next-all.ensures.slot (c.merge_next-all.ensures.leads Loose (previous_merged at) refl (c.merge_previous-merged.ensures.leads at first)))
 
 pub returns-clause-leads : goal.returns-clause-leads
 returns-clause-leads c from stands =
     let at : At = at_turned Loose from in
     let first : StandsAt c.of-whole.result.slot Loose c.turn.new.store.cells at = rw c.of-whole.ensures (loose c.args.store.now.cells c.turn.new.store.cells c.args.slot from stands (turned c.args.store.now.cells c.turn.new.store.cells c.of-whole.result c.args.slot c.args.block.now c.of-whole.ensures c.turn.ensures.cells)) in
-    let end = c.enter.ensures.leads (next_joined (previous_joined at)) (rw c.join_next-all.ensures.slot (c.join_next-all.ensures.leads Loose (previous_joined at) refl (c.join_previous-merged.ensures.leads at first))) in
-    (end.0, record { slot_is = refl; status_is = refl; others_settled = end.1.others_settled; covered = end.1.covered })
+    let end = c.enter.ensures.leads (next_merged (previous_merged at)) (rw c.merge_next-all.ensures.slot (c.merge_next-all.ensures.leads Loose (previous_merged at) refl (c.merge_previous-merged.ensures.leads at first))) in
+    (end.0, record { slot_is = refl; node_state_is = refl; others_settled = end.1.others_settled; covered = end.1.covered })

@@ -11,15 +11,15 @@ use Rattle.tlsf_heap.proofs.load.fill_heads.Goals.{in-Some, in_default}
 
 pub loop-number-init : goal.loop-number-init
 loop-number-init g c = record {
-  same = λ i. g.T.Table.parts c.args.table.now;
+  same = λ i. g.T.HasParts.parts c.args.table.now;
   whole = λ some. absurd (omega (arith, some));
-  so_far = heads_none (g.T.Table.parts c.args.table.now).heads c.args.store.now.cells c.requires.empty;
+  so_far = heads_none (g.T.HasParts.parts c.args.table.now).heads c.args.store.now.cells c.requires.empty;
   touches = omega arith;
 }
 
 pub loop-number-preserved : goal.loop-number-preserved
 loop-number-preserved g c =
-    let parts : Parts = g.T.Table.parts c.args.table.now in
+    let parts : Parts = g.T.HasParts.parts c.args.table.now in
     let all = c.loop-number.invariant in
     let number : ℕ = c.loop-number.number in
     let was : Cells = c.loop-number.store.cells in
@@ -47,7 +47,7 @@ loop-number-preserved g c =
 
 pub returns-clause-heads : goal.returns-clause-heads
 returns-clause-heads g c =
-    let parts : Parts = g.T.Table.parts c.args.table.now in
+    let parts : Parts = g.T.HasParts.parts c.args.table.now in
     let all = c.loop-number.invariant in
     let last = c.loop-number-test.false in
     heads_all parts.heads c.args.store.now.cells c.loop-number.number c.loop-number.store.cells (omega (arith, last)) (all.whole (omega (arith, last))) all.so_far

@@ -5,9 +5,9 @@ use Rattle.tlsf_heap.proofs.load.fill_heads.Given as goal
 
 abbrev pub invariant-loop-number : goal.invariant-loop-number
 invariant-loop-number g l =
-    let parts = g.T.Table.parts l.fn.table in
+    let parts = g.T.HasParts.parts l.fn.table in
     record {
-      same : g.T.Table.parts l.table ≡ parts;
+      same : g.T.HasParts.parts l.table ≡ parts;
       whole : 0 < l.number → length parts.heads ≡ classes;
       so_far : HasHeadsBelow parts.heads l.fn.store.cells l.number l.store.cells;
       touches : l.store.touches ≤ l.fn.store.touches + 5 * l.number;

@@ -6,7 +6,7 @@ use Rattle.tlsf_heap.proofs.load.fill_pools.Goals as goal
 
 pub returns-clause-cells : goal.returns-clause-cells
 returns-clause-cells g c =
-    let parts : Parts = g.T.Table.parts c.args.table.now in
+    let parts : Parts = g.T.HasParts.parts c.args.table.now in
     let all = c.loop-number.invariant in
     let last = c.loop-number-test.false in
     let same : c.loop-number.store.cells.pools ≡ parts.pools =

@@ -6,9 +6,9 @@ use Rattle.tlsf_heap.proofs.load.fill_pools.Given as goal
 -- the pools up to here are those of the table
 abbrev pub invariant-loop-number : goal.invariant-loop-number
 invariant-loop-number g l =
-    let parts = g.T.Table.parts l.fn.table in
+    let parts = g.T.HasParts.parts l.fn.table in
     record {
-      same : g.T.Table.parts l.table ≡ parts;
+      same : g.T.HasParts.parts l.table ≡ parts;
       others : l.store.cells ≡ with_pools l.store.cells.pools l.fn.store.cells;
       count : length l.store.cells.pools ≡ most_pools;
       whole : 0 < l.number → length parts.pools ≡ most_pools;

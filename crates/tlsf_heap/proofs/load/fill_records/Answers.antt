@@ -7,7 +7,7 @@ use Rattle.tlsf_heap.proofs.load.fill_records.Goals as goal
 
 pub returns-clause-cells : goal.returns-clause-cells
 returns-clause-cells g c =
-    let parts : Parts = g.T.Table.parts c.args.table.now in
+    let parts : Parts = g.T.HasParts.parts c.args.table.now in
     let all = c.loop-number.invariant in
     let same : c.loop-number.store.cells.records ≡ parts.records =
     ext_get_or blank c.loop-number.store.cells.records parts.records all.count (λ k within. all.done k (omega (arith, within, all.count, c.loop-number-test.false, c.count-number-end.ensures.value))) in

@@ -8,9 +8,9 @@ use Rattle.tlsf_heap.proofs.load.fill_records.Given as goal
 -- the records up to here are those of the table, and none behind is vacant
 abbrev pub invariant-loop-number : goal.invariant-loop-number
 invariant-loop-number g l =
-    let parts = g.T.Table.parts l.fn.table in
+    let parts = g.T.HasParts.parts l.fn.table in
     record {
-      same : g.T.Table.parts l.table ≡ parts;
+      same : g.T.HasParts.parts l.table ≡ parts;
       others : l.store.cells ≡ with_records l.store.cells.records l.fn.store.cells;
       count : length l.store.cells.records ≡ length parts.records;
       done : (k : ℕ) → k < l.number → record_at l.store.cells.records k ≡ at parts k;

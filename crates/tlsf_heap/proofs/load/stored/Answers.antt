@@ -5,6 +5,6 @@ use Rattle.tlsf_heap.proofs.load.stored.Goals as goal
 
 pub fill_heads-requires-clause-empty : goal.fill_heads-requires-clause-empty
 fill_heads-requires-clause-empty g c =
-    let records = (g.T.Table.parts c.args.table.now).records in
+    let records = (g.T.HasParts.parts c.args.table.now).records in
     let others = c.take_all.new.store.cells.records in
     subst HasNoHeads (sym (c.fill_records.ensures.cells ∙ ap (with_records records) (c.take_all.ensures.others ∙ ap (with_records others) c.in_ok-store.ensures.made))) (none_at_first c.count.result records others)

@@ -89,20 +89,20 @@ returns-in_default c = record {
   touches = search rules;
 }
 
-pub take_part-requires-clause-stands : goal.take_part-requires-clause-stands
-take_part-requires-clause-stands c =
+pub take_split-requires-clause-stands : goal.take_split-requires-clause-stands
+take_split-requires-clause-stands c =
     let old : Cells = c.args.store.now.cells in
     let by = free_at old c.requires.stands c.args.slot c.requires.free in (
       by.at,
       spared old c.read_used-block.new.self.cells c.take_vacant.new.self.cells c.take_vacant.result c.args.slot c.in-Some.rest by.at by.stands c.read_used-block.ensures.left.cells c.in-Some.is c.take_vacant.ensures.left.cells c.in-Some.ensures.within c.in-Some.ensures.vacant,
     )
 
-pub take_part-requires-clause-read : goal.take_part-requires-clause-read
-take_part-requires-clause-read c =
+pub take_split-requires-clause-read : goal.take_split-requires-clause-read
+take_split-requires-clause-read c =
     kept c.args.store.now.cells c.read_used-block.new.self.cells c.take_vacant.new.self.cells c.take_vacant.result c.args.slot c.in-Some.rest c.read_used-block.result c.requires.free c.read_used-block.ensures.left.cells c.in-Some.is c.take_vacant.ensures.left.cells c.in-Some.ensures.vacant c.read_used-block.ensures.value
 
-pub take_part-requires-clause-less : goal.take_part-requires-clause-less
-take_part-requires-clause-less c =
+pub take_split-requires-clause-less : goal.take_split-requires-clause-less
+take_split-requires-clause-less c =
     let old : Cells = c.args.store.now.cells in
     let by = free_at old c.requires.stands c.args.slot c.requires.free in
     let size = size_is old c.args.slot by.at c.read_used-block.result by.stands c.read_used-block.ensures.value in
@@ -110,7 +110,7 @@ take_part-requires-clause-less c =
     omega (arith, least, size, c.if-block-asked.false)
 
 -- what a part leaves
-part : (c : goal.After-new-2) → Stands c.take_part.new.store.cells × (malloc_picked c.args.slot c.args.asked (Some (record_at c.args.store.now.cells.records c.args.slot).place) (content_of c.args.store.now.cells) ≡ Ok ((record_at c.args.store.now.cells.records c.args.slot).place, content_of c.take_part.new.store.cells))
+part : (c : goal.After-new-2) → Stands c.take_split.new.store.cells × (malloc_picked c.args.slot c.args.asked (Some (record_at c.args.store.now.cells.records c.args.slot).place) (content_of c.args.store.now.cells) ≡ Ok ((record_at c.args.store.now.cells.records c.args.slot).place, content_of c.take_split.new.store.cells))
 part c =
     let old : Cells = c.args.store.now.cells in
     let by = free_at old c.requires.stands c.args.slot c.requires.free in
@@ -119,8 +119,8 @@ part c =
     let least = holds old c.requires.stands place c.args.slot c.args.asked by c.requires.some c.requires.whole c.requires.found in
     let stands = spared old c.read_used-block.new.self.cells c.take_vacant.new.self.cells c.take_vacant.result c.args.slot c.in-Some.rest by.at by.stands c.read_used-block.ensures.left.cells c.in-Some.is c.take_vacant.ensures.left.cells c.in-Some.ensures.within c.in-Some.ensures.vacant in
     let room = room_left old c.requires.stands c.in-Some.rest (rw c.read_used-block.ensures.left.cells at c.in-Some.ensures.within) (rw c.read_used-block.ensures.left.cells at c.in-Some.ensures.vacant) in
-    part_stands old c.requires.stands place c.args.slot c.args.asked by c.requires.some c.requires.whole c.requires.found c.take_part.new.store.cells c.in-Some.rest
-    (c.take_part.ensures.leads by.at stands) (omega (arith, least, size, c.if-block-asked.false)) room
+    part_stands old c.requires.stands place c.args.slot c.args.asked by c.requires.some c.requires.whole c.requires.found c.take_split.new.store.cells c.in-Some.rest
+    (c.take_split.ensures.leads by.at stands) (omega (arith, least, size, c.if-block-asked.false)) room
 
 pub returns : goal.returns
 returns c = record {

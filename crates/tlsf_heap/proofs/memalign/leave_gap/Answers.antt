@@ -55,9 +55,9 @@ front : (mid left live : Cells) (span : Span) (rest bytes : ℕ) (at : At) → S
     → StandsAt span.slot InUse live (at_front span.slot rest bytes at)
 front mid left live span rest bytes at stands read some less whole split_is live_is =
     let P : At → Type 0 = λ a. StandsAt rest Loose left (at_split rest bytes a) in
-    let same : at_turned InUse at ≡ at = ap (λ s. at_turned s at) (sym stands.1.status_is) in
-    let cut : StandsAt rest Loose left (at_split rest bytes at) = subst P same (span_splits mid left span InUse rest bytes at refl stands read some less whole split_is) in
-    rw live_is (front_stands span.slot rest bytes at left cut stands.1.slot_is stands.1.status_is)
+    let same : at_turned InUse at ≡ at = ap (λ s. at_turned s at) (sym stands.1.node_state_is) in
+    let split : StandsAt rest Loose left (at_split rest bytes at) = subst P same (span_splits mid left span InUse rest bytes at refl stands read some less whole split_is) in
+    rw live_is (front_stands span.slot rest bytes at left split stands.1.slot_is stands.1.node_state_is)
 
 fronted : (old mid left live : Cells) (span : Span) (result : Option ℕ) (rest bytes : ℕ) (at : At) → StandsAt span.slot InUse old at → IsRead span old.records → result ≡ Some rest → mid ≡ with_taken old result → rest < length old.records → record_at old.records rest ≡ blank
     → 0 < bytes → bytes < span.size → bytes % unit ≡ 0 → left ≡ split_by span rest bytes mid → live ≡ with_state rest Live left → StandsAt span.slot InUse live (at_front span.slot rest bytes at)
@@ -99,7 +99,7 @@ returns-clause-leads c at stands =
     (freed c.set_state.new.store.cells c.set_state-2.new.store.cells c.args.block.now.slot c.in-Some.live c.args.bytes at
     (fronted c.args.store.now.cells c.take_vacant.new.self.cells c.split.new.store.cells c.set_state.new.store.cells c.args.block.now c.take_vacant.result c.in-Some.live c.args.bytes at stands c.requires.read c.in-Some.is c.take_vacant.ensures.left.cells c.in-Some.ensures.within c.in-Some.ensures.vacant some c.requires.less c.requires.whole c.split.ensures.cells c.set_state.ensures.cells)
     c.set_state-2.ensures.cells) in
-    gapped_stands c.args.block.now.slot c.in-Some.live c.args.bytes at c.enter.new.store.cells stands.1.slot_is stands.1.status_is some end
+    gapped_stands c.args.block.now.slot c.in-Some.live c.args.bytes at c.enter.new.store.cells stands.1.slot_is stands.1.node_state_is some end
 
 pub returns-then-bytes-eq0-clause-below : goal.returns-then-bytes-eq0-clause-below
 returns-then-bytes-eq0-clause-below c = (slot_used c.args.store.now.cells c.args.block.now.slot InUse c.requires.stands.0 c.requires.stands.1).0

@@ -25,11 +25,11 @@ pick-requires-clause-some c =
     let is = sym c.is_alignment.ensures ∙ c.if-not-is_alignment.false in
     rw c.size_asked.ensures (asked_whole c.args.align c.in-Some.asked is r.whole (omega (arith, r.some, r.least))).1
 
-pub carve-requires-clause-whole : goal.carve-requires-clause-whole
-carve-requires-clause-whole c = (round-Some c.args.n c.in-Some.asked (sym c.round.ensures ∙ c.in-Some.is)).whole
+pub split_aligned-requires-clause-whole : goal.split_aligned-requires-clause-whole
+split_aligned-requires-clause-whole c = (round-Some c.args.n c.in-Some.asked (sym c.round.ensures ∙ c.in-Some.is)).whole
 
-pub carve-requires-clause-some : goal.carve-requires-clause-some
-carve-requires-clause-some c = let r = round-Some c.args.n c.in-Some.asked (sym c.round.ensures ∙ c.in-Some.is) in omega (arith, r.some, r.least)
+pub split_aligned-requires-clause-some : goal.split_aligned-requires-clause-some
+split_aligned-requires-clause-some c = let r = round-Some c.args.n c.in-Some.asked (sym c.round.ensures ∙ c.in-Some.is) in omega (arith, r.some, r.least)
 
 pub returns : goal.returns
 returns c =
@@ -39,12 +39,12 @@ returns c =
     let same : (slot : ℕ) → memalign slot c.args.align c.args.n (content_of old) ≡ memalign_rounded slot c.args.align (Some c.in-Some.asked) (content_of old) = λ slot. aligned_rounded slot c.args.align c.args.n (content_of old) is c.if-n-eq0.false ∙ ap (λ m. memalign_rounded slot c.args.align m (content_of old)) rounded in
     record {
       stands = search rules;
-      ok = if_served_as c.carve.result (λ slot. memalign slot c.args.align c.args.n) (λ slot. memalign_rounded slot c.args.align (Some c.in-Some.asked)) (content_of old) (content_of c.carve.new.store.cells) same (rw c.pick.ensures.left.cells at c.carve.ensures.ok);
-      refused = if_err c.carve.result
+      ok = if_served_as c.split_aligned.result (λ slot. memalign slot c.args.align c.args.n) (λ slot. memalign_rounded slot c.args.align (Some c.in-Some.asked)) (content_of old) (content_of c.split_aligned.new.store.cells) same (rw c.pick.ensures.left.cells at c.split_aligned.ensures.ok);
+      refused = if_err c.split_aligned.result
           (λ (refusal : Refusal). (owner : ℕ) → memalign_rounded owner c.args.align (Some c.in-Some.asked) (content_of old) ≡ Err refusal)
           (λ refusal. (slot : ℕ) → memalign slot c.args.align c.args.n (content_of old) ≡ Err refusal)
           (λ refusal e slot. same slot ∙ e slot)
-          (rw c.pick.ensures.left.cells at c.carve.ensures.refused);
+          (rw c.pick.ensures.left.cells at c.split_aligned.ensures.refused);
       cells = search rules;
       touches = search rules;
     }

@@ -14,10 +14,10 @@ used c = stands_used c.args.store.now.cells c.requires.stands c.in-Some.next (rw
 next_is : (c : goal.After-number_of) → c.number_of.result ≡ (record_at c.args.store.now.cells.records c.in-Some.next).next
 next_is c = rw (c.number_of.ensures, c.read-block.ensures.value)
 
-row_is : (c : goal.After-number_of) → row_of (block_at c.args.store.now.cells.records c.in-Some.next) ≡ record { place = c.read-block.result.place; size = c.read-block.result.size; used = c.is_used.result }
+row_is : (c : goal.After-number_of) → row_of (block_at c.args.store.now.cells.records c.in-Some.next) ≡ record { place = c.read-block.result.place; size = c.read-block.result.size; used = c.is_live.result }
 row_is c =
     let r : Record = record_at c.args.store.now.cells.records c.in-Some.next in
-    rw (c.is_used.ensures, c.read-block.ensures.value) (ap (λ b. record { place = r.place; size = r.size; used = b }) (live_is_used r.state c.in-Some.next r.place r.size))
+    rw (c.is_live.ensures, c.read-block.ensures.value) (ap (λ b. record { place = r.place; size = r.size; used = b }) (live_is_used r.state c.in-Some.next r.place r.size))
 
 pub returns-clause-given : goal.returns-clause-given
 returns-clause-given c = record {

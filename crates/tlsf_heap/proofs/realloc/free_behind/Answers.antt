@@ -1,14 +1,13 @@
 use Rattle.std.proofs.Common.{◌≡◌, ℕ, true, false, sym, ap, ◌∙◌, subst, Some, option_map}
 use Rattle.tlsf_store.specs.declared.records.Record.{Record}
-use Rattle.tlsf_store.specs.Records.{record_at}
+use Rattle.tlsf_store.specs.Records.{record_at, is_free_state}
 use Rattle.tlsf_store.specs.Cells.{Cells}
 use Rattle.tlsf_heap.specs.declared.span.Span.{Span}
 use Rattle.tlsf_heap.specs.Inner.Edits.{IsUsed}
 use Rattle.tlsf_heap.specs.Inner.At.{At, StandsAt}
 use Rattle.tlsf_heap.specs.Inner.Spans.{IsRead}
-use Rattle.tlsf_heap.specs.Inner.States.{is_state_free}
 use Rattle.tlsf_heap.specs.Inner.Nodes.{InUse, Node}
-use Rattle.tlsf_heap.proofs.Inner.Joinable.{listed_none, listed_live, listed_free}
+use Rattle.tlsf_heap.proofs.Inner.Mergeable.{listed_none, listed_live, listed_free}
 use Rattle.tlsf_heap.proofs.Inner.Spans.{back_used}
 use Rattle.tlsf_heap.proofs.realloc.free_behind.Goals as goal
 
@@ -29,11 +28,11 @@ returns-in_default-clause-value c at stands =
 pub returns-then-not-is_free-clause-value : goal.returns-then-not-is_free-clause-value
 returns-then-not-is_free-clause-value c at stands =
     let old : Cells = c.args.store.now.cells in
-    let live : is_state_free (record_at old.records c.in-Some.next_slot).state ≡ false = sym (ap (λ (r : Record). is_state_free r.state) c.read_used-next.ensures.value) ∙ sym c.is_free.ensures ∙ c.if-not-is_free.true in
+    let live : is_free_state (record_at old.records c.in-Some.next_slot).state ≡ false = sym (ap (λ (r : Record). is_free_state r.state) c.read_used-next.ensures.value) ∙ sym c.is_free.ensures ∙ c.if-not-is_free.true in
     sym (ap (option_map (λ (node : Node). node.size)) (listed_live old at c.args.block.now.slot InUse stands c.in-Some.next_slot (sym c.requires.read.next ∙ c.in-Some.is) live))
 
 pub returns-clause-value : goal.returns-clause-value
 returns-clause-value c at stands =
     let old : Cells = c.args.store.now.cells in
-    let free : is_state_free (record_at old.records c.in-Some.next_slot).state ≡ true = sym (ap (λ (r : Record). is_state_free r.state) c.read_used-next.ensures.value) ∙ sym c.is_free.ensures ∙ c.if-not-is_free.false in
+    let free : is_free_state (record_at old.records c.in-Some.next_slot).state ≡ true = sym (ap (λ (r : Record). is_free_state r.state) c.read_used-next.ensures.value) ∙ sym c.is_free.ensures ∙ c.if-not-is_free.false in
     ap (λ (r : Record). Some r.size) c.read_used-next.ensures.value ∙ sym (listed_free old at c.args.block.now.slot InUse stands c.in-Some.next_slot (sym c.requires.read.next ∙ c.in-Some.is) free)

@@ -4,50 +4,50 @@ use Rattle.tlsf_store.specs.Records.{record_at}
 use Rattle.tlsf_heap.specs.Realloc.{resized}
 use Rattle.tlsf_heap.specs.Inner.Following.{Stands, content_of}
 use Rattle.tlsf_heap.specs.Inner.Nodes.{InUse}
-use Rattle.tlsf_heap.specs.Inner.At.{next_joined}
+use Rattle.tlsf_heap.specs.Inner.At.{next_merged}
 use Rattle.tlsf_heap.proofs.Inner.Steps.{size_read}
 use Rattle.tlsf_heap.proofs.Inner.Spans.{state_read}
 use Rattle.tlsf_heap.proofs.Inner.Live.{live_at}
-use Rattle.tlsf_heap.proofs.Inner.Resizing.{joined_holds, resized_stands}
+use Rattle.tlsf_heap.proofs.Inner.Resizing.{merged_holds, resized_stands}
 use Rattle.tlsf_heap.proofs.realloc.resize_in_place.Goals as goal
 
-pub join_next-grown-requires-clause-stands : goal.join_next-grown-requires-clause-stands
-join_next-grown-requires-clause-stands c =
+pub merge_next-grown-requires-clause-stands : goal.merge_next-grown-requires-clause-stands
+merge_next-grown-requires-clause-stands c =
     let by = live_at c.args.store.now.cells c.requires.stands c.args.block.place c.args.block.slot c.requires.live in
     (InUse, by.at, refl, by.stands)
 
-pub join_next-grown-requires-clause-state : goal.join_next-grown-requires-clause-state
-join_next-grown-requires-clause-state c =
+pub merge_next-grown-requires-clause-state : goal.merge_next-grown-requires-clause-state
+merge_next-grown-requires-clause-state c =
     let by = live_at c.args.store.now.cells c.requires.stands c.args.block.place c.args.block.slot c.requires.live in
     sym (state_read c.args.store.now.cells c.args.block.slot InUse by.at by.stands)
 
-pub trim-requires-clause-stands : goal.trim-requires-clause-stands
-trim-requires-clause-stands c =
+pub split_rest-requires-clause-stands : goal.split_rest-requires-clause-stands
+split_rest-requires-clause-stands c =
     let by = live_at c.args.store.now.cells c.requires.stands c.args.block.place c.args.block.slot c.requires.live in
-    (next_joined by.at, rw c.join_next-grown.ensures.slot (c.join_next-grown.ensures.leads InUse by.at refl by.stands))
+    (next_merged by.at, rw c.merge_next-grown.ensures.slot (c.merge_next-grown.ensures.leads InUse by.at refl by.stands))
 
-pub trim-requires-clause-most : goal.trim-requires-clause-most
-trim-requires-clause-most c =
+pub split_rest-requires-clause-most : goal.split_rest-requires-clause-most
+split_rest-requires-clause-most c =
     let old : Cells = c.args.store.now.cells in
     let by = live_at old c.requires.stands c.args.block.place c.args.block.slot c.requires.live in
-    let after = c.join_next-grown.ensures.leads InUse by.at refl by.stands in
-    let size = c.join_next-grown.ensures.read.size ∙ ap (λ q. (record_at c.join_next-grown.new.store.cells.records q).size) c.join_next-grown.ensures.slot ∙ size_read c.join_next-grown.new.store.cells c.args.block.slot InUse (next_joined by.at) after in
-    omega (arith, size, (joined_holds old c.requires.stands c.args.block.place c.args.block.slot by c.join_next-grown.new.store.cells c.args.asked c.requires.fits after).0)
+    let after = c.merge_next-grown.ensures.leads InUse by.at refl by.stands in
+    let size = c.merge_next-grown.ensures.read.size ∙ ap (λ q. (record_at c.merge_next-grown.new.store.cells.records q).size) c.merge_next-grown.ensures.slot ∙ size_read c.merge_next-grown.new.store.cells c.args.block.slot InUse (next_merged by.at) after in
+    omega (arith, size, (merged_holds old c.requires.stands c.args.block.place c.args.block.slot by c.merge_next-grown.new.store.cells c.args.asked c.requires.fits after).0)
 
-pub trim-requires-clause-room : goal.trim-requires-clause-room
-trim-requires-clause-room c less =
+pub split_rest-requires-clause-room : goal.split_rest-requires-clause-room
+split_rest-requires-clause-room c less =
     let old : Cells = c.args.store.now.cells in
     let by = live_at old c.requires.stands c.args.block.place c.args.block.slot c.requires.live in
-    let after = c.join_next-grown.ensures.leads InUse by.at refl by.stands in
-    let size = c.join_next-grown.ensures.read.size ∙ ap (λ q. (record_at c.join_next-grown.new.store.cells.records q).size) c.join_next-grown.ensures.slot in
-    (joined_holds old c.requires.stands c.args.block.place c.args.block.slot by c.join_next-grown.new.store.cells c.args.asked c.requires.fits after).1 (omega (arith, less, size))
+    let after = c.merge_next-grown.ensures.leads InUse by.at refl by.stands in
+    let size = c.merge_next-grown.ensures.read.size ∙ ap (λ q. (record_at c.merge_next-grown.new.store.cells.records q).size) c.merge_next-grown.ensures.slot in
+    (merged_holds old c.requires.stands c.args.block.place c.args.block.slot by c.merge_next-grown.new.store.cells c.args.asked c.requires.fits after).1 (omega (arith, less, size))
 
-left : (c : goal.After-trim) → Stands c.trim.new.store.cells × (content_of c.trim.new.store.cells ≡ resized c.args.block.slot c.args.block.place c.args.asked (content_of c.args.store.now.cells))
+left : (c : goal.After-split_rest) → Stands c.split_rest.new.store.cells × (content_of c.split_rest.new.store.cells ≡ resized c.args.block.slot c.args.block.place c.args.asked (content_of c.args.store.now.cells))
 left c =
     let old : Cells = c.args.store.now.cells in
     let by = live_at old c.requires.stands c.args.block.place c.args.block.slot c.requires.live in
-    let end = c.trim.ensures.leads (next_joined by.at) (rw c.join_next-grown.ensures.slot (c.join_next-grown.ensures.leads InUse by.at refl by.stands)) in
-    resized_stands old c.requires.stands c.args.block.place c.args.block.slot by c.trim.new.store.cells c.args.asked end.0 c.requires.live c.requires.fits c.requires.other c.requires.some c.requires.whole (rw c.join_next-grown.ensures.slot at end.1)
+    let end = c.split_rest.ensures.leads (next_merged by.at) (rw c.merge_next-grown.ensures.slot (c.merge_next-grown.ensures.leads InUse by.at refl by.stands)) in
+    resized_stands old c.requires.stands c.args.block.place c.args.block.slot by c.split_rest.new.store.cells c.args.asked end.0 c.requires.live c.requires.fits c.requires.other c.requires.some c.requires.whole (rw c.merge_next-grown.ensures.slot at end.1)
 
 pub returns-clause-stands : goal.returns-clause-stands
 returns-clause-stands c = (left c).0

@@ -2,12 +2,11 @@ use Rattle.std.proofs.Common.{rules, ◌≡◌, ℕ, suc, ◌<◌, ◌&&◌, Boo
 use Rattle.std.specs.Prelude.{All, is_none, remove}
 use Rattle.std.proofs.lemmas.List.Elements.{All-append, All-take, All-drop}
 use Rattle.tlsf_store.specs.declared.records.Record.{Record}
-use Rattle.tlsf_store.specs.Records.{record_at}
+use Rattle.tlsf_store.specs.Records.{record_at, is_free_state}
 use Rattle.tlsf_store.specs.Cells.{Cells}
 use Rattle.tlsf_store.specs.declared.pools.Pool.{Pool as StoredPool}
 use Rattle.tlsf_heap.specs.Pools.{remove_pool}
 use Rattle.tlsf_heap.specs.Inner.Entries.{entries_of}
-use Rattle.tlsf_heap.specs.Inner.States.{is_state_free}
 use Rattle.tlsf_heap.specs.Inner.Nodes.{Listed}
 use Rattle.tlsf_heap.specs.Inner.At.{At, StandsAt}
 use Rattle.tlsf_heap.specs.Inner.Following.{Stands, content_of}
@@ -19,14 +18,14 @@ abbrev IsNumber : (entries : List StoredPool) (base number : ℕ) → Type 0
 IsNumber entries base number = (number < length entries) × ((d : StoredPool) → (get_or entries number d).base ≡ base)
 
 -- what the entry and the record of its first slot tell
-record Told (old : Cells) (stands : Stands old) (base number : ℕ) (entry : StoredPool) (block : Record) : Type 0 where
+record PoolFound (old : Cells) (stands : Stands old) (base number : ℕ) (entry : StoredPool) (block : Record) : Type 0 where
   is : IsNumber (entries_of old.pools) base number
   slot_is : entry.first ≡ (at old stands base number is.0 is.1).area.entry.first
   block_is : block ≡ record_at old.records entry.first
 
-told : (old one : Cells) (stands : Stands old) (base number : ℕ) (items now : List StoredPool) (entry : StoredPool) (block : Record)
-    → one ≡ old → items ≡ entries_of old.pools → now ≡ items → IsNumber now base number → entry ≡ get_or items number entry → block ≡ record_at one.records entry.first → Told old stands base number entry block
-told old one stands base number items now entry block same items_are now_is is entry_is block_is =
+pool_found : (old one : Cells) (stands : Stands old) (base number : ℕ) (items now : List StoredPool) (entry : StoredPool) (block : Record)
+    → one ≡ old → items ≡ entries_of old.pools → now ≡ items → IsNumber now base number → entry ≡ get_or items number entry → block ≡ record_at one.records entry.first → PoolFound old stands base number entry block
+pool_found old one stands base number items now entry block same items_are now_is is entry_is block_is =
     let number_is : IsNumber (entries_of old.pools) base number = subst (λ entries. IsNumber entries base number) (now_is ∙ items_are) is in
     record {
       is = number_is;
@@ -44,16 +43,16 @@ returns-in_default c = record {
   touches = search rules;
 }
 
-alone_by : (old : Cells) (stands : Stands old) (base number : ℕ) (entry : StoredPool) (block : Record) → Told old stands base number entry block → (result answer : Bool) → result ≡ (is_state_free block.state && is_none block.next) → result ≡ answer
-    → (is_state_free (record_at old.records entry.first).state && is_none (record_at old.records entry.first).next) ≡ answer
-alone_by old stands base number entry block t result answer is answered = ap (λ (r : Record). is_state_free r.state && is_none r.next) (sym t.block_is) ∙ sym is ∙ answered
+alone_by : (old : Cells) (stands : Stands old) (base number : ℕ) (entry : StoredPool) (block : Record) → PoolFound old stands base number entry block → (result answer : Bool) → result ≡ (is_free_state block.state && is_none block.next) → result ≡ answer
+    → (is_free_state (record_at old.records entry.first).state && is_none (record_at old.records entry.first).next) ≡ answer
+alone_by old stands base number entry block t result answer is answered = ap (λ (r : Record). is_free_state r.state && is_none r.next) (sym t.block_is) ∙ sym is ∙ answered
 
 pub returns-then-not-is_alone : goal.returns-then-not-is_alone
 returns-then-not-is_alone c = record {
   stands = search rules;
   ok = search rules;
   refused = let old : Cells = c.args.store.now.cells in
-      let t = told old c.entries-entries.new.store.cells c.requires c.args.base c.in-Some.number c.entries-entries.result.items c.as_slice.result.now c.remove-entry.result c.read-block.result c.entries-entries.ensures.left.cells c.entries-entries.ensures.value c.as_slice.ensures.value c.in-Some.ensures.found c.remove-entry.ensures.value c.read-block.ensures.value in
+      let t = pool_found old c.entries-entries.new.store.cells c.requires c.args.base c.in-Some.number c.entries-entries.result.items c.as_slice.result.now c.remove-entry.result c.read-block.result c.entries-entries.ensures.left.cells c.entries-entries.ensures.value c.as_slice.ensures.value c.in-Some.ensures.found c.remove-entry.ensures.value c.read-block.ensures.value in
       refused_used old c.requires c.args.base c.in-Some.number t.is.0 t.is.1 c.remove-entry.result.first t.slot_is
       (alone_by old c.requires c.args.base c.in-Some.number c.remove-entry.result c.read-block.result t c.is_alone.result false c.is_alone.ensures c.if-not-is_alone.true);
   cells = search rules;
@@ -63,7 +62,7 @@ returns-then-not-is_alone c = record {
 pub drop_pool-requires-clause-stands : goal.drop_pool-requires-clause-stands
 drop_pool-requires-clause-stands c =
     let old : Cells = c.args.store.now.cells in
-    let t = told old c.entries-entries.new.store.cells c.requires c.args.base c.in-Some.number c.entries-entries.result.items c.as_slice.result.now c.remove-entry.result c.read-block.result c.entries-entries.ensures.left.cells c.entries-entries.ensures.value c.as_slice.ensures.value c.in-Some.ensures.found c.remove-entry.ensures.value c.read-block.ensures.value in
+    let t = pool_found old c.entries-entries.new.store.cells c.requires c.args.base c.in-Some.number c.entries-entries.result.items c.as_slice.result.now c.remove-entry.result c.read-block.result c.entries-entries.ensures.left.cells c.entries-entries.ensures.value c.as_slice.ensures.value c.in-Some.ensures.found c.remove-entry.ensures.value c.read-block.ensures.value in
     let unused = alone_by old c.requires c.args.base c.in-Some.number c.remove-entry.result c.read-block.result t c.is_alone.result true c.is_alone.ensures c.if-not-is_alone.false in
     let slot : ℕ = c.remove-entry.result.first in
     let here = stands_there old c.requires c.args.base c.in-Some.number t.is.0 t.is.1 slot t.slot_is unused in
@@ -83,7 +82,7 @@ drop_pool-requires-clause-below c =
 left : (c : goal.After-drop_pool) → Stands c.drop_pool.new.store.cells × (remove_pool c.args.base (content_of c.args.store.now.cells) ≡ Ok (content_of c.drop_pool.new.store.cells))
 left c =
     let old : Cells = c.args.store.now.cells in
-    let t = told old c.entries-entries.new.store.cells c.requires c.args.base c.in-Some.number c.entries-entries.result.items c.as_slice.result.now c.remove-entry.result c.read-block.result c.entries-entries.ensures.left.cells c.entries-entries.ensures.value c.as_slice.ensures.value c.in-Some.ensures.found c.remove-entry.ensures.value c.read-block.ensures.value in
+    let t = pool_found old c.entries-entries.new.store.cells c.requires c.args.base c.in-Some.number c.entries-entries.result.items c.as_slice.result.now c.remove-entry.result c.read-block.result c.entries-entries.ensures.left.cells c.entries-entries.ensures.value c.as_slice.ensures.value c.in-Some.ensures.found c.remove-entry.ensures.value c.read-block.ensures.value in
     let unused = alone_by old c.requires c.args.base c.in-Some.number c.remove-entry.result c.read-block.result t c.is_alone.result true c.is_alone.ensures c.if-not-is_alone.false in
     let slot : ℕ = c.remove-entry.result.first in
     let here = stands_there old c.requires c.args.base c.in-Some.number t.is.0 t.is.1 slot t.slot_is unused in

@@ -4,7 +4,7 @@ use crate::tests::tlsf_heap::image_bytes::vector;
 use crate::tests::{expect_eq, expect_eq_at};
 use std::process::Abort;
 use tlsf_class::Class;
-use tlsf_heap::{Image, Rule, Table};
+use tlsf_heap::{HasParts, Image, Rule};
 use tlsf_store::{Slot, State, can_be_pool};
 
 #[test]

@@ -4,7 +4,7 @@ use Rattle.tlsf_heap.specs.Images.Image.{Parts}
 use Rattle.tlsf_heap.specs.Images.Findings.{is_before}
 use Rattle.tlsf_heap.specs.Images.Rules.{at}
 use Rattle.tlsf_heap.proofs.Images.ChainLemmas.{found_first, found_on, found_off, found_more, found_covered, found_uncovered, next_below}
-use Rattle.tlsf_heap.proofs.Images.TableLemmas.{and_reads, not_read}
+use Rattle.tlsf_heap.proofs.Images.HasPartsLemmas.{and_reads, not_read}
 use Rattle.tlsf_heap.proofs.image.chains.look_at_chain.Goals as goal
 use Rattle.tlsf_heap.proofs.image.chains.look_at_chain.Goals.{then-tally-count-via-then-tally-count, then-tally-count-via-else-tally-count+then-not-is_before}
 
@@ -13,12 +13,12 @@ loop-next-init g c = record {
   read = not_read c.args.table.now;
   below = c.requires.within;
   few = rw c.new-tally.ensures (omega arith);
-  told = rw (c.from-start.ensures, c.new-tally.ensures) (found_first (g.T.Table.parts c.args.table.now) c.args.pool);
+  told = rw (c.from-start.ensures, c.new-tally.ensures) (found_first (g.T.HasParts.parts c.args.table.now) c.args.pool);
 }
 
 pub returns-then-tally-count-clause-value : goal.returns-then-tally-count-clause-value
 returns-then-tally-count-clause-value g c =
-    let parts : Parts = g.T.Table.parts c.args.table.now in
+    let parts : Parts = g.T.HasParts.parts c.args.table.now in
     let read : c.record-block.result ≡ at parts c.in-Some.slot =
     c.record-block.ensures.value ∙ ap (λ (p : Parts). at p c.in-Some.slot) c.loop-next.invariant.read.same in
     let told = rw c.in-Some.is at c.loop-next.invariant.told in
@@ -31,7 +31,7 @@ returns-then-tally-count-clause-value g c =
 
 pub loop-next-preserved : goal.loop-next-preserved
 loop-next-preserved g c =
-    let parts : Parts = g.T.Table.parts c.args.table.now in
+    let parts : Parts = g.T.HasParts.parts c.args.table.now in
     let read : c.record-block.result ≡ at parts c.in-Some.slot =
     c.record-block.ensures.value ∙ ap (λ (p : Parts). at p c.in-Some.slot) c.loop-next.invariant.read.same in
     let before : is_before c.loop-next.front (at parts c.in-Some.slot) ≡ true = rw (c.is_before.ensures, read) at c.if-not-is_before.false in
@@ -46,10 +46,10 @@ loop-next-preserved g c =
 
 pub returns-then-tally-clause-value : goal.returns-then-tally-clause-value
 returns-then-tally-clause-value g c =
-    let parts : Parts = g.T.Table.parts c.args.table.now in
+    let parts : Parts = g.T.HasParts.parts c.args.table.now in
     rw (c.from-start.ensures, c.from.ensures) (sym (found_covered parts _ c.loop-next.tally c.loop-next.front c.loop-next.next c.in_default.is c.if-tally.true) ∙ c.loop-next.invariant.told)
 
 pub returns-else-tally-clause-value : goal.returns-else-tally-clause-value
 returns-else-tally-clause-value g c =
-    let parts : Parts = g.T.Table.parts c.args.table.now in
+    let parts : Parts = g.T.HasParts.parts c.args.table.now in
     rw c.if-tally.false (sym (found_uncovered parts _ c.loop-next.tally c.loop-next.front c.loop-next.next c.in_default.is c.if-tally.false) ∙ c.loop-next.invariant.told)

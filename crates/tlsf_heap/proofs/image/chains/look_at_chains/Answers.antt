@@ -3,13 +3,13 @@ use Rattle.tlsf_store.specs.Cells.{pool_at, most_pools}
 use Rattle.tlsf_heap.specs.Images.Image.{Parts}
 use Rattle.tlsf_heap.specs.Images.Findings.{chain_found}
 use Rattle.tlsf_heap.proofs.Images.ChainLemmas.{pool_on, pool_none, pools_end}
-use Rattle.tlsf_heap.proofs.Images.TableLemmas.{and_reads}
+use Rattle.tlsf_heap.proofs.Images.HasPartsLemmas.{and_reads}
 use Rattle.tlsf_heap.proofs.image.chains.look_at_chains.Goals as goal
 use Rattle.tlsf_heap.proofs.image.chains.look_at_chains.Goals.{in-Some+in_ok-look_at_chain, in_default}
 
 pub loop-number-preserved : goal.loop-number-preserved
 loop-number-preserved g c =
-    let parts : Parts = g.T.Table.parts c.args.table.now in
+    let parts : Parts = g.T.HasParts.parts c.args.table.now in
     let read : c.pool.result ≡ pool_at parts.pools c.loop-number.number =
     c.pool.ensures.value ∙ ap (λ (p : Parts). pool_at p.pools c.loop-number.number) c.loop-number.invariant.read.same in
     let whole : length parts.pools ≡ most_pools = rw (ap (λ (p : Parts). length p.pools) (sym c.loop-number.invariant.read.same)) c.pool.ensures.whole in
@@ -36,5 +36,5 @@ loop-number-preserved g c =
 
 pub returns-clause-value : goal.returns-clause-value
 returns-clause-value g c =
-    let parts : Parts = g.T.Table.parts c.args.table.now in
+    let parts : Parts = g.T.HasParts.parts c.args.table.now in
     sym (pools_end parts c.loop-number.tally c.loop-number.number (omega (arith, c.loop-number-test.false, c.loop-number.invariant.whole (omega (arith, c.loop-number-test.false))))) ∙ c.loop-number.invariant.told

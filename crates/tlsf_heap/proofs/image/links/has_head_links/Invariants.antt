@@ -2,15 +2,15 @@ use Rattle.std.proofs.Common.{◌≡◌, ◌≤◌, ◌<◌, length, drop}
 use Rattle.std.specs.List.{list_all}
 use Rattle.tlsf_class.specs.Classes.{classes}
 use Rattle.tlsf_heap.specs.Images.Rules.{is_below}
-use Rattle.tlsf_heap.specs.Images.Table.{OnlyReads}
+use Rattle.tlsf_heap.specs.Images.HasParts.{OnlyReads}
 use Rattle.tlsf_heap.proofs.image.links.has_head_links.Given as goal
 
 -- the heads that are left tell whether all are
 abbrev pub invariant-loop-number : goal.invariant-loop-number
 invariant-loop-number g l =
-    let parts = g.T.Table.parts l.fn.table in
+    let parts = g.T.HasParts.parts l.fn.table in
     record {
-      read : OnlyReads g.T.Table.parts g.T.Table.cells g.T.Table.touches l.fn.table l.table;
+      read : OnlyReads g.T.HasParts.parts g.T.HasParts.cells g.T.HasParts.touches l.fn.table l.table;
       whole : 0 < l.number → length parts.heads ≡ classes;
       told : list_all (is_below (length parts.records)) (drop l.number parts.heads) ≡ list_all (is_below (length parts.records)) parts.heads;
     }

@@ -1,14 +1,14 @@
 use Rattle.std.proofs.Common.{◌≡◌, ◌≤◌, length, drop}
 use Rattle.tlsf_heap.specs.Images.Findings.{blocks_with}
-use Rattle.tlsf_heap.specs.Images.Table.{OnlyReads}
+use Rattle.tlsf_heap.specs.Images.HasParts.{OnlyReads}
 use Rattle.tlsf_heap.proofs.image.links.look_at_records.Given as goal
 
 -- what is found of the records up to here and those that are left is what is found of all
 abbrev pub invariant-loop-slot : goal.invariant-loop-slot
 invariant-loop-slot g l =
-    let parts = g.T.Table.parts l.fn.table in
+    let parts = g.T.HasParts.parts l.fn.table in
     record {
-      read : OnlyReads g.T.Table.parts g.T.Table.cells g.T.Table.touches l.fn.table l.table;
+      read : OnlyReads g.T.HasParts.parts g.T.HasParts.cells g.T.HasParts.touches l.fn.table l.table;
       few : l.blocks.all ≤ l.slot;
       few_free : l.blocks.free ≤ l.slot;
       told : blocks_with (length parts.records) l.blocks (drop l.slot parts.records) ≡ blocks_with (length parts.records) (record { all = 0; free = 0 }) parts.records;

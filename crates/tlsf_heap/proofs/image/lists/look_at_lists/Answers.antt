@@ -4,12 +4,12 @@ use Rattle.tlsf_store.specs.Cells.{head_at}
 use Rattle.tlsf_heap.specs.Images.Image.{Parts}
 use Rattle.tlsf_heap.specs.Images.Findings.{list_found}
 use Rattle.tlsf_heap.proofs.Images.ListLemmas.{list_on, list_off, lists_end}
-use Rattle.tlsf_heap.proofs.Images.TableLemmas.{and_reads}
+use Rattle.tlsf_heap.proofs.Images.HasPartsLemmas.{and_reads}
 use Rattle.tlsf_heap.proofs.image.lists.look_at_lists.Goals as goal
 
 pub returns-in_err-blocks-clause-value : goal.returns-in_err-blocks-clause-value
 returns-in_err-blocks-clause-value g c =
-    let parts : Parts = g.T.Table.parts c.args.table.now in
+    let parts : Parts = g.T.HasParts.parts c.args.table.now in
     let whole : length parts.heads ≡ classes = rw (ap (λ (p : Parts). length p.heads) (sym c.loop-number.invariant.read.same)) c.look_at_list.ensures.whole in
     let missed : list_found parts c.loop-number.number (head_at parts.heads c.loop-number.number) ≡ None =
     sym (subst (λ n. None ≡ list_found parts n (head_at parts.heads n)) c.new.ensures (c.in_err-blocks.ensures.value ∙ ap (λ (p : Parts). list_found p c.new.result (head_at p.heads c.new.result)) c.loop-number.invariant.read.same)) in
@@ -17,7 +17,7 @@ returns-in_err-blocks-clause-value g c =
 
 pub loop-number-preserved : goal.loop-number-preserved
 loop-number-preserved g c =
-    let parts : Parts = g.T.Table.parts c.args.table.now in
+    let parts : Parts = g.T.HasParts.parts c.args.table.now in
     let whole : length parts.heads ≡ classes = rw (ap (λ (p : Parts). length p.heads) (sym c.loop-number.invariant.read.same)) c.look_at_list.ensures.whole in
     let found : list_found parts c.loop-number.number (head_at parts.heads c.loop-number.number) ≡ Some c.in_ok-blocks.field-0 =
     sym (subst (λ n. Some c.in_ok-blocks.field-0 ≡ list_found parts n (head_at parts.heads n)) c.new.ensures (c.in_ok-blocks.ensures.value ∙ ap (λ (p : Parts). list_found p c.new.result (head_at p.heads c.new.result)) c.loop-number.invariant.read.same)) in
@@ -30,5 +30,5 @@ loop-number-preserved g c =
 
 pub returns-clause-value : goal.returns-clause-value
 returns-clause-value g c =
-    let parts : Parts = g.T.Table.parts c.args.table.now in
+    let parts : Parts = g.T.HasParts.parts c.args.table.now in
     sym (lists_end parts c.loop-number.blocks c.loop-number.number (omega (arith, c.loop-number-test.false, c.loop-number.invariant.whole (omega (arith, c.loop-number-test.false))))) ∙ c.loop-number.invariant.told

@@ -7,21 +7,21 @@ use Rattle.tlsf_heap.proofs.image.rules.first_behind_pools.Goals as goal
 
 pub returns-then-tally-blocks-clause-value : goal.returns-then-tally-blocks-clause-value
 returns-then-tally-blocks-clause-value g c =
-    let parts : Parts = g.T.Table.parts c.args.table.now in
+    let parts : Parts = g.T.HasParts.parts c.args.table.now in
     let linked = sym c.in-Some.ensures.value in
     let chained = sym (c.in-Some-look_at_chains.ensures.value ∙ ap chains_found c.look_at_links.ensures.read.same) in
     sym (not_on_chains parts c.requires c.in-Some.blocks linked c.in-Some-look_at_chains.tally chained (not-false _ c.if-not-tally.false) (ne_eqb _ _ c.if-tally-blocks.true))
 
 pub returns-then-not-tally-2-clause-value : goal.returns-then-not-tally-2-clause-value
 returns-then-not-tally-2-clause-value g c =
-    let parts : Parts = g.T.Table.parts c.args.table.now in
+    let parts : Parts = g.T.HasParts.parts c.args.table.now in
     let linked = sym c.in-Some.ensures.value in
     let chained = sym (c.in-Some-look_at_chains.ensures.value ∙ ap chains_found c.look_at_links.ensures.read.same) in
     sym (not_merged parts c.requires c.in-Some.blocks linked c.in-Some-look_at_chains.tally chained (not-false _ c.if-not-tally.false) (eq-eqb _ _ c.if-tally-blocks.false) (not-true _ c.if-not-tally-2.true))
 
 pub look_at_lists-requires-clause-sizes : goal.look_at_lists-requires-clause-sizes
 look_at_lists-requires-clause-sizes g c =
-    let parts : Parts = g.T.Table.parts c.args.table.now in
+    let parts : Parts = g.T.HasParts.parts c.args.table.now in
     let linked = sym c.in-Some.ensures.value in
     let chained = sym (c.in-Some-look_at_chains.ensures.value ∙ ap chains_found c.look_at_links.ensures.read.same) in
     let same = c.look_at_chains.ensures.read.same ∙ c.look_at_links.ensures.read.same in
@@ -29,7 +29,7 @@ look_at_lists-requires-clause-sizes g c =
 
 pub returns-in_default-look_at_lists-clause-value : goal.returns-in_default-look_at_lists-clause-value
 returns-in_default-look_at_lists-clause-value g c =
-    let parts : Parts = g.T.Table.parts c.args.table.now in
+    let parts : Parts = g.T.HasParts.parts c.args.table.now in
     let linked = sym c.in-Some.ensures.value in
     let chained = sym (c.in-Some-look_at_chains.ensures.value ∙ ap chains_found c.look_at_links.ensures.read.same) in
     let listed = sym (c.in_default-look_at_lists.ensures.value ∙ ap lists_found (c.look_at_chains.ensures.read.same ∙ c.look_at_links.ensures.read.same)) in
@@ -37,7 +37,7 @@ returns-in_default-look_at_lists-clause-value g c =
 
 pub returns-then-listed-blocks-clause-value : goal.returns-then-listed-blocks-clause-value
 returns-then-listed-blocks-clause-value g c =
-    let parts : Parts = g.T.Table.parts c.args.table.now in
+    let parts : Parts = g.T.HasParts.parts c.args.table.now in
     let linked = sym c.in-Some.ensures.value in
     let chained = sym (c.in-Some-look_at_chains.ensures.value ∙ ap chains_found c.look_at_links.ensures.read.same) in
     let listed = sym (c.in-Some-look_at_lists.ensures.value ∙ ap lists_found (c.look_at_chains.ensures.read.same ∙ c.look_at_links.ensures.read.same)) in
@@ -45,7 +45,7 @@ returns-then-listed-blocks-clause-value g c =
 
 pub returns-clause-value : goal.returns-clause-value
 returns-clause-value g c =
-    let parts : Parts = g.T.Table.parts c.args.table.now in
+    let parts : Parts = g.T.HasParts.parts c.args.table.now in
     let linked = sym c.in-Some.ensures.value in
     let chained = sym (c.in-Some-look_at_chains.ensures.value ∙ ap chains_found c.look_at_links.ensures.read.same) in
     let listed = sym (c.in-Some-look_at_lists.ensures.value ∙ ap lists_found (c.look_at_chains.ensures.read.same ∙ c.look_at_links.ensures.read.same)) in

@@ -7,7 +7,7 @@ use Rattle.tlsf_heap.proofs.image.rules.first_broken.Goals as goal
 
 pub returns-then-has_ordered_pools-clause-value : goal.returns-then-has_ordered_pools-clause-value
 returns-then-has_ordered_pools-clause-value g c =
-    let parts : Parts = g.T.Table.parts c.args.table.now in
+    let parts : Parts = g.T.HasParts.parts c.args.table.now in
     let ordered : has_ordered_pools parts ≡ true = sym c.has_ordered_pools.ensures.value ∙ c.if-has_ordered_pools.true in
     c.first_behind_pools.ensures.value
     ∙ ap (λ (p : Parts). first_of (rules_of_parts p)) c.has_ordered_pools.ensures.read.same

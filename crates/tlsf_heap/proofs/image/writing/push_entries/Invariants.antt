@@ -3,15 +3,15 @@ use Rattle.std.specs.List.{flat_map}
 use Rattle.arrayvec.specs.ArrayVec.{array_vec_len}
 use Rattle.tlsf_store.specs.Cells.{most_pools}
 use Rattle.tlsf_heap.specs.Images.Writing.{entry_bytes}
-use Rattle.tlsf_heap.specs.Images.Table.{OnlyReads}
+use Rattle.tlsf_heap.specs.Images.HasParts.{OnlyReads}
 use Rattle.tlsf_heap.proofs.image.writing.push_entries.Given as goal
 
 -- the entries up to here stand at the end, in front of those that are left
 abbrev pub invariant-loop-number : goal.invariant-loop-number
 invariant-loop-number g l =
-    let parts = g.T.Table.parts l.fn.table in
+    let parts = g.T.HasParts.parts l.fn.table in
     record {
-      read : OnlyReads g.T.Table.parts g.T.Table.cells g.T.Table.touches l.fn.table l.table;
+      read : OnlyReads g.T.HasParts.parts g.T.HasParts.cells g.T.HasParts.touches l.fn.table l.table;
       whole : 0 < l.number → length parts.pools ≡ most_pools;
       len : array_vec_len l.piece ≡ array_vec_len l.fn.piece + 12 * l.number;
       told : l.piece.items ++ flat_map entry_bytes (drop l.number parts.pools) ≡ l.fn.piece.items ++ flat_map entry_bytes parts.pools;

@@ -7,14 +7,14 @@ use Rattle.mtrace_log.proofs.Writing.{IsPutting, putting_more, putting_fails, pu
 use Rattle.tlsf_heap.specs.Images.Image.{Parts}
 use Rattle.tlsf_heap.specs.Images.Writing.{record_bytes, image_of}
 use Rattle.tlsf_heap.proofs.Images.Appending.{pushed, appended_all}
-use Rattle.tlsf_heap.proofs.Images.TableLemmas.{and_reads}
+use Rattle.tlsf_heap.proofs.Images.HasPartsLemmas.{and_reads}
 use Rattle.tlsf_heap.proofs.image.writing.put_image.Goals as goal
 use Rattle.tlsf_heap.proofs.image.writing.put_image.Goals.{then-is_full+in_ok-put_all, else-is_full}
 
 -- the piece with one record more, and those that are left
 pub loop-number-preserved : goal.loop-number-preserved
 loop-number-preserved g c =
-    let parts : Parts = g.T.Table.parts c.args.table.now in
+    let parts : Parts = g.T.HasParts.parts c.args.table.now in
     let taken = g.W.Sink.taken in
     let trace = g.W.Sink.trace in
     let number : ℕ = c.loop-number.number in
@@ -50,7 +50,7 @@ loop-number-preserved g c =
 
 pub returns-in_err-put_all-clause-put : goal.returns-in_err-put_all-clause-put
 returns-in_err-put_all-clause-put g c =
-    let parts : Parts = g.T.Table.parts c.args.table.now in
+    let parts : Parts = g.T.HasParts.parts c.args.table.now in
     let taken = g.W.Sink.taken in
     let trace = g.W.Sink.trace in
     let number : ℕ = c.loop-number.number in
@@ -69,7 +69,7 @@ returns-in_err-put_all-clause-put g c =
 
 pub returns-clause-put : goal.returns-clause-put
 returns-clause-put g c =
-    let parts : Parts = g.T.Table.parts c.args.table.now in
+    let parts : Parts = g.T.HasParts.parts c.args.table.now in
     let taken = g.W.Sink.taken in
     let trace = g.W.Sink.trace in
     let number : ℕ = c.loop-number.number in

@@ -3,15 +3,15 @@ use Rattle.std.specs.List.{flat_map}
 use Rattle.arrayvec.specs.ArrayVec.{array_vec_len}
 use Rattle.mtrace_log.proofs.Writing.{IsPutting}
 use Rattle.tlsf_heap.specs.Images.Writing.{record_bytes, image_of}
-use Rattle.tlsf_heap.specs.Images.Table.{OnlyReads}
+use Rattle.tlsf_heap.specs.Images.HasParts.{OnlyReads}
 use Rattle.tlsf_heap.proofs.image.writing.put_image.Given as goal
 
 -- what is put, the piece and the records that are left are the image; the piece has room for a record
 abbrev pub invariant-loop-number : goal.invariant-loop-number
 invariant-loop-number g l =
-    let parts = g.T.Table.parts l.fn.table in
+    let parts = g.T.HasParts.parts l.fn.table in
     record {
-      read : OnlyReads g.T.Table.parts g.T.Table.cells g.T.Table.touches l.fn.table l.table;
+      read : OnlyReads g.T.HasParts.parts g.T.HasParts.cells g.T.HasParts.touches l.fn.table l.table;
       room : array_vec_len l.piece < 4096;
       whole : array_vec_len l.piece % 16 ≡ 0;
       put : IsPutting g.W.Sink.taken g.W.Sink.trace (image_of parts) (l.piece.items ++ flat_map record_bytes (drop l.number parts.records)) l.fn.writer l.writer;

@@ -3,27 +3,27 @@ use Rattle.std.proofs.lemmas.Bool.{leb-false}
 use Rattle.tlsf_heap.specs.Content.{Content}
 use Rattle.tlsf_heap.specs.Malloc.{allocated}
 use Rattle.tlsf_heap.specs.PlainHeap.{IsPlain, gap_block}
-use Rattle.tlsf_heap.proofs.Plain.Malloc.{is_cut, rest_size, allocated_is_plain, allocated_by}
+use Rattle.tlsf_heap.proofs.Plain.Malloc.{is_split, rest_size, allocated_is_plain, allocated_by}
 use Rattle.tlsf_heap.proofs.plain_heap.malloc.allocate.Goals.{else-asked-size-via-then-asked-size+else-is_full, else-asked-size-via-else-asked-size}
 use Rattle.tlsf_heap.proofs.plain_heap.malloc.allocate.Goals as goal
 
 pub least_slot-slot-requires-clause-free : goal.least_slot-slot-requires-clause-free
-least_slot-slot-requires-clause-free c = (is_cut c.requires.plain c.requires.whole c.requires.some c.pick.ensures c.in_ok-place.ensures.ok_part c.size_at-size.ensures).some_free
+least_slot-slot-requires-clause-free c = (is_split c.requires.plain c.requires.whole c.requires.some c.pick.ensures c.in_ok-place.ensures.ok_part c.size_at-size.ensures).some_free
 
 pub overflow_sub-size : goal.overflow_sub-size
-overflow_sub-size c = (is_cut c.requires.plain c.requires.whole c.requires.some c.pick.ensures c.in_ok-place.ensures.ok_part c.size_at-size.ensures).within
+overflow_sub-size c = (is_split c.requires.plain c.requires.whole c.requires.some c.pick.ensures c.in_ok-place.ensures.ok_part c.size_at-size.ensures).within
 
 pub gap-rest-requires-clause-size : goal.gap-rest-requires-clause-size
-gap-rest-requires-clause-size c = rest_size _ _ _ _ (is_cut c.requires.plain c.requires.whole c.requires.some c.pick.ensures c.in_ok-place.ensures.ok_part c.size_at-size.ensures)
+gap-rest-requires-clause-size c = rest_size _ _ _ _ (is_split c.requires.plain c.requires.whole c.requires.some c.pick.ensures c.in_ok-place.ensures.ok_part c.size_at-size.ensures)
 
 pub gap-rest-requires-clause-place : goal.gap-rest-requires-clause-place
-gap-rest-requires-clause-place c = λ some. let cut = is_cut c.requires.plain c.requires.whole c.requires.some c.pick.ensures c.in_ok-place.ensures.ok_part c.size_at-size.ensures in omega (arith, some, cut.ends, c.from.ensures, c.from-2.ensures)
+gap-rest-requires-clause-place c = λ some. let split = is_split c.requires.plain c.requires.whole c.requires.some c.pick.ensures c.in_ok-place.ensures.ok_part c.size_at-size.ensures in omega (arith, some, split.ends, c.from.ensures, c.from-2.ensures)
 
 pub unlink-requires : goal.unlink-requires
-unlink-requires c = (is_cut c.requires.plain c.requires.whole c.requires.some c.pick.ensures c.in_ok-place.ensures.ok_part c.size_at-size.ensures).whole_size
+unlink-requires c = (is_split c.requires.plain c.requires.whole c.requires.some c.pick.ensures c.in_ok-place.ensures.ok_part c.size_at-size.ensures).whole_size
 
 pub invariant_of-live : goal.invariant_of-live
-invariant_of-live c = (is_cut c.requires.plain c.requires.whole c.requires.some c.pick.ensures c.in_ok-place.ensures.ok_part c.size_at-size.ensures).asked_size
+invariant_of-live c = (is_split c.requires.plain c.requires.whole c.requires.some c.pick.ensures c.in_ok-place.ensures.ok_part c.size_at-size.ensures).asked_size
 
 -- the content made is the definition's
 after : (c : goal.After-new) → c.replace.new.self ≡ allocated c.least_slot-slot.result c.in_ok-place.place c.args.asked c.size_at-size.result c.args.content.now

@@ -1,4 +1,4 @@
--- Carving a free block keeps a content good: with a gap in front for memalign, with none for malloc.
+-- To split a free block keeps a content good: with a gap in front for memalign, with none for malloc.
 use Rattle.std.proofs.Common.{◌≡◌, ℕ, ◌+◌, ◌-◌, ◌%◌, ◌<◌, ◌≤◌, Bool, true, false, cond, ◌&&◌, List, [], ◌∷◌, ◌++◌, length, map, refl, sym, ap, ◌∙◌, subst, arith, count_by, append_assoc, IsTrue, not, None}
 use Rattle.std.specs.Prelude.{◌==◌}
 use Rattle.std.proofs.lemmas.Bool.{eqb-true, and_parts}
@@ -6,20 +6,20 @@ use Rattle.tlsf_class.specs.Classes.{unit, classes, class}
 use Rattle.tlsf_class.proofs.ClassLaws.{class-lt}
 use Rattle.tlsf_heap.specs.Content.{Block, Pool, Content, blocks_of, is_free, size_at, used_records}
 use Rattle.tlsf_heap.specs.Lists.{list_of, unlink}
-use Rattle.tlsf_heap.specs.Malloc.{gap, link_gap, cut, replaced_in, allocated}
-use Rattle.tlsf_heap.specs.Memalign.{carved, aligned}
+use Rattle.tlsf_heap.specs.Malloc.{gap, link_gap, split, replaced_in, allocated}
+use Rattle.tlsf_heap.specs.Memalign.{split_in_three, aligned}
 use Rattle.tlsf_heap.specs.Good.{Covers, NoFreeNeighbours, times, is_listed, IsGood}
 use Rattle.tlsf_heap.proofs.Content.Blocks.{Ascends-pools}
-use Rattle.tlsf_heap.proofs.Content.FreeLists.{times-unlink, times-link_gap, length-unlink, length-link_gap, count_listed-gap, count_listed-cut, found_stands}
+use Rattle.tlsf_heap.proofs.Content.FreeLists.{times-unlink, times-link_gap, length-unlink, length-link_gap, count_listed-gap, count_listed-split, found_stands}
 use Rattle.tlsf_heap.proofs.Counts.{count-cons, count-append}
 use Rattle.std.proofs.Math.Nat.{sub-zero}
 use Rattle.tlsf_heap.proofs.Meaning.BlockPositions.{BlockPosition, filled_pools, LocatedBlock, located_block, at_most_one, IsAlone, block_alone, replaced_at, size_here}
-use Rattle.tlsf_heap.proofs.Meaning.Gaps.{covers_gap, covers_cut, apart_cut}
+use Rattle.tlsf_heap.proofs.Meaning.Gaps.{covers_gap, covers_split, apart_split}
 use Rattle.tlsf_heap.proofs.Meaning.Refilled.{IsRefill, refilled_is_good}
 
 module _ {A : Type 0} where
-  -- the block carved, and where it can be
-  pub record IsCarvable (start m : ℕ) (block : Block A) : Type 0 where
+  -- the block to split in three, and where it can be
+  pub record IsSplittable (start m : ℕ) (block : Block A) : Type 0 where
     pub free : is_free block ≡ true
     pub begins : block.place ≤ start
     pub fits : (start - block.place) + m ≤ block.size
@@ -27,7 +27,7 @@ module _ {A : Type 0} where
     pub whole : m % unit ≡ 0
     pub front_whole : (start - block.place) % unit ≡ 0
 
-  module _ (owner : A) (start m : ℕ) (block : Block A) (blocks : List (Block A)) (lists : List (List ℕ)) (can : IsCarvable start m block) where
+  module _ (owner : A) (start m : ℕ) (block : Block A) (blocks : List (Block A)) (lists : List (List ℕ)) (can : IsSplittable start m block) where
     abbrev front : ℕ
     front = start - block.place
 
@@ -35,14 +35,14 @@ module _ {A : Type 0} where
     rest = (block.size - front) - m
 
     abbrev news : List (Block A)
-    news = carved owner start m block.place block.size ++ blocks
+    news = split_in_three owner start m block.place block.size ++ blocks
 
     abbrev new_lists : List (List ℕ)
     new_lists = link_gap (start + m) rest (link_gap block.place front (unlink block.place block.size lists))
 
     covers : (from to : ℕ) → Covers from to (block ∷ blocks) → Covers from to news
     covers from to c =
-        let live : List (Block A) = cut owner start m (block.size - front) in
+        let live : List (Block A) = split owner start m (block.size - front) in
         let P : ℕ → Type 0 = λ place. Covers from to ((gap place front ++ live) ++ blocks) in
         let Q : List (Block A) → Type 0 = λ bs. Covers from to bs in
         let R : ℕ → Type 0 = λ n. Covers n to blocks in
@@ -51,19 +51,19 @@ module _ {A : Type 0} where
         let left_whole : (block.size - front) % unit ≡ 0 = omega (arith, c.2, can.front_whole, can.fits) in
         subst P (sym c.0)
         (subst Q (sym (append_assoc (gap from front) live blocks))
-        (covers_gap from to front (live ++ blocks) can.front_whole (covers_cut owner (from + front) to start m (block.size - front) blocks begins can.some can.whole (omega (arith, can.fits)) left_whole (subst R ends c.3))))
+        (covers_gap from to front (live ++ blocks) can.front_whole (covers_split owner (from + front) to start m (block.size - front) blocks begins can.some can.whole (omega (arith, can.fits)) left_whole (subst R ends c.3))))
 
     apart : (was : Bool) → NoFreeNeighbours was (block ∷ blocks) → NoFreeNeighbours was news
     apart was n =
-        let live : List (Block A) = cut owner start m (block.size - front) in
+        let live : List (Block A) = split owner start m (block.size - front) in
         let P : List (Block A) → Type 0 = λ bs. NoFreeNeighbours was bs in
         let Q : Bool → Type 0 = λ f. IsTrue (not (was && f)) × NoFreeNeighbours f blocks in
         let free : IsTrue (not (was && true)) × NoFreeNeighbours true blocks = subst Q can.free n in
         let R : Bool → Type 0 = λ b. NoFreeNeighbours was (cond b [] (record { place = block.place; size = front; owner = None } ∷ []) ++ (live ++ blocks)) in
         subst P (sym (append_assoc (gap block.place front) live blocks))
         (elim (front == 0) as R [
-          | true ↦ apart_cut owner start m (block.size - front) was blocks free.1
-          | false ↦ (free.0, apart_cut owner start m (block.size - front) true blocks free.1)
+          | true ↦ apart_split owner start m (block.size - front) was blocks free.1
+          | false ↦ (free.0, apart_split owner start m (block.size - front) true blocks free.1)
         ])
 
     listed : times block.place (list_of (class block.size) lists) ≡ 1 → length lists ≡ classes → (q p : ℕ)
@@ -81,10 +81,10 @@ module _ {A : Type 0} where
           times-link_gap with_front front_full q p (start + m) rest,
           count-cons kind block blocks,
           found_stands q p block.place block.size block can.free refl refl,
-          count-append kind (carved owner start m block.place block.size) blocks,
-          count-append kind (gap block.place front) (cut owner start m (block.size - front)),
+          count-append kind (split_in_three owner start m block.place block.size) blocks,
+          count-append kind (gap block.place front) (split owner start m (block.size - front)),
           count_listed-gap A q p block.place front,
-          count_listed-cut owner q p start m (block.size - front),
+          count_listed-split owner q p start m (block.size - front),
         )
 
     refill : times block.place (list_of (class block.size) lists) ≡ 1 → length lists ≡ classes → IsRefill (block ∷ blocks) news lists new_lists
@@ -97,18 +97,18 @@ module _ {A : Type 0} where
     }
 
     -- at a position
-    pub carved_at : (records : ℕ) (position : BlockPosition A) → IsGood (record { records = records; pools = filled_pools position (block ∷ blocks); lists = lists }) → times block.place (list_of (class block.size) lists) ≡ 1
+    pub split_in_three_at : (records : ℕ) (position : BlockPosition A) → IsGood (record { records = records; pools = filled_pools position (block ∷ blocks); lists = lists }) → times block.place (list_of (class block.size) lists) ≡ 1
         → used_records (aligned owner start m block.place block.size (record { records = records; pools = filled_pools position (block ∷ blocks); lists = lists })) ≤ records
         → IsGood (aligned owner start m block.place block.size (record { records = records; pools = filled_pools position (block ∷ blocks); lists = lists }))
-    carved_at records position good once few =
+    split_in_three_at records position good once few =
         let places = at_most_one 0 (blocks_of (filled_pools position (block ∷ blocks))) (Ascends-pools 0 (filled_pools position (block ∷ blocks)) good.pools_good) in
         let alone : IsAlone position block blocks = block_alone position block blocks places in
-        let is = replaced_at position block blocks alone (carved owner start m block.place block.size) in
+        let is = replaced_at position block blocks alone (split_in_three owner start m block.place block.size) in
         let P : List (Pool A) → Type 0 = λ pools. IsGood (record { records = records; pools = pools; lists = new_lists }) in
         let fits : length (blocks_of (filled_pools position news)) ≤ records = omega (arith, few, ap (λ pools. length (blocks_of pools)) is) in
         subst P (sym is) (refilled_is_good records position (block ∷ blocks) news lists new_lists (refill once good.lists_count) fits good)
 
-  -- carving a listed block keeps the content good
+  -- to split a listed block in three keeps the content good
   pub aligned_is_good : (owner : A) (start m place : ℕ) (content : Content A) → IsGood content → times place (list_of (class (size_at place (blocks_of content.pools))) content.lists) ≡ 1
       → place ≤ start → (start - place) + m ≤ size_at place (blocks_of content.pools) → 0 < m → m % unit ≡ 0 → (start - place) % unit ≡ 0
       → used_records (aligned owner start m place (size_at place (blocks_of content.pools)) content) ≤ content.records
@@ -125,7 +125,7 @@ module _ {A : Type 0} where
       let places = at_most_one 0 (blocks_of (filled_pools at.position (at.block ∷ at.blocks))) (Ascends-pools 0 (filled_pools at.position (at.block ∷ at.blocks)) moved.pools_good) in
       let alone : IsAlone at.position at.block at.blocks = block_alone at.position at.block at.blocks places in
       let sized : at.block.size ≡ size = sym (ap (λ pools. size_at place (blocks_of pools)) at.whole ∙ ap (λ p. size_at p (blocks_of (filled_pools at.position (at.block ∷ at.blocks)))) (sym here) ∙ size_here at.position at.block at.blocks alone) in
-      let can : IsCarvable start m at.block = record {
+      let can : IsSplittable start m at.block = record {
         free = parts.0;
         begins = omega (arith, here, begins);
         fits = omega (arith, here, fits, sized);
@@ -138,14 +138,14 @@ module _ {A : Type 0} where
       let same : of at.block.place at.block.size (filled_pools at.position (at.block ∷ at.blocks)) ≡ of place size content.pools =
       ap (λ p. of p at.block.size (filled_pools at.position (at.block ∷ at.blocks))) here ∙ ap (λ n. of place n (filled_pools at.position (at.block ∷ at.blocks))) sized ∙ ap (of place size) (sym at.whole) in
       let Q : Content A → Type 0 = λ x. IsGood x in
-      subst Q same (carved_at owner start m at.block at.blocks content.lists can content.records at.position moved once_there (omega (arith, few, ap used_records same)))
+      subst Q same (split_in_three_at owner start m at.block at.blocks content.lists can content.records at.position moved once_there (omega (arith, few, ap used_records same)))
 
-  -- carved at its own place it is cut as malloc cuts it
+  -- at its own place it is split as malloc splits it
   pub aligned_here : (owner : A) (m place size : ℕ) (content : Content A) → aligned owner place m place size content ≡ allocated owner place m size content
   aligned_here owner m place size content =
       let none : place - place ≡ 0 = omega arith in
       let of : ℕ → ℕ → Content A = λ front bytes. record content {
-        pools = map (replaced_in place (gap place front ++ cut owner place m bytes)) content.pools;
+        pools = map (replaced_in place (gap place front ++ split owner place m bytes)) content.pools;
         lists = link_gap (place + m) (bytes - m) (link_gap place front (unlink place size content.lists));
       } in
       ap (λ front. of front (size - front)) none ∙ ap (of 0) (sub-zero size)

@@ -3,7 +3,7 @@ use Rattle.tlsf_heap.specs.Inner.Nodes.{Listed, Loose}
 use Rattle.tlsf_heap.specs.Inner.At.{At, StandsAt, with_slot, at_unlisted}
 use Rattle.tlsf_heap.specs.Inner.Spans.{span_of}
 use Rattle.tlsf_heap.proofs.Inner.Spans.{listed_read, read_leaves, read_of, by_node, by_record}
-use Rattle.tlsf_heap.proofs.malloc.take_part.Goals as goal
+use Rattle.tlsf_heap.proofs.malloc.take_split.Goals as goal
 
 pub class_of-requires-clause-whole : goal.class_of-requires-clause-whole
 class_of-requires-clause-whole c = (listed_read c.args.store.now.cells c.args.slot c.args.block.now (with_slot c.args.rest c.requires.stands.0) c.requires.stands.1 c.requires.read).whole
@@ -20,14 +20,14 @@ unlink-requires-clause-prev_used c = (listed_read c.args.store.now.cells c.args.
 pub unlink-requires-clause-next_used : goal.unlink-requires-clause-next_used
 unlink-requires-clause-next_used c = (listed_read c.args.store.now.cells c.args.slot c.args.block.now (with_slot c.args.rest c.requires.stands.0) c.requires.stands.1 c.requires.read).next_used
 
-pub cut-requires-clause-stands : goal.cut-requires-clause-stands
-cut-requires-clause-stands c =
+pub split_off-requires-clause-stands : goal.split_off-requires-clause-stands
+split_off-requires-clause-stands c =
     let at : At = c.requires.stands.0 in
     let left : StandsAt c.args.slot Loose c.unlink.new.store.cells (at_unlisted (with_slot c.args.rest at)) = read_leaves c.args.store.now.cells c.unlink.new.store.cells c.args.slot c.class_of.result c.args.block.now (with_slot c.args.rest at) c.requires.stands.1 c.requires.read c.class_of.ensures c.unlink.ensures.cells in
     rw c.of-whole.ensures (Loose, at_unlisted at, refl, left)
 
-pub cut-requires-clause-read : goal.cut-requires-clause-read
-cut-requires-clause-read c =
+pub split_off-requires-clause-read : goal.split_off-requires-clause-read
+split_off-requires-clause-read c =
     let at : At = with_slot c.args.rest c.requires.stands.0 in
     let left : StandsAt c.args.slot Loose c.unlink.new.store.cells (at_unlisted at) = read_leaves c.args.store.now.cells c.unlink.new.store.cells c.args.slot c.class_of.result c.args.block.now at c.requires.stands.1 c.requires.read c.class_of.ensures c.unlink.ensures.cells in
     let known = by_node c.args.store.now.cells Listed at (span_of c.args.slot c.args.block.now) c.requires.stands.1 (read_of c.args.store.now.cells.records c.args.slot c.args.block.now c.requires.read c.requires.in_units) in
@@ -36,4 +36,4 @@ cut-requires-clause-read c =
 pub returns-clause-leads : goal.returns-clause-leads
 returns-clause-leads c at stands =
     let left : StandsAt c.args.slot Loose c.unlink.new.store.cells (at_unlisted (with_slot c.args.rest at)) = read_leaves c.args.store.now.cells c.unlink.new.store.cells c.args.slot c.class_of.result c.args.block.now (with_slot c.args.rest at) stands c.requires.read c.class_of.ensures c.unlink.ensures.cells in
-    c.cut.ensures.leads Loose (at_unlisted at) refl (rw c.of-whole.ensures left)
+    c.split_off.ensures.leads Loose (at_unlisted at) refl (rw c.of-whole.ensures left)

@@ -1,9 +1,9 @@
--- A node and the free ones beside it in its pool, made one.
+-- A node and the free ones beside it in its pool, merged.
 use Rattle.std.specs.Prelude.{ℕ, ◌+◌, Bool, true, false, List, [], ◌∷◌, Option, Some, None, if◌then◌else◌}
-use Rattle.tlsf_heap.specs.Inner.Nodes.{Status, InUse, Listed, Loose, Node, Layout, turned, is_listed, left, entered}
+use Rattle.tlsf_heap.specs.Inner.Nodes.{NodeState, InUse, Listed, Loose, Node, Layout, turned, is_listed, left, entered}
 use Rattle.tlsf_heap.specs.Inner.Positions.{Position, laid}
 
-abbrev pub is_loose : Status → Bool
+abbrev pub is_loose : NodeState → Bool
 is_loose InUse = false
 is_loose Listed = false
 is_loose Loose = true
@@ -11,27 +11,27 @@ is_loose Loose = true
 -- the first of the nodes, where it is listed
 abbrev pub listed_first : List Node → Option Node
 listed_first [] = None
-listed_first (node ∷ nodes) = if is_listed node.status then Some node else None
+listed_first (node ∷ nodes) = if is_listed node.state then Some node else None
 
 -- the nodes without it
 abbrev pub past : List Node → List Node
 past [] = []
-past (node ∷ nodes) = if is_listed node.status then nodes else node ∷ nodes
+past (node ∷ nodes) = if is_listed node.state then nodes else node ∷ nodes
 
 -- a node, where there is one, leaves its list
 abbrev pub left_by : Option Node → List (List Node) → List (List Node)
 left_by None lists = lists
 left_by (Some node) lists = left node lists
 
--- a node in front, where there is one, takes in the node
-abbrev pub grown_in_front : Option Node → Node → Node
-grown_in_front None node = node
-grown_in_front (Some front) node = record front { size = front.size + node.size; status = Loose }
+-- a node in front, where there is one, is merged with the node
+abbrev pub merged_with_front : Option Node → Node → Node
+merged_with_front None node = node
+merged_with_front (Some front) node = record front { size = front.size + node.size; state = Loose }
 
--- the node takes in a node behind, where there is one
-abbrev pub grown_behind : Option Node → Node → Node
-grown_behind None node = node
-grown_behind (Some behind) node = record node { size = node.size + behind.size }
+-- the node is merged with one behind, where there is one
+abbrev pub merged_with_behind : Option Node → Node → Node
+merged_with_behind None node = node
+merged_with_behind (Some behind) node = record node { size = node.size + behind.size }
 
 -- the position without a listed node in front
 abbrev pub position_past : Position → Position
@@ -39,7 +39,7 @@ position_past position = record position { before = past position.before }
 
 -- the loose node that is left of a node and those beside it
 abbrev pub merged_node : Position → Node → List Node → Node
-merged_node position node nodes = grown_behind (listed_first nodes) (grown_in_front (listed_first position.before) (turned Loose node))
+merged_node position node nodes = merged_with_behind (listed_first nodes) (merged_with_front (listed_first position.before) (turned Loose node))
 
 -- the layout after the node at the position was freed: one listed node is left of it and those beside it
 abbrev pub freed_layout : ℕ → Position → Node → List Node → List (List Node) → List ℕ → Layout

@@ -3,12 +3,12 @@ use Rattle.tlsf_store.specs.Records.{blank, record_at}
 use Rattle.tlsf_store.specs.Cells.{Cells, with_taken}
 use Rattle.tlsf_heap.specs.declared.span.Span.{Span}
 use Rattle.tlsf_heap.specs.Inner.Nodes.{InUse, Listed}
-use Rattle.tlsf_heap.specs.Inner.At.{At, StandsAt, with_slot, at_turned, at_cut}
+use Rattle.tlsf_heap.specs.Inner.At.{At, StandsAt, with_slot, at_turned, at_split_off}
 use Rattle.tlsf_heap.specs.Inner.Spans.{IsRead}
 use Rattle.tlsf_heap.proofs.Inner.Steps.{size_read}
-use Rattle.tlsf_heap.proofs.Inner.Allotted.{slot_stands, trimmed_none, trimmed_stands}
+use Rattle.tlsf_heap.proofs.Inner.Allotted.{slot_stands, rest_split_none, rest_split_stands}
 use Rattle.tlsf_heap.proofs.Inner.Spans.{by_node, by_record}
-use Rattle.tlsf_heap.proofs.malloc.trim.Goals as goal
+use Rattle.tlsf_heap.proofs.malloc.split_rest.Goals as goal
 
 -- the size that was read is the node's
 size_is : (old : Cells) (span : Span) (at : At) → StandsAt span.slot InUse old at → IsRead span old.records → span.size ≡ at.node.size
@@ -23,20 +23,20 @@ spared old new result slot rest at stands is taken within vacant =
 pub returns-then-block-bytes-clause-leads : goal.returns-then-block-bytes-clause-leads
 returns-then-block-bytes-clause-leads c at stands =
     let old : Cells = c.args.store.now.cells in
-    (0, trimmed_none old c.args.block.now.slot 0 c.args.bytes at stands (sym c.if-block-bytes.true ∙ size_is old c.args.block.now at stands c.requires.read))
+    (0, rest_split_none old c.args.block.now.slot 0 c.args.bytes at stands (sym c.if-block-bytes.true ∙ size_is old c.args.block.now at stands c.requires.read))
 
 pub unreachable-requires : goal.unreachable-requires
 unreachable-requires c =
     let none = c.in_default.ensures.none in
     omega (arith, none, c.requires.room (omega (arith, c.requires.most, c.if-block-bytes.false)))
 
-pub cut-requires-clause-stands : goal.cut-requires-clause-stands
-cut-requires-clause-stands c =
+pub split_off-requires-clause-stands : goal.split_off-requires-clause-stands
+split_off-requires-clause-stands c =
     let at : At = c.requires.stands.0 in
     (InUse, at, refl, spared c.args.store.now.cells c.take_vacant.new.self.cells c.take_vacant.result c.args.block.now.slot c.in-Some.rest at c.requires.stands.1 c.in-Some.is c.take_vacant.ensures.left.cells c.in-Some.ensures.within c.in-Some.ensures.vacant)
 
-pub cut-requires-clause-read : goal.cut-requires-clause-read
-cut-requires-clause-read c =
+pub split_off-requires-clause-read : goal.split_off-requires-clause-read
+split_off-requires-clause-read c =
     let at : At = c.requires.stands.0 in
     let known = by_node c.args.store.now.cells InUse at c.args.block.now c.requires.stands.1 c.requires.read in
     by_record c.take_vacant.new.self.cells InUse (with_slot c.in-Some.rest at) c.args.block.now
@@ -49,6 +49,6 @@ returns-clause-leads c at stands =
     let rest : ℕ = c.in-Some.rest in
     let size = size_is old c.args.block.now at stands c.requires.read in
     let taken = spared old c.take_vacant.new.self.cells c.take_vacant.result c.args.block.now.slot rest at stands c.in-Some.is c.take_vacant.ensures.left.cells c.in-Some.ensures.within c.in-Some.ensures.vacant in
-    let P : At → Type 0 = λ a. StandsAt rest Listed c.cut.new.store.cells (at_cut rest c.args.bytes a) in
-    let same : at_turned InUse at ≡ at = ap (λ s. at_turned s at) (sym stands.1.status_is) in
-    (rest, trimmed_stands old c.cut.new.store.cells c.args.block.now.slot rest c.args.bytes at stands (omega (arith, c.requires.most, c.if-block-bytes.false, size)) (subst P same (c.cut.ensures.leads InUse at refl taken)))
+    let P : At → Type 0 = λ a. StandsAt rest Listed c.split_off.new.store.cells (at_split_off rest c.args.bytes a) in
+    let same : at_turned InUse at ≡ at = ap (λ s. at_turned s at) (sym stands.1.node_state_is) in
+    (rest, rest_split_stands old c.split_off.new.store.cells c.args.block.now.slot rest c.args.bytes at stands (omega (arith, c.requires.most, c.if-block-bytes.false, size)) (subst P same (c.split_off.ensures.leads InUse at refl taken)))

@@ -13,14 +13,14 @@ use Rattle.tlsf_heap.specs.declared.span.Span.{Span}
 use Rattle.tlsf_heap.specs.Inner.Nodes.{InUse, Listed}
 use Rattle.tlsf_heap.specs.Inner.Spans.{span_of, IsSpanOf}
 use Rattle.tlsf_heap.specs.Inner.Following.{Stands, content_of}
-use Rattle.tlsf_heap.specs.Inner.At.{At, StandsAt, at_taken, at_gapped, at_trimmed}
+use Rattle.tlsf_heap.specs.Inner.At.{At, StandsAt, at_taken, at_gapped, at_split_rest}
 use Rattle.tlsf_heap.proofs.Inner.Followed.{records_are}
 use Rattle.tlsf_heap.proofs.Inner.Steps.{slot_used, size_read}
 use Rattle.tlsf_heap.proofs.Inner.Served.{slot_new}
 use Rattle.tlsf_heap.proofs.Inner.Live.{free_at}
 use Rattle.tlsf_heap.proofs.Inner.Spans.{read_of, by_node, by_record}
-use Rattle.tlsf_heap.proofs.Inner.Carving.{known, gap_of_some, carved_full, carved_stands, vacant_new, vacant_taken, vacant_after}
-use Rattle.tlsf_heap.proofs.memalign.carve.Goals as goal
+use Rattle.tlsf_heap.proofs.Inner.SplitAligned.{known, gap_of_some, split_aligned_full, split_aligned_stands, vacant_new, vacant_taken, vacant_after}
+use Rattle.tlsf_heap.proofs.memalign.split_aligned.Goals as goal
 
 -- memalign of the bytes asked is memalign of the block picked for them
 picked : (owner align asked place : ℕ) (content : Content ℕ) → pick (size_asked align asked) content.lists ≡ Some place → (answer : Result (ℕ × Content ℕ) Refusal) → memalign_picked owner align asked (Some place) content ≡ answer → memalign_rounded owner align (Some asked) content ≡ answer
@@ -46,7 +46,7 @@ returns-then-vacant-records_for c = record {
       omega (arith, c.if-vacant-records_for.true, c.vacant.ensures.value, ap (λ (s : Cells). vacant_count s.records) c.read_used-block.ensures.left.cells, c.records_for.ensures, c.records_for-2.ensures) in
       let P : ℕ → ℕ → Type 0 = λ g n. vacant_count c.args.store.now.cells.records < gap_records g + gap_records ((n - g) - c.args.asked) in
       picked owner c.args.align c.args.asked (record_at c.args.store.now.cells.records c.args.slot).place (content_of c.args.store.now.cells) c.requires.found _
-      (carved_full c.args.store.now.cells c.requires.stands (record_at c.args.store.now.cells.records c.args.slot).place c.args.slot c.args.align c.args.asked k.by c.requires.is c.requires.some c.requires.whole c.requires.found (subst (λ n. P (next_multiple_of (record_at c.args.store.now.cells.records c.args.slot).place c.args.align - (record_at c.args.store.now.cells.records c.args.slot).place) n) k.size_is (subst (λ g. P g c.read_used-block.result.size) gap_is few)) owner);
+      (split_aligned_full c.args.store.now.cells c.requires.stands (record_at c.args.store.now.cells.records c.args.slot).place c.args.slot c.args.align c.args.asked k.by c.requires.is c.requires.some c.requires.whole c.requires.found (subst (λ n. P (next_multiple_of (record_at c.args.store.now.cells.records c.args.slot).place c.args.align - (record_at c.args.store.now.cells.records c.args.slot).place) n) k.size_is (subst (λ g. P g c.read_used-block.result.size) gap_is few)) owner);
   cells = search rules;
   touches = search rules;
 }
@@ -97,14 +97,14 @@ leave_gap-live-requires-clause-room c some =
     omega (arith, c.if-vacant-records_for.false, c.vacant.ensures.value, ap (λ (s : Cells). vacant_count s.records) c.read_used-block.ensures.left.cells, c.records_for.ensures, c.records_for-2.ensures) in
     omega (arith, enough, gap_of_some (c.start_of-start.result - c.read_used-block.result.place) some, vacant_taken c.args.store.now.cells c.requires.stands (record_at c.args.store.now.cells.records c.args.slot).place c.args.slot c.args.align c.args.asked k.by c.requires.is c.requires.some c.requires.whole c.requires.found c.take_whole.new.store.cells taken)
 
-pub trim-requires-clause-stands : goal.trim-requires-clause-stands
-trim-requires-clause-stands c =
+pub split_rest-requires-clause-stands : goal.split_rest-requires-clause-stands
+split_rest-requires-clause-stands c =
     let k = known c.args.store.now.cells c.requires.stands c.args.slot c.args.align c.args.asked c.requires.is c.requires.some c.requires.whole c.requires.free c.requires.found c.read_used-block.result c.read_used-block.ensures.value in
     let taken : StandsAt c.args.slot InUse c.take_whole.new.store.cells (at_taken k.by.at) = c.take_whole.ensures.leads k.by.at (rw (c.vacant.ensures.left.cells, c.read_used-block.ensures.left.cells) k.by.stands) in
     (at_gapped c.leave_gap-live.result (c.start_of-start.result - c.read_used-block.result.place) (at_taken k.by.at), c.leave_gap-live.ensures.leads (at_taken k.by.at) (rw c.of-whole.ensures taken))
 
-pub trim-requires-clause-read : goal.trim-requires-clause-read
-trim-requires-clause-read c =
+pub split_rest-requires-clause-read : goal.split_rest-requires-clause-read
+split_rest-requires-clause-read c =
     let k = known c.args.store.now.cells c.requires.stands c.args.slot c.args.align c.args.asked c.requires.is c.requires.some c.requires.whole c.requires.free c.requires.found c.read_used-block.result c.read_used-block.ensures.value in
     let taken : StandsAt c.args.slot InUse c.take_whole.new.store.cells (at_taken k.by.at) = c.take_whole.ensures.leads k.by.at (rw (c.vacant.ensures.left.cells, c.read_used-block.ensures.left.cells) k.by.stands) in
     let known_there = taken_known c.args.store.now.cells c.take_whole.new.store.cells c.args.slot k.by.at c.read_used-block.result k.by.stands taken c.read_used-block.ensures.value c.read_used-block.ensures.kept.place in
@@ -121,13 +121,13 @@ trim-requires-clause-read c =
       in_units = omega (arith, whole, c.read_used-block.ensures.kept.place, k.begins, c.start_of-start.ensures);
     })
 
-pub trim-requires-clause-most : goal.trim-requires-clause-most
-trim-requires-clause-most c =
+pub split_rest-requires-clause-most : goal.split_rest-requires-clause-most
+split_rest-requires-clause-most c =
     let k = known c.args.store.now.cells c.requires.stands c.args.slot c.args.align c.args.asked c.requires.is c.requires.some c.requires.whole c.requires.free c.requires.found c.read_used-block.result c.read_used-block.ensures.value in
     omega (arith, k.fits, k.size_is, c.start_of-start.ensures)
 
-pub trim-requires-clause-room : goal.trim-requires-clause-room
-trim-requires-clause-room c less =
+pub split_rest-requires-clause-room : goal.split_rest-requires-clause-room
+split_rest-requires-clause-room c less =
     let k = known c.args.store.now.cells c.requires.stands c.args.slot c.args.align c.args.asked c.requires.is c.requires.some c.requires.whole c.requires.free c.requires.found c.read_used-block.result c.read_used-block.ensures.value in
     let gap_is : c.start_of-start.result - c.read_used-block.result.place ≡ next_multiple_of (record_at c.args.store.now.cells.records c.args.slot).place c.args.align - (record_at c.args.store.now.cells.records c.args.slot).place =
     ap (λ s. s - c.read_used-block.result.place) c.start_of-start.ensures ∙ ap (λ p. next_multiple_of p c.args.align - p) k.place_is in
@@ -141,7 +141,7 @@ trim-requires-clause-room c less =
     let over : 0 < (c.read_used-block.result.size - (c.start_of-start.result - c.read_used-block.result.place)) - c.args.asked = omega (arith, less, size, k.size_is) in
     omega (arith, enough, gap_of_some ((c.read_used-block.result.size - (c.start_of-start.result - c.read_used-block.result.place)) - c.args.asked) over, vacant, ap gap_records gap_is)
 
-left : (c : goal.After-new) → Stands c.trim.new.store.cells × (memalign_picked c.leave_gap-live.result c.args.align c.args.asked (Some (record_at c.args.store.now.cells.records c.args.slot).place) (content_of c.args.store.now.cells) ≡ Ok (next_multiple_of (record_at c.args.store.now.cells.records c.args.slot).place c.args.align, content_of c.trim.new.store.cells))
+left : (c : goal.After-new) → Stands c.split_rest.new.store.cells × (memalign_picked c.leave_gap-live.result c.args.align c.args.asked (Some (record_at c.args.store.now.cells.records c.args.slot).place) (content_of c.args.store.now.cells) ≡ Ok (next_multiple_of (record_at c.args.store.now.cells.records c.args.slot).place c.args.align, content_of c.split_rest.new.store.cells))
 left c =
     let k = known c.args.store.now.cells c.requires.stands c.args.slot c.args.align c.args.asked c.requires.is c.requires.some c.requires.whole c.requires.free c.requires.found c.read_used-block.result c.read_used-block.ensures.value in
     let gap_is : c.start_of-start.result - c.read_used-block.result.place ≡ next_multiple_of (record_at c.args.store.now.cells.records c.args.slot).place c.args.align - (record_at c.args.store.now.cells.records c.args.slot).place =
@@ -149,10 +149,10 @@ left c =
     let taken : StandsAt c.args.slot InUse c.take_whole.new.store.cells (at_taken k.by.at) = c.take_whole.ensures.leads k.by.at (rw (c.vacant.ensures.left.cells, c.read_used-block.ensures.left.cells) k.by.stands) in
     let enough : gap_records (c.start_of-start.result - c.read_used-block.result.place) + gap_records ((c.read_used-block.result.size - (c.start_of-start.result - c.read_used-block.result.place)) - c.args.asked) ≤ vacant_count c.args.store.now.cells.records =
     omega (arith, c.if-vacant-records_for.false, c.vacant.ensures.value, ap (λ (s : Cells). vacant_count s.records) c.read_used-block.ensures.left.cells, c.records_for.ensures, c.records_for-2.ensures) in
-    let end = c.trim.ensures.leads (at_gapped c.leave_gap-live.result (c.start_of-start.result - c.read_used-block.result.place) (at_taken k.by.at)) (c.leave_gap-live.ensures.leads (at_taken k.by.at) (rw c.of-whole.ensures taken)) in
+    let end = c.split_rest.ensures.leads (at_gapped c.leave_gap-live.result (c.start_of-start.result - c.read_used-block.result.place) (at_taken k.by.at)) (c.leave_gap-live.ensures.leads (at_taken k.by.at) (rw c.of-whole.ensures taken)) in
     let P : ℕ → ℕ → Type 0 = λ g n. gap_records g + gap_records ((n - g) - c.args.asked) ≤ vacant_count c.args.store.now.cells.records in
-    let Q : ℕ → Type 0 = λ g. StandsAt c.leave_gap-live.result InUse c.trim.new.store.cells (at_trimmed end.0 c.args.asked (at_gapped c.leave_gap-live.result g (at_taken k.by.at))) in
-    carved_stands c.args.store.now.cells c.requires.stands (record_at c.args.store.now.cells.records c.args.slot).place c.args.slot c.args.align c.args.asked k.by c.requires.is c.requires.some c.requires.whole c.requires.found c.trim.new.store.cells c.leave_gap-live.result end.0
+    let Q : ℕ → Type 0 = λ g. StandsAt c.leave_gap-live.result InUse c.split_rest.new.store.cells (at_split_rest end.0 c.args.asked (at_gapped c.leave_gap-live.result g (at_taken k.by.at))) in
+    split_aligned_stands c.args.store.now.cells c.requires.stands (record_at c.args.store.now.cells.records c.args.slot).place c.args.slot c.args.align c.args.asked k.by c.requires.is c.requires.some c.requires.whole c.requires.found c.split_rest.new.store.cells c.leave_gap-live.result end.0
     (subst (λ n. P (next_multiple_of (record_at c.args.store.now.cells.records c.args.slot).place c.args.align - (record_at c.args.store.now.cells.records c.args.slot).place) n) k.size_is (subst (λ g. P g c.read_used-block.result.size) gap_is enough))
     (subst Q gap_is end.1)
 

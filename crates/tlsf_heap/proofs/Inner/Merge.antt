@@ -1,4 +1,4 @@
--- A block takes in the one behind it, neither of them in a list.
+-- A block is merged with the one behind it, neither of them in a list.
 use Rattle.std.proofs.Common.{◌≡◌, ◌≢◌, ℕ, ◌+◌, ◌≤◌, Bool, false, ◌&&◌, eqb, List, ◌∷◌, length, set, refl, sym, ap, ◌∙◌, subst, arith, count_by, Option, Some, inl, inr}
 use Rattle.std.proofs.lemmas.Bool.{cases_eq, eq-eqb, ne_eqb}
 use Rattle.std.proofs.lemmas.List.{length-set}
@@ -7,8 +7,8 @@ use Rattle.tlsf_store.specs.Records.{blank, record_at}
 use Rattle.tlsf_store.specs.Cells.{Cells}
 use Rattle.tlsf_store.proofs.RecordLaws.{record_at-set_same, record_at-set_other}
 use Rattle.tlsf_heap.specs.Inner.Edits.{edited_in}
-use Rattle.tlsf_heap.specs.Inner.Chains.{absorbed}
-use Rattle.tlsf_heap.specs.Inner.Nodes.{Node, has_slot, list_of, is_listed, is_listed_in}
+use Rattle.tlsf_heap.specs.Inner.Chains.{merged_behind}
+use Rattle.tlsf_heap.specs.Inner.Nodes.{Node, has_slot, nodes_in, is_listed, is_listed_in}
 use Rattle.tlsf_heap.specs.Inner.Positions.{Position, laid}
 use Rattle.tlsf_heap.specs.Inner.Represents.{InPool, pool_view, list_view, pool_views, list_views, in_pool, first_slot, uses_in, Represented, Represents}
 use Rattle.tlsf_heap.proofs.Counts.{one_if, count-cons}
@@ -17,7 +17,7 @@ use Rattle.tlsf_heap.proofs.Inner.Reads.{length-edited, edited_here, edited_apar
 use Rattle.tlsf_heap.proofs.Inner.Chains.{unlisted, unlisted_nowhere, AtNode, at_node, refilled}
 
 module _ (cells : Cells) (count : ℕ) (position : Position) (node behind : Node) (nodes : List Node) (lists : List (List Node)) (taken : List ℕ)
-    (was : Represents cells (laid count position (node ∷ behind ∷ nodes) lists taken)) (was_not : is_listed node.status ≡ false) (behind_not : is_listed behind.status ≡ false) where
+    (was : Represents cells (laid count position (node ∷ behind ∷ nodes) lists taken)) (was_not : is_listed node.state ≡ false) (behind_not : is_listed behind.state ≡ false) where
   abbrev old : Record
   old = record_at cells.records node.slot
 
@@ -92,14 +92,14 @@ module _ (cells : Cells) (count : ℕ) (position : Position) (node behind : Node
     | inr other ↦ omega (arith, ap one_if (ne_eqb behind.slot q (λ e. other (sym e))), seen (λ r. uses_in r.state) (λ r. refl) refl q other)
   ]
 
-  listed_same : (number q : ℕ) → 1 ≤ count_by (has_slot q) (list_of number lists) → list_views new q ≡ list_views cells.records q
+  listed_same : (number q : ℕ) → 1 ≤ count_by (has_slot q) (nodes_in number lists) → list_views new q ≡ list_views cells.records q
   listed_same number q h =
       seen list_view (λ r. refl) refl q (λ e.
-      let P : ℕ → Type 0 = λ n. 1 ≤ count_by (has_slot n) (list_of number lists) in
+      let P : ℕ → Type 0 = λ n. 1 ≤ count_by (has_slot n) (nodes_in number lists) in
       omega (arith, subst P e h, unlisted_nowhere (pool_views cells.records) beyond behind nodes lists taken was.chains was.agree behind_not number))
 
-  join_before : Represented new cells.heads cells.level_word cells.step_words cells.pools (laid count position (record node { size = node.size + behind.size } ∷ nodes) lists taken)
-  join_before =
+  merge_before : Represented new cells.heads cells.level_word cells.step_words cells.pools (laid count position (record node { size = node.size + behind.size } ∷ nodes) lists taken)
+  merge_before =
       let both : Node = record node { size = node.size + behind.size } in
       refilled cells count position (node ∷ behind ∷ nodes) (both ∷ nodes) lists taken taken new was (length-set two behind.slot blank ∙ same_count)
       (λ q h. others q (here.outside_apart q h) (there.outside_apart q (omega (arith, h, count-cons (has_slot q) node position.before))) (not_first q (omega (arith, h, here.most q, count-cons (has_slot q) node (behind ∷ nodes), count-cons (has_slot q) behind nodes))))
@@ -118,8 +118,8 @@ module _ (cells : Cells) (count : ℕ) (position : Position) (node behind : Node
       let listed : Node → Bool = λ other. is_listed_in number other && test other in
       omega (arith, count-cons listed node (behind ∷ nodes), count-cons listed behind nodes, count-cons listed both nodes, unlisted number test node was_not, unlisted number test behind behind_not, unlisted number test both was_not))
 
-  pub join_laid : Represents (absorbed node.slot behind.slot cells) (laid count position (record node { size = node.size + behind.size } ∷ nodes) lists taken)
-  join_laid =
+  pub merge_laid : Represents (merged_behind node.slot behind.slot cells) (laid count position (record node { size = node.size + behind.size } ∷ nodes) lists taken)
+  merge_laid =
       let P : Option ℕ → Type 0 = λ next.
       Represented (set (edited_in moved next (set cells.records node.slot (grown next))) behind.slot blank) cells.heads cells.level_word cells.step_words cells.pools (laid count position (record node { size = node.size + behind.size } ∷ nodes) lists taken) in
-      subst P (sym (ap (λ (v : InPool). v.next) there.says)) join_before
+      subst P (sym (ap (λ (v : InPool). v.next) there.says)) merge_before

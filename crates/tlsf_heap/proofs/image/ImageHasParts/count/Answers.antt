@@ -1,7 +1,7 @@
 use Rattle.std.proofs.Common.{sym, ◌∙◌, ap}
 use Rattle.tlsf_heap.specs.Images.Image.{two_at, count_at}
 use Rattle.tlsf_heap.proofs.Images.ImageLemmas.{records_count}
-use Rattle.tlsf_heap.proofs.image.ImageTable.count.Goals as goal
+use Rattle.tlsf_heap.proofs.image.ImageHasParts.count.Goals as goal
 
 pub returns-clause-value : goal.returns-clause-value
 returns-clause-value c =

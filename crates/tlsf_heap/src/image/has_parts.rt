@@ -5,13 +5,13 @@ ghost use Rattle.tlsf_class.specs.Classes.{unit, classes};
 ghost use Rattle.tlsf_store.specs.Records.{record_at, most_records};
 ghost use Rattle.tlsf_store.specs.Cells.{Cells, head_at, pool_at, most_pools, IsPoolBelow};
 ghost use Rattle.tlsf_heap.specs.Images.Image.{Parts};
-ghost use Rattle.tlsf_heap.specs.Images.Table.{OnlyReads};
+ghost use Rattle.tlsf_heap.specs.Images.HasParts.{OnlyReads};
 
 use tlsf_class::Class;
 use tlsf_store::{Pool, Record, Slot};
 
 /// Records by slot, the first of the list of each class, and the pools by number.
-pub trait Table {
+pub trait HasParts {
     // What stands in it.
     ghost parts: { Self → Parts };
 

@@ -3,8 +3,8 @@ use Rattle.std.specs.Prelude.{nat_lt, if◌then◌else◌}
 use Rattle.std.proofs.lemmas.Bool.{lt-ltb, le-ltb}
 use Rattle.tlsf_heap.specs.Images.Image.{two_at, count_at, pools_at, pool_in}
 use Rattle.tlsf_heap.proofs.Images.ImageLemmas.{pool_read, first_below, records_count}
-use Rattle.tlsf_heap.proofs.image.ImageTable.pool.Goals as goal
-use Rattle.tlsf_heap.proofs.image.ImageTable.pool.Goals.{then-number-from, else-number-from}
+use Rattle.tlsf_heap.proofs.image.ImageHasParts.pool.Goals as goal
+use Rattle.tlsf_heap.proofs.image.ImageHasParts.pool.Goals.{then-number-from, else-number-from}
 
 pub returns-clause-value : goal.returns-clause-value
 returns-clause-value c =
