@@ -39,7 +39,7 @@ pub record IsUnderWay (settings : Settings) (progress : Progress) (replay : Repl
 
 -- before the first line
 pub underway_start : (settings : Settings) (replay : Replayed) (left taken : Bytes) → StandsFor replay settings []
-    → IsUnderWay settings (record { held = []; count = 0; status = Reading; last = Some [] }) replay false left left taken taken
+    → IsUnderWay settings (record { held = []; count = 0; stage = Reading; last = Some [] }) replay false left left taken taken
 underway_start settings replay left taken stands =
     let none : history settings [] ≡ [] = moments-none (started settings) in
     record {
@@ -94,7 +94,7 @@ underway_line settings old new replay_old replay_new noted_old more start before
           ∙ sym (ap (λ past. is_some_note (notes past)) whole ∙ some_note-append (notes (history settings lines)) added);
     }
 
--- what comes behind the diagnostics of the lines, of what the lines come to
+-- what comes behind the diagnostics of the lines: that of the end, and the report
 abbrev pub last_text : Report → Settings → List (Result Event LineFault) → List Given → Totals → List ℕ
 last_text report settings lines all totals =
     notes_text (half (length lines) (pending (reverse lines)))
@@ -140,7 +140,7 @@ underway_write report settings old new replay_old replay_new noted_old start bef
     record {
       lines = lines;
       unused = new.held;
-      begun = elim (line_read new.status start (to_come old before) (to_come new after) lines line.event given.taken now.read) [
+      begun = elim (line_read new.stage start (to_come old before) (to_come new after) lines line.event given.taken now.read) [
         | inl reading ↦ inl (reading, begun)
         | inr all ↦ inr (record {
           read = all;
@@ -156,7 +156,7 @@ underway_write report settings old new replay_old replay_new noted_old start bef
 -- the end of the log
 pub underway_end : {R : Type 0} (left : R → Bytes) (settings : Settings) (old new : Progress) (replay : Replayed) (noted : Bool) (start : Bytes) (reader_old reader_new : R) (taken_start taken : Bytes)
     → IsUnderWay settings old replay noted start (left reader_old) taken_start taken
-    → FindsEnd old.status old new reader_old reader_new (to_come old (left reader_old)) (to_come new (left reader_new))
+    → FindsEnd old.stage old new reader_old reader_new (to_come old (left reader_old)) (to_come new (left reader_new))
     → HasReplayed settings replay noted start (left reader_new) taken_start taken
 underway_end left settings old new replay noted start reader_old reader_new taken_start taken under found = record {
   lines = under.so_far.lines;
@@ -169,7 +169,7 @@ underway_end left settings old new replay noted start reader_old reader_new take
 -- the reader failed, or there are no numbers left
 pub underway_fault : {R : Type 0} (left : R → Bytes) (settings : Settings) (old new : Progress) (replay : Replayed) (noted : Bool) (start : Bytes) (reader_old reader_new : R) (taken_start taken : Bytes) (calls_start calls : List Call) (fault : ReadFault)
     → IsUnderWay settings old replay noted start (left reader_old) taken_start taken
-    → GivesFault old.status fault old new reader_old reader_new (to_come old (left reader_old)) (to_come new (left reader_new))
+    → GivesFault old.stage fault old new reader_old reader_new (to_come old (left reader_old)) (to_come new (left reader_new))
     → (fault ≡ ReaderFailed → new.held ≡ []) → CallsFor (Faulted fault) calls_start calls
     → StopsAtRead settings start (left reader_new) calls_start calls taken_start taken
 underway_fault left settings old new replay noted start reader_old reader_new taken_start taken calls_start calls fault under given nothing came = record {

@@ -51,7 +51,7 @@ module _ {R W : Type 0} (settings : Settings) (After : List Reading → Result S
     finished = λ status is. absurd (cc);
   }
 
-  -- it came to the end of the log, and then the log was read again
+  -- it reached the end of the log, and then the log was read again
   pub again_ended : (status : Status) (result : Result Status RunFault) (reader_old reader_middle reader_new : R) (writer_old writer_middle writer_new : W)
       → Runs Notes settings left pulls taken puts (Ok status) reader_old reader_middle writer_old writer_middle
       → EndsAgain settings After status left whole taken result reader_old reader_middle reader_new writer_old writer_middle writer_new

@@ -1,4 +1,4 @@
--- The totals of a log's lines after one line more, by what the line came to.
+-- The totals of a log's lines after one line more, by the outcome of that line.
 use Rattle.std.proofs.Common.{◌≡◌, ℕ, suc, ◌+◌, Bool, true, false, List, ◌∷◌, length, ◌⊎◌, inl, inr, refl, ap, ◌∙◌, subst, arith, Option, Some, None, count_by}
 use Rattle.std.specs.Prelude.{nat_lt, unwrap_or, is_some, option_map, if◌then◌else◌}
 use Rattle.std.specs.List.{Contains, list_any}

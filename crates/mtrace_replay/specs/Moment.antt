@@ -25,7 +25,7 @@ pub record Given : Type 0 where
   pub entry : Entry
   pub place : ℕ
 
--- what one line came to: what it was given, the address that it took, its diagnostics, and the heap after it
+-- the outcome of one line: what it was given, the address that it took, its diagnostics, and the heap after it
 pub record Moment : Type 0 where
   pub given : Option Given
   pub taken : Option ℕ

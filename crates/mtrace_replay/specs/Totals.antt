@@ -68,7 +68,7 @@ pub record AreTotals (start : Bare) (past : List Moment) (totals : Totals) : Typ
   pub peak : IsPeak past totals.peak_bytes totals.peak_line
   pub high_place : IsHighPlace start past totals.high_place
 
--- the totals with one line more, by what it came to and what is held after it
+-- the totals with one line more, by its outcome and what is held after it
 abbrev pub gone_on : Totals → Option ℕ → Bool → ℕ → ℕ → Totals
 gone_on totals end refused bytes blocks = record {
   lines = totals.lines + 1;

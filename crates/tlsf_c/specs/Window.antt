@@ -8,6 +8,6 @@ use Rattle.tlsf_c.specs.declared.window.Window.{Window}
 abbrev pub taken : Window → Option (List ℕ)
 taken window = Some (window.room.ghost_name ∷ length window.room.now ∷ window.told.bytes)
 
--- what its calls came to
+-- the outcomes of its calls, the latest first
 abbrev pub calls : Window → List Call
 calls window = window.told.calls

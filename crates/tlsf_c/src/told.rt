@@ -7,7 +7,7 @@ ghost use Rattle.mtrace_log.specs.declared.call.Call.{Call};
 use mtrace_log::Call;
 use std::marker::Model;
 
-/// What each call of a window came to, the latest first, and which bytes it was told. It takes no byte and no time.
+/// The outcome of each call of a window, the latest first, and which bytes it was told. It takes no byte and no time.
 #[derive(Drop)]
 pub(crate) struct Told {
     pub ghost calls: { List Call },

@@ -19,7 +19,7 @@ loop-number-init g c =
       none = c.none-findings.ensures;
       records = refl;
       whole = refl;
-      gave = (let P : Progress → Type 0 = λ lines. CallsFor lines.status gave gave in subst P (sym c.new-lines.ensures) (moved_none Gave gave));
+      gave = (let P : Progress → Type 0 = λ lines. CallsFor lines.stage gave gave in subst P (sym c.new-lines.ensures) (moved_none Gave gave));
       took = moved_none Took (g.W.Sink.trace c.args.writer.now);
     }
 
@@ -81,7 +81,7 @@ loop-number-preserved g c =
       none = c.in-Ok.ensures.cleared;
       records = c.in-Ok.ensures.records ∙ c.loop-number.invariant.records;
       whole = c.in-Ok-Some.ensures.whole ∙ c.loop-number.invariant.whole;
-      gave = calls_more c.loop-number.lines.status c.advance.new.self.status _ _ _ given.was_reading c.loop-number.invariant.gave c.in-Ok-Some.ensures.calls;
+      gave = calls_more c.loop-number.lines.stage c.advance.new.self.stage _ _ _ given.was_reading c.loop-number.invariant.gave c.in-Ok-Some.ensures.calls;
       took = moved_append Took _ _ _ c.loop-number.invariant.took c.in-Ok.ensures.took;
     }
 
@@ -95,8 +95,8 @@ returns-in-Err-replay_line g c =
       records = c.replay_line.ensures.records ∙ kept.records;
       whole = c.advance.ensures.whole ∙ kept.whole;
       reader_ended = tt;
-      reader_not_failed = λ other. calls_of_line c.advance.new.self.status _ _ _ _ _ given.taken
-          (calls_more c.loop-number.lines.status c.advance.new.self.status _ _ _ given.was_reading kept.gave c.in-Ok-Some.ensures.calls);
+      reader_not_failed = λ other. calls_of_line c.advance.new.self.stage _ _ _ _ _ given.taken
+          (calls_more c.loop-number.lines.stage c.advance.new.self.stage _ _ _ given.was_reading kept.gave c.in-Ok-Some.ensures.calls);
       writer_took = λ other. absurd (other refl);
       writer_failed = λ is. moved_then_append Took Failed _ _ _ kept.took c.in-Err-replay_line.ensures.failed;
       read = λ is. absurd (cc);

@@ -19,7 +19,7 @@ invariant-loop-number g l =
       none : l.findings ≡ [];
       records : l.replay.content.records ≡ l.initial.replay.content.records;
       whole : g.R.Source.whole l.reader ≡ g.R.Source.whole l.initial.reader;
-      gave : CallsFor l.lines.status (g.R.Source.trace l.initial.reader) (g.R.Source.trace l.reader);
+      gave : CallsFor l.lines.stage (g.R.Source.trace l.initial.reader) (g.R.Source.trace l.reader);
       took : HasTaken (g.W.Sink.trace l.initial.writer) (g.W.Sink.trace l.writer);
     }
 

@@ -36,7 +36,7 @@ type Told = (u64, u64, Wrong);
 /// Told by `finish`.
 const END: u64 = 0;
 
-/// Lines, with what they come to.
+/// Lines, with the diagnostics of a replay of them, and what it holds then.
 #[derive(Clone, Copy)]
 struct Row {
     name: &'static str,

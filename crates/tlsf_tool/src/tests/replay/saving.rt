@@ -53,7 +53,7 @@ fn row(place: u32, size: u32, used: bool) -> Row {
     Row { place, size, used }
 }
 
-/// What a run came to, and the bytes that its two writers took.
+/// A run's answer, and the bytes that its two writers took.
 #[derive(Drop)]
 struct Saved {
     answer: Result<Status, RunFault>,
