@@ -74,7 +74,7 @@ high_by start past moment high is (Some end) stood given =
 pub totals_of_line : (start : Bare) (past : List Moment) (moment : Moment) (all : List Given) (old : Totals) (end : Option ℕ) (refused : Bool) (bytes blocks : ℕ)
     → AreTotals start past old
     → end ≡ end_of moment
-    → refused ≡ list_any (λ (note : Diagnostic). is_refusal note.kind) moment.notes
+    → refused ≡ list_any (λ (diagnostic : Diagnostic). is_refusal diagnostic.kind) moment.diagnostics
     → AreHeld all (moment ∷ past)
     → bytes ≡ total_size (entries_of all) → blocks ≡ length all
     → ((block : Block (Unit {0})) → Contains (blocks_of moment.content.pools) block → is_free block ≡ false → Contains (blocks_of (content_after start past).pools) block ⊎ ((place : ℕ) × (end ≡ Some place) × (block.place + block.size ≡ place)))

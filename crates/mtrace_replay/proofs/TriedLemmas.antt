@@ -9,7 +9,7 @@ use Rattle.mtrace_log.specs.Trace.{HasNotFailed}
 use Rattle.mtrace_log.specs.declared.call.Call.{Call}
 use Rattle.mtrace_log.specs.declared.call.Call.TheVariants.{Gave, Failed, Began, Ended as ToldEnd}
 use Rattle.mtrace_replay.specs.declared.settings.Settings.{Settings}
-use Rattle.mtrace_replay.specs.Moment.{Reading as Answer}
+use Rattle.mtrace_replay.specs.Moment.{ReadLine}
 use Rattle.mtrace_replay.specs.Replay.{Replayed}
 use Rattle.mtrace_replay.specs.Run.{Bytes, FailedInPiece, IsPastLastNumber}
 use Rattle.mtrace_replay.specs.RunFit.{IsTried, NoneFailed, FailsIn}
@@ -67,11 +67,11 @@ none_failed-began old middle new began then =
 
 -- it began again, and then failed
 pub fails_in : (whole left_old left_middle left_new : Bytes) (calls_old calls_middle calls_new : List Call) → left_middle ≡ whole → calls_middle ≡ Began ∷ calls_old
-    → ((lines : List Answer) × (FailedInPiece left_middle left_new calls_middle calls_new lines
+    → ((lines : List ReadLine) × (FailedInPiece left_middle left_new calls_middle calls_new lines
     ⊎ ((unused : List ℕ) × IsPastLastNumber left_middle (prepend_known unused left_new) calls_middle calls_new lines)))
     → FailsIn whole left_old left_new calls_old calls_new
 fails_in whole left_old left_middle left_new calls_old calls_middle calls_new left_is calls_are failed =
-    let P : Bytes → List Call → Type 0 = λ left calls. (lines : List Answer) × (FailedInPiece left left_new calls calls_new lines
+    let P : Bytes → List Call → Type 0 = λ left calls. (lines : List ReadLine) × (FailedInPiece left left_new calls calls_new lines
     ⊎ ((unused : List ℕ) × IsPastLastNumber left (prepend_known unused left_new) calls calls_new lines)) in
     inr (subst (P whole) calls_are (subst (λ left. P left calls_middle) left_is failed))
 

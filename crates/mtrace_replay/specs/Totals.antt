@@ -24,7 +24,7 @@ is_refusal (Refused address refusal) = true
 is_refusal _ = false
 
 abbrev pub is_refused : Moment → Bool
-is_refused moment = list_any (λ (note : Diagnostic). is_refusal note.kind) moment.notes
+is_refused moment = list_any (λ (diagnostic : Diagnostic). is_refusal diagnostic.kind) moment.diagnostics
 
 -- the sum of the sizes held
 pub record IsSum (past : List Moment) (bytes : ℕ) : Type 0 where

@@ -14,7 +14,7 @@ invariant-loop-number g l =
     let taken = g.W.Sink.taken in
     record {
       under_way : (settings : Settings) → StandsFor l.initial.replay settings []
-          → IsUnderWay settings l.lines l.replay l.noted (left l.initial.reader) (left l.reader) (taken l.initial.writer) (taken l.writer);
+          → IsUnderWay settings l.lines l.replay l.has_diagnostics (left l.initial.reader) (left l.reader) (taken l.initial.writer) (taken l.writer);
       counted : l.replay.totals.lines ≡ l.lines.count;
       none : l.findings ≡ [];
       records : l.replay.content.records ≡ l.initial.replay.content.records;
