@@ -3,7 +3,7 @@ use Rattle.std.proofs.Common.{◌≡◌, ℕ, List, Option, Result, refl, subst,
 use Rattle.mtrace_log.specs.Trace.{HasGivenAll, HasNotFailed}
 use Rattle.mtrace_log.specs.Progress.{Progress, Stage, Reading, Ended, Faulted, ReadsLine, FindsEnd, GivesFault, CallsFor}
 use Rattle.mtrace_log.specs.declared.call.Call.{Call}
-use Rattle.mtrace_log.specs.declared.call.Call.TheVariants.{Gave, Ended as EndTold, Failed}
+use Rattle.mtrace_log.specs.declared.call.Call.TheVariants.{Gave, Ended as ToldEnd, Failed}
 use Rattle.mtrace_log.specs.Event.{Event}
 use Rattle.mtrace_log.specs.declared.event.LineFault.{LineFault}
 use Rattle.mtrace_log.specs.declared.line.ReadFault.{ReadFault}
@@ -13,7 +13,7 @@ use Rattle.mtrace_log.proofs.TraceLemmas.{moved_append, moved_then_append}
 -- calls while lines were read, and then more
 calls_after : (stage : Stage) (start before after : List Call) → CallsFor Reading start before → CallsFor stage before after → CallsFor stage start after
 calls_after Reading start before after first second = moved_append Gave start before after first second
-calls_after Ended start before after first second = moved_then_append Gave EndTold start before after first second
+calls_after Ended start before after first second = moved_then_append Gave ToldEnd start before after first second
 calls_after (Faulted ReaderFailed) start before after first second = moved_then_append Gave Failed start before after first second
 calls_after (Faulted TooManyLines) start before after first second = moved_append Gave start before after first second
 

@@ -15,7 +15,7 @@ use Rattle.mtrace_log.specs.declared.line.ReadFault.TheVariants.{ReaderFailed}
 use Rattle.mtrace_replay.specs.declared.settings.Settings.{Settings}
 use Rattle.mtrace_replay.specs.declared.diagnostic.Diagnostic.{Diagnostic}
 use Rattle.mtrace_replay.specs.Entry.{Entry}
-use Rattle.mtrace_replay.specs.declared.status.Status.{Status as RunStatus}
+use Rattle.mtrace_replay.specs.declared.status.Status.{Status}
 use Rattle.mtrace_replay.specs.declared.status.Status.TheVariants.{Clean, Found}
 use Rattle.mtrace_replay.specs.Started.{started}
 use Rattle.mtrace_replay.specs.Moment.{Moment, Given, moment, half}
@@ -215,7 +215,7 @@ status-is [] [] (one ∷ all) = refl
 status-is [] [] [] = refl
 
 -- all was written
-abbrev pub report_all : (report : Report) (settings : Settings) (replay : Replayed) (has_diagnostics : Bool) (status : RunStatus) (left_old left_new taken_old taken_middle taken_new : Bytes)
+abbrev pub report_all : (report : Report) (settings : Settings) (replay : Replayed) (has_diagnostics : Bool) (status : Status) (left_old left_new taken_old taken_middle taken_new : Bytes)
     → HasReplayed settings replay has_diagnostics left_old left_new taken_old taken_middle
     → Wrote taken_middle taken_new (end_text report replay)
     → status ≡ (if has_diagnostics || (is_some_diagnostic (half replay.totals.lines replay.pending) || is_some_entry (entries replay)) then Found else Clean)
@@ -241,7 +241,7 @@ report_all report settings replay has_diagnostics status left_old left_new taken
     }
 
 -- all was written of a run that makes no report, and the replay in the end
-pub ends_at : (settings : Settings) (replay end : Replayed) (has_diagnostics : Bool) (status : RunStatus) (left_old left_new taken_old taken_middle taken_new : Bytes)
+pub ends_at : (settings : Settings) (replay end : Replayed) (has_diagnostics : Bool) (status : Status) (left_old left_new taken_old taken_middle taken_new : Bytes)
     → HasReplayed settings replay has_diagnostics left_old left_new taken_old taken_middle
     → Wrote taken_middle taken_new (end_text Nothing replay)
     → status ≡ (if has_diagnostics || (is_some_diagnostic (half replay.totals.lines replay.pending) || is_some_entry (entries replay)) then Found else Clean)
@@ -254,6 +254,6 @@ ends_at settings replay end has_diagnostics status left_old left_new taken_old t
 }
 
 -- and what its heap holds
-pub replays_by : (settings : Settings) (status : RunStatus) (replay : Replayed) (left_old left_new taken_old taken_new : Bytes)
+pub replays_by : (settings : Settings) (status : Status) (replay : Replayed) (left_old left_new taken_old taken_new : Bytes)
     → EndsAt settings status replay left_old left_new taken_old taken_new → Replays settings status replay.content left_old left_new taken_old taken_new
 replays_by settings status replay left_old left_new taken_old taken_new ends = record { reports = ends.reports; content_is = ends.stands.content_is }

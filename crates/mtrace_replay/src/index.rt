@@ -16,8 +16,8 @@ use std::marker::Model;
 use tlsf_heap::Ptr;
 use tlsf_store::GhostCount;
 
-/// Where an address stands among the keys of an index: at its own, held or vacant, or where that would enter. It tells so
-/// until the index is changed.
+/// What a look-up answers: where an address stands among the keys of an index. That is at its own, held or vacant, or
+/// where that would enter. It tells so until the index is changed.
 #[derive(Clone, Copy)]
 pub(crate) struct LookUp {
     address: Addr,

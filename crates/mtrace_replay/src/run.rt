@@ -158,7 +158,7 @@ fn ask_flush<W: Sink>(writer: &mut W)
     let _ = writer.flush();
 }
 
-/// How a run ended that read its log to the end, and the replay then.
+/// A run that read its log to the end: its status, and the replay then.
 #[derive(Drop)]
 pub(crate) struct FinishedRun {
     pub(crate) status: Status,
