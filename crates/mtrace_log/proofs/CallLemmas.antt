@@ -1,9 +1,9 @@
--- What the calls of a reader came to in many calls of `next`.
+-- The outcomes of the calls of a reader in many calls of `next`.
 use Rattle.std.proofs.Common.{◌≡◌, ℕ, List, Option, Result, refl, subst, sym, inl, inr}
 use Rattle.mtrace_log.specs.Trace.{HasGivenAll, HasNotFailed}
-use Rattle.mtrace_log.specs.Progress.{Progress, Status, Reading, Ended, Faulted, TakesLine, FindsEnd, GivesFault, CallsFor}
+use Rattle.mtrace_log.specs.Progress.{Progress, Stage, Reading, Ended, Faulted, ReadsLine, FindsEnd, GivesFault, CallsFor}
 use Rattle.mtrace_log.specs.declared.call.Call.{Call}
-use Rattle.mtrace_log.specs.declared.call.Call.TheVariants.{Gave, Ended as EndTold, Failed}
+use Rattle.mtrace_log.specs.declared.call.Call.TheVariants.{Gave, Ended as ToldEnd, Failed}
 use Rattle.mtrace_log.specs.Event.{Event}
 use Rattle.mtrace_log.specs.declared.event.LineFault.{LineFault}
 use Rattle.mtrace_log.specs.declared.line.ReadFault.{ReadFault}
@@ -11,55 +11,55 @@ use Rattle.mtrace_log.specs.declared.line.ReadFault.TheVariants.{ReaderFailed, T
 use Rattle.mtrace_log.proofs.TraceLemmas.{moved_append, moved_then_append}
 
 -- calls while lines were read, and then more
-calls_after : (status : Status) (start before after : List Call) → CallsFor Reading start before → CallsFor status before after → CallsFor status start after
+calls_after : (stage : Stage) (start before after : List Call) → CallsFor Reading start before → CallsFor stage before after → CallsFor stage start after
 calls_after Reading start before after first second = moved_append Gave start before after first second
-calls_after Ended start before after first second = moved_then_append Gave EndTold start before after first second
+calls_after Ended start before after first second = moved_then_append Gave ToldEnd start before after first second
 calls_after (Faulted ReaderFailed) start before after first second = moved_then_append Gave Failed start before after first second
 calls_after (Faulted TooManyLines) start before after first second = moved_append Gave start before after first second
 
 -- the calls of one call of `next`, behind those before it
-pub calls_more : (old new : Status) (start before after : List Call) → old ≡ Reading → CallsFor old start before
+pub calls_more : (old new : Stage) (start before after : List Call) → old ≡ Reading → CallsFor old start before
     → (old ≡ Reading → CallsFor new before after) → CallsFor new start after
 calls_more old new start before after reading first second =
-    let P : Status → Type 0 = λ status. CallsFor status start before in
+    let P : Stage → Type 0 = λ stage. CallsFor stage start before in
     calls_after new start before after (subst P reading first) (second reading)
 
 -- a line that was taken came of a reader that has not failed
-pub calls_of_line : (status : Status) (start after : List Call) (left_old left_new : Option (List ℕ)) (answer : Result Event LineFault) → TakesLine status left_old left_new answer
-    → CallsFor status start after → HasNotFailed start after
+pub calls_of_line : (stage : Stage) (start after : List Call) (left_old left_new : Option (List ℕ)) (answer : Result Event LineFault) → ReadsLine stage left_old left_new answer
+    → CallsFor stage start after → HasNotFailed start after
 calls_of_line Reading start after left_old left_new answer taken calls = inl calls
 calls_of_line Ended start after left_old left_new answer taken calls = inr calls
 calls_of_line (Faulted fault) start after left_old left_new answer taken calls = absurd taken
 
 -- the end
 pub calls_to_end : {R : Type 0} (trace : R → List Call) (start : List Call) (old new : Progress) (reader_old reader_new : R) (left_old left_new : Option (List ℕ))
-    → CallsFor old.status start (trace reader_old) → (old.status ≡ Reading → CallsFor new.status (trace reader_old) (trace reader_new))
-    → new.status ≡ Ended → FindsEnd old.status old new reader_old reader_new left_old left_new → HasGivenAll start (trace reader_new)
-calls_to_end {R} trace start old new reader_old reader_new left_old left_new first second ended found = by_status old.status first second found
+    → CallsFor old.stage start (trace reader_old) → (old.stage ≡ Reading → CallsFor new.stage (trace reader_old) (trace reader_new))
+    → new.stage ≡ Ended → FindsEnd old.stage old new reader_old reader_new left_old left_new → HasGivenAll start (trace reader_new)
+calls_to_end {R} trace start old new reader_old reader_new left_old left_new first second ended found = by_stage old.stage first second found
   where
-    by_status : (status : Status) → CallsFor status start (trace reader_old) → (status ≡ Reading → CallsFor new.status (trace reader_old) (trace reader_new))
-        → FindsEnd status old new reader_old reader_new left_old left_new → HasGivenAll start (trace reader_new)
-    by_status Reading first second found =
-        let P : Status → Type 0 = λ status. CallsFor status start (trace reader_new) in
-        subst P ended (calls_more Reading new.status start (trace reader_old) (trace reader_new) refl first second)
-    by_status Ended first second found =
+    by_stage : (stage : Stage) → CallsFor stage start (trace reader_old) → (stage ≡ Reading → CallsFor new.stage (trace reader_old) (trace reader_new))
+        → FindsEnd stage old new reader_old reader_new left_old left_new → HasGivenAll start (trace reader_new)
+    by_stage Reading first second found =
+        let P : Stage → Type 0 = λ stage. CallsFor stage start (trace reader_new) in
+        subst P ended (calls_more Reading new.stage start (trace reader_old) (trace reader_new) refl first second)
+    by_stage Ended first second found =
         let P : R → Type 0 = λ reader. HasGivenAll start (trace reader) in
         subst P (sym found.1) first
-    by_status (Faulted fault) first second found = absurd found
+    by_stage (Faulted fault) first second found = absurd found
 
 -- a fault
 pub calls_to_fault : {R : Type 0} (trace : R → List Call) (start : List Call) (old new : Progress) (reader_old reader_new : R) (left_old left_new : Option (List ℕ)) (fault : ReadFault)
-    → CallsFor old.status start (trace reader_old) → (old.status ≡ Reading → CallsFor new.status (trace reader_old) (trace reader_new))
-    → GivesFault old.status fault old new reader_old reader_new left_old left_new → CallsFor (Faulted fault) start (trace reader_new)
-calls_to_fault {R} trace start old new reader_old reader_new left_old left_new fault first second given = by_status old.status first second given
+    → CallsFor old.stage start (trace reader_old) → (old.stage ≡ Reading → CallsFor new.stage (trace reader_old) (trace reader_new))
+    → GivesFault old.stage fault old new reader_old reader_new left_old left_new → CallsFor (Faulted fault) start (trace reader_new)
+calls_to_fault {R} trace start old new reader_old reader_new left_old left_new fault first second given = by_stage old.stage first second given
   where
-    by_status : (status : Status) → CallsFor status start (trace reader_old) → (status ≡ Reading → CallsFor new.status (trace reader_old) (trace reader_new))
-        → GivesFault status fault old new reader_old reader_new left_old left_new → CallsFor (Faulted fault) start (trace reader_new)
-    by_status Reading first second given =
-        let P : Status → Type 0 = λ status. CallsFor status start (trace reader_new) in
-        subst P given.0 (calls_more Reading new.status start (trace reader_old) (trace reader_new) refl first second)
-    by_status Ended first second given = absurd given
-    by_status (Faulted was) first second given =
+    by_stage : (stage : Stage) → CallsFor stage start (trace reader_old) → (stage ≡ Reading → CallsFor new.stage (trace reader_old) (trace reader_new))
+        → GivesFault stage fault old new reader_old reader_new left_old left_new → CallsFor (Faulted fault) start (trace reader_new)
+    by_stage Reading first second given =
+        let P : Stage → Type 0 = λ stage. CallsFor stage start (trace reader_new) in
+        subst P given.0 (calls_more Reading new.stage start (trace reader_old) (trace reader_new) refl first second)
+    by_stage Ended first second given = absurd given
+    by_stage (Faulted was) first second given =
         let P : R → Type 0 = λ reader. CallsFor (Faulted was) start (trace reader) in
         let Q : ReadFault → Type 0 = λ f. CallsFor (Faulted f) start (trace reader_new) in
         subst Q (sym given.0) (subst P (sym given.2) first)

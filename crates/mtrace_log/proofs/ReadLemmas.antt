@@ -4,7 +4,7 @@ use Rattle.std.specs.Io.KnownBytes.{prepend_known, IsAtEnd}
 use Rattle.std.proofs.KnownBytes.{prepend_known-nil}
 use Rattle.mtrace_log.specs.Bytes.{Lacks, newline}
 use Rattle.mtrace_log.specs.Lines.{lines_of, ReadAs}
-use Rattle.mtrace_log.specs.Progress.{Status, Reading, Ended, Faulted, Progress, to_come, TakesLine, GivesLine, FindsEnd, StopsReading, GivesFault}
+use Rattle.mtrace_log.specs.Progress.{Stage, Reading, Ended, Faulted, Progress, to_come, ReadsLine, GivesLine, FindsEnd, StopsReading, GivesFault}
 use Rattle.mtrace_log.specs.HasRead.{whole_lines, HasRead, HasReadAll, HasReadBefore, HasReadSo}
 use Rattle.mtrace_log.specs.Event.{Event}
 use Rattle.mtrace_log.specs.declared.event.LineFault.{LineFault}
@@ -20,7 +20,7 @@ HasRead-none text = record { pieces = []; no_newlines = tt; read = tt; taken = s
 
 -- one more whole line
 pub HasRead-line : (before middle after : Option (List ℕ)) (events : List (Result Event LineFault)) (event : Result Event LineFault) → HasRead before middle events
-    → TakesLine Reading middle after event → HasRead before after (events ++ event ∷ [])
+    → ReadsLine Reading middle after event → HasRead before after (events ++ event ∷ [])
 HasRead-line before middle after events event so_far line =
     let (piece, lacks, read, taken) = line in
     record {
@@ -34,7 +34,7 @@ HasRead-line before middle after events event so_far line =
 
 -- the last line, without newline
 pub HasRead-last : (before middle after : Option (List ℕ)) (events : List (Result Event LineFault)) (event : Result Event LineFault) → HasRead before middle events
-    → TakesLine Ended middle after event → HasReadAll before after (events ++ event ∷ [])
+    → ReadsLine Ended middle after event → HasReadAll before after (events ++ event ∷ [])
 HasRead-last before middle after events event so_far line =
     let (piece, lacks, read, taken, some, at_end) = line in
     let lines : lines_of (whole_lines so_far.pieces ++ piece) ≡ so_far.pieces ++ piece ∷ [] = lines_of-whole_lines so_far.pieces piece so_far.no_newlines ∙ ap (λ last. so_far.pieces ++ last) (lines_of-last piece lacks some) in
@@ -80,16 +80,16 @@ HasRead-fault TooManyLines count before middle after events so_far stop =
       taken = so_far.taken ∙ ap (prepend_known (whole_lines so_far.pieces)) same ∙ ap (λ text. prepend_known text after) (sym (append-nil (whole_lines so_far.pieces)));
     }
 
--- ---- the clauses of `next`, whatever the status before was
+-- ---- the clauses of `next`, whatever the stage before was
 
 -- a line
-pub HasReadSo-line : (start before after : Option (List ℕ)) (old new : Progress) (line : Line) (events : List (Result Event LineFault)) → HasReadSo old.status start before events
-    → GivesLine old new before after line → HasReadSo new.status start after (events ++ line.event ∷ [])
+pub HasReadSo-line : (start before after : Option (List ℕ)) (old new : Progress) (line : Line) (events : List (Result Event LineFault)) → HasReadSo old.stage start before events
+    → GivesLine old new before after line → HasReadSo new.stage start after (events ++ line.event ∷ [])
 HasReadSo-line start before after old new line events so_far given =
-    let reading : HasRead start before events = subst (λ status. HasReadSo status start before events) given.was_reading so_far in
-    taken_by new.status given.taken reading
+    let reading : HasRead start before events = subst (λ stage. HasReadSo stage start before events) given.was_reading so_far in
+    taken_by new.stage given.taken reading
   where
-    taken_by : (status : Status) → TakesLine status before after line.event → HasRead start before events → HasReadSo status start after (events ++ line.event ∷ [])
+    taken_by : (stage : Stage) → ReadsLine stage before after line.event → HasRead start before events → HasReadSo stage start after (events ++ line.event ∷ [])
     taken_by Reading taken reading = HasRead-line start before after events line.event reading taken
     taken_by Ended taken reading = HasRead-last start before after events line.event reading taken
     taken_by (Faulted fault) taken reading = absurd taken
@@ -102,31 +102,31 @@ unchanged left old new reader_old reader_new lines reader =
 
 -- the end
 pub HasReadSo-end : {R : Type 0} (left : R → Option (List ℕ)) (start : Option (List ℕ)) (old new : Progress) (reader_old reader_new : R) (events : List (Result Event LineFault))
-    → HasReadSo old.status start (to_come old (left reader_old)) events
-    → FindsEnd old.status old new reader_old reader_new (to_come old (left reader_old)) (to_come new (left reader_new))
+    → HasReadSo old.stage start (to_come old (left reader_old)) events
+    → FindsEnd old.stage old new reader_old reader_new (to_come old (left reader_old)) (to_come new (left reader_new))
     → HasReadAll start (to_come new (left reader_new)) events
-HasReadSo-end {R} left start old new reader_old reader_new events so_far found = by_status old.status so_far found
+HasReadSo-end {R} left start old new reader_old reader_new events so_far found = by_stage old.stage so_far found
   where
-    by_status : (status : Status) → HasReadSo status start (to_come old (left reader_old)) events
-        → FindsEnd status old new reader_old reader_new (to_come old (left reader_old)) (to_come new (left reader_new))
+    by_stage : (stage : Stage) → HasReadSo stage start (to_come old (left reader_old)) events
+        → FindsEnd stage old new reader_old reader_new (to_come old (left reader_old)) (to_come new (left reader_new))
         → HasReadAll start (to_come new (left reader_new)) events
-    by_status Reading before end = HasRead-end start (to_come new (left reader_new)) events (subst (λ text. HasRead start text events) end.1 before) end.2
-    by_status Ended before end = subst (λ text. HasReadAll start text events) (unchanged left old new reader_old reader_new end.0 end.1) before
-    by_status (Faulted fault) before end = absurd end
+    by_stage Reading before end = HasRead-end start (to_come new (left reader_new)) events (subst (λ text. HasRead start text events) end.1 before) end.2
+    by_stage Ended before end = subst (λ text. HasReadAll start text events) (unchanged left old new reader_old reader_new end.0 end.1) before
+    by_stage (Faulted fault) before end = absurd end
 
 -- a fault
 pub HasReadSo-fault : {R : Type 0} (left : R → Option (List ℕ)) (start : Option (List ℕ)) (old new : Progress) (reader_old reader_new : R) (fault : ReadFault) (events : List (Result Event LineFault))
-    → HasReadSo old.status start (to_come old (left reader_old)) events
-    → GivesFault old.status fault old new reader_old reader_new (to_come old (left reader_old)) (to_come new (left reader_new))
+    → HasReadSo old.stage start (to_come old (left reader_old)) events
+    → GivesFault old.stage fault old new reader_old reader_new (to_come old (left reader_old)) (to_come new (left reader_new))
     → HasReadBefore start (to_come new (left reader_new)) events
-HasReadSo-fault {R} left start old new reader_old reader_new fault events so_far given = by_status old.status so_far given
+HasReadSo-fault {R} left start old new reader_old reader_new fault events so_far given = by_stage old.stage so_far given
   where
-    by_status : (status : Status) → HasReadSo status start (to_come old (left reader_old)) events
-        → GivesFault status fault old new reader_old reader_new (to_come old (left reader_old)) (to_come new (left reader_new))
+    by_stage : (stage : Stage) → HasReadSo stage start (to_come old (left reader_old)) events
+        → GivesFault stage fault old new reader_old reader_new (to_come old (left reader_old)) (to_come new (left reader_new))
         → HasReadBefore start (to_come new (left reader_new)) events
-    by_status Reading before stop = HasRead-fault fault old.count start (to_come old (left reader_old)) (to_come new (left reader_new)) events before stop.2
-    by_status Ended before stop = absurd stop
-    by_status (Faulted first) before stop = subst (λ text. HasReadBefore start text events) (unchanged left old new reader_old reader_new stop.1 stop.2) before
+    by_stage Reading before stop = HasRead-fault fault old.count start (to_come old (left reader_old)) (to_come new (left reader_new)) events before stop.2
+    by_stage Ended before stop = absurd stop
+    by_stage (Faulted first) before stop = subst (λ text. HasReadBefore start text events) (unchanged left old new reader_old reader_new stop.1 stop.2) before
 
 -- ---- the text to come and what the reader has left
 

@@ -13,7 +13,7 @@ reader_of source = source.reader
 abbrev pub calls_left : {R : Type 0} → FromRead R → ℕ
 calls_left source = 2 ^ 64 - 1 - source.calls
 
--- what its calls came to
+-- the outcomes of its calls, the latest first
 abbrev pub reader_trace : {R : Type 0} → FromRead R → List Call
 reader_trace source = source.trace.calls
 
@@ -21,11 +21,11 @@ reader_trace source = source.trace.calls
 abbrev pub writer_of : {W : Type 0} → ToWrite W → W
 writer_of sink = sink.writer
 
--- what its calls came to
+-- the outcomes of its calls, the latest first
 abbrev pub writer_trace : {W : Type 0} → ToWrite W → List Call
 writer_trace sink = sink.trace.calls
 
--- the adapter of this reader, which makes at most this many more calls of it, and what they came to
+-- the adapter of this reader, which makes at most this many more calls of it, and the outcomes of those it made
 pub record IsReading {R : Type 0} (inner : R) (most : ℕ) (past : List Call) (source : FromRead R) : Type 0 where
   pub reader : reader_of source ≡ inner
   pub calls : calls_left source ≡ most

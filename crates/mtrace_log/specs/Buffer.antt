@@ -10,12 +10,12 @@ pub record Buffered : Type 0 where
   pub line : List ℕ
 
 -- the unread bytes before the first newline were taken as a line, with the newline; or there is none, and nothing is changed
-abbrev pub TakesLine : Bool → Buffered → Buffered → Type 0
-TakesLine taken old new = MatchBool taken
+abbrev pub TakesBufferedLine : Bool → Buffered → Buffered → Type 0
+TakesBufferedLine taken old new = MatchBool taken
     (Lacks newline new.line × (old.unread ≡ new.line ++ newline ∷ new.unread))
     (Lacks newline old.unread × (new ≡ old))
 
 -- a line of one of the two frequent forms was taken; or nothing is changed
 abbrev pub TakesFrequent : Option Frequent → Buffered → Buffered → Type 0
-TakesFrequent (Some frequent) old new = TakesLine true old new × IsFrequent new.line frequent
+TakesFrequent (Some frequent) old new = TakesBufferedLine true old new × IsFrequent new.line frequent
 TakesFrequent None old new = new ≡ old

@@ -4,7 +4,7 @@ use Rattle.std.specs.List.{AllByRecursion}
 use Rattle.std.specs.Io.KnownBytes.{prepend_known, IsAtEnd}
 use Rattle.mtrace_log.specs.Bytes.{Lacks, newline}
 use Rattle.mtrace_log.specs.Lines.{lines_of, ReadAs}
-use Rattle.mtrace_log.specs.Progress.{Status, Reading, Ended, Faulted}
+use Rattle.mtrace_log.specs.Progress.{Stage, Reading, Ended, Faulted}
 use Rattle.mtrace_log.specs.Event.{Event}
 use Rattle.mtrace_log.specs.declared.event.LineFault.{LineFault}
 
@@ -35,8 +35,8 @@ pub record HasReadBefore (before after : Option (List ℕ)) (events : List (Resu
   pub read : ReadAs pieces events
   pub taken : before ≡ prepend_known (whole_lines pieces ++ lost) after
 
--- what was taken and how it read, by the status
-abbrev pub HasReadSo : Status → Option (List ℕ) → Option (List ℕ) → List (Result Event LineFault) → Type 0
+-- what was taken and how it read, by the stage
+abbrev pub HasReadSo : Stage → Option (List ℕ) → Option (List ℕ) → List (Result Event LineFault) → Type 0
 HasReadSo Reading before after events = HasRead before after events
 HasReadSo Ended before after events = HasReadAll before after events
 HasReadSo (Faulted fault) before after events = HasReadBefore before after events

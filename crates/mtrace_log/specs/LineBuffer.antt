@@ -31,7 +31,7 @@ TakesUpTo Newline piece before after = before ≡ prepend_known (piece ++ newlin
 TakesUpTo End piece before after = (before ≡ prepend_known piece after) × IsAtEnd after
 TakesUpTo Failed piece before after = before ≡ prepend_known piece after
 
--- what the calls of the reader came to for it
+-- the outcomes of the calls of the reader for it
 abbrev pub CallsUpTo : Stop → List Call → List Call → Type 0
 CallsUpTo Newline old new = HasGiven old new
 CallsUpTo End old new = HasGivenAll old new

@@ -39,7 +39,7 @@ one_call_less (Some (suc calls)) = Some calls
 abbrev pub source_count : MemorySource → ℕ → ℕ
 source_count source room = min (min (length (source_left source)) (source_piece source)) room
 
--- what its calls came to
+-- the outcomes of its calls, the latest first
 abbrev pub source_trace : MemorySource → List Call
 source_trace source = source.trace.calls
 
@@ -80,7 +80,7 @@ sink_full sink = sink.full
 abbrev pub flush_fails : MemorySink → Bool
 flush_fails sink = sink.flush_fails
 
--- what its calls came to
+-- the outcomes of its calls, the latest first
 abbrev pub sink_trace : MemorySink → List Call
 sink_trace sink = sink.trace.calls
 

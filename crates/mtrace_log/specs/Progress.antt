@@ -13,17 +13,17 @@ use Rattle.mtrace_log.specs.declared.line.ReadFault.{ReadFault}
 use Rattle.mtrace_log.specs.declared.line.ReadFault.TheVariants.{ReaderFailed, TooManyLines}
 
 -- lines are still read, or the end was told, or a fault was answered
-pub data Status : Type 0 where
-  Reading : Status
-  Ended : Status
-  Faulted : ReadFault → Status
+pub data Stage : Type 0 where
+  Reading : Stage
+  Ended : Stage
+  Faulted : ReadFault → Stage
 
--- the bytes asked of a reader that belong to no line yet, how many lines were given, and the status. `last`: the
+-- the bytes asked of a reader that belong to no line yet, how many lines were given, and the stage. `last`: the
 -- bytes of the line that was passed last, unless it was too long to be kept
 pub record Progress : Type 0 where
   pub held : List ℕ
   pub count : ℕ
-  pub status : Status
+  pub stage : Stage
   pub last : Option (List ℕ)
 
 -- what a line says whose bytes are kept, or that is too long
@@ -45,19 +45,19 @@ greatest_number = 2 ^ 64 - 1
 
 -- One line of the text: while reading a piece with its newline, and at the end a piece that isn't
 -- empty, behind which nothing comes. The piece reads as the answer.
-abbrev pub TakesLine : Status → Option (List ℕ) → Option (List ℕ) → Result Event LineFault → Type 0
-TakesLine Reading before after answer = (piece : List ℕ) × Lacks newline piece × Reads piece answer
+abbrev pub ReadsLine : Stage → Option (List ℕ) → Option (List ℕ) → Result Event LineFault → Type 0
+ReadsLine Reading before after answer = (piece : List ℕ) × Lacks newline piece × Reads piece answer
     × (before ≡ prepend_known (piece ++ newline ∷ []) after)
-TakesLine Ended before after answer = (piece : List ℕ) × Lacks newline piece × Reads piece answer
+ReadsLine Ended before after answer = (piece : List ℕ) × Lacks newline piece × Reads piece answer
     × (before ≡ prepend_known piece after) × (0 < length piece) × IsAtEnd after
-TakesLine (Faulted fault) before after answer = ⊥
+ReadsLine (Faulted fault) before after answer = ⊥
 
 -- a call gave a line: the next one of the text, with the next number
 pub record GivesLine (old new : Progress) (before after : Option (List ℕ)) (line : Line) : Type 0 where
-  pub was_reading : old.status ≡ Reading
+  pub was_reading : old.stage ≡ Reading
   pub number : line.number ≡ old.count + 1
   pub count : new.count ≡ line.number
-  pub taken : TakesLine new.status before after line.event
+  pub taken : ReadsLine new.stage before after line.event
 
 -- a call passed over a line: whatever that says, it is the next one of the text, with this number
 abbrev pub PassesLine : (old new : Progress) (before after : Option (List ℕ)) → ℕ → Type 0
@@ -66,7 +66,7 @@ PassesLine old new before after number =
 
 -- a call that gave no line found the end of the text. Where the end was told before, it asked nothing and changed
 -- nothing
-abbrev pub FindsEnd : {R : Type 0} → Status → (old new : Progress) → (reader_old reader_new : R) → Option (List ℕ) → Option (List ℕ) → Type 0
+abbrev pub FindsEnd : {R : Type 0} → Stage → (old new : Progress) → (reader_old reader_new : R) → Option (List ℕ) → Option (List ℕ) → Type 0
 FindsEnd Reading old new reader_old reader_new before after = (new.count ≡ old.count) × (before ≡ after) × IsAtEnd after
 FindsEnd Ended old new reader_old reader_new before after = (new ≡ old) × (reader_new ≡ reader_old)
 FindsEnd (Faulted fault) old new reader_old reader_new before after = ⊥
@@ -78,16 +78,16 @@ StopsReading ReaderFailed count before after = (piece : List ℕ) × Lacks newli
 StopsReading TooManyLines count before after = (count ≡ greatest_number) × (before ≡ after) × HasMore after
 
 -- A fault: a first one, or the same one again, which asked nothing and changed nothing.
-abbrev pub GivesFault : {R : Type 0} → Status → ReadFault → (old new : Progress) → (reader_old reader_new : R) → (before after : Option (List ℕ)) → Type 0
-GivesFault Reading fault old new reader_old reader_new before after = (new.status ≡ Faulted fault)
+abbrev pub GivesFault : {R : Type 0} → Stage → ReadFault → (old new : Progress) → (reader_old reader_new : R) → (before after : Option (List ℕ)) → Type 0
+GivesFault Reading fault old new reader_old reader_new before after = (new.stage ≡ Faulted fault)
     × (new.count ≡ old.count) × StopsReading fault old.count before after
 GivesFault Ended fault old new reader_old reader_new before after = ⊥
 GivesFault (Faulted first) fault old new reader_old reader_new before after = (fault ≡ first)
     × (new ≡ old) × (reader_new ≡ reader_old)
 
--- The calls of the reader, by the status that they led to. They gave pieces alone, or pieces and then, once and last,
+-- The calls of the reader, by the stage that they led to. They gave pieces alone, or pieces and then, once and last,
 -- its end or its failure. Where no number is left, the reader has not failed.
-abbrev pub CallsFor : Status → List Call → List Call → Type 0
+abbrev pub CallsFor : Stage → List Call → List Call → Type 0
 CallsFor Reading old new = HasGiven old new
 CallsFor Ended old new = HasGivenAll old new
 CallsFor (Faulted ReaderFailed) old new = HasGivenAndFailed old new
@@ -96,13 +96,13 @@ CallsFor (Faulted TooManyLines) old new = HasGiven old new
 -- what a call does while lines are read
 abbrev pub ReadsOn : {R : Type 0} → (left : R → Option (List ℕ)) → (trace : R → List Call) → (old new : Progress) → (reader_old reader_new : R) → Result (Option ℕ) ReadFault → Type 0
 ReadsOn left trace old new reader_old reader_new (Ok (Some number)) = PassesLine old new (to_come old (left reader_old)) (to_come new (left reader_new)) number
-    × CallsFor new.status (trace reader_old) (trace reader_new)
-ReadsOn left trace old new reader_old reader_new (Ok None) = (new.status ≡ Ended)
+    × CallsFor new.stage (trace reader_old) (trace reader_new)
+ReadsOn left trace old new reader_old reader_new (Ok None) = (new.stage ≡ Ended)
     × FindsEnd Reading old new reader_old reader_new (to_come old (left reader_old)) (to_come new (left reader_new))
-    × CallsFor new.status (trace reader_old) (trace reader_new)
+    × CallsFor new.stage (trace reader_old) (trace reader_new)
 ReadsOn left trace old new reader_old reader_new (Err fault) = GivesFault Reading fault old new reader_old reader_new
     (to_come old (left reader_old)) (to_come new (left reader_new))
-    × CallsFor new.status (trace reader_old) (trace reader_new)
+    × CallsFor new.stage (trace reader_old) (trace reader_new)
 
 -- a call while lines are read, after which the reader has the same bytes in whole; where it failed, nothing is held
 pub record Passes {R : Type 0} (left bytes : R → Option (List ℕ)) (trace : R → List Call) (result : Result (Option ℕ) ReadFault) (old new : Progress) (reader_old reader_new : R) : Type 0 where
@@ -110,14 +110,14 @@ pub record Passes {R : Type 0} (left bytes : R → Option (List ℕ)) (trace : R
   pub nothing_held : IfErr result (λ fault. fault ≡ ReaderFailed → new.held ≡ [])
   pub whole : bytes reader_new ≡ bytes reader_old
 
--- A call at any status: it gives the next line, finds the end, or gives a fault. What came of the calls of
+-- A call at any stage: it gives the next line, finds the end, or gives a fault. What came of the calls of
 -- the reader is told where lines were read. Where it failed, all that it gave is taken: the text to come is what it has left.
 pub record Advances {R T : Type 0} (Gives : (old new : Progress) (before after : Option (List ℕ)) → T → Type 0) (left bytes : R → Option (List ℕ)) (trace : R → List Call)
     (result : Result (Option T) ReadFault) (old new : Progress) (reader_old reader_new : R) : Type 0 where
   pub line : IfOk result (λ found. IfSome found (λ line. Gives old new (to_come old (left reader_old)) (to_come new (left reader_new)) line))
-  pub end : IfOk result (λ found. IfNone found ((new.status ≡ Ended)
-      × FindsEnd old.status old new reader_old reader_new (to_come old (left reader_old)) (to_come new (left reader_new))))
-  pub fault : IfErr result (λ fault. GivesFault old.status fault old new reader_old reader_new (to_come old (left reader_old)) (to_come new (left reader_new)))
-  pub calls : old.status ≡ Reading → CallsFor new.status (trace reader_old) (trace reader_new)
+  pub end : IfOk result (λ found. IfNone found ((new.stage ≡ Ended)
+      × FindsEnd old.stage old new reader_old reader_new (to_come old (left reader_old)) (to_come new (left reader_new))))
+  pub fault : IfErr result (λ fault. GivesFault old.stage fault old new reader_old reader_new (to_come old (left reader_old)) (to_come new (left reader_new)))
+  pub calls : old.stage ≡ Reading → CallsFor new.stage (trace reader_old) (trace reader_new)
   pub nothing_held : IfErr result (λ fault. fault ≡ ReaderFailed → new.held ≡ [])
   pub whole : bytes reader_new ≡ bytes reader_old

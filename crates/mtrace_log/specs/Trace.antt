@@ -1,4 +1,4 @@
--- What the calls of a reader or of a writer came to, the latest first, and what of them a clause says.
+-- The outcomes of the calls of a reader or of a writer, the latest first, and what of them a clause says.
 use Rattle.std.specs.Prelude.{◌≡◌, ℕ, zero, suc, List, ◌∷◌, ◌++◌, map, Result, Ok, Err, ◌⊎◌}
 use Rattle.mtrace_log.specs.declared.failed.Failed.{Failed as Failure}
 use Rattle.mtrace_log.specs.declared.call.Call.{Call}
@@ -32,7 +32,7 @@ pub record Moved (by : ℕ → Call) (old new : List Call) : Type 0 where
   pub counts : List ℕ
   pub calls : new ≡ map by counts ++ old
 
--- and then one call more came to `last`
+-- and then one call more, with the outcome `last`
 pub record MovedThen (by : ℕ → Call) (last : Call) (old new : List Call) : Type 0 where
   pub middle : List Call
   pub moved : Moved by old middle

@@ -1,7 +1,7 @@
 //! The bytes that were asked of a reader and aren't read yet.
 ghost use Rattle.std.specs.Prelude.{◌≡◌, ℕ, ◌<◌, ◌==◌, ◌∷◌, [], length, IfOk, OnErr};
 ghost use Rattle.std.specs.Io.KnownBytes.{prepend_known, IsAtEnd};
-ghost use Rattle.mtrace_log.specs.Buffer.{Buffered, TakesLine, TakesFrequent};
+ghost use Rattle.mtrace_log.specs.Buffer.{Buffered, TakesBufferedLine, TakesFrequent};
 ghost use Rattle.mtrace_log.specs.Trace.{pulled};
 
 use crate::failed::Failed;
@@ -69,7 +69,7 @@ impl Buffer {
     /// Takes the unread bytes before the first newline as a line, and passes over the newline; false where there is none.
     #[inline(always)]
     pub(crate) fn take_line(&mut self) -> bool
-        ensures { TakesLine result self.old self.new }
+        ensures { TakesBufferedLine result self.old self.new }
     {
         let Some(len) = memchr(b'\n', self.unread()) else {
             return false;

@@ -1,9 +1,9 @@
 ghost use Rattle.std.specs.Prelude.{◌≡◌, length};
-ghost use Rattle.mtrace_log.specs.Trace.{pulled as pull_came_to, began as begin_came_to, offered as put_came_to, flushed as flush_came_to};
+ghost use Rattle.mtrace_log.specs.Trace.{pulled as outcome_of_pull, began as outcome_of_begin, offered as outcome_of_put, flushed as outcome_of_flush};
 
 use crate::failed::Failed;
 
-/// What one call of a reader or of a writer came to.
+/// The outcome of one call of a reader or of a writer.
 #[derive(Clone, Copy, Debug, PartialEq, Eq)]
 pub enum Call {
     /// The reader gave this many bytes, at least one.
@@ -23,9 +23,9 @@ pub enum Call {
 }
 
 impl Call {
-    /// What a `pull` with this answer came to.
+    /// The outcome of a `pull` with this answer.
     pub(crate) fn pulled(answer: &Result<usize, Failed>) -> Call
-        ensures { result ≡ pull_came_to answer.now }
+        ensures { result ≡ outcome_of_pull answer.now }
     {
         match answer {
             Ok(0) => Call::Ended,
@@ -34,9 +34,9 @@ impl Call {
         }
     }
 
-    /// What a `begin` with this answer came to.
+    /// The outcome of a `begin` with this answer.
     pub(crate) fn began(answer: &Result<(), Failed>) -> Call
-        ensures { result ≡ begin_came_to answer.now }
+        ensures { result ≡ outcome_of_begin answer.now }
     {
         match answer {
             Ok(()) => Call::Began,
@@ -44,9 +44,9 @@ impl Call {
         }
     }
 
-    /// What a `put` of this many bytes did, by its answer.
+    /// The outcome of a `put` of this many bytes, with this answer.
     pub(crate) fn offered(bytes: usize, answer: &Result<usize, Failed>) -> Call
-        ensures { result ≡ put_came_to bytes answer.now }
+        ensures { result ≡ outcome_of_put bytes answer.now }
     {
         match answer {
             Ok(0) if bytes > 0 => Call::Failed,
@@ -55,9 +55,9 @@ impl Call {
         }
     }
 
-    /// What a `flush` with this answer came to.
+    /// The outcome of a `flush` with this answer.
     pub(crate) fn flushed(answer: &Result<(), Failed>) -> Call
-        ensures { result ≡ flush_came_to answer.now }
+        ensures { result ≡ outcome_of_flush answer.now }
     {
         match answer {
             Ok(()) => Call::Flushed,

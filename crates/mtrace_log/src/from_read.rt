@@ -35,7 +35,7 @@ impl<R: Read> FromRead<R> {
         }
     }
 
-    /// Reads once, where a read is left. What it came to is not told yet.
+    /// Reads once, where a read is left. Its outcome is not told yet.
     fn read_once(&mut self, buf: &mut [u8]) -> Result<usize, Failed>
         ensures { ReadsOnce R.remaining (reader_trace self.old) result buf.new self.old self.new }
     {

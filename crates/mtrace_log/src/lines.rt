@@ -15,7 +15,7 @@ use std::marker::Model;
 
 /// What has become of the stream.
 #[derive(Clone, Copy)]
-enum State {
+enum Stage {
     // Lines are read.
     Reading,
     // The reader told its end.
@@ -39,14 +39,14 @@ pub struct Lines {
     // What it says, where it was read as it was passed: then it lies in the buffer.
     frequent: Option<Frequent>,
     count: u64,
-    state: State,
+    stage: Stage,
 }
 
 impl Model for Lines {
     ghost use Rattle.std.specs.Prelude.{◌≡◌, [], false, IfSome};
     ghost use Rattle.mtrace_log.specs.Frequent.{IsFrequent};
     ghost use Rattle.mtrace_log.specs.Progress.{Progress, Faulted};
-    ghost use Rattle.mtrace_log.specs.State.{status_of, last_of};
+    ghost use Rattle.mtrace_log.specs.Stage.{stage_of, last_of};
     ghost use Rattle.mtrace_log.specs.declared.line.ReadFault.TheVariants.{ReaderFailed};
 
     ghost Value = { Progress };
@@ -54,19 +54,19 @@ impl Model for Lines {
     ghost view = { λ lines. record {
       held = lines.buffer.unread;
       count = lines.count;
-      status = status_of lines.state;
+      stage = stage_of lines.stage;
       last = last_of lines.is_across lines.across lines.buffer;
     } };
 
     // The reader is asked only where no byte is unread, so nothing is held once it failed.
-    ghost invariant = { λ lines. (status_of lines.state ≡ Faulted ReaderFailed → lines.buffer.unread ≡ [])
+    ghost invariant = { λ lines. (stage_of lines.stage ≡ Faulted ReaderFailed → lines.buffer.unread ≡ [])
         × IfSome lines.frequent (λ frequent. (lines.is_across ≡ false) × IsFrequent lines.buffer.line frequent) };
 }
 
 impl Lines {
     /// No line is read yet.
     pub fn new() -> Self
-        ensures { result ≡ record { held = []; count = 0; status = Reading; last = Some [] } }
+        ensures { result ≡ record { held = []; count = 0; stage = Reading; last = Some [] } }
     {
         Lines {
             buffer: Buffer::new(),
@@ -74,7 +74,7 @@ impl Lines {
             is_across: false,
             frequent: None,
             count: 0,
-            state: State::Reading,
+            stage: Stage::Reading,
         }
     }
 
@@ -109,11 +109,11 @@ impl Lines {
     pub fn advance<R: Source>(&mut self, reader: &mut R) -> Result<Option<u64>, ReadFault>
         ensures { Advances PassesLine R.left R.whole R.trace result self.old self.new reader.old reader.new }
     {
-        match self.state {
-            State::Reading => self.read_next(reader),
-            State::Ended => Ok(None),
-            State::Failed => Err(ReadFault::ReaderFailed),
-            State::Full => Err(ReadFault::TooManyLines),
+        match self.stage {
+            Stage::Reading => self.read_next(reader),
+            Stage::Ended => Ok(None),
+            Stage::Failed => Err(ReadFault::ReaderFailed),
+            Stage::Full => Err(ReadFault::TooManyLines),
         }
     }
 
@@ -143,7 +143,7 @@ impl Lines {
     /// Passes over the next line, while lines are read.
     #[inline(always)]
     fn read_next<R: Source>(&mut self, reader: &mut R) -> Result<Option<u64>, ReadFault>
-        requires { self.old.status ≡ Reading }
+        requires { self.old.stage ≡ Reading }
         ensures { Passes R.left R.whole R.trace result self.old self.new reader.old reader.new }
     {
         if self.count == u64::MAX {
@@ -161,7 +161,7 @@ impl Lines {
     /// Passes over the next line, which is none of the two frequent forms.
     #[inline(never)]
     fn read_other<R: Source>(&mut self, reader: &mut R) -> Result<Option<u64>, ReadFault>
-        requires reading { self.old.status ≡ Reading }
+        requires reading { self.old.stage ≡ Reading }
         requires room { self.old.count < greatest_number }
         ensures { Passes R.left R.whole R.trace result self.old self.new reader.old reader.new }
     {
@@ -177,7 +177,7 @@ impl Lines {
     /// Passes over the next line, where its newline isn't in the buffer.
     #[inline(never)]
     fn read_across<R: Source>(&mut self, reader: &mut R) -> Result<Option<u64>, ReadFault>
-        requires reading { self.old.status ≡ Reading }
+        requires reading { self.old.stage ≡ Reading }
         requires room { self.old.count < greatest_number }
         ensures { Passes R.left R.whole R.trace result self.old self.new reader.old reader.new }
     {
@@ -186,11 +186,11 @@ impl Lines {
         match stop {
             Stop::Newline => {}
             Stop::Failed => {
-                self.state = State::Failed;
+                self.stage = Stage::Failed;
                 return Err(ReadFault::ReaderFailed);
             }
             Stop::End => {
-                self.state = State::Ended;
+                self.stage = Stage::Ended;
                 if line.is_empty() {
                     return Ok(None);
                 }
@@ -205,26 +205,26 @@ impl Lines {
     /// Where no number is left for a line: the end, or a fault.
     #[inline(never)]
     fn find_end<R: Source>(&mut self, reader: &mut R) -> Result<Option<u64>, ReadFault>
-        requires reading { self.old.status ≡ Reading }
+        requires reading { self.old.stage ≡ Reading }
         requires full { self.old.count ≡ greatest_number }
         ensures { Passes R.left R.whole R.trace result self.old self.new reader.old reader.new }
     {
         self.frequent = None;
         if !self.buffer.is_empty() {
-            self.state = State::Full;
+            self.stage = Stage::Full;
             return Err(ReadFault::TooManyLines);
         }
         match self.buffer.refill(reader) {
             Ok(0) => {
-                self.state = State::Ended;
+                self.stage = Stage::Ended;
                 Ok(None)
             }
             Ok(_) => {
-                self.state = State::Full;
+                self.stage = Stage::Full;
                 Err(ReadFault::TooManyLines)
             }
             Err(Failed) => {
-                self.state = State::Failed;
+                self.stage = Stage::Failed;
                 Err(ReadFault::ReaderFailed)
             }
         }

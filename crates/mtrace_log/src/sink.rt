@@ -7,13 +7,13 @@ use crate::failed::Failed;
 
 /// A writer that takes bytes piece by piece.
 ///
-/// Contracts alone see the bytes that it has taken, where its type tells them, and what each of its
-/// calls came to.
+/// Contracts alone see the bytes that it has taken, where its type tells them, and the outcome of
+/// each of its calls.
 pub trait Sink {
     // The bytes taken, where they are known.
     ghost taken: { Self → Option (List ℕ) };
 
-    // What each call came to, the latest first.
+    // The outcome of each call, the latest first.
     ghost trace: { Self → List Call };
 
     /// Takes the first of `bytes`, as many as it answers.

@@ -17,7 +17,7 @@ pub trait Source {
     // The bytes from the first on, where they are known and the reader can begin again.
     ghost whole: { Self → Option (List ℕ) } = { λ _. None };
 
-    // What each call came to, the latest first.
+    // The outcome of each call, the latest first.
     ghost trace: { Self → List Call };
 
     // At most how many more pieces it gives, before it begins again.

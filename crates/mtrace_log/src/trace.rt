@@ -5,8 +5,8 @@ ghost use Rattle.mtrace_log.specs.declared.call.Call.{Call};
 use crate::call::Call;
 use std::marker::Model;
 
-/// What each call of a reader or a writer came to, the latest first. Contracts alone see it, and it
-/// takes no bytes.
+/// The outcome of each call of a reader or a writer, the latest first. Contracts alone see it, and
+/// it takes no bytes.
 #[derive(Drop)]
 pub struct Trace {
     pub ghost calls: { List Call },

@@ -2,7 +2,7 @@
 use Rattle.std.proofs.Common.{◌≡◌, ◌<◌, ◌≤◌, ℕ, List, [], length, refl, sym, ◌∙◌, arith, ◌⊎◌, inl, inr}
 use Rattle.std.specs.Prelude.{Result}
 use Rattle.std.specs.Io.KnownBytes.{prepend_known}
-use Rattle.mtrace_log.specs.Progress.{Progress, Status, Reading, Ended, Faulted, to_come, greatest_number}
+use Rattle.mtrace_log.specs.Progress.{Progress, Stage, Reading, Ended, Faulted, to_come, greatest_number}
 use Rattle.mtrace_log.specs.declared.call.Call.{Call}
 use Rattle.mtrace_log.specs.HasRead.{HasRead, HasReadAll, HasReadSo}
 use Rattle.mtrace_log.specs.Event.{Event}
@@ -29,7 +29,7 @@ pub first_at_most : (most : ℕ) (settings : Settings) (progress : Progress) (re
     → HasReplayedFirst most settings replay start left
 first_at_most most settings progress replay start left so_far many = record {
   lines = lines;
-  read = record { few = omega (arith, all); unused = progress.held; read = by_status progress.status refl so_far.read };
+  read = record { few = omega (arith, all); unused = progress.held; read = by_stage progress.stage refl so_far.read };
   stands = so_far.stands;
 }
   where
@@ -39,11 +39,11 @@ first_at_most most settings progress replay start left so_far many = record {
     all : length lines ≡ most
     all = sym so_far.count ∙ many
 
-    by_status : (status : Status) → progress.status ≡ status → HasReadSo status start (to_come progress left) lines
+    by_stage : (stage : Stage) → progress.stage ≡ stage → HasReadSo stage start (to_come progress left) lines
         → ((length lines ≡ most) × HasRead start (to_come progress left) lines) ⊎ HasReadAll start left lines
-    by_status Reading is read = inl (all, read)
-    by_status Ended is read = inr (used_to_end progress.held start left lines read)
-    by_status (Faulted fault) is read = absurd (so_far.no_fault fault is)
+    by_stage Reading is read = inl (all, read)
+    by_stage Ended is read = inr (used_to_end progress.held start left lines read)
+    by_stage (Faulted fault) is read = absurd (so_far.no_fault fault is)
 
 -- before the last number a fault is the reader's
 pub failed_in_piece : (start left : Bytes) (calls_start calls : List Call) (lines : List (Result Event LineFault)) → length lines < greatest_number

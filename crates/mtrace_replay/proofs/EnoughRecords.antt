@@ -28,7 +28,7 @@ use Rattle.mtrace_replay.specs.declared.diagnostic.Kind.TheVariants.{TooLong, No
 use Rattle.mtrace_replay.specs.declared.settings.Settings.{Settings}
 use Rattle.mtrace_replay.specs.Started.{Bare, left_by, with_pools, started}
 use Rattle.mtrace_replay.specs.History.{AreHeld, held, held_after, given_or, unless_taken, moments, pending, content_after}
-use Rattle.mtrace_replay.specs.Moment.{Reading, Given, Moment, unserved, note, noted_after, without, outcome, renewal, reallocation, allocation, answered, asked_size, asked_block, release, moved, moment, is_new, half}
+use Rattle.mtrace_replay.specs.Moment.{ReadLine, Given, Moment, unserved, one_diagnostic, after_diagnostics, without, outcome, renewal, reallocation, allocation, answered, asked_size, asked_block, release, moved, moment, is_new, half}
 use Rattle.mtrace_replay.specs.Enough.{HoldsAtMost, IsNeverFull}
 use Rattle.mtrace_replay.proofs.AskedBlock.{asked_records}
 use Rattle.mtrace_replay.proofs.Served.{moved_records}
@@ -84,8 +84,8 @@ pub record Leaves (content : Bare) (held : ℕ → Option Given) (moment : Momen
   pub never_full : 2 * live_blocks content + length content.pools + 1 < content.records → IsNeverFull moment
 
 module _ (content : Bare) (good : IsGood content) (held : ℕ → Option Given) where
-  left_so : (notes : List Diagnostic) → AllByRecursion (λ (one : Diagnostic). (address : ℕ) → one.kind ≢ Refused address TableFull) notes → Leaves content held (unserved notes content)
-  left_so notes never = record {
+  left_so : (diagnostics : List Diagnostic) → AllByRecursion (λ (one : Diagnostic). (address : ℕ) → one.kind ≢ Refused address TableFull) diagnostics → Leaves content held (unserved diagnostics content)
+  left_so diagnostics never = record {
     good = good;
     records = refl;
     pools = refl;
@@ -122,7 +122,7 @@ module _ (content : Bare) (good : IsGood content) (held : ℕ → Option Given) 
 
   leaves_allocation : (number : ℕ) (at : Option (List ℕ)) (address size : ℕ) (align : Option ℕ) (there : Option Given) → held address ≡ there → Leaves content held (allocation number at address align size there content)
   leaves_allocation number at address size align None is = leaves_asked number at address size align (asked_block tt align (asked_size size) content) is refl
-  leaves_allocation number at address size align (Some given) is = left_so (note number (AlreadyHeld address)) ((λ other e. cc), tt)
+  leaves_allocation number at address size align (Some given) is = left_so (one_diagnostic number (AlreadyHeld address)) ((λ other e. cc), tt)
 
   -- the block at the place is freed, where it is live
   record IsWithout (place : ℕ) (new : Bare) : Type 0 where
@@ -154,7 +154,7 @@ module _ (content : Bare) (good : IsGood content) (held : ℕ → Option Given) 
   ]
 
   leaves_release : (number address : ℕ) (there : Option Given) → held address ≡ there → Leaves content held (release number address there content)
-  leaves_release number address None is = left_so (note number (NotHeld address)) ((λ other e. cc), tt)
+  leaves_release number address None is = left_so (one_diagnostic number (NotHeld address)) ((λ other e. cc), tt)
   leaves_release number address (Some given) is =
       let left = is_without given.place in
       record {
@@ -231,25 +231,25 @@ module _ (content : Bare) (good : IsGood content) (held : ℕ → Option Given) 
       }
 
   -- other diagnostics in front say nothing of the table
-  leaves_noted : (notes : List Diagnostic) (moment : Moment) → AllByRecursion (λ (one : Diagnostic). (address : ℕ) → one.kind ≢ Refused address TableFull) notes
-      → Leaves content held moment → Leaves content held (noted_after notes moment)
-  leaves_noted notes moment never leaves = record {
+  leaves_after_diagnostics : (diagnostics : List Diagnostic) (moment : Moment) → AllByRecursion (λ (one : Diagnostic). (address : ℕ) → one.kind ≢ Refused address TableFull) diagnostics
+      → Leaves content held moment → Leaves content held (after_diagnostics diagnostics moment)
+  leaves_after_diagnostics diagnostics moment never leaves = record {
     good = leaves.good;
     records = leaves.records;
     pools = leaves.pools;
     fresh = leaves.fresh;
     gone = leaves.gone;
-    never_full = λ enough. AllByRecursion-append (λ (one : Diagnostic). (address : ℕ) → one.kind ≢ Refused address TableFull) notes moment.notes never (leaves.never_full enough);
+    never_full = λ enough. AllByRecursion-append (λ (one : Diagnostic). (address : ℕ) → one.kind ≢ Refused address TableFull) diagnostics moment.diagnostics never (leaves.never_full enough);
   }
 
   leaves_reallocation : (number : ℕ) (at : Option (List ℕ)) (old : ℕ) (there : Option Given) (address size : ℕ) (there_new : Option Given) → held old ≡ there → held address ≡ there_new
       → Leaves content held (reallocation number at old there address size there_new content)
   leaves_reallocation number at old None address size there_new is is_new =
-      leaves_noted (note number (NotHeld old)) (allocation number at address None size there_new content) ((λ other e. cc), tt) (leaves_allocation number at address size None there_new is_new)
+      leaves_after_diagnostics (one_diagnostic number (NotHeld old)) (allocation number at address None size there_new content) ((λ other e. cc), tt) (leaves_allocation number at address size None there_new is_new)
   leaves_reallocation number at old (Some from) address size there_new is is_new = elim (cases_Bool (not (address == old) && is_some there_new)) [
     | inl other ↦
-        let way : reallocation number at old (Some from) address size there_new content ≡ unserved (note number (AlreadyHeld address)) content = rw other refl in
-        subst (Leaves content held) (sym way) (left_so (note number (AlreadyHeld address)) ((λ any e. cc), tt))
+        let way : reallocation number at old (Some from) address size there_new content ≡ unserved (one_diagnostic number (AlreadyHeld address)) content = rw other refl in
+        subst (Leaves content held) (sym way) (left_so (one_diagnostic number (AlreadyHeld address)) ((λ any e. cc), tt))
     | inr same_or_none ↦
         let answer = realloc (λ one other. true) tt (Some (from.place, tt)) (asked_size size) content in
         let way : reallocation number at old (Some from) address size there_new content ≡ moved number at old from.place address size content answer = rw same_or_none refl in
@@ -264,12 +264,12 @@ module _ (content : Bare) (good : IsGood content) (held : ℕ → Option Given) 
       ]
 
   leaves_renewal : (number : ℕ) (at : Option (List ℕ)) (pending : Option ℕ) (address size : ℕ) → Leaves content held (renewal number at pending address size held content)
-  leaves_renewal number at None address size = left_so (note number Stray) ((λ other e. cc), tt)
+  leaves_renewal number at None address size = left_so (one_diagnostic number Stray) ((λ other e. cc), tt)
   leaves_renewal number at (Some old) address size = leaves_reallocation number at old (held old) address size (held address) refl refl
 
-  leaves_outcome : (number : ℕ) (line : Reading) (pending : Option ℕ) → Leaves content held (outcome number line pending held content)
-  leaves_outcome number (Err fault.TooLong) pending = left_so (note number TooLong) ((λ other e. cc), tt)
-  leaves_outcome number (Err fault.NotALine) pending = left_so (note number NotALine) ((λ other e. cc), tt)
+  leaves_outcome : (number : ℕ) (line : ReadLine) (pending : Option ℕ) → Leaves content held (outcome number line pending held content)
+  leaves_outcome number (Err fault.TooLong) pending = left_so (one_diagnostic number TooLong) ((λ other e. cc), tt)
+  leaves_outcome number (Err fault.NotALine) pending = left_so (one_diagnostic number NotALine) ((λ other e. cc), tt)
   leaves_outcome number (Ok Start) pending = left_so [] tt
   leaves_outcome number (Ok End) pending = left_so [] tt
   leaves_outcome number (Ok (Alloc at None size)) pending = left_so [] tt
@@ -281,9 +281,9 @@ module _ (content : Bare) (good : IsGood content) (held : ℕ → Option Given) 
   leaves_outcome number (Ok (Aligned at address align size)) pending = leaves_allocation number at address size (Some align) (held address) refl
 
   -- what a line leaves, with what it tells of the line before
-  pub leaves_moment : (before : ℕ) (line : Reading) (pending : Option ℕ) → Leaves content held (moment before line pending held content)
+  pub leaves_moment : (before : ℕ) (line : ReadLine) (pending : Option ℕ) → Leaves content held (moment before line pending held content)
   leaves_moment before line pending =
-      leaves_noted (if is_new line then [] else half before pending) (outcome (suc before) line pending held content) (half_never (is_new line)) (leaves_outcome (suc before) line pending)
+      leaves_after_diagnostics (if is_new line then [] else half before pending) (outcome (suc before) line pending held content) (half_never (is_new line)) (leaves_outcome (suc before) line pending)
     where
       half_so : (found : Option ℕ) → AllByRecursion (λ (one : Diagnostic). (address : ℕ) → one.kind ≢ Refused address TableFull) (half before found)
       half_so None = tt
@@ -365,7 +365,7 @@ module _ (start : Bare) (good : IsGood start) (free : AreAllFree start) where
     owns = λ b has live. absurd (let e : true ≡ false = sym (free b has) ∙ live in cc);
   }
 
-  stands_line : (line : Reading) (past : List Reading) → Stands start (moments start past) → Stands start (moments start (line ∷ past))
+  stands_line : (line : ReadLine) (past : List ReadLine) → Stands start (moments start past) → Stands start (moments start (line ∷ past))
   stands_line line past stands =
       let ms = moments start past in
       let content = content_after start ms in
@@ -378,7 +378,7 @@ module _ (start : Bare) (good : IsGood start) (free : AreAllFree start) where
         owns = owns_after content (held ms) now stands.owns leaves (stood_outcome content (suc (length past)) line (pending past) (held ms));
       })
 
-  stands_all : (past : List Reading) → Stands start (moments start past)
+  stands_all : (past : List ReadLine) → Stands start (moments start past)
   stands_all [] = subst (Stands start) (sym (moments-none start)) stands_none
   stands_all (line ∷ past) = stands_line line past (stands_all past)
 
@@ -394,7 +394,7 @@ module _ (start : Bare) (good : IsGood start) (free : AreAllFree start) where
           (now.0, subst (λ (first : List Moment). AreHeld now.0 first) (first_moments_before (length past) moment past (omega arith) ∙ first_moments_all past ∙ sym (first_moments_most k past (omega (arith, beyond)))) now.1, now.2)
     ]
 
-    never_full_now : (line : Reading) (past : List Reading) → HoldsAtMost most (moments start past)
+    never_full_now : (line : ReadLine) (past : List ReadLine) → HoldsAtMost most (moments start past)
         → IsNeverFull (moment (length past) line (pending past) (held (moments start past)) (content_after start (moments start past)))
     never_full_now line past holds =
         let ms = moments start past in
@@ -405,7 +405,7 @@ module _ (start : Bare) (good : IsGood start) (free : AreAllFree start) where
         let few = few_live (λ (given : Given). given.place) content now.0 stands.good (λ b has live. (let own = stands.owns b has live in (own.0, (all_held.each own.0).1 own.1, own.2))) in
         (leaves_moment content stands.good (held ms) (length past) line (pending past)).never_full (omega (arith, few, now.2, stands.records, stands.pools, one, enough))
 
-    pub never_full : (past : List Reading) → HoldsAtMost most (moments start past) → AllByRecursion IsNeverFull (moments start past)
+    pub never_full : (past : List ReadLine) → HoldsAtMost most (moments start past) → AllByRecursion IsNeverFull (moments start past)
     never_full [] holds = subst (AllByRecursion IsNeverFull) (sym (moments-none start)) tt
     never_full (line ∷ past) holds =
         let is = moments-line start line past in

@@ -20,7 +20,7 @@ use Rattle.mtrace_replay.specs.Settings.{are_bad}
 use Rattle.mtrace_replay.specs.Fit.{one_pool, greatest_settings, enough_records, step_of, first_number, last_number, sizes}
 use Rattle.mtrace_replay.specs.Run.{Bytes}
 use Rattle.mtrace_replay.specs.RunFit.{IsTried, AreVerdicts, TellsSizes, TellsFit}
-use Rattle.mtrace_replay.specs.Moment.{Reading}
+use Rattle.mtrace_replay.specs.Moment.{ReadLine}
 use Rattle.mtrace_replay.specs.Replay.{Replayed, StandsFor}
 use Rattle.mtrace_replay.specs.Texts.{greatest_line, most_line, fitted_lines, untried_lines}
 
@@ -152,7 +152,7 @@ all_tried records whole step peak first last count verdicts first_is last_is man
     subst (P (first_number step peak)) same (subst (λ from. P from count) first_is are)
 
 -- the text of a log that the greatest pool doesn't serve
-pub tells_untried : (step : Option ℕ) (lines : List Reading) (whole : Bytes) (replay : Replayed) → StandsFor replay greatest_settings (reverse lines) → 0 < replay.totals.refused
+pub tells_untried : (step : Option ℕ) (lines : List ReadLine) (whole : Bytes) (replay : Replayed) → StandsFor replay greatest_settings (reverse lines) → 0 < replay.totals.refused
     → TellsFit step lines whole (greatest_line replay.totals ++ most_line replay.most ++ untried_lines)
 tells_untried step lines whole replay stands some = record {
   totals = replay.totals;
@@ -169,7 +169,7 @@ tells_untried step lines whole replay stands some = record {
     by_refused (suc more) some = refl
 
 -- the text of a log that it serves
-pub tells_fitted : (step : Option ℕ) (lines : List Reading) (whole : Bytes) (replay : Replayed) → StandsFor replay greatest_settings (reverse lines) → replay.totals.refused ≡ 0
+pub tells_fitted : (step : Option ℕ) (lines : List ReadLine) (whole : Bytes) (replay : Replayed) → StandsFor replay greatest_settings (reverse lines) → replay.totals.refused ≡ 0
     → (verdicts : List Verdict) → AreVerdicts (enough_records replay.most) whole (sizes (step_of step replay.totals.peak_bytes) replay.totals.peak_bytes) verdicts
     → TellsFit step lines whole (greatest_line replay.totals ++ most_line replay.most ++ fitted_lines (enough_records replay.most) (fitted verdicts))
 tells_fitted step lines whole replay stands none verdicts are = record {

@@ -10,7 +10,7 @@ use Rattle.mtrace_replay.specs.declared.diagnostic.Kind.TheVariants.{NotHeld, Al
 use Rattle.tlsf_heap.specs.declared.refusal.Refusal.{Refusal}
 use Rattle.tlsf_heap.specs.Realloc.{realloc}
 use Rattle.mtrace_replay.specs.Started.{Bare}
-use Rattle.mtrace_replay.specs.Moment.{Reading, Given, Moment, noted_after, note, unserved, asked_size, asked_block, answered, allocation, release, moved, reallocation, renewal, outcome, moment}
+use Rattle.mtrace_replay.specs.Moment.{ReadLine, Given, Moment, after_diagnostics, one_diagnostic, unserved, asked_size, asked_block, answered, allocation, release, moved, reallocation, renewal, outcome, moment}
 use Rattle.mtrace_replay.specs.History.{held, given_or, unless_taken, moments, pending, content_after}
 use Rattle.mtrace_replay.specs.Held.{IsHeldUnder}
 
@@ -32,8 +32,8 @@ gives_entry number before moment given gave line free = record {
   was_free = λ other as_well. (let same : given ≡ other = cc in subst (λ (g : Given). (before g.entry.addr ≡ None) ⊎ (moment.taken ≡ Some g.entry.addr)) same free);
 }
 
-gives_after : (number : ℕ) (before : ℕ → Option Given) (notes : List Diagnostic) (moment : Moment) → Gives number before moment → Gives number before (noted_after notes moment)
-gives_after number before notes moment gives = record { number_is = gives.number_is; was_free = gives.was_free }
+gives_after : (number : ℕ) (before : ℕ → Option Given) (diagnostics : List Diagnostic) (moment : Moment) → Gives number before moment → Gives number before (after_diagnostics diagnostics moment)
+gives_after number before diagnostics moment gives = record { number_is = gives.number_is; was_free = gives.was_free }
 
 answered_gives : (number : ℕ) (before : ℕ → Option Given) (at : Option (List ℕ)) (address size : ℕ) (content : Bare) (answer : Result (ℕ × Bare) Refusal)
     → before address ≡ None → Gives number before (answered number at address size content answer)
@@ -66,11 +66,11 @@ free_again old address (Some given) h = elim (cases_Bool (address == old)) [
 reallocation_gives : (number : ℕ) (before : ℕ → Option Given) (at : Option (List ℕ)) (old : ℕ) (there : Option Given) (address size : ℕ) (here : Option Given) (content : Bare)
     → before address ≡ here → Gives number before (reallocation number at old there address size here content)
 reallocation_gives number before at old None address size here content is =
-    gives_after number before (note number (NotHeld old)) (allocation number at address None size here content) (allocation_gives number before at address None size here content is)
+    gives_after number before (one_diagnostic number (NotHeld old)) (allocation number at address None size here content) (allocation_gives number before at address None size here content is)
 reallocation_gives number before at old (Some given) address size here content is = by_test (not (address == old) && is_some here) refl
   where
     by_test : (test : Bool) → not (address == old) && is_some here ≡ test
-        → Gives number before (if test then unserved (note number (AlreadyHeld address)) content
+        → Gives number before (if test then unserved (one_diagnostic number (AlreadyHeld address)) content
         else moved number at old given.place address size content (realloc (λ one other. true) tt (Some (given.place, tt)) (asked_size size) content))
     by_test true h = gives_none number before _ refl
     by_test false h = moved_gives number before at old given.place address size content _ (elim (free_again old address here h) [
@@ -83,7 +83,7 @@ renewal_gives : (number : ℕ) (before : ℕ → Option Given) (at : Option (Lis
 renewal_gives number before at None address size content = gives_none number before _ refl
 renewal_gives number before at (Some old) address size content = reallocation_gives number before at old (before old) address size (before address) content refl
 
-outcome_gives : (number : ℕ) (line : Reading) (pending : Option ℕ) (before : ℕ → Option Given) (content : Bare) → Gives number before (outcome number line pending before content)
+outcome_gives : (number : ℕ) (line : ReadLine) (pending : Option ℕ) (before : ℕ → Option Given) (content : Bare) → Gives number before (outcome number line pending before content)
 outcome_gives number (Err fault.TooLong) pending before content = gives_none number before _ refl
 outcome_gives number (Err fault.NotALine) pending before content = gives_none number before _ refl
 outcome_gives number (Ok Start) pending before content = gives_none number before _ refl
@@ -96,7 +96,7 @@ outcome_gives number (Ok (New at address size)) pending before content = renewal
 outcome_gives number (Ok (Failed at address size)) pending before content = gives_none number before _ refl
 outcome_gives number (Ok (Aligned at address align size)) pending before content = allocation_gives number before at address (Some align) size (before address) content refl
 
-moment_gives : (count : ℕ) (line : Reading) (pending : Option ℕ) (before : ℕ → Option Given) (content : Bare) → Gives (suc count) before (moment count line pending before content)
+moment_gives : (count : ℕ) (line : ReadLine) (pending : Option ℕ) (before : ℕ → Option Given) (content : Bare) → Gives (suc count) before (moment count line pending before content)
 moment_gives count line pending before content = gives_after (suc count) before _ (outcome (suc count) line pending before content) (outcome_gives (suc count) line pending before content)
 
 -- each moment gives so, after those before it
@@ -104,12 +104,12 @@ abbrev AllGive : List Moment → Type 0
 AllGive [] = Unit {0}
 AllGive (moment ∷ past) = Gives (suc (length past)) (held past) moment × AllGive past
 
-pub length-moments : (start : Bare) (past : List Reading) → length (moments start past) ≡ length past
+pub length-moments : (start : Bare) (past : List ReadLine) → length (moments start past) ≡ length past
 unfolding moments
 length-moments start [] = refl
 length-moments start (line ∷ past) = ap suc (length-moments start past)
 
-all_give : (start : Bare) (past : List Reading) → AllGive (moments start past)
+all_give : (start : Bare) (past : List ReadLine) → AllGive (moments start past)
 unfolding moments
 all_give start [] = tt
 all_give start (line ∷ past) =
@@ -202,7 +202,7 @@ under_held past all address given under =
     ap (λ ms. held ms address) under.whole
     ∙ held_by_last under.later under.earlier under.moment (subst AllGive under.whole all) address given under.gave under.address_is under.none_later
 
-pub held_until_taken : (start : Bare) (past : List Reading) (address : ℕ) (given : Given)
+pub held_until_taken : (start : Bare) (past : List ReadLine) (address : ℕ) (given : Given)
     → (held (moments start past) address ≡ Some given) ↔ IsHeldUnder (moments start past) address given
 held_until_taken start past address given =
     (held_under (moments start past) (all_give start past) address given, under_held (moments start past) (all_give start past) address given)

@@ -16,7 +16,7 @@ use Rattle.mtrace_replay.specs.declared.key.Key.{Key}
 use Rattle.mtrace_replay.specs.Keys.{Rows, row_at, HasRow, Kept, KeepsRows, SetsRow}
 use Rattle.mtrace_replay.specs.Key.{no_row, held_under, holding_of, all_held, IsRow, HaveRows, least_behind, RiseFrom, AreAbove}
 use Rattle.mtrace_replay.specs.Search.{StandsAt, FitsAt, IsVacantAt, AreOthers}
-use Rattle.mtrace_replay.specs.declared.index.Found.{Found}
+use Rattle.mtrace_replay.specs.declared.index.LookUp.{LookUp}
 use Rattle.mtrace_replay.specs.Index.{addresses, held_at, held_bytes, AreInOrder, IsNewSlot, Indexed, IsFound, IsIndex}
 use Rattle.mtrace_replay.proofs.KeyLemmas.{above_all, fits_there, rise_remove, rise_insert, all_remove, all_insert, all_there}
 use Rattle.mtrace_replay.specs.Arrange.{held_keys}
@@ -396,7 +396,7 @@ pub index_in_order : (rows : Rows) (keys : List Key) → RiseFrom 0 keys → Are
 index_in_order rows keys rise = IsStrictlyIncreasing-from_sorted (addresses (all_held rows keys)) (rise_sorted rows 0 keys rise)
 
 -- where an address was found in an index that has these keys
-module _ (keys : List Key) (index : Indexed) (seen : keys ≡ index.keys) (found : Found) (is_found : IsFound index.keys found) (at : ℕ) where
+module _ (keys : List Key) (index : Indexed) (seen : keys ≡ index.keys) (found : LookUp) (is_found : IsFound index.keys found) (at : ℕ) where
   pub found_stands : found.place ≡ Ok at → StandsAt keys found.address at
   found_stands is = subst (λ all. StandsAt all found.address at) (sym seen) (subst (λ (place : Result ℕ ℕ). IfOk place (StandsAt index.keys found.address)) is is_found.held)
 

@@ -1,6 +1,7 @@
 mod AgainLemmas
 mod ArrangeLemmas
 mod AskedBlock
+mod DiagnosticLemmas
 mod EnoughBlocks
 mod EnoughRecords
 mod Flat
@@ -18,7 +19,6 @@ mod Living
 mod LogRows
 mod LookLemmas
 mod Moments
-mod NoteLemmas
 mod ReplayingLemmas
 mod RowLemmas
 mod RunLemmas

@@ -7,7 +7,7 @@ use Rattle.tlsf_class.specs.Classes.{class, need, low}
 use Rattle.tlsf_class.specs.Rounding.{rounded}
 use Rattle.mtrace_replay.specs.declared.settings.Settings.{Settings}
 use Rattle.mtrace_replay.specs.Started.{started}
-use Rattle.mtrace_replay.specs.Moment.{Reading}
+use Rattle.mtrace_replay.specs.Moment.{ReadLine}
 use Rattle.mtrace_replay.specs.History.{moments, history, held, diagnostics}
 use Rattle.mtrace_replay.specs.Texts.{leaks_text}
 
@@ -27,7 +27,7 @@ abbrev one_record : Settings
 one_record = record { pool = 64; pools = 1; records = 1 }
 
 -- first-leak (one pool of 16777216 bytes, 8192 records): `= Start`, `@ a + 0x10 0x64`, `= End`
-abbrev first_leak : List Reading
+abbrev first_leak : List ReadLine
 first_leak = Ok Start ∷ Ok (Alloc (Some (codes "a")) (Some 16) 100) ∷ Ok End ∷ []
 
 first_leak-rows : (leaks_text (diagnostics default_settings first_leak) (record { addr = 16; size = 100; line = 2; at = Some (codes "a") } ∷ []) ≡ codes "Memory not freed:\n0x10 100 line 2 at a\nTotal: 1 blocks, 100 bytes.\n")
@@ -36,7 +36,7 @@ unfolding started moments class need low rounded digits
 first_leak-rows = (refl, refl)
 
 -- first-path-diagnostics (one pool of 1024 bytes, 16 records): `= Start`, `+ 0x10 0x64`, `+ 0x10 0x1`, `- 0x10`, `+ 0x20 0x400`
-abbrev first_path_diagnostics : List Reading
+abbrev first_path_diagnostics : List ReadLine
 first_path_diagnostics = Ok Start ∷ Ok (Alloc None (Some 16) 100) ∷ Ok (Alloc None (Some 16) 1) ∷ Ok (Free None 16) ∷ Ok (Alloc None (Some 32) 1024) ∷ []
 
 first_path_diagnostics-rows : (leaks_text (diagnostics small first_path_diagnostics) (record { addr = 32; size = 1024; line = 5; at = None } ∷ []) ≡ codes "line 3: 0x10 is already held\nMemory not freed:\n0x20 1024 line 5\nTotal: 1 blocks, 1024 bytes.\n")
@@ -46,7 +46,7 @@ unfolding started moments class need low rounded digits
 first_path_diagnostics-rows = (refl, refl, refl)
 
 -- half-reallocation (one pool of 1024 bytes, 16 records): `+ 0x01000 0x10` (not a line), `+ 0x1000 0`, `- 0x2000`, `< 0x1000`
-abbrev half_reallocation : List Reading
+abbrev half_reallocation : List ReadLine
 half_reallocation = Err fault.NotALine ∷ Ok (Alloc None (Some 4096) 0) ∷ Ok (Free None 8192) ∷ Ok (Old None 4096) ∷ []
 
 half_reallocation-rows : (leaks_text (diagnostics small half_reallocation) (record { addr = 4096; size = 0; line = 2; at = None } ∷ []) ≡ codes "line 1: not a line\nline 3: 0x2000 is not held\nline 4: half of a reallocation\nMemory not freed:\n0x1000 0 line 2\nTotal: 1 blocks, 0 bytes.\n")
@@ -55,7 +55,7 @@ unfolding started moments class need low rounded digits
 half_reallocation-rows = (refl, refl)
 
 -- reallocation-pair (one pool of 1024 bytes, 16 records): `@ a + 0x10 0x64`, `@ b < 0x10`, `@ b > 0x30 0xc8`
-abbrev reallocation_pair : List Reading
+abbrev reallocation_pair : List ReadLine
 reallocation_pair = Ok (Alloc (Some (codes "a")) (Some 16) 100) ∷ Ok (Old (Some (codes "b")) 16) ∷ Ok (New (Some (codes "b")) 48 200) ∷ []
 
 reallocation_pair-rows : (leaks_text (diagnostics small reallocation_pair) (record { addr = 48; size = 200; line = 3; at = Some (codes "b") } ∷ []) ≡ codes "Memory not freed:\n0x30 200 line 3 at b\nTotal: 1 blocks, 200 bytes.\n")
@@ -65,7 +65,7 @@ unfolding started moments class need low rounded digits
 reallocation_pair-rows = (refl, refl, refl)
 
 -- one-record-log (one pool of 64 bytes, 1 record): `+ 0x10 0x8`, `- 0x10`, `+ 0x10 0x40`, `+ 0x10 0x8`, `- 0x10`
-abbrev one_record_log : List Reading
+abbrev one_record_log : List ReadLine
 one_record_log = Ok (Alloc None (Some 16) 8) ∷ Ok (Free None 16) ∷ Ok (Alloc None (Some 16) 64) ∷ Ok (Alloc None (Some 16) 8) ∷ Ok (Free None 16) ∷ []
 
 one_record_log-rows : (leaks_text (diagnostics one_record one_record_log) [] ≡ codes "line 1: 0x10 refused: table full\nline 2: 0x10 is not held\nline 4: 0x10 is already held\nNo memory leaks.\n")
@@ -74,7 +74,7 @@ unfolding started moments class need low rounded digits
 one_record_log-rows = (refl, refl)
 
 -- refused-reallocation (one pool of 64 bytes, 4 records): `+ 0x10 0x8`, `< 0x10`, `> 0x20 0x80`
-abbrev refused_reallocation : List Reading
+abbrev refused_reallocation : List ReadLine
 refused_reallocation = Ok (Alloc None (Some 16) 8) ∷ Ok (Old None 16) ∷ Ok (New None 32 128) ∷ []
 
 refused_reallocation-rows : (leaks_text (diagnostics tiny refused_reallocation) [] ≡ codes "line 3: 0x20 refused: no fit\nNo memory leaks.\n")
@@ -84,7 +84,7 @@ unfolding started moments class need low rounded digits
 refused_reallocation-rows = (refl, refl, refl)
 
 -- repeated-half (one pool of 64 bytes, 4 records): `+ 0x10 0x8`, `< 0x10`, `< 0x10`, `> 0x10 0x10`
-abbrev repeated_half : List Reading
+abbrev repeated_half : List ReadLine
 repeated_half = Ok (Alloc None (Some 16) 8) ∷ Ok (Old None 16) ∷ Ok (Old None 16) ∷ Ok (New None 16 16) ∷ []
 
 repeated_half-rows : (leaks_text (diagnostics tiny repeated_half) (record { addr = 16; size = 16; line = 4; at = None } ∷ []) ≡ codes "line 2: half of a reallocation\nMemory not freed:\n0x10 16 line 4\nTotal: 1 blocks, 16 bytes.\n")
@@ -93,7 +93,7 @@ unfolding started moments class need low rounded digits
 repeated_half-rows = (refl, refl)
 
 -- stray-new (one pool of 1024 bytes, 16 records): `> 0x20 0x8`, `< 0x10`, `> 0x20 0x8`
-abbrev stray_new : List Reading
+abbrev stray_new : List ReadLine
 stray_new = Ok (New None 32 8) ∷ Ok (Old None 16) ∷ Ok (New None 32 8) ∷ []
 
 stray_new-rows : (leaks_text (diagnostics small stray_new) (record { addr = 32; size = 8; line = 3; at = None } ∷ []) ≡ codes "line 1: no < before >\nline 3: 0x10 is not held\nMemory not freed:\n0x20 8 line 3\nTotal: 1 blocks, 8 bytes.\n")
@@ -103,7 +103,7 @@ unfolding started moments class need low rounded digits
 stray_new-rows = (refl, refl, refl)
 
 -- end-between-halves (one pool of 1024 bytes, 16 records): `< 0x10`, `= End`, `> 0x10 0x8`
-abbrev end_between_halves : List Reading
+abbrev end_between_halves : List ReadLine
 end_between_halves = Ok (Old None 16) ∷ Ok End ∷ Ok (New None 16 8) ∷ []
 
 end_between_halves-rows : (leaks_text (diagnostics small end_between_halves) [] ≡ codes "line 1: half of a reallocation\nline 3: no < before >\nNo memory leaks.\n")
@@ -112,7 +112,7 @@ unfolding started moments class need low rounded digits
 end_between_halves-rows = (refl, refl)
 
 -- old-not-held-new-held (one pool of 1024 bytes, 16 records): `+ 0x20 0x8`, `< 0x10`, `> 0x20 0x8`
-abbrev old_not_held_new_held : List Reading
+abbrev old_not_held_new_held : List ReadLine
 old_not_held_new_held = Ok (Alloc None (Some 32) 8) ∷ Ok (Old None 16) ∷ Ok (New None 32 8) ∷ []
 
 old_not_held_new_held-rows : (leaks_text (diagnostics small old_not_held_new_held) (record { addr = 32; size = 8; line = 1; at = None } ∷ []) ≡ codes "line 3: 0x10 is not held\nline 3: 0x20 is already held\nMemory not freed:\n0x20 8 line 1\nTotal: 1 blocks, 8 bytes.\n")
@@ -122,7 +122,7 @@ unfolding started moments class need low rounded digits
 old_not_held_new_held-rows = (refl, refl, refl)
 
 -- lines-without-effect (one pool of 1024 bytes, 16 records): `! 0x10 0x8`, `! (nil) 0`, `+ (nil) 0x8`, `= End`
-abbrev lines_without_effect : List Reading
+abbrev lines_without_effect : List ReadLine
 lines_without_effect = Ok (Failed None (Some 16) 8) ∷ Ok (Failed None None 0) ∷ Ok (Alloc None None 8) ∷ Ok End ∷ []
 
 lines_without_effect-rows : (leaks_text (diagnostics small lines_without_effect) [] ≡ codes "No memory leaks.\n")
@@ -131,7 +131,7 @@ unfolding started moments class need low rounded digits
 lines_without_effect-rows = (refl, refl)
 
 -- aligned-line (one pool of 1024 bytes, 16 records): `+ 0x10 0x8`, `* 0x20 0x40 0x20`
-abbrev aligned_line : List Reading
+abbrev aligned_line : List ReadLine
 aligned_line = Ok (Alloc None (Some 16) 8) ∷ Ok (Aligned None 32 64 32) ∷ []
 
 aligned_line-rows : (leaks_text (diagnostics small aligned_line) (record { addr = 16; size = 8; line = 1; at = None } ∷ record { addr = 32; size = 32; line = 2; at = None } ∷ []) ≡ codes "Memory not freed:\n0x10 8 line 1\n0x20 32 line 2\nTotal: 2 blocks, 40 bytes.\n")
@@ -140,7 +140,7 @@ unfolding started moments class need low rounded digits
 aligned_line-rows = (refl, refl)
 
 -- bad-alignment (one pool of 1024 bytes, 16 records): `* 0x10 0x3 0x8`, `* 0x10 0 0x8` (not a line), `* 0x10 0x1 0`
-abbrev bad_alignment : List Reading
+abbrev bad_alignment : List ReadLine
 bad_alignment = Ok (Aligned None 16 3 8) ∷ Err fault.NotALine ∷ Ok (Aligned None 16 1 0) ∷ []
 
 bad_alignment-rows : (leaks_text (diagnostics small bad_alignment) (record { addr = 16; size = 0; line = 3; at = None } ∷ []) ≡ codes "line 1: 0x10 refused: bad alignment\nline 2: not a line\nMemory not freed:\n0x10 0 line 3\nTotal: 1 blocks, 0 bytes.\n")
@@ -149,7 +149,7 @@ unfolding started moments class need low rounded digits
 bad_alignment-rows = (refl, refl)
 
 -- aligned-behind-half (one pool of 1024 bytes, 16 records): `< 0x10`, `* 0x10 0x40 0x8`, `> 0x10 0x8`
-abbrev aligned_behind_half : List Reading
+abbrev aligned_behind_half : List ReadLine
 aligned_behind_half = Ok (Old None 16) ∷ Ok (Aligned None 16 64 8) ∷ Ok (New None 16 8) ∷ []
 
 aligned_behind_half-text : leaks_text (diagnostics small aligned_behind_half) (record { addr = 16; size = 8; line = 2; at = None } ∷ [])
@@ -158,7 +158,7 @@ unfolding started moments class need low rounded digits
 aligned_behind_half-text = refl
 
 -- empty-log (one pool of 1024 bytes, 16 records): no line
-abbrev empty_log : List Reading
+abbrev empty_log : List ReadLine
 empty_log = []
 
 empty_log-text : leaks_text (diagnostics small empty_log) []

@@ -3,7 +3,7 @@ use Rattle.std.proofs.Common.{◌≡◌, ◌≢◌, ℕ, List, [], ◌∷◌, �
 use Rattle.std.specs.Prelude.{Result}
 use Rattle.std.specs.Io.KnownBytes.{prepend_known, IsAtEnd}
 use Rattle.std.proofs.lemmas.List.{reverse-append}
-use Rattle.mtrace_log.specs.Progress.{Progress, Status, Reading, Ended, Faulted, to_come, TakesLine, GivesLine, FindsEnd, StopsReading, GivesFault, CallsFor}
+use Rattle.mtrace_log.specs.Progress.{Progress, Stage, Reading, Ended, Faulted, to_come, ReadsLine, GivesLine, FindsEnd, StopsReading, GivesFault, CallsFor}
 use Rattle.mtrace_log.specs.declared.call.Call.{Call}
 use Rattle.mtrace_log.specs.HasRead.{HasRead, HasReadAll, HasReadBefore, HasReadSo}
 use Rattle.mtrace_log.specs.Event.{Event}
@@ -20,8 +20,8 @@ use Rattle.mtrace_replay.specs.Run.{Bytes, FailedInPiece, IsPastLastNumber}
 pub record IsReplaying (settings : Settings) (progress : Progress) (replay : Replayed) (left_start left_now : Bytes) : Type 0 where
   pub lines : List (Result Event LineFault)
   pub count : progress.count ≡ length lines
-  pub no_fault : (fault : ReadFault) → progress.status ≢ Faulted fault
-  pub read : HasReadSo progress.status left_start (to_come progress left_now) lines
+  pub no_fault : (fault : ReadFault) → progress.stage ≢ Faulted fault
+  pub read : HasReadSo progress.stage left_start (to_come progress left_now) lines
   pub stands : StandsFor replay settings (reverse lines)
 
 pub prepend_nothing : (known : Bytes) → prepend_known [] known ≡ known
@@ -33,7 +33,7 @@ no_fault_yet fault is = cc
 
 -- before the first line
 abbrev pub replaying_start : (settings : Settings) (replay : Replayed) (left : Bytes) → StandsFor replay settings []
-    → IsReplaying settings (record { held = []; count = 0; status = Reading; last = Some [] }) replay left left
+    → IsReplaying settings (record { held = []; count = 0; stage = Reading; last = Some [] }) replay left left
 replaying_start settings replay left stands = record {
   lines = [];
   count = refl;
@@ -54,13 +54,13 @@ abbrev pub replaying_line : (settings : Settings) (old new : Progress) (replay_o
 replaying_line settings old new replay_old replay_new start before after line so_far given stands = record {
   lines = so_far.lines ++ line.event ∷ [];
   count = given.count ∙ given.number ∙ omega (arith, so_far.count, length-append {A = Result Event LineFault});
-  no_fault = (λ fault is. (let T : Status → Type 0 = λ status. TakesLine status (to_come old before) (to_come new after) line.event in subst T is given.taken));
+  no_fault = (λ fault is. (let T : Stage → Type 0 = λ stage. ReadsLine stage (to_come old before) (to_come new after) line.event in subst T is given.taken));
   read = HasReadSo-line start (to_come old before) (to_come new after) old new line so_far.lines so_far.read given;
   stands = (let Q : List (Result Event LineFault) → Type 0 = λ past. StandsFor replay_new settings past in subst Q (sym (reverse-more so_far.lines line.event)) stands);
 }
 
--- a line that was taken leaves the status reading or ended
-pub line_read : (status : Status) (start before after : Bytes) (lines : List (Result Event LineFault)) (answer : Result Event LineFault) → TakesLine status before after answer → HasReadSo status start after lines
+-- a line that was taken leaves the stage reading or ended
+pub line_read : (stage : Stage) (start before after : Bytes) (lines : List (Result Event LineFault)) (answer : Result Event LineFault) → ReadsLine stage before after answer → HasReadSo stage start after lines
     → HasRead start after lines ⊎ HasReadAll start after lines
 line_read Reading start before after lines answer taken read = inl read
 line_read Ended start before after lines answer taken read = inr read
@@ -80,7 +80,7 @@ used_to_end held start left lines all =
 -- the end of the log
 pub replaying_end : {R : Type 0} (left : R → Bytes) (settings : Settings) (old new : Progress) (replay : Replayed) (start : Bytes) (reader_old reader_new : R)
     → (so_far : IsReplaying settings old replay start (left reader_old))
-    → FindsEnd old.status old new reader_old reader_new (to_come old (left reader_old)) (to_come new (left reader_new))
+    → FindsEnd old.stage old new reader_old reader_new (to_come old (left reader_old)) (to_come new (left reader_new))
     → HasReadAll start (left reader_new) so_far.lines
 replaying_end left settings old new replay start reader_old reader_new so_far found =
     used_to_end new.held start (left reader_new) so_far.lines (HasReadSo-end left start old new reader_old reader_new so_far.lines so_far.read found)
@@ -100,17 +100,17 @@ stop_reason TooManyLines count start before held left calls_start calls lines sa
 -- the reader failed, or there are no numbers left
 pub replaying_fault : {R : Type 0} (left : R → Bytes) (settings : Settings) (old new : Progress) (replay : Replayed) (start : Bytes) (reader_old reader_new : R) (calls_start calls : List Call) (fault : ReadFault)
     → (so_far : IsReplaying settings old replay start (left reader_old))
-    → GivesFault old.status fault old new reader_old reader_new (to_come old (left reader_old)) (to_come new (left reader_new))
+    → GivesFault old.stage fault old new reader_old reader_new (to_come old (left reader_old)) (to_come new (left reader_new))
     → (fault ≡ ReaderFailed → new.held ≡ []) → CallsFor (Faulted fault) calls_start calls
     → FailedInPiece start (left reader_new) calls_start calls so_far.lines
     ⊎ ((unused : List ℕ) × IsPastLastNumber start (prepend_known unused (left reader_new)) calls_start calls so_far.lines)
-replaying_fault {R} left settings old new replay start reader_old reader_new calls_start calls fault so_far given nothing came = reason_by old.status refl so_far.read given
+replaying_fault {R} left settings old new replay start reader_old reader_new calls_start calls fault so_far given nothing came = reason_by old.stage refl so_far.read given
   where
     lost : HasReadBefore start (to_come new (left reader_new)) so_far.lines
     lost = HasReadSo-fault left start old new reader_old reader_new fault so_far.lines so_far.read given
 
-    reason_by : (status : Status) → old.status ≡ status → HasReadSo status start (to_come old (left reader_old)) so_far.lines
-        → GivesFault status fault old new reader_old reader_new (to_come old (left reader_old)) (to_come new (left reader_new))
+    reason_by : (stage : Stage) → old.stage ≡ stage → HasReadSo stage start (to_come old (left reader_old)) so_far.lines
+        → GivesFault stage fault old new reader_old reader_new (to_come old (left reader_old)) (to_come new (left reader_new))
         → FailedInPiece start (left reader_new) calls_start calls so_far.lines ⊎ ((unused : List ℕ) × IsPastLastNumber start (prepend_known unused (left reader_new)) calls_start calls so_far.lines)
     reason_by Reading is read stop =
         stop_reason fault old.count start (to_come old (left reader_old)) new.held (left reader_new) calls_start calls so_far.lines so_far.count read lost nothing stop.2 came

@@ -58,7 +58,7 @@ next_of {A} {B} f items all index other same below =
 pub rows_text-is : (range : ℕ × ℕ) (rows : List Row) → pair_line (codes "pool ") range.0 (codes ": ") range.1 (codes " bytes") ++ flat_map row_text rows ≡ rows_text range rows
 rows_text-is range rows = refl
 
--- what the rows of each pool come to, the pools found by their bases
+-- what is made of the rows of each pool, the pools found by their bases
 abbrev pub by_base : {B : Type 0} → (ℕ × ℕ → List Row → List B) → List (Pool ℕ) → ℕ × ℕ → List B
 by_base g pools range = g range (rows_at pools range.0)
 

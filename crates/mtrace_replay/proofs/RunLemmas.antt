@@ -15,37 +15,37 @@ use Rattle.mtrace_log.specs.declared.line.ReadFault.TheVariants.{ReaderFailed}
 use Rattle.mtrace_replay.specs.declared.settings.Settings.{Settings}
 use Rattle.mtrace_replay.specs.declared.diagnostic.Diagnostic.{Diagnostic}
 use Rattle.mtrace_replay.specs.Entry.{Entry}
-use Rattle.mtrace_replay.specs.declared.status.Status.{Status as RunStatus}
+use Rattle.mtrace_replay.specs.declared.status.Status.{Status}
 use Rattle.mtrace_replay.specs.declared.status.Status.TheVariants.{Clean, Found}
 use Rattle.mtrace_replay.specs.Started.{started}
 use Rattle.mtrace_replay.specs.Moment.{Moment, Given, moment, half}
 use Rattle.mtrace_replay.specs.History.{moments, content_after, held, history, notes, pending, entries_of}
-use Rattle.mtrace_replay.specs.Texts.{note_text, notes_text, report_text, status_of}
+use Rattle.mtrace_replay.specs.Texts.{diagnostic_text, diagnostics_text, report_text, clean_or_found}
 use Rattle.mtrace_log.specs.Output.{Wrote, Begins}
-use Rattle.mtrace_replay.specs.Replay.{Replayed, StandsFor, entries, added_notes}
+use Rattle.mtrace_replay.specs.Replay.{Replayed, StandsFor, entries, added_diagnostics}
 use Rattle.mtrace_replay.specs.declared.report.Report.{Report}
-use Rattle.mtrace_replay.specs.declared.report.Report.TheVariants.{Notes}
+use Rattle.mtrace_replay.specs.declared.report.Report.TheVariants.{Nothing}
 use Rattle.mtrace_replay.specs.declared.totals.Totals.{Totals}
-use Rattle.mtrace_replay.specs.Run.{Bytes, text_of_notes, whole_text, end_text, StopsAtRead, StopsAtWrite, Reports, Replays, EndsAt, is_some_note, is_some_entry, LineGives, LineBegins, HasReplayed}
+use Rattle.mtrace_replay.specs.Run.{Bytes, text_of_notes, whole_text, end_text, StopsAtRead, StopsAtWrite, Reports, Replays, EndsAt, is_some_diagnostic, is_some_entry, LineGives, LineBegins, HasReplayed}
 use Rattle.mtrace_replay.proofs.Moments.{moments-none, moments-line}
 use Rattle.mtrace_replay.proofs.ReplayingLemmas.{IsReplaying, prepend_nothing, replaying_start, replaying_line, replaying_end, replaying_fault, line_read, reverse-more}
 use Rattle.mtrace_log.proofs.Writing.{Wrote-nothing, Wrote-append, Begins-after, Begins-longer}
 
 -- the lines so far were read and replayed, and their diagnostics written
-pub record IsUnderWay (settings : Settings) (progress : Progress) (replay : Replayed) (noted : Bool) (left_start left_now taken_start taken_now : Bytes) : Type 0 where
+pub record IsUnderWay (settings : Settings) (progress : Progress) (replay : Replayed) (has_diagnostics : Bool) (left_start left_now taken_start taken_now : Bytes) : Type 0 where
   pub so_far : IsReplaying settings progress replay left_start left_now
   pub wrote : Wrote taken_start taken_now (text_of_notes settings so_far.lines)
-  pub noted_is : noted ≡ is_some_note (notes (history settings so_far.lines))
+  pub has_diagnostics_is : has_diagnostics ≡ is_some_diagnostic (notes (history settings so_far.lines))
 
 -- before the first line
 pub underway_start : (settings : Settings) (replay : Replayed) (left taken : Bytes) → StandsFor replay settings []
-    → IsUnderWay settings (record { held = []; count = 0; status = Reading; last = Some [] }) replay false left left taken taken
+    → IsUnderWay settings (record { held = []; count = 0; stage = Reading; last = Some [] }) replay false left left taken taken
 underway_start settings replay left taken stands =
     let none : history settings [] ≡ [] = moments-none (started settings) in
     record {
       so_far = replaying_start settings replay left stands;
-      wrote = (let P : List Moment → Type 0 = λ past. Wrote taken taken (notes_text (notes past)) in subst P (sym none) (Wrote-nothing taken));
-      noted_is = ap (λ past. is_some_note (notes past)) (sym none);
+      wrote = (let P : List Moment → Type 0 = λ past. Wrote taken taken (diagnostics_text (notes past)) in subst P (sym none) (Wrote-nothing taken));
+      has_diagnostics_is = ap (λ past. is_some_diagnostic (notes past)) (sym none);
     }
 
 -- the moment of one line more
@@ -56,48 +56,48 @@ next_moment settings lines line =
 pub history-more : (settings : Settings) (lines : List (Result Event LineFault)) (line : Result Event LineFault) → history settings (lines ++ line ∷ []) ≡ next_moment settings lines line ∷ history settings lines
 history-more settings lines line = ap (moments (started settings)) (reverse-more lines line) ∙ moments-line (started settings) line (reverse lines)
 
-notes_text-append : (first second : List Diagnostic) → notes_text (first ++ second) ≡ notes_text first ++ notes_text second
-notes_text-append first second = flat_map-append note_text first second
+diagnostics_text-append : (first second : List Diagnostic) → diagnostics_text (first ++ second) ≡ diagnostics_text first ++ diagnostics_text second
+diagnostics_text-append first second = flat_map-append diagnostic_text first second
 
-notes_text-more : (settings : Settings) (lines : List (Result Event LineFault)) (line : Result Event LineFault)
-    → text_of_notes settings (lines ++ line ∷ []) ≡ text_of_notes settings lines ++ notes_text (added_notes settings line (reverse lines))
-notes_text-more settings lines line =
-    ap (λ past. notes_text (notes past)) (history-more settings lines line) ∙ notes_text-append (notes (history settings lines)) (next_moment settings lines line).notes
+diagnostics_text-more : (settings : Settings) (lines : List (Result Event LineFault)) (line : Result Event LineFault)
+    → text_of_notes settings (lines ++ line ∷ []) ≡ text_of_notes settings lines ++ diagnostics_text (added_diagnostics settings line (reverse lines))
+diagnostics_text-more settings lines line =
+    ap (λ past. diagnostics_text (notes past)) (history-more settings lines line) ∙ diagnostics_text-append (notes (history settings lines)) (next_moment settings lines line).diagnostics
 
-some_note-append : (first second : List Diagnostic) → is_some_note (first ++ second) ≡ (is_some_note first || is_some_note second)
-some_note-append [] second = refl
-some_note-append (note ∷ first) second = refl
+some_diagnostic-append : (first second : List Diagnostic) → is_some_diagnostic (first ++ second) ≡ (is_some_diagnostic first || is_some_diagnostic second)
+some_diagnostic-append [] second = refl
+some_diagnostic-append (diagnostic ∷ first) second = refl
 
-pub some_note-is : (all : List Diagnostic) → not (length all == 0) ≡ is_some_note all
-some_note-is [] = refl
-some_note-is (note ∷ all) = grind (arith, nat_tests)
+pub some_diagnostic-is : (all : List Diagnostic) → not (length all == 0) ≡ is_some_diagnostic all
+some_diagnostic-is [] = refl
+some_diagnostic-is (diagnostic ∷ all) = grind (arith, nat_tests)
 
-pub no_note-is : (all : List Diagnostic) → (length all == 0) ≡ true → all ≡ []
-no_note-is [] is = refl
-no_note-is (note ∷ all) is = absurd (grind (arith, nat_tests))
+pub no_diagnostic-is : (all : List Diagnostic) → (length all == 0) ≡ true → all ≡ []
+no_diagnostic-is [] is = refl
+no_diagnostic-is (diagnostic ∷ all) is = absurd (grind (arith, nat_tests))
 
 -- one line more
-pub underway_line : (settings : Settings) (old new : Progress) (replay_old replay_new : Replayed) (noted_old more : Bool) (start before after taken_start taken_old taken_new : Bytes) (line : Line)
-    → (under : IsUnderWay settings old replay_old noted_old start before taken_start taken_old)
+pub underway_line : (settings : Settings) (old new : Progress) (replay_old replay_new : Replayed) (had_diagnostics more : Bool) (start before after taken_start taken_old taken_new : Bytes) (line : Line)
+    → (under : IsUnderWay settings old replay_old had_diagnostics start before taken_start taken_old)
     → GivesLine old new (to_come old before) (to_come new after) line
     → LineGives replay_new settings line.event (reverse under.so_far.lines) taken_old taken_new more
-    → IsUnderWay settings new replay_new (noted_old || more) start after taken_start taken_new
-underway_line settings old new replay_old replay_new noted_old more start before after taken_start taken_old taken_new line under given gives =
+    → IsUnderWay settings new replay_new (had_diagnostics || more) start after taken_start taken_new
+underway_line settings old new replay_old replay_new had_diagnostics more start before after taken_start taken_old taken_new line under given gives =
     let lines = under.so_far.lines in
-    let added = added_notes settings line.event (reverse lines) in
+    let added = added_diagnostics settings line.event (reverse lines) in
     let whole = history-more settings lines line.event in
     record {
       so_far = replaying_line settings old new replay_old replay_new start before after line under.so_far given gives.stands;
       wrote = (let Q : List ℕ → Type 0 = λ text. Wrote taken_start taken_new text in
-          subst Q (sym (notes_text-more settings lines line.event)) (Wrote-append taken_start taken_old taken_new (text_of_notes settings lines) (notes_text added) under.wrote gives.wrote));
-      noted_is = ap (λ b. b || more) under.noted_is ∙ ap (λ b. is_some_note (notes (history settings lines)) || b) gives.noted_is
-          ∙ sym (ap (λ past. is_some_note (notes past)) whole ∙ some_note-append (notes (history settings lines)) added);
+          subst Q (sym (diagnostics_text-more settings lines line.event)) (Wrote-append taken_start taken_old taken_new (text_of_notes settings lines) (diagnostics_text added) under.wrote gives.wrote));
+      has_diagnostics_is = ap (λ b. b || more) under.has_diagnostics_is ∙ ap (λ b. is_some_diagnostic (notes (history settings lines)) || b) gives.has_diagnostics_is
+          ∙ sym (ap (λ past. is_some_diagnostic (notes past)) whole ∙ some_diagnostic-append (notes (history settings lines)) added);
     }
 
--- what comes behind the diagnostics of the lines, of what the lines come to
+-- what comes behind the diagnostics of the lines: that of the end, and the report
 abbrev pub last_text : Report → Settings → List (Result Event LineFault) → List Given → Totals → List ℕ
 last_text report settings lines all totals =
-    notes_text (half (length lines) (pending (reverse lines)))
+    diagnostics_text (half (length lines) (pending (reverse lines)))
     ++ report_text report (entries_of all) totals (content_after (started settings) (history settings lines))
 
 -- the whole text, of the diagnostics of the lines and what comes at the end
@@ -106,8 +106,8 @@ pub whole_is : (report : Report) (settings : Settings) (lines : List (Result Eve
 whole_is report settings lines all totals =
     let last = half (length lines) (pending (reverse lines)) in
     let told = report_text report (entries_of all) totals (content_after (started settings) (history settings lines)) in
-    ap (λ text. text ++ told) (notes_text-append (notes (history settings lines)) last)
-    ∙ append_assoc (text_of_notes settings lines) (notes_text last) told
+    ap (λ text. text ++ told) (diagnostics_text-append (notes (history settings lines)) last)
+    ∙ append_assoc (text_of_notes settings lines) (diagnostics_text last) told
 
 -- the diagnostic at the end, of a replay that stands for the lines
 pub half-is : (settings : Settings) (replay : Replayed) (lines : List (Result Event LineFault)) → StandsFor replay settings (reverse lines)
@@ -119,28 +119,28 @@ half-is settings replay lines stands =
 pub end_is : (report : Report) (settings : Settings) (replay : Replayed) (lines : List (Result Event LineFault)) → StandsFor replay settings (reverse lines)
     → end_text report replay ≡ last_text report settings lines replay.given replay.totals
 end_is report settings replay lines stands =
-    ap (λ last. notes_text last ++ report_text report (entries replay) replay.totals replay.content) (half-is settings replay lines stands)
-    ∙ ap (λ content. notes_text (half (length lines) (pending (reverse lines))) ++ report_text report (entries replay) replay.totals content) stands.content_is
+    ap (λ last. diagnostics_text last ++ report_text report (entries replay) replay.totals replay.content) (half-is settings replay lines stands)
+    ∙ ap (λ content. diagnostics_text (half (length lines) (pending (reverse lines))) ++ report_text report (entries replay) replay.totals content) stands.content_is
 
 -- the writer failed at a line's diagnostics
-pub underway_write : (report : Report) (settings : Settings) (old new : Progress) (replay_old replay_new : Replayed) (noted_old : Bool) (start before after taken_start taken_old taken_new : Bytes) (line : Line)
-    → (under : IsUnderWay settings old replay_old noted_old start before taken_start taken_old)
+pub underway_write : (report : Report) (settings : Settings) (old new : Progress) (replay_old replay_new : Replayed) (had_diagnostics : Bool) (start before after taken_start taken_old taken_new : Bytes) (line : Line)
+    → (under : IsUnderWay settings old replay_old had_diagnostics start before taken_start taken_old)
     → GivesLine old new (to_come old before) (to_come new after) line
     → LineBegins replay_new settings line.event (reverse under.so_far.lines) taken_old taken_new
     → StopsAtWrite report settings start after taken_start taken_new
-underway_write report settings old new replay_old replay_new noted_old start before after taken_start taken_old taken_new line under given begins =
+underway_write report settings old new replay_old replay_new had_diagnostics start before after taken_start taken_old taken_new line under given begins =
     let was = under.so_far.lines in
     let now = replaying_line settings old new replay_old replay_new start before after line under.so_far given begins.stands in
     let lines = now.lines in
     let Q : List ℕ → Type 0 = λ text. Begins taken_start taken_new text in
     let begun : Begins taken_start taken_new (text_of_notes settings lines) =
-    subst Q (sym (notes_text-more settings was line.event))
-    (Begins-after taken_start taken_old taken_new (text_of_notes settings was) (notes_text (added_notes settings line.event (reverse was))) under.wrote begins.begun) in
+    subst Q (sym (diagnostics_text-more settings was line.event))
+    (Begins-after taken_start taken_old taken_new (text_of_notes settings was) (diagnostics_text (added_diagnostics settings line.event (reverse was))) under.wrote begins.begun) in
     let last = last_text report settings lines replay_new.given replay_new.totals in
     record {
       lines = lines;
       unused = new.held;
-      begun = elim (line_read new.status start (to_come old before) (to_come new after) lines line.event given.taken now.read) [
+      begun = elim (line_read new.stage start (to_come old before) (to_come new after) lines line.event given.taken now.read) [
         | inl reading ↦ inl (reading, begun)
         | inr all ↦ inr (record {
           read = all;
@@ -154,25 +154,25 @@ underway_write report settings old new replay_old replay_new noted_old start bef
     }
 
 -- the end of the log
-pub underway_end : {R : Type 0} (left : R → Bytes) (settings : Settings) (old new : Progress) (replay : Replayed) (noted : Bool) (start : Bytes) (reader_old reader_new : R) (taken_start taken : Bytes)
-    → IsUnderWay settings old replay noted start (left reader_old) taken_start taken
-    → FindsEnd old.status old new reader_old reader_new (to_come old (left reader_old)) (to_come new (left reader_new))
-    → HasReplayed settings replay noted start (left reader_new) taken_start taken
-underway_end left settings old new replay noted start reader_old reader_new taken_start taken under found = record {
+pub underway_end : {R : Type 0} (left : R → Bytes) (settings : Settings) (old new : Progress) (replay : Replayed) (has_diagnostics : Bool) (start : Bytes) (reader_old reader_new : R) (taken_start taken : Bytes)
+    → IsUnderWay settings old replay has_diagnostics start (left reader_old) taken_start taken
+    → FindsEnd old.stage old new reader_old reader_new (to_come old (left reader_old)) (to_come new (left reader_new))
+    → HasReplayed settings replay has_diagnostics start (left reader_new) taken_start taken
+underway_end left settings old new replay has_diagnostics start reader_old reader_new taken_start taken under found = record {
   lines = under.so_far.lines;
   read = replaying_end left settings old new replay start reader_old reader_new under.so_far found;
   stands = under.so_far.stands;
   wrote = under.wrote;
-  noted_is = under.noted_is;
+  has_diagnostics_is = under.has_diagnostics_is;
 }
 
 -- the reader failed, or there are no numbers left
-pub underway_fault : {R : Type 0} (left : R → Bytes) (settings : Settings) (old new : Progress) (replay : Replayed) (noted : Bool) (start : Bytes) (reader_old reader_new : R) (taken_start taken : Bytes) (calls_start calls : List Call) (fault : ReadFault)
-    → IsUnderWay settings old replay noted start (left reader_old) taken_start taken
-    → GivesFault old.status fault old new reader_old reader_new (to_come old (left reader_old)) (to_come new (left reader_new))
+pub underway_fault : {R : Type 0} (left : R → Bytes) (settings : Settings) (old new : Progress) (replay : Replayed) (has_diagnostics : Bool) (start : Bytes) (reader_old reader_new : R) (taken_start taken : Bytes) (calls_start calls : List Call) (fault : ReadFault)
+    → IsUnderWay settings old replay has_diagnostics start (left reader_old) taken_start taken
+    → GivesFault old.stage fault old new reader_old reader_new (to_come old (left reader_old)) (to_come new (left reader_new))
     → (fault ≡ ReaderFailed → new.held ≡ []) → CallsFor (Faulted fault) calls_start calls
     → StopsAtRead settings start (left reader_new) calls_start calls taken_start taken
-underway_fault left settings old new replay noted start reader_old reader_new taken_start taken calls_start calls fault under given nothing came = record {
+underway_fault left settings old new replay has_diagnostics start reader_old reader_new taken_start taken calls_start calls fault under given nothing came = record {
   lines = under.so_far.lines;
   reason = replaying_fault left settings old new replay start reader_old reader_new calls_start calls fault under.so_far given nothing came;
   wrote = under.wrote;
@@ -183,11 +183,11 @@ pub same_error : {E : Type 0} (T U : Type 0) (first second : E) → IsErrOf {T =
 same_error T U first second is = let same : first ≡ second = cc in ap Err same
 
 -- the writer failed at the end
-pub report_write : (report : Report) (settings : Settings) (replay : Replayed) (noted : Bool) (left_old left_new taken_old taken_middle taken_new : Bytes)
-    → HasReplayed settings replay noted left_old left_new taken_old taken_middle
+pub report_write : (report : Report) (settings : Settings) (replay : Replayed) (has_diagnostics : Bool) (left_old left_new taken_old taken_middle taken_new : Bytes)
+    → HasReplayed settings replay has_diagnostics left_old left_new taken_old taken_middle
     → Begins taken_middle taken_new (end_text report replay)
     → StopsAtWrite report settings left_old left_new taken_old taken_new
-report_write report settings replay noted left_old left_new taken_old taken_middle taken_new done begins =
+report_write report settings replay has_diagnostics left_old left_new taken_old taken_middle taken_new done begins =
     let P : Bytes → Type 0 = λ after. HasReadAll left_old after done.lines in
     let Q : List ℕ → Type 0 = λ text. Begins taken_old taken_new text in
     let R : List ℕ → Type 0 = λ text. Begins taken_middle taken_new text in
@@ -208,19 +208,19 @@ report_write report settings replay noted left_old left_new taken_old taken_midd
 
 -- the status, of the diagnostics of the lines, those at the end, and what is held
 pub status-is : (first last : List Diagnostic) (all : List Entry)
-    → (if is_some_note first || (is_some_note last || is_some_entry all) then Found else Clean) ≡ status_of (first ++ last) all
-status-is (note ∷ first) last all = refl
-status-is [] (note ∷ last) all = refl
+    → (if is_some_diagnostic first || (is_some_diagnostic last || is_some_entry all) then Found else Clean) ≡ clean_or_found (first ++ last) all
+status-is (diagnostic ∷ first) last all = refl
+status-is [] (diagnostic ∷ last) all = refl
 status-is [] [] (one ∷ all) = refl
 status-is [] [] [] = refl
 
 -- all was written
-abbrev pub report_all : (report : Report) (settings : Settings) (replay : Replayed) (noted : Bool) (status : RunStatus) (left_old left_new taken_old taken_middle taken_new : Bytes)
-    → HasReplayed settings replay noted left_old left_new taken_old taken_middle
+abbrev pub report_all : (report : Report) (settings : Settings) (replay : Replayed) (has_diagnostics : Bool) (status : Status) (left_old left_new taken_old taken_middle taken_new : Bytes)
+    → HasReplayed settings replay has_diagnostics left_old left_new taken_old taken_middle
     → Wrote taken_middle taken_new (end_text report replay)
-    → status ≡ (if noted || (is_some_note (half replay.totals.lines replay.pending) || is_some_entry (entries replay)) then Found else Clean)
+    → status ≡ (if has_diagnostics || (is_some_diagnostic (half replay.totals.lines replay.pending) || is_some_entry (entries replay)) then Found else Clean)
     → Reports report settings status left_old left_new taken_old taken_new
-report_all report settings replay noted status left_old left_new taken_old taken_middle taken_new done wrote is =
+report_all report settings replay has_diagnostics status left_old left_new taken_old taken_middle taken_new done wrote is =
     let Q : List ℕ → Type 0 = λ text. Wrote taken_old taken_new text in
     let R : List ℕ → Type 0 = λ text. Wrote taken_middle taken_new text in
     let last = half (length done.lines) (pending (reverse done.lines)) in
@@ -235,25 +235,25 @@ report_all report settings replay noted status left_old left_new taken_old taken
       wrote = subst Q (sym (whole_is report settings done.lines replay.given replay.totals))
           (Wrote-append taken_old taken_middle taken_new (text_of_notes settings done.lines) told done.wrote (subst R (end_is report settings replay done.lines done.stands) wrote));
       status_is = is
-          ∙ ap (λ b. if b || (is_some_note (half replay.totals.lines replay.pending) || is_some_entry (entries replay)) then Found else Clean) done.noted_is
-          ∙ ap (λ more. if is_some_note (notes (history settings done.lines)) || (is_some_note more || is_some_entry (entries replay)) then Found else Clean) (half-is settings replay done.lines done.stands)
+          ∙ ap (λ b. if b || (is_some_diagnostic (half replay.totals.lines replay.pending) || is_some_entry (entries replay)) then Found else Clean) done.has_diagnostics_is
+          ∙ ap (λ more. if is_some_diagnostic (notes (history settings done.lines)) || (is_some_diagnostic more || is_some_entry (entries replay)) then Found else Clean) (half-is settings replay done.lines done.stands)
           ∙ status-is (notes (history settings done.lines)) last (entries replay);
     }
 
 -- all was written of a run that makes no report, and the replay in the end
-pub ends_at : (settings : Settings) (replay end : Replayed) (noted : Bool) (status : RunStatus) (left_old left_new taken_old taken_middle taken_new : Bytes)
-    → HasReplayed settings replay noted left_old left_new taken_old taken_middle
-    → Wrote taken_middle taken_new (end_text Notes replay)
-    → status ≡ (if noted || (is_some_note (half replay.totals.lines replay.pending) || is_some_entry (entries replay)) then Found else Clean)
+pub ends_at : (settings : Settings) (replay end : Replayed) (has_diagnostics : Bool) (status : Status) (left_old left_new taken_old taken_middle taken_new : Bytes)
+    → HasReplayed settings replay has_diagnostics left_old left_new taken_old taken_middle
+    → Wrote taken_middle taken_new (end_text Nothing replay)
+    → status ≡ (if has_diagnostics || (is_some_diagnostic (half replay.totals.lines replay.pending) || is_some_entry (entries replay)) then Found else Clean)
     → end ≡ replay → replay.content.records ≡ settings.records
     → EndsAt settings status end left_old left_new taken_old taken_new
-ends_at settings replay end noted status left_old left_new taken_old taken_middle taken_new done wrote is kept records = record {
-  reports = report_all Notes settings replay noted status left_old left_new taken_old taken_middle taken_new done wrote is;
+ends_at settings replay end has_diagnostics status left_old left_new taken_old taken_middle taken_new done wrote is kept records = record {
+  reports = report_all Nothing settings replay has_diagnostics status left_old left_new taken_old taken_middle taken_new done wrote is;
   stands = subst (λ (r : Replayed). StandsFor r settings (reverse done.lines)) (sym kept) done.stands;
   records = ap (λ (r : Replayed). r.content.records) kept ∙ records;
 }
 
 -- and what its heap holds
-pub replays_by : (settings : Settings) (status : RunStatus) (replay : Replayed) (left_old left_new taken_old taken_new : Bytes)
+pub replays_by : (settings : Settings) (status : Status) (replay : Replayed) (left_old left_new taken_old taken_new : Bytes)
     → EndsAt settings status replay left_old left_new taken_old taken_new → Replays settings status replay.content left_old left_new taken_old taken_new
 replays_by settings status replay left_old left_new taken_old taken_new ends = record { reports = ends.reports; content_is = ends.stands.content_is }

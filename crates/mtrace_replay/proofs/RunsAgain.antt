@@ -2,12 +2,12 @@
 use Rattle.std.proofs.Common.{◌≡◌, ℕ, List, refl, subst}
 use Rattle.std.specs.Prelude.{Result, Ok, Err}
 use Rattle.mtrace_log.specs.declared.call.Call.{Call}
-use Rattle.mtrace_replay.specs.declared.report.Report.TheVariants.{Notes}
+use Rattle.mtrace_replay.specs.declared.report.Report.TheVariants.{Nothing}
 use Rattle.mtrace_replay.specs.declared.settings.Settings.{Settings}
 use Rattle.mtrace_replay.specs.declared.status.Status.{Status}
 use Rattle.mtrace_replay.specs.declared.status.RunFault.{RunFault}
 use Rattle.mtrace_replay.specs.declared.status.RunFault.TheVariants.{Read}
-use Rattle.mtrace_replay.specs.Moment.{Reading}
+use Rattle.mtrace_replay.specs.Moment.{ReadLine}
 use Rattle.mtrace_replay.specs.Run.{Bytes, Runs}
 use Rattle.mtrace_replay.specs.Again.{Follows, EndsAgain, RunsAgain}
 use Rattle.mtrace_replay.proofs.RunLemmas.{same_error}
@@ -38,9 +38,9 @@ module _ {R W : Type 0} (Tells : Bytes → List ℕ → Type 0) (HasWorked : Lis
 same_answer : (first second : Status) → (let one : Result Status RunFault = Ok first in one ≡ Ok second) → first ≡ second
 same_answer first second is = cc
 
-module _ {R W : Type 0} (settings : Settings) (After : List Reading → Result Status RunFault → R → R → W → W → Type 0) (left whole : R → Bytes) (pulls : R → List Call) (taken : W → Bytes) (puts : W → List Call) where
+module _ {R W : Type 0} (settings : Settings) (After : List ReadLine → Result Status RunFault → R → R → W → W → Type 0) (left whole : R → Bytes) (pulls : R → List Call) (taken : W → Bytes) (puts : W → List Call) where
   -- the first reading ended early
-  pub again_fault : (fault : RunFault) (reader_old reader_new : R) (writer_old writer_new : W) → Runs Notes settings left pulls taken puts (Err fault) reader_old reader_new writer_old writer_new
+  pub again_fault : (fault : RunFault) (reader_old reader_new : R) (writer_old writer_new : W) → Runs Nothing settings left pulls taken puts (Err fault) reader_old reader_new writer_old writer_new
       → RunsAgain settings After left whole pulls taken puts (Err fault) reader_old reader_new writer_old writer_new
   again_fault fault reader_old reader_new writer_old writer_new runs = record {
     run = Err fault;
@@ -51,9 +51,9 @@ module _ {R W : Type 0} (settings : Settings) (After : List Reading → Result S
     finished = λ status is. absurd (cc);
   }
 
-  -- it came to the end of the log, and then the log was read again
+  -- it reached the end of the log, and then the log was read again
   pub again_ended : (status : Status) (result : Result Status RunFault) (reader_old reader_middle reader_new : R) (writer_old writer_middle writer_new : W)
-      → Runs Notes settings left pulls taken puts (Ok status) reader_old reader_middle writer_old writer_middle
+      → Runs Nothing settings left pulls taken puts (Ok status) reader_old reader_middle writer_old writer_middle
       → EndsAgain settings After status left whole taken result reader_old reader_middle reader_new writer_old writer_middle writer_new
       → RunsAgain settings After left whole pulls taken puts result reader_old reader_new writer_old writer_new
   again_ended status result reader_old reader_middle reader_new writer_old writer_middle writer_new runs ends =

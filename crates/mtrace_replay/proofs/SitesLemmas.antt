@@ -2,7 +2,7 @@
 use Rattle.std.proofs.Common.{◌≡◌, ℕ, List, ◌++◌, length, reverse, refl, ap, ◌∙◌}
 use Rattle.std.proofs.lemmas.List.{length-map}
 use Rattle.mtrace_replay.specs.declared.settings.Settings.{Settings}
-use Rattle.mtrace_replay.specs.Moment.{Reading, Given}
+use Rattle.mtrace_replay.specs.Moment.{ReadLine, Given}
 use Rattle.mtrace_replay.specs.Replay.{Replayed, StandsFor, entries}
 use Rattle.mtrace_replay.specs.Run.{Bytes}
 use Rattle.mtrace_replay.specs.Sites.{Site, AreSites}
@@ -16,7 +16,7 @@ sites_text at_peak peak_sites at_end end_sites =
     section (peak_words at_end.totals.peak_line) (length at_peak.given) (total_size (entries at_peak)) peak_sites
     ++ section end_words (length at_end.given) (total_size (entries at_end)) end_sites
 
-pub tells_sites : (settings : Settings) (lines : List Reading) (at_peak at_end : Replayed) (peak_sites end_sites : List Site) (whole left : Bytes)
+pub tells_sites : (settings : Settings) (lines : List ReadLine) (at_peak at_end : Replayed) (peak_sites end_sites : List Site) (whole left : Bytes)
     → StandsFor at_end settings (reverse lines) → HasReplayedFirst at_end.totals.peak_line settings at_peak whole left
     → AreSites (entries at_peak) peak_sites → AreSites (entries at_end) end_sites
     → TellsSites settings lines whole left (sites_text at_peak peak_sites at_end end_sites)

@@ -7,9 +7,9 @@ use Rattle.mtrace_log.specs.declared.event.LineFault.TheVariants as fault
 use Rattle.mtrace_replay.specs.declared.diagnostic.Diagnostic.{Diagnostic}
 use Rattle.mtrace_replay.specs.declared.settings.Settings.{Settings}
 use Rattle.mtrace_replay.specs.Started.{Bare, started}
-use Rattle.mtrace_replay.specs.Moment.{Reading, Given, Moment, outcome, renewal, reallocation, allocation, release, moment, is_new, half}
+use Rattle.mtrace_replay.specs.Moment.{ReadLine, Given, Moment, outcome, renewal, reallocation, allocation, release, moment, is_new, half}
 use Rattle.mtrace_replay.specs.History.{entries_of, AreHeld, held, given_or, unless_taken, held_after, moments, content_after, pending, old_address}
-use Rattle.mtrace_replay.specs.Replay.{Replayed, StandsFor, added_notes}
+use Rattle.mtrace_replay.specs.Replay.{Replayed, StandsFor, added_diagnostics}
 use Rattle.mtrace_replay.specs.Step.{given_of, all_given, found, Comes, AreLive}
 use Rattle.mtrace_replay.proofs.FoundLemmas.{found_is_held, held_as_found}
 use Rattle.std.specs.List.{Contains, list_any}
@@ -40,7 +40,7 @@ same_renewal number at (Some old) address size one other content same =
     ap (λ held. reallocation number at old held address size (one address) content) (same old)
     ∙ ap (λ held. reallocation number at old (other old) address size held content) (same address)
 
-same_outcome : (number : ℕ) (line : Reading) (before : Option ℕ) (one other : ℕ → Option Given) (content : Bare) → ((q : ℕ) → one q ≡ other q)
+same_outcome : (number : ℕ) (line : ReadLine) (before : Option ℕ) (one other : ℕ → Option Given) (content : Bare) → ((q : ℕ) → one q ≡ other q)
     → outcome number line before one content ≡ outcome number line before other content
 same_outcome number (Err fault.TooLong) before one other content same = refl
 same_outcome number (Err fault.NotALine) before one other content same = refl
@@ -58,9 +58,9 @@ same_outcome number (Ok (Aligned at address align size)) before one other conten
 same_held : (moment : Moment) (one other : ℕ → Option Given) → ((q : ℕ) → one q ≡ other q) → (address : ℕ) → held_after moment one address ≡ held_after moment other address
 same_held moment one other same address = ap (λ before. given_or moment.given address (unless_taken moment.taken address before)) (same address)
 
-module _ (old new : Replayed) (settings : Settings) (past : List Reading) (line : Reading) (notes : List Diagnostic) (end : Option ℕ) (number : ℕ)
+module _ (old new : Replayed) (settings : Settings) (past : List ReadLine) (line : ReadLine) (diagnostics : List Diagnostic) (end : Option ℕ) (number : ℕ)
     (stands : StandsFor old settings past) (next : number ≡ old.totals.lines + 1)
-    (comes : Comes old.content new.content old.given new.given notes end (outcome number line old.pending (found old.given) old.content)) where
+    (comes : Comes old.content new.content old.given new.given diagnostics end (outcome number line old.pending (found old.given) old.content)) where
   before : List Moment
   before = moments (started settings) past
 
@@ -79,8 +79,8 @@ module _ (old new : Replayed) (settings : Settings) (past : List Reading) (line 
       ∙ same_outcome (suc (length past)) line (pending past) (found old.given) (held (moments (started settings) past)) old.content (found_is_held old.given (moments (started settings) past) stands.held)
       ∙ ap (outcome (suc (length past)) line (pending past) (held (moments (started settings) past))) stands.content_is
 
-  comes_so : Comes old.content new.content old.given new.given notes end its_outcome
-  comes_so = subst (Comes old.content new.content old.given new.given notes end) outcome_is comes
+  comes_so : Comes old.content new.content old.given new.given diagnostics end its_outcome
+  comes_so = subst (Comes old.content new.content old.given new.given diagnostics end) outcome_is comes
 
   -- what is held after the line
   held_after_line : IsStrictlyIncreasing (addresses new.given) → AreHeld new.given (now ∷ before)
@@ -140,10 +140,10 @@ module _ (old new : Replayed) (settings : Settings) (past : List Reading) (line 
     pub stands_for_line : IsStrictlyIncreasing (addresses new.given) → new.pending ≡ old_address line → new.out_of_memory ≡ false
         → (bytes blocks : ℕ) (refused : Bool) → new.totals ≡ gone_on old.totals end refused bytes blocks
         → bytes ≡ total_size (entries_of new.given) → blocks ≡ length new.given → new.most ≡ max old.most blocks
-        → refused ≡ list_any (λ (note : Diagnostic). is_refusal note.kind) (added_notes settings line past)
+        → refused ≡ list_any (λ (diagnostic : Diagnostic). is_refusal diagnostic.kind) (added_diagnostics settings line past)
         → StandsFor new settings (line ∷ past)
     unfolding its_outcome before now
-    stands_for_line ordered told works bytes blocks refused gone sum count most noted =
+    stands_for_line ordered told works bytes blocks refused gone sum count most has_diagnostics =
         let whole = moments-line (started settings) line past in
         let start = started settings in
         let ms = moments (started settings) past in
@@ -157,17 +157,17 @@ module _ (old new : Replayed) (settings : Settings) (past : List Reading) (line 
           content_is = comes_so.content_is ∙ ap (content_after start) (sym whole);
           held = subst P (sym whole) holds;
           totals = subst (λ past. T past new.totals) (sym whole) (subst (T (now ∷ ms)) (sym gone)
-              (totals_of_line start ms now new.given old.totals end refused bytes blocks stands.totals comes_so.end_is noted holds sum count stood given_stands));
+              (totals_of_line start ms now new.given old.totals end refused bytes blocks stands.totals comes_so.end_is has_diagnostics holds sum count stood given_stands));
           most = subst (λ past. IsMost past new.most) (sym whole) (subst (IsMost (now ∷ ms)) (sym most)
               (most_goes_on now ms old.most blocks stands.most (record { all = new.given; held = holds; count = count })));
         }
 
-  pub notes_of_line : (if is_new line then [] else half old.totals.lines old.pending) ++ notes ≡ added_notes settings line past
+  pub diagnostics_of_line : (if is_new line then [] else half old.totals.lines old.pending) ++ diagnostics ≡ added_diagnostics settings line past
   unfolding its_outcome before
-  notes_of_line =
-      ap (λ n. (if is_new line then [] else half n old.pending) ++ notes) stands.lines_are
-      ∙ ap (λ p. (if is_new line then [] else half (length past) p) ++ notes) stands.pending_is
-      ∙ ap (λ ns. (if is_new line then [] else half (length past) (pending past)) ++ ns) comes_so.notes_are
+  diagnostics_of_line =
+      ap (λ n. (if is_new line then [] else half n old.pending) ++ diagnostics) stands.lines_are
+      ∙ ap (λ p. (if is_new line then [] else half (length past) p) ++ diagnostics) stands.pending_is
+      ∙ ap (λ ns. (if is_new line then [] else half (length past) (pending past)) ++ ns) comes_so.diagnostics_are
 
 -- the totals before the first line
 pub totals_none : (settings : Settings) → AreTotals (started settings) [] (record { lines = 0; served = 0; refused = 0; live_bytes = 0; live_blocks = 0; peak_bytes = 0; peak_line = 0; high_place = 0 })

@@ -12,7 +12,7 @@ use Rattle.mtrace_replay.specs.declared.diagnostic.Diagnostic.{Diagnostic}
 use Rattle.mtrace_replay.specs.declared.diagnostic.Kind.TheVariants.{NotHeld, AlreadyHeld, Refused}
 use Rattle.mtrace_replay.specs.Holding.{Holding}
 use Rattle.mtrace_replay.specs.Started.{Bare}
-use Rattle.mtrace_replay.specs.Moment.{Given, Moment, unserved, note, noted_after, asked_size, asked_block, without, answered, allocation, release, moved, reallocation, renewal, renewal_asks}
+use Rattle.mtrace_replay.specs.Moment.{Given, Moment, unserved, one_diagnostic, after_diagnostics, asked_size, asked_block, without, answered, allocation, release, moved, reallocation, renewal, renewal_asks}
 use Rattle.mtrace_replay.specs.Index.{held_at}
 use Rattle.mtrace_replay.specs.Step.{given_of, all_given, found, Comes, IsUnder}
 
@@ -86,17 +86,17 @@ found_changed old new address now before changed other =
     found_given new other ∙ ap (option_map given_of) (changed other) ∙ ap-cond (option_map given_of) (address == other) now (before other)
 
 -- a line that changes nothing
-pub comes_unserved : (content : Bare) (given : List Given) (notes : List Diagnostic) → Comes content content given given notes None (unserved notes content)
-comes_unserved content given notes = record { content_is = refl; held_is = (λ address. refl); notes_are = refl; end_is = refl }
+pub comes_unserved : (content : Bare) (given : List Given) (diagnostics : List Diagnostic) → Comes content content given given diagnostics None (unserved diagnostics content)
+comes_unserved content given diagnostics = record { content_is = refl; held_is = (λ address. refl); diagnostics_are = refl; end_is = refl }
 
 module _ (old new : List Holding) (content after : Bare) where
   -- `+` or `*` for an address that is held
   pub comes_held : (number : ℕ) (at : Option (List ℕ)) (address : ℕ) (align : Option ℕ) (size : ℕ) → is_some (held_at old address) ≡ true
-      → Comes content content (all_given old) (all_given old) (note number (AlreadyHeld address)) None (allocation number at address align size (found (all_given old) address) content)
+      → Comes content content (all_given old) (all_given old) (one_diagnostic number (AlreadyHeld address)) None (allocation number at address align size (found (all_given old) address) content)
   comes_held number at address align size is =
       let some = some_is (held_at old address) is in
-      let P : Option Given → Type 0 = λ held. Comes content content (all_given old) (all_given old) (note number (AlreadyHeld address)) None (allocation number at address align size held content) in
-      subst P (sym (found_under old address (Some some.0) some.1)) (comes_unserved content (all_given old) (note number (AlreadyHeld address)))
+      let P : Option Given → Type 0 = λ held. Comes content content (all_given old) (all_given old) (one_diagnostic number (AlreadyHeld address)) None (allocation number at address align size held content) in
+      subst P (sym (found_under old address (Some some.0) some.1)) (comes_unserved content (all_given old) (one_diagnostic number (AlreadyHeld address)))
 
   -- `+` or `*` that was served
   pub comes_served : (holding : Holding) (align : Option ℕ) → is_some (held_at old holding.entry.addr) ≡ false → asked_block tt align (asked_size holding.entry.size) content ≡ Ok (holding.ptr.place, after)
@@ -105,34 +105,34 @@ module _ (old new : List Holding) (content after : Bare) where
   comes_served holding align absent served changed =
       let entry = holding.entry in
       let is : allocation entry.line entry.at entry.addr align entry.size (found (all_given old) entry.addr) content
-      ≡ record { given = Some (given_of holding); taken = None; notes = []; content = after } =
+      ≡ record { given = Some (given_of holding); taken = None; diagnostics = []; content = after } =
       ap (λ held. allocation entry.line entry.at entry.addr align entry.size held content) (found_under old entry.addr None (none_is (held_at old entry.addr) absent))
       ∙ ap (answered entry.line entry.at entry.addr entry.size content) served in
       subst (Comes content after (all_given old) (all_given new) [] (Some (holding.ptr.place + size_at holding.ptr.place (blocks_of after.pools)))) (sym is) (record {
         content_is = refl;
         held_is = (λ other. found_changed old new entry.addr (Some holding) (held_at old) changed other
             ∙ ap (cond (entry.addr == other) (Some (given_of holding))) (sym (found_given old other)));
-        notes_are = refl;
+        diagnostics_are = refl;
         end_is = refl;
       })
 
   -- `+` or `*` that was refused
   pub comes_refused : (entry : Entry) (align : Option ℕ) (refusal : Refusal) → is_some (held_at old entry.addr) ≡ false → asked_block tt align (asked_size entry.size) content ≡ Err refusal
-      → Comes content content (all_given old) (all_given old) (note entry.line (Refused entry.addr refusal)) None
+      → Comes content content (all_given old) (all_given old) (one_diagnostic entry.line (Refused entry.addr refusal)) None
       (allocation entry.line entry.at entry.addr align entry.size (found (all_given old) entry.addr) content)
   comes_refused entry align refusal absent refused =
-      let is : allocation entry.line entry.at entry.addr align entry.size (found (all_given old) entry.addr) content ≡ unserved (note entry.line (Refused entry.addr refusal)) content =
+      let is : allocation entry.line entry.at entry.addr align entry.size (found (all_given old) entry.addr) content ≡ unserved (one_diagnostic entry.line (Refused entry.addr refusal)) content =
       ap (λ held. allocation entry.line entry.at entry.addr align entry.size held content) (found_under old entry.addr None (none_is (held_at old entry.addr) absent))
       ∙ ap (answered entry.line entry.at entry.addr entry.size content) refused in
-      subst (Comes content content (all_given old) (all_given old) (note entry.line (Refused entry.addr refusal)) None) (sym is)
-      (comes_unserved content (all_given old) (note entry.line (Refused entry.addr refusal)))
+      subst (Comes content content (all_given old) (all_given old) (one_diagnostic entry.line (Refused entry.addr refusal)) None) (sym is)
+      (comes_unserved content (all_given old) (one_diagnostic entry.line (Refused entry.addr refusal)))
 
   -- `-` for an address that isn't held
   pub comes_not_held : (number address : ℕ) → held_at old address ≡ None
-      → Comes content content (all_given old) (all_given old) (note number (NotHeld address)) None (release number address (found (all_given old) address) content)
+      → Comes content content (all_given old) (all_given old) (one_diagnostic number (NotHeld address)) None (release number address (found (all_given old) address) content)
   comes_not_held number address absent =
-      let P : Option Given → Type 0 = λ held. Comes content content (all_given old) (all_given old) (note number (NotHeld address)) None (release number address held content) in
-      subst P (sym (found_under old address None absent)) (comes_unserved content (all_given old) (note number (NotHeld address)))
+      let P : Option Given → Type 0 = λ held. Comes content content (all_given old) (all_given old) (one_diagnostic number (NotHeld address)) None (release number address held content) in
+      subst P (sym (found_under old address None absent)) (comes_unserved content (all_given old) (one_diagnostic number (NotHeld address)))
 
   -- `-`
   pub comes_released : (number address : ℕ) (holding : Holding) → held_at old address ≡ Some holding → after ≡ without holding.ptr.place content
@@ -143,7 +143,7 @@ module _ (old new : List Holding) (content after : Bare) where
       subst P (sym (found_under old address (Some holding) held)) (record {
         content_is = freed;
         held_is = (λ other. found_changed old new address None (held_at old) changed other ∙ ap (cond (address == other) None) (sym (found_given old other)));
-        notes_are = refl;
+        diagnostics_are = refl;
         end_is = refl;
       })
 
@@ -159,28 +159,28 @@ module _ (old new : List Holding) (content after : Bare) where
         held_is = (λ other. found_changed old new entry.addr (Some holding) (λ q. cond (address == q) None (held_at old q)) changed other
             ∙ ap (cond (entry.addr == other) (Some (given_of holding)))
             (ap-cond (option_map given_of) (address == other) None (held_at old other) ∙ ap (cond (address == other) None) (sym (found_given old other))));
-        notes_are = refl;
+        diagnostics_are = refl;
         end_is = refl;
       })
 
   -- `>` that was refused
   pub comes_not_moved : (address from : ℕ) (entry : Entry) (refusal : Refusal) → realloc (λ one other. true) tt (Some (from, tt)) (asked_size entry.size) content ≡ Err refusal
       → after ≡ without from content → ((other : ℕ) → held_at new other ≡ cond (address == other) None (held_at old other))
-      → Comes content after (all_given old) (all_given new) (note entry.line (Refused entry.addr refusal)) None (moved entry.line entry.at address from entry.addr entry.size content
+      → Comes content after (all_given old) (all_given new) (one_diagnostic entry.line (Refused entry.addr refusal)) None (moved entry.line entry.at address from entry.addr entry.size content
       (realloc (λ one other. true) tt (Some (from, tt)) (asked_size entry.size) content))
   comes_not_moved address from entry refusal refused freed changed =
-      subst (λ answer. Comes content after (all_given old) (all_given new) (note entry.line (Refused entry.addr refusal)) None (moved entry.line entry.at address from entry.addr entry.size content answer)) (sym refused) (record {
+      subst (λ answer. Comes content after (all_given old) (all_given new) (one_diagnostic entry.line (Refused entry.addr refusal)) None (moved entry.line entry.at address from entry.addr entry.size content answer)) (sym refused) (record {
         content_is = freed;
         held_is = (λ other. found_changed old new address None (held_at old) changed other ∙ ap (cond (address == other) None) (sym (found_given old other)));
-        notes_are = refl;
+        diagnostics_are = refl;
         end_is = refl;
       })
 
 -- a diagnostic before those of a moment
-pub comes_after_note : (content after : Bare) (old new : List Given) (first : Diagnostic) (notes : List Diagnostic) (end : Option ℕ) (moment : Moment)
-    → Comes content after old new notes end moment → Comes content after old new (first ∷ notes) end (noted_after (first ∷ []) moment)
-comes_after_note content after old new first notes end moment comes =
-    record { content_is = comes.content_is; held_is = comes.held_is; notes_are = ap (λ ns. first ∷ ns) comes.notes_are; end_is = comes.end_is }
+pub comes_after_diagnostic : (content after : Bare) (old new : List Given) (first : Diagnostic) (diagnostics : List Diagnostic) (end : Option ℕ) (moment : Moment)
+    → Comes content after old new diagnostics end moment → Comes content after old new (first ∷ diagnostics) end (after_diagnostics (first ∷ []) moment)
+comes_after_diagnostic content after old new first diagnostics end moment comes =
+    record { content_is = comes.content_is; held_is = comes.held_is; diagnostics_are = ap (λ ns. first ∷ ns) comes.diagnostics_are; end_is = comes.end_is }
 
 module _ (old_held : List Holding) (content : Bare) (number : ℕ) (at : Option (List ℕ)) (pending : Option ℕ) (old address size : ℕ) (is_pending : pending ≡ Some old) where
   -- `>` after `<`, told of what both are held under
@@ -194,7 +194,7 @@ module _ (old_held : List Holding) (content : Bare) (number : ℕ) (at : Option 
   -- the old address isn't held
   pub renewal_allocates : held_at old_held old ≡ None
       → renewal number at pending address size (found (all_given old_held)) content
-      ≡ noted_after (note number (NotHeld old)) (allocation number at address None size (found (all_given old_held) address) content)
+      ≡ after_diagnostics (one_diagnostic number (NotHeld old)) (allocation number at address None size (found (all_given old_held) address) content)
   renewal_allocates none = renewed None (found (all_given old_held) address) (found_under old_held old None none) refl
 
   module _ (holding : Holding) (held : held_at old_held old ≡ Some holding) where
@@ -203,23 +203,23 @@ module _ (old_held : List Holding) (content : Bare) (number : ℕ) (at : Option 
     is_held_too = not (address == old) && is_some (held_at old_held address)
 
     by_both : renewal number at pending address size (found (all_given old_held)) content
-        ≡ cond is_held_too (unserved (note number (AlreadyHeld address)) content)
+        ≡ cond is_held_too (unserved (one_diagnostic number (AlreadyHeld address)) content)
         (moved number at old holding.ptr.place address size content (realloc (λ one other. true) tt (Some (holding.ptr.place, tt)) (asked_size size) content))
     by_both =
         renewed (Some (given_of holding)) (option_map given_of (held_at old_held address)) (found_under old_held old (Some holding) held) (found_given old_held address)
-        ∙ ap (λ some. cond (not (address == old) && some) (unserved (note number (AlreadyHeld address)) content)
+        ∙ ap (λ some. cond (not (address == old) && some) (unserved (one_diagnostic number (AlreadyHeld address)) content)
         (moved number at old holding.ptr.place address size content (realloc (λ one other. true) tt (Some (holding.ptr.place, tt)) (asked_size size) content)))
         (some_given (held_at old_held address))
 
-    pub renewal_is_held : is_held_too ≡ true → renewal number at pending address size (found (all_given old_held)) content ≡ unserved (note number (AlreadyHeld address)) content
+    pub renewal_is_held : is_held_too ≡ true → renewal number at pending address size (found (all_given old_held)) content ≡ unserved (one_diagnostic number (AlreadyHeld address)) content
     renewal_is_held is =
-        by_both ∙ ap (λ b. cond b (unserved (note number (AlreadyHeld address)) content)
+        by_both ∙ ap (λ b. cond b (unserved (one_diagnostic number (AlreadyHeld address)) content)
         (moved number at old holding.ptr.place address size content (realloc (λ one other. true) tt (Some (holding.ptr.place, tt)) (asked_size size) content))) is
 
     pub renewal_moves : is_held_too ≡ false → renewal number at pending address size (found (all_given old_held)) content
         ≡ moved number at old holding.ptr.place address size content (realloc (λ one other. true) tt (Some (holding.ptr.place, tt)) (asked_size size) content)
     renewal_moves is =
-        by_both ∙ ap (λ b. cond b (unserved (note number (AlreadyHeld address)) content)
+        by_both ∙ ap (λ b. cond b (unserved (one_diagnostic number (AlreadyHeld address)) content)
         (moved number at old holding.ptr.place address size content (realloc (λ one other. true) tt (Some (holding.ptr.place, tt)) (asked_size size) content))) is
 
 -- `>` asks as `+` does where the old address isn't held

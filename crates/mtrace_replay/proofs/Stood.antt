@@ -12,7 +12,7 @@ use Rattle.mtrace_log.specs.declared.event.LineFault.TheVariants as fault
 use Rattle.mtrace_replay.specs.declared.diagnostic.Diagnostic.{Diagnostic}
 use Rattle.mtrace_replay.specs.declared.diagnostic.Kind.TheVariants.{AlreadyHeld}
 use Rattle.mtrace_replay.specs.Started.{Bare, left_by}
-use Rattle.mtrace_replay.specs.Moment.{Reading, Given, Moment, unserved, note, without, outcome, renewal, reallocation, allocation, answered, asked_size, asked_block, release, moved}
+use Rattle.mtrace_replay.specs.Moment.{ReadLine, Given, Moment, unserved, one_diagnostic, without, outcome, renewal, reallocation, allocation, answered, asked_size, asked_block, release, moved}
 use Rattle.mtrace_replay.proofs.AskedBlock.{live_from_asked}
 
 -- the block was live in the content, or begins where the moment gave one
@@ -22,8 +22,8 @@ HasStood content moment block = Contains (blocks_of content.pools) block ⊎ ((g
 abbrev pub StoodIn : Bare → Moment → Type 0
 StoodIn content moment = (block : Block (Unit {0})) → Contains (blocks_of moment.content.pools) block → is_free block ≡ false → HasStood content moment block
 
-stood_unserved : (content : Bare) (notes : List Diagnostic) → StoodIn content (unserved notes content)
-stood_unserved content notes block has live = inl has
+stood_unserved : (content : Bare) (diagnostics : List Diagnostic) → StoodIn content (unserved diagnostics content)
+stood_unserved content diagnostics block has live = inl has
 
 module _ (content : Bare) (number : ℕ) (at : Option (List ℕ)) (address size : ℕ) where
   stood_answered : (align : Option ℕ) (answer : Result (ℕ × Bare) Refusal) → asked_block tt align (asked_size size) content ≡ answer → StoodIn content (answered number at address size content answer)
@@ -35,7 +35,7 @@ module _ (content : Bare) (number : ℕ) (at : Option (List ℕ)) (address size 
 
   stood_allocation : (align : Option ℕ) (held : Option Given) → StoodIn content (allocation number at address align size held content)
   stood_allocation align None = stood_answered align (asked_block tt align (asked_size size) content) refl
-  stood_allocation align (Some given) = stood_unserved content (note number (AlreadyHeld address))
+  stood_allocation align (Some given) = stood_unserved content (one_diagnostic number (AlreadyHeld address))
 
   stood_without : (place : ℕ) (block : Block (Unit {0})) → Contains (blocks_of (without place content).pools) block → is_free block ≡ false → Contains (blocks_of content.pools) block
   stood_without place block has live = by_answer (free (λ owner. true) place content) refl has
@@ -62,8 +62,8 @@ module _ (content : Bare) (number : ℕ) (at : Option (List ℕ)) (address size 
   stood_reallocation old None held_new = stood_allocation None held_new
   stood_reallocation old (Some given) held_new =
       let answer = realloc (λ one other. true) tt (Some (given.place, tt)) (asked_size size) content in
-      stood_either (not (address == old) && is_some held_new) (unserved (note number (AlreadyHeld address)) content) (moved number at old given.place address size content answer)
-      (stood_unserved content (note number (AlreadyHeld address))) (stood_moved old given.place answer refl)
+      stood_either (not (address == old) && is_some held_new) (unserved (one_diagnostic number (AlreadyHeld address)) content) (moved number at old given.place address size content answer)
+      (stood_unserved content (one_diagnostic number (AlreadyHeld address))) (stood_moved old given.place answer refl)
 
   stood_renewal : (line : Option ℕ) (held : ℕ → Option Given) → StoodIn content (renewal number at line address size held content)
   stood_renewal None held block has live = inl has
@@ -73,7 +73,7 @@ stood_release : (content : Bare) (number address : ℕ) (held : Option Given) �
 stood_release content number address None block has live = inl has
 stood_release content number address (Some given) block has live = inl (stood_without content number None address 0 given.place block has live)
 
-pub stood_outcome : (content : Bare) (number : ℕ) (line : Reading) (pending : Option ℕ) (held : ℕ → Option Given) → StoodIn content (outcome number line pending held content)
+pub stood_outcome : (content : Bare) (number : ℕ) (line : ReadLine) (pending : Option ℕ) (held : ℕ → Option Given) → StoodIn content (outcome number line pending held content)
 stood_outcome content number (Err fault.TooLong) pending held block has live = inl has
 stood_outcome content number (Err fault.NotALine) pending held block has live = inl has
 stood_outcome content number (Ok Start) pending held block has live = inl has

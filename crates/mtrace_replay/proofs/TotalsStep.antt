@@ -1,4 +1,4 @@
--- The totals of a log's lines after one line more, by what the line came to.
+-- The totals of a log's lines after one line more, by the outcome of that line.
 use Rattle.std.proofs.Common.{◌≡◌, ℕ, suc, ◌+◌, Bool, true, false, List, ◌∷◌, length, ◌⊎◌, inl, inr, refl, ap, ◌∙◌, subst, arith, Option, Some, None, count_by}
 use Rattle.std.specs.Prelude.{nat_lt, unwrap_or, is_some, option_map, if◌then◌else◌}
 use Rattle.std.specs.List.{Contains, list_any}
@@ -74,7 +74,7 @@ high_by start past moment high is (Some end) stood given =
 pub totals_of_line : (start : Bare) (past : List Moment) (moment : Moment) (all : List Given) (old : Totals) (end : Option ℕ) (refused : Bool) (bytes blocks : ℕ)
     → AreTotals start past old
     → end ≡ end_of moment
-    → refused ≡ list_any (λ (note : Diagnostic). is_refusal note.kind) moment.notes
+    → refused ≡ list_any (λ (diagnostic : Diagnostic). is_refusal diagnostic.kind) moment.diagnostics
     → AreHeld all (moment ∷ past)
     → bytes ≡ total_size (entries_of all) → blocks ≡ length all
     → ((block : Block (Unit {0})) → Contains (blocks_of moment.content.pools) block → is_free block ≡ false → Contains (blocks_of (content_after start past).pools) block ⊎ ((place : ℕ) × (end ≡ Some place) × (block.place + block.size ≡ place)))

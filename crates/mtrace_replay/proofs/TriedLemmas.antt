@@ -3,13 +3,13 @@ use Rattle.std.proofs.Common.{◌≡◌, ◌≢◌, ◌<◌, ℕ, List, [], ◌�
 use Rattle.std.specs.List.{AllByRecursion}
 use Rattle.std.specs.Prelude.{Result, Ok, Err, OnOk, OnErr}
 use Rattle.std.specs.Io.KnownBytes.{prepend_known}
-use Rattle.mtrace_log.specs.Progress.{Progress, Status, Reading, Ended, Faulted, to_come}
+use Rattle.mtrace_log.specs.Progress.{Progress, Stage, Reading, Ended, Faulted, to_come}
 use Rattle.mtrace_log.specs.HasRead.{HasRead, HasReadAll, HasReadSo}
 use Rattle.mtrace_log.specs.Trace.{HasNotFailed}
 use Rattle.mtrace_log.specs.declared.call.Call.{Call}
 use Rattle.mtrace_log.specs.declared.call.Call.TheVariants.{Gave, Failed, Began, Ended as ToldEnd}
 use Rattle.mtrace_replay.specs.declared.settings.Settings.{Settings}
-use Rattle.mtrace_replay.specs.Moment.{Reading as Answer}
+use Rattle.mtrace_replay.specs.Moment.{ReadLine}
 use Rattle.mtrace_replay.specs.Replay.{Replayed}
 use Rattle.mtrace_replay.specs.Run.{Bytes, FailedInPiece, IsPastLastNumber}
 use Rattle.mtrace_replay.specs.RunFit.{IsTried, NoneFailed, FailsIn}
@@ -24,13 +24,13 @@ tried_served settings progress replay start left after so_far none all = (so_far
 pub tried_refused : (settings : Settings) (progress : Progress) (replay : Replayed) (start left : Bytes) → IsReplaying settings progress replay start left
     → 0 < replay.totals.refused → IsTried settings false start left
 tried_refused settings progress replay start left so_far some =
-    (so_far.lines, progress.held, by_status progress.status refl so_far.read, subst (λ n. 0 < n) so_far.stands.totals.refused some)
+    (so_far.lines, progress.held, by_stage progress.stage refl so_far.read, subst (λ n. 0 < n) so_far.stands.totals.refused some)
   where
-    by_status : (status : Status) → progress.status ≡ status → HasReadSo status start (to_come progress left) so_far.lines
+    by_stage : (stage : Stage) → progress.stage ≡ stage → HasReadSo stage start (to_come progress left) so_far.lines
         → HasRead start (prepend_known progress.held left) so_far.lines ⊎ HasReadAll start left so_far.lines
-    by_status Reading is read = inl read
-    by_status Ended is read = inr (used_to_end progress.held start left so_far.lines read)
-    by_status (Faulted fault) is read = absurd (so_far.no_fault fault is)
+    by_stage Reading is read = inl read
+    by_stage Ended is read = inr (used_to_end progress.held start left so_far.lines read)
+    by_stage (Faulted fault) is read = absurd (so_far.no_fault fault is)
 
 gave_no_failure : (counts : List ℕ) → AllByRecursion (λ call. call ≢ Failed) (map Gave counts)
 gave_no_failure [] = tt
@@ -67,11 +67,11 @@ none_failed-began old middle new began then =
 
 -- it began again, and then failed
 pub fails_in : (whole left_old left_middle left_new : Bytes) (calls_old calls_middle calls_new : List Call) → left_middle ≡ whole → calls_middle ≡ Began ∷ calls_old
-    → ((lines : List Answer) × (FailedInPiece left_middle left_new calls_middle calls_new lines
+    → ((lines : List ReadLine) × (FailedInPiece left_middle left_new calls_middle calls_new lines
     ⊎ ((unused : List ℕ) × IsPastLastNumber left_middle (prepend_known unused left_new) calls_middle calls_new lines)))
     → FailsIn whole left_old left_new calls_old calls_new
 fails_in whole left_old left_middle left_new calls_old calls_middle calls_new left_is calls_are failed =
-    let P : Bytes → List Call → Type 0 = λ left calls. (lines : List Answer) × (FailedInPiece left left_new calls calls_new lines
+    let P : Bytes → List Call → Type 0 = λ left calls. (lines : List ReadLine) × (FailedInPiece left left_new calls calls_new lines
     ⊎ ((unused : List ℕ) × IsPastLastNumber left (prepend_known unused left_new) calls calls_new lines)) in
     inr (subst (P whole) calls_are (subst (λ left. P left calls_middle) left_is failed))
 

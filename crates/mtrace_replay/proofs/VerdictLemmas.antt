@@ -6,7 +6,7 @@ use Rattle.std.proofs.lemmas.List.Sums.{sum_by-cons}
 use Rattle.std.proofs.lemmas.Bool.{eq-eqb, ne_eqb}
 use Rattle.mtrace_log.specs.HasRead.{HasRead, HasReadAll}
 use Rattle.mtrace_replay.specs.declared.settings.Settings.{Settings}
-use Rattle.mtrace_replay.specs.Moment.{Reading, Moment}
+use Rattle.mtrace_replay.specs.Moment.{ReadLine, Moment}
 use Rattle.mtrace_replay.specs.History.{history}
 use Rattle.mtrace_replay.specs.Totals.{is_refused}
 use Rattle.mtrace_replay.specs.Run.{Bytes}
@@ -16,7 +16,7 @@ use Rattle.mtrace_replay.proofs.ReplayingLemmas.{prepend_nothing}
 use Rattle.mtrace_replay.proofs.ToldLemmas.{told_first, told_many, told_few}
 
 -- no fewer lines are refused where more come behind them
-refusals-more : (settings : Settings) (lines : List Reading) (line : Reading) → refusals settings lines ≤ refusals settings (lines ++ line ∷ [])
+refusals-more : (settings : Settings) (lines : List ReadLine) (line : ReadLine) → refusals settings lines ≤ refusals settings (lines ++ line ∷ [])
 refusals-more settings lines line =
     omega (
       arith,
@@ -24,17 +24,17 @@ refusals-more settings lines line =
       sum_by-cons (λ (m : Moment). cond (is_refused m) 1 0) (next_moment settings lines line) (history settings lines),
     )
 
-refusals-append : (settings : Settings) (lines more : List Reading) → refusals settings lines ≤ refusals settings (lines ++ more)
+refusals-append : (settings : Settings) (lines more : List ReadLine) → refusals settings lines ≤ refusals settings (lines ++ more)
 refusals-append settings lines [] = omega (arith, ap (refusals settings) (append-nil lines))
 refusals-append settings lines (line ∷ more) =
     omega (arith, refusals-more settings lines line, refusals-append settings (lines ++ line ∷ []) more, ap (refusals settings) (append_assoc lines (line ∷ []) more))
 
-refusals-take : (settings : Settings) (n : ℕ) (lines : List Reading) → refusals settings (take n lines) ≤ refusals settings lines
+refusals-take : (settings : Settings) (n : ℕ) (lines : List ReadLine) → refusals settings (take n lines) ≤ refusals settings lines
 refusals-take settings n lines = omega (arith, refusals-append settings (take n lines) (drop n lines), ap (refusals settings) (take-append-drop n lines))
 
-module _ (settings : Settings) (text : List ℕ) (middle left : Bytes) (lines : List Reading) (all : HasReadAll (Some text) middle lines) where
+module _ (settings : Settings) (text : List ℕ) (middle left : Bytes) (lines : List ReadLine) (all : HasReadAll (Some text) middle lines) where
   -- a refused line among the first ones is one among all
-  refused_first : (first : List Reading) (most : ℕ) → most ≤ length lines → first ≡ take most lines → 0 < refusals settings first → 0 < refusals settings lines
+  refused_first : (first : List ReadLine) (most : ℕ) → most ≤ length lines → first ≡ take most lines → 0 < refusals settings first → 0 < refusals settings lines
   refused_first first most within is some = omega (arith, some, ap (refusals settings) is, refusals-take settings most lines)
 
   some_refused : (serves : Bool) → serves ≡ false → IsTried settings serves (Some text) left → 0 < refusals settings lines

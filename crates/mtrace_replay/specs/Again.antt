@@ -4,9 +4,9 @@ use Rattle.std.specs.Io.KnownBytes.{prepend_known}
 use Rattle.mtrace_log.specs.HasRead.{HasRead, HasReadAll}
 use Rattle.mtrace_log.specs.Trace.{HasNotFailed}
 use Rattle.mtrace_replay.specs.declared.settings.Settings.{Settings}
-use Rattle.mtrace_replay.specs.Moment.{Reading}
+use Rattle.mtrace_replay.specs.Moment.{ReadLine}
 use Rattle.mtrace_replay.specs.Replay.{Replayed, StandsFor}
-use Rattle.mtrace_replay.specs.declared.report.Report.TheVariants.{Notes}
+use Rattle.mtrace_replay.specs.declared.report.Report.TheVariants.{Nothing}
 use Rattle.mtrace_replay.specs.declared.status.Status.{Status}
 use Rattle.mtrace_replay.specs.declared.status.RunFault.{RunFault}
 use Rattle.mtrace_replay.specs.declared.status.RunFault.TheVariants.{Read, Write}
@@ -17,14 +17,14 @@ use Rattle.mtrace_log.specs.declared.call.Call.TheVariants.{Began, Failed}
 
 -- The first lines of a text were read: `most` of them, or all where it has no more. Unused are the bytes that were asked of
 -- the reader and belong to none of them.
-pub record HasReadFirst (most : ℕ) (before after : Bytes) (lines : List Reading) : Type 0 where
+pub record HasReadFirst (most : ℕ) (before after : Bytes) (lines : List ReadLine) : Type 0 where
   pub few : length lines ≤ most
   pub unused : List ℕ
   pub read : ((length lines ≡ most) × HasRead before (prepend_known unused after) lines) ⊎ HasReadAll before after lines
 
 -- those lines were replayed
 pub record HasReplayedFirst (most : ℕ) (settings : Settings) (replay : Replayed) (left_old left_new : Bytes) : Type 0 where
-  pub lines : List Reading
+  pub lines : List ReadLine
   pub read : HasReadFirst most left_old left_new lines
   pub stands : StandsFor replay settings (reverse lines)
 
@@ -32,7 +32,7 @@ pub record HasReplayedFirst (most : ℕ) (settings : Settings) (replay : Replaye
 abbrev pub FailsAgain : (whole left_old left_new : Bytes) (calls_old calls_new : List Call) → Type 0
 FailsAgain whole left_old left_new calls_old calls_new =
     ((left_new ≡ left_old) × (calls_new ≡ Failed ∷ calls_old))
-    ⊎ ((first : List Reading) × FailedInPiece whole left_new (Began ∷ calls_old) calls_new first)
+    ⊎ ((first : List ReadLine) × FailedInPiece whole left_new (Began ∷ calls_old) calls_new first)
 
 -- What a call leaves that reads and replays the first lines of a text, from this start on, behind these calls. They were replayed, or
 -- the reader failed.
@@ -56,22 +56,22 @@ pub record Follows {R W T : Type 0} (Tells : (left_new : Bytes) (text : List ℕ
   pub nothing_put : IsErrOf result Read → writer_new ≡ writer_old
 
 -- the log was read to its end and its diagnostics written, and then what follows for its lines
-pub record EndsAgain {R W : Type 0} (settings : Settings) (Follows : List Reading → Result Status RunFault → R → R → W → W → Type 0) (status : Status)
+pub record EndsAgain {R W : Type 0} (settings : Settings) (Follows : List ReadLine → Result Status RunFault → R → R → W → W → Type 0) (status : Status)
     (left whole : R → Bytes) (taken : W → Bytes) (result : Result Status RunFault) (reader_old reader_middle reader_new : R) (writer_old writer_middle writer_new : W) : Type 0 where
-  pub reports : Reports Notes settings status (left reader_old) (left reader_middle) (taken writer_old) (taken writer_middle)
+  pub reports : Reports Nothing settings status (left reader_old) (left reader_middle) (taken writer_old) (taken writer_middle)
   pub answer : IfOk result (λ answered. answered ≡ status)
   pub whole_kept : whole reader_middle ≡ whole reader_old
   pub follow : Follows reports.lines result reader_middle reader_new writer_middle writer_new
 
 -- What a run leaves that reads its log again: first a run without a report, in the middle. Where that fails, this is the answer,
 -- and nothing more is done.
-pub record RunsAgain {R W : Type 0} (settings : Settings) (Follows : List Reading → Result Status RunFault → R → R → W → W → Type 0)
+pub record RunsAgain {R W : Type 0} (settings : Settings) (Follows : List ReadLine → Result Status RunFault → R → R → W → W → Type 0)
     (left whole : R → Bytes) (pulls : R → List Call) (taken : W → Bytes) (puts : W → List Call)
     (result : Result Status RunFault) (reader_old reader_new : R) (writer_old writer_new : W) : Type 0 where
   pub run : Result Status RunFault
   pub reader_middle : R
   pub writer_middle : W
-  pub runs : Runs Notes settings left pulls taken puts run reader_old reader_middle writer_old writer_middle
+  pub runs : Runs Nothing settings left pulls taken puts run reader_old reader_middle writer_old writer_middle
   pub run_fault : (fault : RunFault) → run ≡ Err fault → (result ≡ Err fault) × (reader_new ≡ reader_middle) × (writer_new ≡ writer_middle)
   pub finished : (status : Status) → run ≡ Ok status
       → EndsAgain settings Follows status left whole taken result reader_old reader_middle reader_new writer_old writer_middle writer_new

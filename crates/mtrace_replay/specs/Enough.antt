@@ -14,4 +14,4 @@ HoldsAtMost most past = (k : ℕ) → (all : List Given) × AreHeld all (first_m
 
 -- the line isn't refused for want of a record
 abbrev pub IsNeverFull : Moment → Type 0
-IsNeverFull moment = AllByRecursion (λ (note : Diagnostic). (address : ℕ) → note.kind ≢ Refused address TableFull) moment.notes
+IsNeverFull moment = AllByRecursion (λ (diagnostic : Diagnostic). (address : ℕ) → diagnostic.kind ≢ Refused address TableFull) moment.diagnostics

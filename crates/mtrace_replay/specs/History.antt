@@ -7,7 +7,7 @@ use Rattle.mtrace_replay.specs.Entry.{Entry}
 use Rattle.mtrace_replay.specs.declared.diagnostic.Diagnostic.{Diagnostic}
 use Rattle.mtrace_replay.specs.declared.settings.Settings.{Settings}
 use Rattle.mtrace_replay.specs.Started.{Bare, started}
-use Rattle.mtrace_replay.specs.Moment.{Reading, Given, Moment, moment, half}
+use Rattle.mtrace_replay.specs.Moment.{ReadLine, Given, Moment, moment, half}
 
 -- what an address is held under, by what a moment gave, or else the one before
 abbrev pub given_or : Option Given → ℕ → Option Given → Option Given
@@ -34,32 +34,32 @@ content_after start [] = start
 content_after start (moment ∷ past) = moment.content
 
 -- the address of a line `<`
-abbrev pub old_address : Reading → Option ℕ
+abbrev pub old_address : ReadLine → Option ℕ
 old_address (Ok (Old at address)) = Some address
 old_address _ = None
 
 -- the address of the last line, where that is `<`
-abbrev pub pending : List Reading → Option ℕ
+abbrev pub pending : List ReadLine → Option ℕ
 pending [] = None
 pending (line ∷ past) = old_address line
 
 -- the moments of lines, from a heap on
-unfoldable pub moments : Bare → List Reading → List Moment
+unfoldable pub moments : Bare → List ReadLine → List Moment
 moments start [] = []
 moments start (line ∷ past) =
     moment (length past) line (pending past) (held (moments start past)) (content_after start (moments start past)) ∷ moments start past
 
 -- the moments of a log's lines, the first line first
-abbrev pub history : Settings → List Reading → List Moment
+abbrev pub history : Settings → List ReadLine → List Moment
 history settings lines = moments (started settings) (reverse lines)
 
 -- the diagnostics in the order found
 abbrev pub notes : List Moment → List Diagnostic
 notes [] = []
-notes (moment ∷ past) = notes past ++ moment.notes
+notes (moment ∷ past) = notes past ++ moment.diagnostics
 
 -- the diagnostics of a log's lines, the first line first, with that of a last line `<`
-abbrev pub diagnostics : Settings → List Reading → List Diagnostic
+abbrev pub diagnostics : Settings → List ReadLine → List Diagnostic
 diagnostics settings lines = notes (history settings lines) ++ half (length lines) (pending (reverse lines))
 
 -- What is held, as a list: the addresses rise, and it has what an address is held under, and nothing else.

@@ -3,7 +3,7 @@ use Rattle.std.specs.Prelude.{◌≡◌, ◌≢◌, Bool, ℕ, ◌+◌, ◌*◌,
 use Rattle.std.specs.List.Sorted.{IsStrictlyIncreasing}
 use Rattle.mtrace_replay.specs.Holding.{Holding}
 use Rattle.mtrace_replay.specs.declared.key.Key.{Key}
-use Rattle.mtrace_replay.specs.declared.index.Found.{Found}
+use Rattle.mtrace_replay.specs.declared.index.LookUp.{LookUp}
 use Rattle.mtrace_replay.specs.Keys.{Kept}
 use Rattle.mtrace_replay.specs.Key.{all_held, HaveRows, RiseFrom}
 use Rattle.mtrace_replay.specs.Search.{StandsAt, FitsAt}
@@ -37,12 +37,12 @@ pub record LooksUp (times : ℕ) (old new : Indexed) : Type 0 where
   pub compared : (digits : ℕ) → old.room < 2 ^ digits → new.comparisons ≤ old.comparisons + times * digits
 
 -- the address stands at the key there, held or not, or else it would stand there
-pub record IsFound (keys : List Key) (found : Found) : Type 0 where
+pub record IsFound (keys : List Key) (found : LookUp) : Type 0 where
   pub held : IfOk found.place (StandsAt keys found.address)
   pub absent : IfErr found.place (FitsAt keys found.address)
 
 -- look-ups found where the address stands, and changed nothing
-pub record FindsAddress (times wanted : ℕ) (answer : Found) (old new : Indexed) : Type 0 where
+pub record FindsAddress (times wanted : ℕ) (answer : LookUp) (old new : Indexed) : Type 0 where
   pub found : IsFound old.keys answer
   pub address : answer.address ≡ wanted
   pub unchanged : new.all ≡ old.all

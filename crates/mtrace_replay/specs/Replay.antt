@@ -10,7 +10,7 @@ use Rattle.mtrace_replay.specs.declared.totals.Totals.{Totals}
 use Rattle.mtrace_replay.specs.Started.{Bare, started}
 use Rattle.mtrace_replay.specs.Step.{found}
 use Rattle.mtrace_replay.specs.Totals.{AreTotals, IsMost}
-use Rattle.mtrace_replay.specs.Moment.{Reading, Given, moment, asks, half}
+use Rattle.mtrace_replay.specs.Moment.{ReadLine, Given, moment, asks, half}
 use Rattle.mtrace_replay.specs.History.{AreHeld, held, moments, content_after, pending, entries_of}
 
 -- a replay: the heap's content, how often it was touched, how many addresses were compared, and the totals. `given`
@@ -31,7 +31,7 @@ abbrev pub entries : Replayed → List Entry
 entries replay = entries_of replay.given
 
 -- the replay stands for the lines, of which the latest comes first
-pub record StandsFor (replay : Replayed) (settings : Settings) (past : List Reading) : Type 0 where
+pub record StandsFor (replay : Replayed) (settings : Settings) (past : List ReadLine) : Type 0 where
   pub works : replay.out_of_memory ≡ false
   pub lines_are : replay.totals.lines ≡ length past
   pub pending_is : replay.pending ≡ pending past
@@ -41,18 +41,18 @@ pub record StandsFor (replay : Replayed) (settings : Settings) (past : List Read
   pub most : IsMost (moments (started settings) past) replay.most
 
 -- the diagnostics that one more line adds to those of the lines before it, of which the latest comes first
-abbrev pub added_notes : Settings → Reading → List Reading → List Diagnostic
-added_notes settings line past =
+abbrev pub added_diagnostics : Settings → ReadLine → List ReadLine → List Diagnostic
+added_diagnostics settings line past =
     let before = moments (started settings) past in
-    (moment (length past) line (pending past) (held before) (content_after (started settings) before)).notes
+    (moment (length past) line (pending past) (held before) (content_after (started settings) before)).diagnostics
 
 -- The line of this number was fed. Where that is served, the replay stands for it too, and the answer is what it adds
 -- to the diagnostics. Else memory was refused, by a heap that may lack it: what is held and the totals stay, for
 -- good. There are at most three look-ups and 384 touches, and no touch where the line asks nothing of the heap. The
 -- heap has as many records as before.
-pub record Feeds {H N : Type 0} (lacks : H → Type 0) (items : N → List Diagnostic) (number : ℕ) (line : Reading) (result : Result N ReplayFault) (old new : Replayed) : Type 0 where
-  pub stands : OnOk result ((settings : Settings) (past : List Reading) → StandsFor old settings past → StandsFor new settings (line ∷ past))
-  pub note : IfOk result (λ note. (settings : Settings) (past : List Reading) → StandsFor old settings past → items note ≡ added_notes settings line past)
+pub record Feeds {H N : Type 0} (lacks : H → Type 0) (items : N → List Diagnostic) (number : ℕ) (line : ReadLine) (result : Result N ReplayFault) (old new : Replayed) : Type 0 where
+  pub stands : OnOk result ((settings : Settings) (past : List ReadLine) → StandsFor old settings past → StandsFor new settings (line ∷ past))
+  pub diagnostics : IfOk result (λ diagnostics. (settings : Settings) (past : List ReadLine) → StandsFor old settings past → items diagnostics ≡ added_diagnostics settings line past)
   pub counted : OnOk result (new.totals.lines ≡ number)
   pub for_good : old.out_of_memory ≡ true → result ≡ Err OutOfMemory
   pub fault : IfErr result (λ fault. fault ≡ OutOfMemory)
@@ -67,7 +67,7 @@ pub record Feeds {H N : Type 0} (lacks : H → Type 0) (items : N → List Diagn
 
 -- what is wrong at the end is told, unless memory was refused
 pub record TellsEnd {H N : Type 0} (lacks : H → Type 0) (items : N → List Diagnostic) (result : Result N ReplayFault) (replay : Replayed) : Type 0 where
-  pub note : IfOk result (λ note. items note ≡ half replay.totals.lines replay.pending)
+  pub diagnostics : IfOk result (λ diagnostics. items diagnostics ≡ half replay.totals.lines replay.pending)
   pub fault : IfErr result (λ fault. fault ≡ OutOfMemory)
   pub for_good : OnErr result (replay.out_of_memory ≡ true)
   pub memory : OnErr result (MayLack lacks)

@@ -7,8 +7,8 @@ use Rattle.mtrace_log.specs.Trace.{HasGiven, HasGivenAll, HasGivenAndFailed, Has
 use Rattle.mtrace_log.specs.declared.call.Call.{Call}
 use Rattle.mtrace_replay.specs.Entry.{Entry}
 use Rattle.mtrace_replay.specs.declared.report.Report.{Report}
-use Rattle.mtrace_replay.specs.declared.report.Report.TheVariants.{Notes}
-use Rattle.mtrace_replay.specs.declared.run.Ended.{Ended}
+use Rattle.mtrace_replay.specs.declared.report.Report.TheVariants.{Nothing}
+use Rattle.mtrace_replay.specs.declared.run.FinishedRun.{FinishedRun}
 use Rattle.mtrace_replay.specs.declared.run.Failing.{Failing}
 use Rattle.mtrace_replay.specs.declared.run.Failing.TheVariants.{Reader, Writer}
 use Rattle.mtrace_replay.specs.declared.totals.Totals.{Totals}
@@ -20,57 +20,57 @@ use Rattle.mtrace_replay.specs.declared.status.RunFault.TheVariants.{Read, Write
 use Rattle.mtrace_replay.specs.Settings.{are_bad}
 use Rattle.mtrace_replay.specs.Started.{Bare, started}
 use Rattle.mtrace_replay.specs.Totals.{AreTotals}
-use Rattle.mtrace_replay.specs.Moment.{Reading, Given, half}
+use Rattle.mtrace_replay.specs.Moment.{ReadLine, Given, half}
 use Rattle.mtrace_replay.specs.History.{history, notes, diagnostics, AreHeld, entries_of, content_after}
-use Rattle.mtrace_replay.specs.Replay.{Replayed, StandsFor, entries, added_notes}
+use Rattle.mtrace_replay.specs.Replay.{Replayed, StandsFor, entries, added_diagnostics}
 use Rattle.mtrace_replay.specs.declared.diagnostic.Diagnostic.{Diagnostic}
-use Rattle.mtrace_replay.specs.Texts.{notes_text, report_text, status_of}
+use Rattle.mtrace_replay.specs.Texts.{diagnostics_text, report_text, clean_or_found}
 use Rattle.mtrace_log.specs.Output.{Wrote, Begins, Puts}
 
 abbrev pub Bytes : Type 0
 Bytes = Option (List ℕ)
 
 -- the text of the diagnostics of lines, the first line first
-abbrev pub text_of_notes : Settings → List Reading → List ℕ
-text_of_notes settings lines = notes_text (notes (history settings lines))
+abbrev pub text_of_notes : Settings → List ReadLine → List ℕ
+text_of_notes settings lines = diagnostics_text (notes (history settings lines))
 
 -- all diagnostics of the lines, and then the report
-abbrev pub whole_text : Report → Settings → List Reading → List Given → Totals → List ℕ
+abbrev pub whole_text : Report → Settings → List ReadLine → List Given → Totals → List ℕ
 whole_text report settings lines all totals =
-    notes_text (diagnostics settings lines)
+    diagnostics_text (diagnostics settings lines)
     ++ report_text report (entries_of all) totals (content_after (started settings) (history settings lines))
 
 -- all of the log was read, and the whole text of its history was written; the status is that text's
 pub record Reports (report : Report) (settings : Settings) (status : Status) (left_old left_new taken_old taken_new : Bytes) : Type 0 where
-  pub lines : List Reading
+  pub lines : List ReadLine
   pub read : HasReadAll left_old left_new lines
   pub all : List Given
   pub held : AreHeld all (history settings lines)
   pub totals : Totals
   pub summed : AreTotals (started settings) (history settings lines) totals
   pub wrote : Wrote taken_old taken_new (whole_text report settings lines all totals)
-  pub status_is : status ≡ status_of (diagnostics settings lines) (entries_of all)
+  pub status_is : status ≡ clean_or_found (diagnostics settings lines) (entries_of all)
 
 -- a run without a report, and what its heap holds in the end
 pub record Replays (settings : Settings) (status : Status) (content : Bare) (left_old left_new taken_old taken_new : Bytes) : Type 0 where
-  pub reports : Reports Notes settings status left_old left_new taken_old taken_new
+  pub reports : Reports Nothing settings status left_old left_new taken_old taken_new
   pub content_is : content ≡ content_after (started settings) (history settings reports.lines)
 
 -- a run without a report, and the replay in the end
 pub record EndsAt (settings : Settings) (status : Status) (replay : Replayed) (left_old left_new taken_old taken_new : Bytes) : Type 0 where
-  pub reports : Reports Notes settings status left_old left_new taken_old taken_new
+  pub reports : Reports Nothing settings status left_old left_new taken_old taken_new
   pub stands : StandsFor replay settings (reverse reports.lines)
   pub records : replay.content.records ≡ settings.records
 
 -- as many lines were read as there are numbers, more is to come, and the reader has not failed
-pub record IsPastLastNumber (left_old left_new : Bytes) (calls_old calls_new : List Call) (lines : List Reading) : Type 0 where
+pub record IsPastLastNumber (left_old left_new : Bytes) (calls_old calls_new : List Call) (lines : List ReadLine) : Type 0 where
   pub count : length lines ≡ greatest_number
   pub read : HasRead left_old left_new lines
   pub more : HasMore left_new
   pub given : HasGiven calls_old calls_new
 
 -- all of the log was read, and a beginning of the whole text was written
-pub record BeginsWhole (report : Report) (settings : Settings) (left_old left_new taken_old taken_new : Bytes) (lines : List Reading) : Type 0 where
+pub record BeginsWhole (report : Report) (settings : Settings) (left_old left_new taken_old taken_new : Bytes) (lines : List ReadLine) : Type 0 where
   pub read : HasReadAll left_old left_new lines
   pub all : List Given
   pub held : AreHeld all (history settings lines)
@@ -79,20 +79,20 @@ pub record BeginsWhole (report : Report) (settings : Settings) (left_old left_ne
   pub begun : Begins taken_old taken_new (whole_text report settings lines all totals)
 
 -- the reader failed, once and last: whole lines were read, and perhaps a piece of the next one, which is lost
-abbrev pub FailedInPiece : (left_old left_new : Bytes) (calls_old calls_new : List Call) → List Reading → Type 0
+abbrev pub FailedInPiece : (left_old left_new : Bytes) (calls_old calls_new : List Call) → List ReadLine → Type 0
 FailedInPiece left_old left_new calls_old calls_new lines = HasReadBefore left_old left_new lines × HasGivenAndFailed calls_old calls_new
 
 -- The reader failed, or a line past the last number would come. In the second case unused are the bytes that were
 -- asked of the reader and belong to no line that was read. The diagnostics of the lines read were written, and no
 -- report.
 pub record StopsAtRead (settings : Settings) (left_old left_new : Bytes) (calls_old calls_new : List Call) (taken_old taken_new : Bytes) : Type 0 where
-  pub lines : List Reading
+  pub lines : List ReadLine
   pub reason : FailedInPiece left_old left_new calls_old calls_new lines
       ⊎ ((unused : List ℕ) × IsPastLastNumber left_old (prepend_known unused left_new) calls_old calls_new lines)
   pub wrote : Wrote taken_old taken_new (text_of_notes settings lines)
 
 -- a beginning of the diagnostics of the lines read, or of the whole text where the log had ended
-abbrev pub BeginsText : Report → Settings → (left_old left_new taken_old taken_new : Bytes) → List Reading → Type 0
+abbrev pub BeginsText : Report → Settings → (left_old left_new taken_old taken_new : Bytes) → List ReadLine → Type 0
 BeginsText report settings left_old left_new taken_old taken_new lines =
     (HasRead left_old left_new lines × Begins taken_old taken_new (text_of_notes settings lines))
     ⊎ BeginsWhole report settings left_old left_new taken_old taken_new lines
@@ -100,7 +100,7 @@ BeginsText report settings left_old left_new taken_old taken_new lines =
 -- The writer failed, after a beginning of what was to be written. Unused are the bytes that were asked of
 -- the reader and belong to no line that was read.
 pub record StopsAtWrite (report : Report) (settings : Settings) (left_old left_new taken_old taken_new : Bytes) : Type 0 where
-  pub lines : List Reading
+  pub lines : List ReadLine
   pub unused : List ℕ
   pub begun : BeginsText report settings left_old (prepend_known unused left_new) taken_old taken_new lines
 
@@ -142,12 +142,12 @@ pub record RunsOnce {R W : Type 0} (report : Report) (settings : Settings) (left
 -- what a replay writes at the end: the diagnostic of the last line, and the report
 abbrev pub end_text : Report → Replayed → List ℕ
 end_text report replay =
-    notes_text (half replay.totals.lines replay.pending) ++ report_text report (entries replay) replay.totals replay.content
+    diagnostics_text (half replay.totals.lines replay.pending) ++ report_text report (entries replay) replay.totals replay.content
 
 -- whether there is a diagnostic
-abbrev pub is_some_note : List Diagnostic → Bool
-is_some_note [] = false
-is_some_note (note ∷ more) = true
+abbrev pub is_some_diagnostic : List Diagnostic → Bool
+is_some_diagnostic [] = false
+is_some_diagnostic (diagnostic ∷ more) = true
 
 -- whether something is held
 abbrev pub is_some_entry : List Entry → Bool
@@ -155,42 +155,42 @@ is_some_entry [] = false
 is_some_entry (first ∷ entries) = true
 
 -- one line more was replayed, and its diagnostics were written
-pub record LineGives (new : Replayed) (settings : Settings) (line : Reading) (past : List Reading) (taken_old taken_new : Bytes) (noted : Bool) : Type 0 where
+pub record LineGives (new : Replayed) (settings : Settings) (line : ReadLine) (past : List ReadLine) (taken_old taken_new : Bytes) (has_diagnostics : Bool) : Type 0 where
   pub stands : StandsFor new settings (line ∷ past)
-  pub wrote : Wrote taken_old taken_new (notes_text (added_notes settings line past))
-  pub noted_is : noted ≡ is_some_note (added_notes settings line past)
+  pub wrote : Wrote taken_old taken_new (diagnostics_text (added_diagnostics settings line past))
+  pub has_diagnostics_is : has_diagnostics ≡ is_some_diagnostic (added_diagnostics settings line past)
 
 -- one line more was replayed, and its diagnostics were begun
-pub record LineBegins (new : Replayed) (settings : Settings) (line : Reading) (past : List Reading) (taken_old taken_new : Bytes) : Type 0 where
+pub record LineBegins (new : Replayed) (settings : Settings) (line : ReadLine) (past : List ReadLine) (taken_old taken_new : Bytes) : Type 0 where
   pub stands : StandsFor new settings (line ∷ past)
-  pub begun : Begins taken_old taken_new (notes_text (added_notes settings line past))
+  pub begun : Begins taken_old taken_new (diagnostics_text (added_diagnostics settings line past))
 
 -- all lines of the log were read and replayed, and their diagnostics were written
-pub record HasReplayed (settings : Settings) (replay : Replayed) (noted : Bool) (left_old left_new taken_old taken_new : Bytes) : Type 0 where
-  pub lines : List Reading
+pub record HasReplayed (settings : Settings) (replay : Replayed) (has_diagnostics : Bool) (left_old left_new taken_old taken_new : Bytes) : Type 0 where
+  pub lines : List ReadLine
   pub read : HasReadAll left_old left_new lines
   pub stands : StandsFor replay settings (reverse lines)
   pub wrote : Wrote taken_old taken_new (text_of_notes settings lines)
-  pub noted_is : noted ≡ is_some_note (notes (history settings lines))
+  pub has_diagnostics_is : has_diagnostics ≡ is_some_diagnostic (notes (history settings lines))
 
 -- What a call leaves that replays one line and puts what is wrong with it, for all lines before it.
-pub record ReplaysLine {W E : Type 0} (taken : W → Bytes) (puts : W → List Call) (number : ℕ) (line : Reading) (result : Result Bool E)
+pub record ReplaysLine {W E : Type 0} (taken : W → Bytes) (puts : W → List Call) (number : ℕ) (line : ReadLine) (result : Result Bool E)
     (replay_old replay_new : Replayed) (findings : List Diagnostic) (writer_old writer_new : W) : Type 0 where
-  pub done : IfOk result (λ noted. (settings : Settings) (past : List Reading) → StandsFor replay_old settings past
-      → LineGives replay_new settings line past (taken writer_old) (taken writer_new) noted)
+  pub done : IfOk result (λ has_diagnostics. (settings : Settings) (past : List ReadLine) → StandsFor replay_old settings past
+      → LineGives replay_new settings line past (taken writer_old) (taken writer_new) has_diagnostics)
   pub counted : OnOk result (replay_new.totals.lines ≡ number)
   pub cleared : OnOk result (findings ≡ [])
   pub records : replay_new.content.records ≡ replay_old.content.records
   pub took : OnOk result (HasTaken (puts writer_old) (puts writer_new))
-  pub write : OnErr result ((settings : Settings) (past : List Reading) → StandsFor replay_old settings past
+  pub write : OnErr result ((settings : Settings) (past : List ReadLine) → StandsFor replay_old settings past
       → LineBegins replay_new settings line past (taken writer_old) (taken writer_new))
   pub failed : OnErr result (HasTakenAndFailed (puts writer_old) (puts writer_new))
 
 -- What a call leaves that reads and replays all lines and puts what is wrong with each, unless the reader or the writer fails.
 pub record ReplaysLines {R W : Type 0} (left bytes : R → Bytes) (pulls : R → List Call) (taken : W → Bytes) (puts : W → List Call) (result : Result Bool Failing)
     (replay_old replay_new : Replayed) (reader_old reader_new : R) (writer_old writer_new : W) : Type 0 where
-  pub done : IfOk result (λ noted. (settings : Settings) → StandsFor replay_old settings []
-      → HasReplayed settings replay_new noted (left reader_old) (left reader_new) (taken writer_old) (taken writer_new))
+  pub done : IfOk result (λ has_diagnostics. (settings : Settings) → StandsFor replay_old settings []
+      → HasReplayed settings replay_new has_diagnostics (left reader_old) (left reader_new) (taken writer_old) (taken writer_new))
   pub records : replay_new.content.records ≡ replay_old.content.records
   pub whole : bytes reader_new ≡ bytes reader_old
   pub reader_ended : OnOk result (HasGivenAll (pulls reader_old) (pulls reader_new))
@@ -206,20 +206,20 @@ pub record ReplaysLines {R W : Type 0} (left bytes : R → Bytes) (pulls : R →
 pub record PutsReport {W T E : Type 0} (taken : W → Bytes) (puts : W → List Call) (result : Result T E) (report : Report) (text : List ℕ)
     (replay_old replay_new : Replayed) (writer_old writer_new : W) : Type 0 where
   pub put : Puts taken puts result text writer_old writer_new
-  pub kept : report ≡ Notes → replay_new ≡ replay_old
+  pub kept : report ≡ Nothing → replay_new ≡ replay_old
 
 -- What a call leaves that puts all that is written at the end, and flushes. It answers the status, by whether a line had a diagnostic.
-pub record Finishes {W E : Type 0} (taken : W → Bytes) (puts : W → List Call) (report : Report) (noted : Bool) (result : Result Status E)
+pub record Finishes {W E : Type 0} (taken : W → Bytes) (puts : W → List Call) (report : Report) (has_diagnostics : Bool) (result : Result Status E)
     (replay_old replay_new : Replayed) (writer_old writer_new : W) : Type 0 where
   pub all : OnOk result (Wrote (taken writer_old) (taken writer_new) (end_text report replay_old))
   pub status : IfOk result (λ status. status
-      ≡ (if noted || (is_some_note (half replay_old.totals.lines replay_old.pending) || is_some_entry (entries replay_old)) then Found else Clean))
+      ≡ (if has_diagnostics || (is_some_diagnostic (half replay_old.totals.lines replay_old.pending) || is_some_entry (entries replay_old)) then Found else Clean))
   pub flushed : OnOk result (HasTakenAndFlushed (puts writer_old) (puts writer_new))
   pub beginning : OnErr result (Begins (taken writer_old) (taken writer_new) (end_text report replay_old))
   pub failed : OnErr result (HasFailedToWrite (puts writer_old) (puts writer_new))
-  pub kept : report ≡ Notes → replay_new ≡ replay_old
+  pub kept : report ≡ Nothing → replay_new ≡ replay_old
 
 -- the status of a run with its replay
-abbrev pub status_in : Result Ended RunFault → Result Status RunFault
+abbrev pub status_in : Result FinishedRun RunFault → Result Status RunFault
 status_in (Ok ended) = Ok ended.status
 status_in (Err fault) = Err fault

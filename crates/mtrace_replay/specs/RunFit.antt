@@ -12,7 +12,7 @@ use Rattle.mtrace_replay.specs.declared.status.RunFault.TheVariants.{BadSettings
 use Rattle.mtrace_replay.specs.declared.totals.Totals.{Totals}
 use Rattle.mtrace_replay.specs.Started.{started}
 use Rattle.mtrace_replay.specs.Totals.{AreTotals, IsMost, is_refused}
-use Rattle.mtrace_replay.specs.Moment.{Reading}
+use Rattle.mtrace_replay.specs.Moment.{ReadLine}
 use Rattle.mtrace_replay.specs.History.{history}
 use Rattle.mtrace_replay.specs.Fit.{one_pool, greatest_settings, enough_records, is_bad_step, step_of, sizes, Verdict, fitted}
 use Rattle.mtrace_replay.specs.Texts.{greatest_line, most_line, fitted_lines, untried_lines}
@@ -21,15 +21,15 @@ use Rattle.mtrace_replay.specs.Replay.{Replayed}
 use Rattle.mtrace_replay.specs.Again.{Follows, RunsAgain}
 
 -- how many of the lines are refused on a heap by the settings
-abbrev pub refusals : Settings → List Reading → ℕ
+abbrev pub refusals : Settings → List ReadLine → ℕ
 refusals settings lines = count_by is_refused (history settings lines)
 
 -- A log was tried on a heap by the settings. All of it was read, and no line is refused; or lines were read, and one
 -- or more are refused.
 abbrev pub IsTried : Settings → (serves : Bool) → (whole left : Bytes) → Type 0
-IsTried settings true whole left = (lines : List Reading) × HasReadAll whole left lines × (refusals settings lines ≡ 0)
+IsTried settings true whole left = (lines : List ReadLine) × HasReadAll whole left lines × (refusals settings lines ≡ 0)
 IsTried settings false whole left =
-    (lines : List Reading) × (unused : List ℕ) × (HasRead whole (prepend_known unused left) lines ⊎ HasReadAll whole left lines) × (0 < refusals settings lines)
+    (lines : List ReadLine) × (unused : List ℕ) × (HasRead whole (prepend_known unused left) lines ⊎ HasReadAll whole left lines) × (0 < refusals settings lines)
 
 -- the log was tried on one pool of each size, with this many records, and these are the verdicts
 pub record AreVerdicts (records : ℕ) (whole : Bytes) (tried : List ℕ) (verdicts : List Verdict) : Type 0 where
@@ -44,7 +44,7 @@ TellsSizes (suc more) step peak most whole text = text ≡ untried_lines
 
 -- The text of how large a pool a log needs. It has the peak and the most addresses held, on the greatest pool, and
 -- what is told of the sizes.
-pub record TellsFit (step : Option ℕ) (lines : List Reading) (whole : Bytes) (text : List ℕ) : Type 0 where
+pub record TellsFit (step : Option ℕ) (lines : List ReadLine) (whole : Bytes) (text : List ℕ) : Type 0 where
   pub totals : Totals
   pub summed : AreTotals (started greatest_settings) (history greatest_settings lines) totals
   pub most : ℕ
@@ -63,7 +63,7 @@ pub record NoneFailed (old new : List Call) : Type 0 where
 abbrev pub FailsIn : (whole left_old left_new : Bytes) (calls_old calls_new : List Call) → Type 0
 FailsIn whole left_old left_new calls_old calls_new =
     ((left_new ≡ left_old) × (calls_new ≡ Failed ∷ calls_old))
-    ⊎ ((lines : List Reading) × (FailedInPiece whole left_new (Began ∷ calls_old) calls_new lines
+    ⊎ ((lines : List ReadLine) × (FailedInPiece whole left_new (Began ∷ calls_old) calls_new lines
     ⊎ ((unused : List ℕ) × IsPastLastNumber whole (prepend_known unused left_new) (Began ∷ calls_old) calls_new lines)))
 
 -- it did so after readings that didn't fail
@@ -89,7 +89,7 @@ pub record ReadsAgain {R T E : Type 0} (Tells : T → Type 0) (left whole : R �
   pub read : OnErr result (FailsLater (whole old) (left old) (left new) (pulls old) (pulls new))
 
 -- the log whose lines these are was read again for each size, and what they tell was written
-abbrev pub FitFollows : {R W T : Type 0} → (step : Option ℕ) (lines : List Reading) (left whole : R → Bytes) (pulls : R → List Call) (taken : W → Bytes) (puts : W → List Call)
+abbrev pub FitFollows : {R W T : Type 0} → (step : Option ℕ) (lines : List ReadLine) (left whole : R → Bytes) (pulls : R → List Call) (taken : W → Bytes) (puts : W → List Call)
     → Result T RunFault → (reader_old reader_new : R) (writer_old writer_new : W) → Type 0
 FitFollows step lines left whole pulls taken puts result reader_old reader_new writer_old writer_new =
     Follows (λ left_new. TellsFit step lines (whole reader_old)) NoneFailed (FailsLater (whole reader_old)) left pulls taken puts result reader_old reader_new writer_old writer_new

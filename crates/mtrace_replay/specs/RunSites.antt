@@ -9,7 +9,7 @@ use Rattle.mtrace_replay.specs.declared.status.RunFault.{RunFault}
 use Rattle.mtrace_replay.specs.declared.totals.Totals.{Totals}
 use Rattle.mtrace_replay.specs.Started.{started}
 use Rattle.mtrace_replay.specs.Totals.{AreTotals}
-use Rattle.mtrace_replay.specs.Moment.{Reading, Given}
+use Rattle.mtrace_replay.specs.Moment.{ReadLine, Given}
 use Rattle.mtrace_replay.specs.History.{history, AreHeld, entries_of}
 use Rattle.mtrace_replay.specs.Sites.{Site, AreSites}
 use Rattle.mtrace_replay.specs.declared.sites.Sum.{Sum}
@@ -35,29 +35,29 @@ pub record HasMemory (settings : Settings) (start : Replayed) (peak end : ℕ) :
   pub end_room : settings.records ≤ end
 
 -- what lines leave held, and its sites
-pub record HeldSites (settings : Settings) (lines : List Reading) : Type 0 where
+pub record HeldSites (settings : Settings) (lines : List ReadLine) : Type 0 where
   pub all : List Given
   pub held : AreHeld all (history settings lines)
   pub sites : List Site
   pub are : AreSites (entries_of all) sites
 
 -- a section: of what lines leave held
-abbrev pub section_of : {settings : Settings} {lines : List Reading} → List ℕ → HeldSites settings lines → List ℕ
+abbrev pub section_of : {settings : Settings} {lines : List ReadLine} → List ℕ → HeldSites settings lines → List ℕ
 section_of words held = section words (length held.all) (total_size (entries_of held.all)) held.sites
 
 -- The text of who holds the memory of a log. It is first of the lines up to the peak, which are read again from the
 -- first byte on. Then it is of all lines.
-pub record TellsSites (settings : Settings) (lines : List Reading) (whole left : Bytes) (text : List ℕ) : Type 0 where
+pub record TellsSites (settings : Settings) (lines : List ReadLine) (whole left : Bytes) (text : List ℕ) : Type 0 where
   pub totals : Totals
   pub summed : AreTotals (started settings) (history settings lines) totals
-  pub first : List Reading
+  pub first : List ReadLine
   pub again : HasReadFirst totals.peak_line whole left first
   pub at_peak : HeldSites settings first
   pub at_end : HeldSites settings lines
   pub text_is : text ≡ section_of (peak_words totals.peak_line) at_peak ++ section_of end_words at_end
 
 -- the log whose lines these are was read again, and who holds its memory was written
-abbrev pub SitesFollow : {R W T : Type 0} → (settings : Settings) (lines : List Reading) (left whole : R → Bytes) (pulls : R → List Call) (taken : W → Bytes) (puts : W → List Call)
+abbrev pub SitesFollow : {R W T : Type 0} → (settings : Settings) (lines : List ReadLine) (left whole : R → Bytes) (pulls : R → List Call) (taken : W → Bytes) (puts : W → List Call)
     → Result T RunFault → (reader_old reader_new : R) (writer_old writer_new : W) → Type 0
 SitesFollow settings lines left whole pulls taken puts result reader_old reader_new writer_old writer_new =
     Follows (TellsSites settings lines (whole reader_old)) (λ calls_old. HasNotFailed (Began ∷ calls_old)) (FailsAgain (whole reader_old)) left pulls taken puts

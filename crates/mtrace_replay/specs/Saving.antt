@@ -6,7 +6,7 @@ use Rattle.mtrace_log.specs.Trace.{HasTakenAndFlushed, HasFailedToWrite}
 use Rattle.tlsf_heap.specs.Content.{Content}
 use Rattle.tlsf_heap.specs.Bare.{bare}
 use Rattle.tlsf_heap.specs.Images.Described.{IsImageOf, Saves}
-use Rattle.mtrace_replay.specs.declared.report.Report.TheVariants.{Notes}
+use Rattle.mtrace_replay.specs.declared.report.Report.TheVariants.{Nothing}
 use Rattle.mtrace_replay.specs.declared.settings.Settings.{Settings}
 use Rattle.mtrace_replay.specs.declared.status.Status.{Status}
 use Rattle.mtrace_replay.specs.declared.status.RunFault.{RunFault}
@@ -46,7 +46,7 @@ pub record EndsWithImage {I : Type 0} (settings : Settings) (status : Status) (l
 pub record RunsAndSaves {R W I : Type 0} (settings : Settings) (left : R → Bytes) (pulls : R → List Call) (taken : W → Bytes) (puts : W → List Call)
     (image_taken : I → Bytes) (image_puts : I → List Call) (result : Result Status RunFault) (reader_old reader_new : R) (writer_old writer_new : W) (image_old image_new : I) : Type 0 where
   pub run : Result Status RunFault
-  pub runs : Runs Notes settings left pulls taken puts run reader_old reader_new writer_old writer_new
+  pub runs : Runs Nothing settings left pulls taken puts run reader_old reader_new writer_old writer_new
   pub run_fault : (fault : RunFault) → run ≡ Err fault → (result ≡ Err fault) × (image_new ≡ image_old)
   pub finished : (status : Status) → run ≡ Ok status
       → EndsWithImage settings status (left reader_old) (left reader_new) (taken writer_old) (taken writer_new) image_taken image_puts result image_old image_new

@@ -35,10 +35,10 @@ abbrev pub end_of : Moment → Option ℕ
 end_of moment = option_map (λ given. given.place + size_at given.place (blocks_of moment.content.pools)) moment.given
 
 -- the heap and what is held are as the moment says; these are its diagnostics, and the end of the block given
-pub record Comes (content_old content_new : Bare) (old new : List Given) (notes : List Diagnostic) (end : Option ℕ) (moment : Moment) : Type 0 where
+pub record Comes (content_old content_new : Bare) (old new : List Given) (diagnostics : List Diagnostic) (end : Option ℕ) (moment : Moment) : Type 0 where
   pub content_is : content_new ≡ moment.content
   pub held_is : (address : ℕ) → found new address ≡ held_after moment (found old) address
-  pub notes_are : notes ≡ moment.notes
+  pub diagnostics_are : diagnostics ≡ moment.diagnostics
   pub end_is : end ≡ end_of moment
 
 -- the block of what is held is live in the heap, under its slot
@@ -59,12 +59,12 @@ pub record AreLive (holdings : List Holding) (content : Content ℕ) : Type 0 wh
   pub records : content.records ≤ most_records
 
 -- What a line does, or a part of it, which answers where the block ends that it was given, if any. Where no memory is
--- refused, the heap, what is held and the notes are as the moment says, and what is held is live. Else what is held
+-- refused, the heap, what is held and the diagnostics are as the moment says, and what is held is live. Else what is held
 -- is as it was. The heap has as many records as before. The look-ups are counted, and the touches are at most `most`:
 -- none where nothing is asked of the heap.
 pub record Replays {H E : Type 0} (content : H → Content ℕ) (touches : H → ℕ) (lacks : H → Type 0) (looks most : ℕ) (asks : Bool) (moment : Moment)
-    (notes : List Diagnostic) (result : Result (Option ℕ) E) (heap_old heap_new : H) (held_old held_new : Indexed) : Type 0 where
-  pub comes : IfOk result (λ end. Comes (bare (content heap_old)) (bare (content heap_new)) (all_given held_old.all) (all_given held_new.all) notes end moment)
+    (diagnostics : List Diagnostic) (result : Result (Option ℕ) E) (heap_old heap_new : H) (held_old held_new : Indexed) : Type 0 where
+  pub comes : IfOk result (λ end. Comes (bare (content heap_old)) (bare (content heap_new)) (all_given held_old.all) (all_given held_new.all) diagnostics end moment)
   pub live : OnOk result (AreLive held_new.all (content heap_new))
   pub memory : OnErr result (MayLack lacks)
   pub unchanged : OnErr result (held_new.all ≡ held_old.all)

@@ -8,7 +8,7 @@ use Rattle.tlsf_heap.specs.Content.{Pool, blocks_of, is_free}
 use Rattle.tlsf_heap.specs.Rows.{row_of}
 use Rattle.mtrace_replay.specs.Entry.{Entry}
 use Rattle.mtrace_replay.specs.declared.report.Report.{Report}
-use Rattle.mtrace_replay.specs.declared.report.Report.TheVariants.{Leaks, Peak, Walk, Notes}
+use Rattle.mtrace_replay.specs.declared.report.Report.TheVariants.{Leaks, Peak, Walk, Nothing}
 use Rattle.mtrace_replay.specs.declared.totals.Totals.{Totals}
 use Rattle.mtrace_replay.specs.Started.{Bare}
 use Rattle.mtrace_replay.specs.Sites.{Site}
@@ -44,11 +44,11 @@ kind_text Half = codes "half of a reallocation"
 kind_text Stray = codes "no < before >"
 
 -- `line K: ` and what is wrong, one line
-abbrev pub note_text : Diagnostic → List ℕ
-note_text note = codes "line " ++ decimal note.line ++ codes ": " ++ kind_text note.kind ++ newline ∷ []
+abbrev pub diagnostic_text : Diagnostic → List ℕ
+diagnostic_text diagnostic = codes "line " ++ decimal diagnostic.line ++ codes ": " ++ kind_text diagnostic.kind ++ newline ∷ []
 
-abbrev pub notes_text : List Diagnostic → List ℕ
-notes_text all = flat_map note_text all
+abbrev pub diagnostics_text : List Diagnostic → List ℕ
+diagnostics_text all = flat_map diagnostic_text all
 
 -- ` at LOCATION`, or nothing
 abbrev pub at_text : Option (List ℕ) → List ℕ
@@ -82,7 +82,7 @@ leaks_report (first ∷ entries) = (codes "Memory not freed:" ++ newline ∷ [])
 
 -- all diagnostics, and then the report
 abbrev pub leaks_text : List Diagnostic → List Entry → List ℕ
-leaks_text diagnostics entries = notes_text diagnostics ++ leaks_report entries
+leaks_text diagnostics entries = diagnostics_text diagnostics ++ leaks_report entries
 
 -- the sizes of the free blocks
 abbrev pub free_sizes : Bare → List ℕ
@@ -208,10 +208,10 @@ abbrev pub report_text : Report → List Entry → Totals → Bare → List ℕ
 report_text Leaks entries totals content = leaks_report entries
 report_text Peak entries totals content = peak_report totals content
 report_text Walk entries totals content = walk_report content
-report_text Notes entries totals content = []
+report_text Nothing entries totals content = []
 
 -- Clean where nothing is held and there is no diagnostic
-abbrev pub status_of : List Diagnostic → List Entry → Status
-status_of [] [] = Clean
-status_of [] (first ∷ entries) = Found
-status_of (note ∷ more) entries = Found
+abbrev pub clean_or_found : List Diagnostic → List Entry → Status
+clean_or_found [] [] = Clean
+clean_or_found [] (first ∷ entries) = Found
+clean_or_found (diagnostic ∷ more) entries = Found

@@ -24,7 +24,7 @@ is_refusal (Refused address refusal) = true
 is_refusal _ = false
 
 abbrev pub is_refused : Moment → Bool
-is_refused moment = list_any (λ (note : Diagnostic). is_refusal note.kind) moment.notes
+is_refused moment = list_any (λ (diagnostic : Diagnostic). is_refusal diagnostic.kind) moment.diagnostics
 
 -- the sum of the sizes held
 pub record IsSum (past : List Moment) (bytes : ℕ) : Type 0 where
@@ -68,7 +68,7 @@ pub record AreTotals (start : Bare) (past : List Moment) (totals : Totals) : Typ
   pub peak : IsPeak past totals.peak_bytes totals.peak_line
   pub high_place : IsHighPlace start past totals.high_place
 
--- the totals with one line more, by what it came to and what is held after it
+-- the totals with one line more, by its outcome and what is held after it
 abbrev pub gone_on : Totals → Option ℕ → Bool → ℕ → ℕ → Totals
 gone_on totals end refused bytes blocks = record {
   lines = totals.lines + 1;

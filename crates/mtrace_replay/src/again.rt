@@ -1,7 +1,7 @@
 //! A log that is read again.
 
 ghost use Rattle.std.specs.Prelude.{◌≡◌, List};
-ghost use Rattle.mtrace_replay.specs.Moment.{Reading};
+ghost use Rattle.mtrace_replay.specs.Moment.{ReadLine};
 ghost use Rattle.mtrace_replay.specs.Run.{FailedInPiece};
 ghost use Rattle.mtrace_replay.specs.Again.{ReplaysFirst};
 
@@ -19,7 +19,7 @@ pub(crate) fn replay_first<R: Source>(
 ) -> Result<(), Failed>
     requires start { replay.old.totals.lines ≡ 0 }
     ensures { ReplaysFirst R.left R.whole R.trace (R.left reader.old) (R.trace reader.old)
-        ((lines : List Reading) × FailedInPiece (R.left reader.old) (R.left reader.new) (R.trace reader.old) (R.trace reader.new) lines)
+        ((lines : List ReadLine) × FailedInPiece (R.left reader.old) (R.left reader.new) (R.trace reader.old) (R.trace reader.new) lines)
         most result replay.old replay.new reader.old reader.new }
 {
     let mut lines = Lines::new();

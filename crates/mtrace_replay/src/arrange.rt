@@ -1,4 +1,4 @@
-//! How the vacant keys of an index come to stand evenly among the held ones.
+//! How the vacant keys of an index are spread evenly among the held ones.
 
 ghost use Rattle.std.specs.Prelude.{◌≡◌, ◌≢◌, ◌<◌, ◌≤◌, true, false, length, take};
 ghost use Rattle.mtrace_replay.specs.Key.{RiseFrom};

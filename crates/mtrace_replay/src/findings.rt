@@ -43,12 +43,12 @@ fn is_some_refusal(diagnostic: &Option<Diagnostic>) -> bool
 }
 
 /// Appends a diagnostic, where it is there.
-fn push_some(note: &mut Note, diagnostic: &Option<Diagnostic>)
-    requires { array_vec_len note.old < 2 }
-    ensures { note.new.items ≡ note.old.items ++ option_to_list diagnostic.now }
+fn push_some(diagnostics: &mut Note, diagnostic: &Option<Diagnostic>)
+    requires { array_vec_len diagnostics.old < 2 }
+    ensures { diagnostics.new.items ≡ diagnostics.old.items ++ option_to_list diagnostic.now }
 {
     if let Some(Diagnostic { line, kind }) = *diagnostic {
-        note.push(Diagnostic { line, kind });
+        diagnostics.push(Diagnostic { line, kind });
     }
 }
 
@@ -105,12 +105,12 @@ impl Findings {
     }
 
     /// The diagnostics as a list.
-    pub(crate) fn note(&self) -> Note
+    pub(crate) fn diagnostics(&self) -> Note
         ensures { result.items ≡ self.now }
     {
-        let mut note = ArrayVec::new();
-        push_some(&mut note, &self.first);
-        push_some(&mut note, &self.second);
-        note
+        let mut diagnostics = ArrayVec::new();
+        push_some(&mut diagnostics, &self.first);
+        push_some(&mut diagnostics, &self.second);
+        diagnostics
     }
 }

@@ -2,7 +2,7 @@
 
 ghost use Rattle.std.specs.Prelude.{◌≡◌, ◌%◌, ◌<◌, ◌≤◌, false, List, reverse};
 ghost use Rattle.tlsf_heap.specs.Pools.{most_records};
-ghost use Rattle.mtrace_replay.specs.Moment.{Reading};
+ghost use Rattle.mtrace_replay.specs.Moment.{ReadLine};
 ghost use Rattle.mtrace_replay.specs.Replay.{StandsFor};
 ghost use Rattle.mtrace_replay.specs.Saving.{PutsAndFlushes};
 ghost use Rattle.mtrace_replay.specs.Settings.{are_bad};
@@ -127,7 +127,7 @@ fn fit_text<R: Again>(
 ) -> Result<LineText, Failed>
     requires good { is_bad step ≡ false }
     requires records { replay.old.content.records ≡ most_records }
-    ensures { ReadsAgain (λ text. (lines : List Reading) → StandsFor replay.old greatest_settings (reverse lines)
+    ensures { ReadsAgain (λ text. (lines : List ReadLine) → StandsFor replay.old greatest_settings (reverse lines)
         → TellsFit step lines (R.whole reader.old) text.items) R.left R.whole R.trace result reader.old reader.new }
 {
     let totals = replay.totals();
@@ -160,7 +160,7 @@ fn tell_fit<R: Again, W: Sink>(
 ) -> Result<(), RunFault>
     requires good { is_bad step ≡ false }
     requires records { replay.old.content.records ≡ most_records }
-    ensures { (lines : List Reading) → StandsFor replay.old greatest_settings (reverse lines)
+    ensures { (lines : List ReadLine) → StandsFor replay.old greatest_settings (reverse lines)
         → FitFollows step lines R.left R.whole R.trace W.taken W.trace result reader.old reader.new writer.old writer.new }
 {
     let Ok(text) = fit_text(reader, replay, step) else {
@@ -198,7 +198,7 @@ pub fn run_fit<R: Again, W: Sink>(
     if is_bad_step(step) {
         return Err(RunFault::BadSettings);
     }
-    let mut ended = match replay_log(alloc, reader, writer, greatest(), Report::Notes) {
+    let mut ended = match replay_log(alloc, reader, writer, greatest(), Report::Nothing) {
         Ok(ended) => ended,
         Err(fault) => return Err(fault),
     };

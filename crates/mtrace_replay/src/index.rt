@@ -16,10 +16,10 @@ use std::marker::Model;
 use tlsf_heap::Ptr;
 use tlsf_store::GhostCount;
 
-/// Where an address stands among the keys of an index: at its own, held or vacant, or where that would enter. It tells so
-/// until the index is changed.
+/// What a look-up answers: where an address stands among the keys of an index. That is at its own, held or vacant, or
+/// where that would enter. It tells so until the index is changed.
 #[derive(Clone, Copy)]
-pub(crate) struct Found {
+pub(crate) struct LookUp {
     address: Addr,
     place: Result<usize, usize>,
 }
@@ -105,12 +105,12 @@ impl Index {
 
     /// Where the address stands. That is where a key of it stood last, if it still does, or else as `find` says.
     #[inline(always)]
-    pub fn find_again(&mut self, address: Addr) -> Found
+    pub fn find_again(&mut self, address: Addr) -> LookUp
         ensures { FindsAddress 2 address result self.old self.new }
     {
         let at = self.keys.hint(address);
         if is_last_of(&self.keys, &mut self.comparisons, at, address) {
-            return Found {
+            return LookUp {
                 address,
                 place: Ok(at),
             };
@@ -119,18 +119,18 @@ impl Index {
     }
 
     /// Where the address stands: the one look-up, for what is read and changed there.
-    pub fn find(&mut self, address: Addr) -> Found
+    pub fn find(&mut self, address: Addr) -> LookUp
         ensures { FindsAddress 1 address result self.old self.new }
     {
         let place = search(&self.keys, &mut self.comparisons, address);
         if let Ok(at) = place {
             self.keys.set_hint(address, at);
         }
-        Found { address, place }
+        LookUp { address, place }
     }
 
     /// The block that the address which was found is held under.
-    pub fn block(&self, found: &Found) -> Option<Ptr>
+    pub fn block(&self, found: &LookUp) -> Option<Ptr>
         requires found { IsFound self.now.keys found.now }
         ensures value { result ≡ option_map (λ holding. holding.ptr) (held_at self.now.all found.now.address) }
     {
@@ -141,7 +141,7 @@ impl Index {
     }
 
     /// Whether the address that was found is held.
-    pub fn is_held(&self, found: &Found) -> bool
+    pub fn is_held(&self, found: &LookUp) -> bool
         requires found { IsFound self.now.keys found.now }
         ensures value { result ≡ is_some (held_at self.now.all found.now.address) }
     {
@@ -158,7 +158,7 @@ impl Index {
 
     /// Where a new key entered between the others, it gets a hint. The keys are arranged anew where much has moved,
     /// or where room at the end is to be made anew.
-    fn settle(&mut self, found: &Found, end: usize, gap: &Gap)
+    fn settle(&mut self, found: &LookUp, end: usize, gap: &Gap)
         ensures unchanged { self.new.all ≡ self.old.all }
         ensures looked { LooksUp 0 self.old self.new }
     {
@@ -178,7 +178,7 @@ impl Index {
     /// Holds the address that was found, which isn't held, for an entry, under this block. No other address is held under a
     /// block of this slot.
     #[inline(always)]
-    pub fn insert(&mut self, found: &Found, entry: &Entry<LentLocation<'_>>, ptr: Ptr)
+    pub fn insert(&mut self, found: &LookUp, entry: &Entry<LentLocation<'_>>, ptr: Ptr)
         requires found { IsFound self.old.keys found.now }
         requires address { found.now.address ≡ entry.now.addr }
         requires free { held_at self.old.all entry.now.addr ≡ None }
@@ -200,7 +200,7 @@ impl Index {
 
     /// Holds an address in place of the old one that was found, which may be the same. No other address is held under a
     /// block of this slot.
-    pub fn replace(&mut self, old: &Found, entry: &Entry<LentLocation<'_>>, ptr: Ptr)
+    pub fn replace(&mut self, old: &LookUp, entry: &Entry<LentLocation<'_>>, ptr: Ptr)
         requires found { IsFound self.old.keys old.now }
         requires bytes { held_bytes self.old.all + entry.now.size < 2 ^ 64 }
         requires held { is_some (held_at self.old.all old.now.address) ≡ true }
@@ -219,7 +219,7 @@ impl Index {
 
     /// Holds the address that was found no more: its key stays, vacant.
     #[inline(always)]
-    pub fn remove(&mut self, found: &Found)
+    pub fn remove(&mut self, found: &LookUp)
         requires found { IsFound self.old.keys found.now }
         ensures held { (other : ℕ) → held_at self.new.all other ≡ (if found.now.address == other then None else held_at self.old.all other) }
         ensures fewer { is_some (held_at self.old.all found.now.address) ≡ true → length self.new.all < length self.old.all }

@@ -4,7 +4,7 @@ ghost use Rattle.std.specs.Prelude.{◌≡◌, ◌==◌, ◌↔◌, ◌+◌, ◌
 ghost use Rattle.tlsf_heap.specs.Run.{MayLack};
 ghost use Rattle.mtrace_replay.specs.declared.settings.Settings.{Settings};
 ghost use Rattle.mtrace_replay.specs.Started.{Bare, started};
-ghost use Rattle.mtrace_replay.specs.Moment.{Reading, Given, Moment};
+ghost use Rattle.mtrace_replay.specs.Moment.{ReadLine, Given, Moment};
 ghost use Rattle.mtrace_replay.specs.History.{AreHeld, held, moments};
 ghost use Rattle.mtrace_log.specs.HasRead.{HasReadAll};
 ghost use Rattle.mtrace_replay.specs.Run.{Bytes};
@@ -23,7 +23,7 @@ use tlsf_heap::{Heap, Heaped};
 /// An address is held under a line exactly where that line asked for it and was served, and no later line
 /// took it.
 pub fn held_until_taken()
-    ensures { (start : Bare) (past : List Reading) (address : ℕ) (given : Given)
+    ensures { (start : Bare) (past : List ReadLine) (address : ℕ) (given : Given)
         → (held (moments start past) address ≡ Some given) ↔ IsHeldUnder (moments start past) address given }
 {}
 
@@ -40,20 +40,20 @@ pub fn one_list_of_sites()
 
 /// The first lines of a text that is told, read again from the first byte on, are the first of all its lines.
 pub fn first_lines_again()
-    ensures { (text : List ℕ) (middle after : Bytes) (most : ℕ) (lines first : List Reading)
+    ensures { (text : List ℕ) (middle after : Bytes) (most : ℕ) (lines first : List ReadLine)
         → HasReadAll (Some text) middle lines → HasReadFirst most (Some text) after first → most ≤ length lines → first ≡ take most lines }
 {}
 
 /// A size that a text was tried on which is told serves exactly where none of all its lines is refused there.
 pub fn verdict_of_all_lines()
-    ensures { (settings : Settings) (text : List ℕ) (middle left : Bytes) (lines : List Reading) (serves : Bool)
+    ensures { (settings : Settings) (text : List ℕ) (middle left : Bytes) (lines : List ReadLine) (serves : Bool)
         → HasReadAll (Some text) middle lines → IsTried settings serves (Some text) left → serves ≡ (refusals settings lines == 0) }
 {}
 
 /// On one pool a log is never refused for want of a record where there are 2 * `most` + 3 records or more. After any
 /// number of its lines at most `most` addresses are held.
 pub fn records_are_enough()
-    ensures { (pool records most : ℕ) (past : List Reading) → are_bad (one_pool pool records) ≡ false → 2 * most + 3 ≤ records
+    ensures { (pool records most : ℕ) (past : List ReadLine) → are_bad (one_pool pool records) ≡ false → 2 * most + 3 ≤ records
         → HoldsAtMost most (moments (started (one_pool pool records)) past) → AllByRecursion IsNeverFull (moments (started (one_pool pool records)) past) }
 {}
 

@@ -5,7 +5,7 @@ ghost use Rattle.std.specs.Option.{option_copied};
 ghost use Rattle.arrayvec.specs.ArrayVec.{array_vec_len};
 ghost use Rattle.mtrace_log.specs.Address.{address_text};
 ghost use Rattle.mtrace_replay.specs.Appends.{Appends, IsShort};
-ghost use Rattle.mtrace_replay.specs.Texts.{refusal_text as text_of_refusal, kind_text as text_of_kind, note_text as text_of_note, at_text as text_of_location, entry_text as text_of_entry, number_line, pair_line, spread_text as text_of_spread, count_lines, greatest_line, held_lines, free_lines, spread_line, peak_lines, peak_words as words_of_peak, site_text as text_of_site, use_text as text_of_use, row_text as text_of_row};
+ghost use Rattle.mtrace_replay.specs.Texts.{refusal_text as text_of_refusal, kind_text as text_of_kind, diagnostic_text as text_of_diagnostic, at_text as text_of_location, entry_text as text_of_entry, number_line, pair_line, spread_text as text_of_spread, count_lines, greatest_line, held_lines, free_lines, spread_line, peak_lines, peak_words as words_of_peak, site_text as text_of_site, use_text as text_of_use, row_text as text_of_row};
 
 use crate::diagnostic::{Diagnostic, Kind};
 use crate::entry::Entry;
@@ -92,14 +92,14 @@ fn push_kind(text: &mut LineText, kind: Kind)
 }
 
 /// The line of a diagnostic.
-pub(crate) fn note_text(note: &Diagnostic) -> LineText
-    ensures { result.items ≡ text_of_note note.now }
+pub(crate) fn diagnostic_text(diagnostic: &Diagnostic) -> LineText
+    ensures { result.items ≡ text_of_diagnostic diagnostic.now }
 {
     let mut text = ArrayVec::new();
     push_bytes(&mut text, b"line ");
-    push_number(&mut text, u128::from(note.line));
+    push_number(&mut text, u128::from(diagnostic.line));
     push_bytes(&mut text, b": ");
-    push_kind(&mut text, note.kind);
+    push_kind(&mut text, diagnostic.kind);
     push_bytes(&mut text, b"\n");
     text
 }

@@ -36,7 +36,7 @@ fn old_address(event: &Result<Event<LentLocation<'_>>, LineFault>) -> Option<Add
 }
 
 /// The diagnostic of the line of this number, where it is `<`, its address pending, and no `>` follows.
-fn half_note(number: u64, pending: Option<Addr>) -> Option<Diagnostic>
+fn half_diagnostic(number: u64, pending: Option<Addr>) -> Option<Diagnostic>
     ensures { option_to_list result ≡ half number pending }
 {
     match pending {
@@ -58,7 +58,7 @@ fn half_before(
 {
     match event {
         Ok(Event::New { .. }) => None,
-        _ => half_note(number, pending),
+        _ => half_diagnostic(number, pending),
     }
 }
 
@@ -155,11 +155,11 @@ impl<H: Heaped> Replay<H> {
     /// call answers the same.
     pub fn feed(&mut self, line: Line) -> Result<Note, ReplayFault>
         requires next { self.old.out_of_memory ≡ false → line.number ≡ self.old.totals.lines + 1 }
-        ensures { Feeds H.lacks (λ note. note.items) line.number line.event result self.old self.new }
+        ensures { Feeds H.lacks (λ diagnostics. diagnostics.items) line.number line.event result self.old self.new }
     {
         let mut findings = Findings::none();
         match self.feed_lent(line.number, line.lend(), &mut findings) {
-            Ok(()) => Ok(findings.note()),
+            Ok(()) => Ok(findings.diagnostics()),
             Err(fault) => Err(fault),
         }
     }
@@ -214,14 +214,17 @@ impl<H: Heaped> Replay<H> {
     ///
     /// `OutOfMemory` exactly where `feed` has answered it.
     pub fn finish(&self) -> Result<Note, ReplayFault>
-        ensures { TellsEnd H.lacks (λ note. note.items) result self.now }
+        ensures { TellsEnd H.lacks (λ diagnostics. diagnostics.items) result self.now }
     {
         if self.out_of_memory {
             return Err(ReplayFault::OutOfMemory);
         }
         let mut findings = Findings::none();
-        put_half(half_note(self.totals.lines, self.pending), &mut findings);
-        Ok(findings.note())
+        put_half(
+            half_diagnostic(self.totals.lines, self.pending),
+            &mut findings,
+        );
+        Ok(findings.diagnostics())
     }
 
     /// How many addresses are held.

@@ -22,7 +22,7 @@ pub enum Report {
     /// The heap's pools at the end, each with its blocks.
     Walk,
     /// Nothing more.
-    Notes,
+    Nothing,
 }
 
 /// Puts a line for each entry, in their order.
@@ -91,6 +91,6 @@ pub(crate) fn put_report<W: Sink, H: Heaped>(
         Report::Leaks => put_leaks(writer, replay),
         Report::Peak => put_peak(writer, replay),
         Report::Walk => replay.put_walk(writer),
-        Report::Notes => Ok(()),
+        Report::Nothing => Ok(()),
     }
 }

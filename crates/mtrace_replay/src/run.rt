@@ -3,13 +3,13 @@
 ghost use Rattle.std.specs.Prelude.{◌≡◌, ◌+◌, ◌++◌, false, [], IfOk, if◌then◌else◌};
 ghost use Rattle.mtrace_log.specs.Trace.{FlushWasAsked};
 ghost use Rattle.mtrace_log.specs.Output.{Puts};
-ghost use Rattle.mtrace_replay.specs.Texts.{notes_text, report_text};
+ghost use Rattle.mtrace_replay.specs.Texts.{diagnostics_text, report_text};
 ghost use Rattle.mtrace_replay.specs.Replay.{entries};
 ghost use Rattle.mtrace_replay.specs.Run.{Runs, RunsOnce, EndsAt, status_in, ReplaysLine, ReplaysLines, PutsReport, Finishes};
 
 use crate::diagnostic::Note;
 use crate::findings::Findings;
-use crate::line_text::note_text;
+use crate::line_text::diagnostic_text;
 use crate::replay::{Replay, ReplayFault};
 use crate::report::{Report, put_report};
 use crate::settings::Settings;
@@ -20,11 +20,11 @@ use tlsf_heap::{Heap, Heaped};
 
 /// Puts a line for each diagnostic.
 #[inline(never)]
-fn put_note<W: Sink>(writer: &mut W, note: &Note) -> Result<(), Failed>
-    ensures { Puts W.taken W.trace result (notes_text note.now.items) writer.old writer.new }
+fn put_diagnostics<W: Sink>(writer: &mut W, diagnostics: &Note) -> Result<(), Failed>
+    ensures { Puts W.taken W.trace result (diagnostics_text diagnostics.now.items) writer.old writer.new }
 {
-    for diagnostic in note.as_slice() {
-        put_all(writer, note_text(diagnostic).as_slice())?;
+    for diagnostic in diagnostics.as_slice() {
+        put_all(writer, diagnostic_text(diagnostic).as_slice())?;
     }
     Ok(())
 }
@@ -32,12 +32,12 @@ fn put_note<W: Sink>(writer: &mut W, note: &Note) -> Result<(), Failed>
 /// Puts what is wrong with a line; then nothing is.
 #[inline(never)]
 fn put_findings<W: Sink>(writer: &mut W, findings: &mut Findings) -> Result<(), Failed>
-    ensures put { Puts W.taken W.trace result (notes_text findings.old) writer.old writer.new }
+    ensures put { Puts W.taken W.trace result (diagnostics_text findings.old) writer.old writer.new }
     ensures cleared { findings.new ≡ [] }
 {
-    let note = findings.note();
+    let diagnostics = findings.diagnostics();
     findings.clear();
-    put_note(writer, &note)
+    put_diagnostics(writer, &diagnostics)
 }
 
 /// Which of the two failed, so that no more lines are replayed.
@@ -86,16 +86,16 @@ fn replay_lines<R: Source, W: Sink>(
     ensures { ReplaysLines R.left R.whole R.trace W.taken W.trace result replay.old replay.new reader.old reader.new writer.old writer.new }
 {
     let mut lines = Lines::new();
-    let mut noted = false;
+    let mut has_diagnostics = false;
     let mut findings = Findings::none();
     loop {
         let number = match lines.advance(reader) {
             Ok(Some(number)) => number,
-            Ok(None) => return Ok(noted),
+            Ok(None) => return Ok(has_diagnostics),
             Err(_) => return Err(Failing::Reader),
         };
         match replay_line(writer, replay, number, lines.event(), &mut findings) {
-            Ok(more) => noted |= more,
+            Ok(more) => has_diagnostics |= more,
             Err(_) => return Err(Failing::Writer),
         }
     }
@@ -105,14 +105,14 @@ fn replay_lines<R: Source, W: Sink>(
 fn put_end<H: Heaped, W: Sink>(
     writer: &mut W,
     replay: &mut Replay<H>,
-    note: &Note,
+    diagnostics: &Note,
     report: Report,
 ) -> Result<(), Failed>
     requires works { replay.old.out_of_memory ≡ false }
-    ensures { PutsReport W.taken W.trace result report (notes_text note.now.items ++ report_text report (entries replay.old) replay.old.totals replay.old.content)
+    ensures { PutsReport W.taken W.trace result report (diagnostics_text diagnostics.now.items ++ report_text report (entries replay.old) replay.old.totals replay.old.content)
         replay.old replay.new writer.old writer.new }
 {
-    put_note(writer, note)?;
+    put_diagnostics(writer, diagnostics)?;
     put_report(writer, replay, report)
 }
 
@@ -131,17 +131,17 @@ fn status_by(is_found: bool) -> Status
 fn finish<H: Heaped, W: Sink>(
     writer: &mut W,
     replay: &mut Replay<H>,
-    noted: bool,
+    has_diagnostics: bool,
     report: Report,
 ) -> Result<Status, Failed>
     requires works { replay.old.out_of_memory ≡ false }
-    ensures { Finishes W.taken W.trace report noted result replay.old replay.new writer.old writer.new }
+    ensures { Finishes W.taken W.trace report has_diagnostics result replay.old replay.new writer.old writer.new }
 {
-    let Ok(note) = replay.finish() else {
+    let Ok(diagnostics) = replay.finish() else {
         unreachable!();
     };
-    let is_found = noted || !note.is_empty() || replay.blocks() > 0;
-    if put_end(writer, replay, &note, report).is_err() {
+    let is_found = has_diagnostics || !diagnostics.is_empty() || replay.blocks() > 0;
+    if put_end(writer, replay, &diagnostics, report).is_err() {
         return Err(Failed);
     }
     if writer.flush().is_err() {
@@ -158,9 +158,9 @@ fn ask_flush<W: Sink>(writer: &mut W)
     let _ = writer.flush();
 }
 
-/// How a run ended that read its log to the end, and the replay then.
+/// A run that read its log to the end: its status, and the replay then.
 #[derive(Drop)]
-pub(crate) struct Ended {
+pub(crate) struct FinishedRun {
     pub(crate) status: Status,
     pub(crate) replay: Replay<Heap>,
 }
@@ -172,9 +172,9 @@ pub(crate) fn replay_log<R: Source, W: Sink>(
     writer: &mut W,
     settings: Settings,
     report: Report,
-) -> Result<Ended, RunFault>
+) -> Result<FinishedRun, RunFault>
     ensures ran { Runs report settings R.left R.trace W.taken W.trace (status_in result) reader.old reader.new writer.old writer.new }
-    ensures last { report ≡ Report.Notes → IfOk result (λ ended. EndsAt settings ended.status ended.replay
+    ensures last { report ≡ Report.Nothing → IfOk result (λ ended. EndsAt settings ended.status ended.replay
         (R.left reader.old) (R.left reader.new) (W.taken writer.old) (W.taken writer.new)) }
     ensures whole { R.whole reader.new ≡ R.whole reader.old }
 {
@@ -184,8 +184,8 @@ pub(crate) fn replay_log<R: Source, W: Sink>(
         Err(ReplayFault::OutOfMemory) => return Err(RunFault::OutOfMemory),
     };
     match replay_lines(reader, writer, &mut replay) {
-        Ok(noted) => match finish(writer, &mut replay, noted, report) {
-            Ok(status) => Ok(Ended { status, replay }),
+        Ok(has_diagnostics) => match finish(writer, &mut replay, has_diagnostics, report) {
+            Ok(status) => Ok(FinishedRun { status, replay }),
             Err(_) => Err(RunFault::Write),
         },
         Err(Failing::Writer) => Err(RunFault::Write),

@@ -5,7 +5,7 @@ ghost use Rattle.mtrace_replay.specs.Saving.{SavesLast, RunsAndSaves};
 
 use crate::replay::Replay;
 use crate::report::Report;
-use crate::run::{Ended, replay_log};
+use crate::run::{FinishedRun, replay_log};
 use crate::settings::Settings;
 use crate::status::{RunFault, Status};
 use mtrace_log::{Failed, Sink, Source};
@@ -42,12 +42,12 @@ pub fn run_save<R: Source, W: Sink, I: Sink>(
     ensures saves { RunsAndSaves settings R.left R.trace W.taken W.trace I.taken I.trace result reader.old reader.new writer.old writer.new image.old image.new }
     ensures whole { R.whole reader.new ≡ R.whole reader.old }
 {
-    let Ended { status, mut replay } = match replay_log(
+    let FinishedRun { status, mut replay } = match replay_log(
         alloc,
         reader,
         writer,
         settings,
-        Report::Notes,
+        Report::Nothing,
     ) {
         Ok(ended) => ended,
         Err(fault) => return Err(fault),

@@ -5,7 +5,7 @@ ghost use Rattle.mtrace_log.specs.Output.{Puts};
 ghost use Rattle.mtrace_log.specs.declared.call.Call.{Call};
 ghost use Rattle.mtrace_replay.specs.declared.settings.Settings.{Settings};
 ghost use Rattle.mtrace_replay.specs.Settings.{are_bad};
-ghost use Rattle.mtrace_replay.specs.Moment.{Reading};
+ghost use Rattle.mtrace_replay.specs.Moment.{ReadLine};
 ghost use Rattle.mtrace_replay.specs.Replay.{StandsFor, entries};
 ghost use Rattle.mtrace_replay.specs.Texts.{site_text as text_of_site, section, peak_words as words_of_peak, end_words};
 ghost use Rattle.mtrace_replay.specs.Saving.{PutsAndFlushes};
@@ -131,7 +131,7 @@ fn tell_sites<'a, R: Again, W: Sink>(
     requires as_few { at_peak.old.content.records ≡ at_end.now.content.records }
     requires end_room { at_end.now.content.records ≤ end.room }
     requires peak_room { at_end.now.content.records ≤ peak.room }
-    ensures { (settings : Settings) (lines : List Reading) → StandsFor at_end.now settings (reverse lines) → StandsFor at_peak.old settings []
+    ensures { (settings : Settings) (lines : List ReadLine) → StandsFor at_end.now settings (reverse lines) → StandsFor at_peak.old settings []
         → SitesFollow settings lines R.left R.whole R.trace W.taken W.trace result reader.old reader.new writer.old writer.new }
 {
     let line = at_end.totals().peak_line;
@@ -191,7 +191,7 @@ pub fn run_sites<R: Again, W: Sink>(
         Err(ReplayFault::BadSettings) => return Err(RunFault::BadSettings),
         Err(ReplayFault::OutOfMemory) => return Err(RunFault::OutOfMemory),
     };
-    let ended = match replay_log(alloc, reader, writer, settings, Report::Notes) {
+    let ended = match replay_log(alloc, reader, writer, settings, Report::Nothing) {
         Ok(ended) => ended,
         Err(fault) => return Err(fault),
     };

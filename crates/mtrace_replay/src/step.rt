@@ -12,7 +12,7 @@ ghost use Rattle.mtrace_replay.specs.Step.{found, all_given, Replays, AsksBlock,
 use crate::diagnostic::{Diagnostic, Kind};
 use crate::entry::Entry;
 use crate::findings::Findings;
-use crate::index::{Found, Index};
+use crate::index::{Index, LookUp};
 use mtrace_log::{Addr, Event, LentLocation, LineFault};
 use std::alloc::AllocError;
 use tlsf_heap::{Heaped, Ptr, Refusal};
@@ -133,7 +133,7 @@ fn allocate<H: Heaped>(
 fn take<H: Heaped>(
     heap: &mut H,
     held: &mut Index,
-    found: &Found,
+    found: &LookUp,
     ptr: Ptr,
 ) -> Result<(), AllocError>
     requires live { AreLive held.old.all (H.content heap.old) }
@@ -180,7 +180,7 @@ fn release<H: Heaped>(
 fn reallocate<H: Heaped>(
     heap: &mut H,
     held: &mut Index,
-    old: &Found,
+    old: &LookUp,
     ptr: Ptr,
     entry: &Entry<LentLocation<'_>>,
     findings: &mut Findings,

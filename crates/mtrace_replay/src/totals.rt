@@ -1,7 +1,7 @@
 ghost use Rattle.std.specs.Prelude.{◌≡◌, ℕ, ◌+◌, ◌<◌, ◌^◌, is_some, if◌then◌else◌, nat_lt, unwrap_or};
 ghost use Rattle.mtrace_replay.specs.Totals.{gone_on};
 
-/// What the lines of a log come to in sum.
+/// The sums over the lines of a log.
 #[derive(Clone, Copy, Debug, PartialEq, Eq)]
 pub struct Totals {
     /// How many lines there were.

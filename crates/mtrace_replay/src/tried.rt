@@ -2,7 +2,7 @@
 
 ghost use Rattle.std.specs.Prelude.{◌≡◌, ◌⊎◌, ℕ, List, []};
 ghost use Rattle.std.specs.Io.KnownBytes.{prepend_known};
-ghost use Rattle.mtrace_replay.specs.Moment.{Reading};
+ghost use Rattle.mtrace_replay.specs.Moment.{ReadLine};
 ghost use Rattle.mtrace_replay.specs.Replay.{StandsFor};
 ghost use Rattle.mtrace_replay.specs.Run.{FailedInPiece, IsPastLastNumber};
 ghost use Rattle.mtrace_replay.specs.RunFit.{IsTried, TriesLog};
@@ -22,7 +22,7 @@ pub(crate) fn is_served<R: Source>(
     requires none { replay.old.totals.refused ≡ 0 }
     ensures { TriesLog (λ serves. (settings : Settings) → StandsFor replay.old settings [] → IsTried settings serves (R.left reader.old) (R.left reader.new))
         ((settings : Settings) → StandsFor replay.old settings []
-        → (lines : List Reading) × (FailedInPiece (R.left reader.old) (R.left reader.new) (R.trace reader.old) (R.trace reader.new) lines
+        → (lines : List ReadLine) × (FailedInPiece (R.left reader.old) (R.left reader.new) (R.trace reader.old) (R.trace reader.new) lines
         ⊎ ((unused : List ℕ) × IsPastLastNumber (R.left reader.old) (prepend_known unused (R.left reader.new)) (R.trace reader.old) (R.trace reader.new) lines)))
         R.whole R.trace replay.old.content.records result reader.old reader.new replay.new }
 {

@@ -20,19 +20,19 @@ pub record HasText (text : List ℕ) (old new : Window) : Type 0 where
   pub ends : new.end ≡ min (length text) (length old.room.now)
   pub all : new.fits ≡ nat_le (length text) (length old.room.now)
 
-pub has_text : {T E : Type 0} (result : Result T E) (text : List ℕ) (old new : Window) → Puts taken calls result text old new → old.told.bytes ≡ old.room.now → HasText text old new
+pub has_text : {T E : Type 0} (result : Result T E) (text : List ℕ) (old new : Window) → Puts taken calls result text old new → old.trace.bytes ≡ old.room.now → HasText text old new
 has_text result text old new puts first =
     let room = old.room.now in
     let wrote : taken new ≡ append_known (taken old) text = (puts_all result text old new puts).wrote in
-    let same : new.room.ghost_name ∷ length new.room.now ∷ new.told.bytes ≡ old.room.ghost_name ∷ length room ∷ (old.told.bytes ++ text) = cc in
+    let same : new.room.ghost_name ∷ length new.room.now ∷ new.trace.bytes ≡ old.room.ghost_name ∷ length room ∷ (old.trace.bytes ++ text) = cc in
     let long : length new.room.now ≡ length room = cc in
-    let told : new.told.bytes ≡ room ++ text = (let tail : new.told.bytes ≡ old.told.bytes ++ text = cc in tail ∙ ap (λ (bytes : List ℕ). bytes ++ text) first) in
-    let stood : take (length new.room.now) new.told.bytes ≡ room = ap (λ (n : ℕ). take n new.told.bytes) long ∙ ap (λ (bytes : List ℕ). take (length room) bytes) told ∙ take_at room text (length room) refl in
-    let put : drop (length new.room.now) new.told.bytes ≡ text = ap (λ (n : ℕ). drop n new.told.bytes) long ∙ ap (λ (bytes : List ℕ). drop (length room) bytes) told ∙ drop_at room text (length room) refl in
-    let count : length new.told.bytes - length new.room.now ≡ length text = omega (arith, ap length told, length-append room text, long) in
+    let told : new.trace.bytes ≡ room ++ text = (let tail : new.trace.bytes ≡ old.trace.bytes ++ text = cc in tail ∙ ap (λ (bytes : List ℕ). bytes ++ text) first) in
+    let stood : take (length new.room.now) new.trace.bytes ≡ room = ap (λ (n : ℕ). take n new.trace.bytes) long ∙ ap (λ (bytes : List ℕ). take (length room) bytes) told ∙ take_at room text (length room) refl in
+    let put : drop (length new.room.now) new.trace.bytes ≡ text = ap (λ (n : ℕ). drop n new.trace.bytes) long ∙ ap (λ (bytes : List ℕ). drop (length room) bytes) told ∙ drop_at room text (length room) refl in
+    let count : length new.trace.bytes - length new.room.now ≡ length text = omega (arith, ap length told, length-append room text, long) in
     record {
       lent = cc;
-      bytes = new.kept ∙ ap (λ (bytes : List ℕ). placed bytes (take (length new.room.now) new.told.bytes)) put ∙ ap (λ (bytes : List ℕ). placed text bytes) stood;
+      bytes = new.kept ∙ ap (λ (bytes : List ℕ). placed bytes (take (length new.room.now) new.trace.bytes)) put ∙ ap (λ (bytes : List ℕ). placed text bytes) stood;
       ends = new.ends ∙ ap (λ (n : ℕ). min n (length new.room.now)) count ∙ ap (λ (n : ℕ). min (length text) n) long;
       all = new.all ∙ ap (λ (n : ℕ). nat_le n (length new.room.now)) count ∙ ap (λ (n : ℕ). nat_le (length text) n) long;
     }

@@ -13,6 +13,6 @@ mod pools;
 mod readings;
 mod row;
 mod status;
-mod told;
 mod walk;
 mod window;
+mod window_trace;

@@ -4,7 +4,7 @@ ghost use Rattle.std.specs.Prelude.{◌≡◌, ◌-◌, ◌≤◌, length, min, 
 ghost use Rattle.tlsf_c.specs.Placed.{placed, has_failed};
 
 use crate::place::place;
-use crate::told::Told;
+use crate::window_trace::WindowTrace;
 use mtrace_log::{Call, Failed, Sink};
 
 /// A writer into bytes that are lent to it. It takes all that it is offered, and keeps as much as there is room for.
@@ -15,12 +15,12 @@ pub(crate) struct Window<'a> {
     pub(crate) room: &'a mut [u8],
     pub(crate) end: usize,
     pub(crate) fits: bool,
-    pub(crate) told: Told,
-    ghost told_room: { length room.now ≤ length told.bytes },
-    ghost kept: { room.now ≡ placed (drop (length room.now) told.bytes) (take (length room.now) told.bytes) },
-    ghost ends: { end ≡ min (length told.bytes - length room.now) (length room.now) },
-    ghost all: { fits ≡ nat_le (length told.bytes - length room.now) (length room.now) },
-    ghost served: { has_failed told.calls ≡ false },
+    pub(crate) trace: WindowTrace,
+    ghost told_room: { length room.now ≤ length trace.bytes },
+    ghost kept: { room.now ≡ placed (drop (length room.now) trace.bytes) (take (length room.now) trace.bytes) },
+    ghost ends: { end ≡ min (length trace.bytes - length room.now) (length room.now) },
+    ghost all: { fits ≡ nat_le (length trace.bytes - length room.now) (length room.now) },
+    ghost served: { has_failed trace.calls ≡ false },
 }
 
 impl<'a> Window<'a> {
@@ -30,15 +30,15 @@ impl<'a> Window<'a> {
     pub(crate) fn over(room: &'a mut [u8]) -> Window<'a>
         ensures lent { result.room.ghost_name ≡ room.entry.ghost_name }
         ensures room { result.room.now ≡ room.old }
-        ensures told { result.told.bytes ≡ room.old }
+        ensures told { result.trace.bytes ≡ room.old }
     {
-        let mut told = Told::new();
-        told.add(&Call::Flushed, room);
+        let mut trace = WindowTrace::new();
+        trace.add(&Call::Flushed, room);
         Window {
             room,
             end: 0,
             fits: true,
-            told,
+            trace,
         }
     }
 }
@@ -56,12 +56,12 @@ impl<'a> Sink for Window<'a> {
         place(self.room, start, bytes);
         self.end = start + bytes.len().min(left);
         self.fits = self.fits && bytes.len() <= left;
-        self.told.add(&Call::Took(bytes.len()), bytes);
+        self.trace.add(&Call::Took(bytes.len()), bytes);
         Ok(bytes.len())
     }
 
     fn flush(&mut self) -> Result<(), Failed> {
-        self.told.add(&Call::Flushed, &[]);
+        self.trace.add(&Call::Flushed, &[]);
         Ok(())
     }
 }

@@ -1,6 +1,6 @@
 -- The command line's description, and what a parse by it gives.
-use Rattle.std.proofs.Common.{arith, ◌≡◌, ◌∙◌, ◌⊎◌, ◌<◌, ◌^◌, ◌+◌, ◌*◌, ℕ, List, [], ◌∷◌, Option, Some, None, Result, Ok, Err, inl, inr, refl, sym, ap, subst, true, codes}
-use Rattle.std.specs.Prelude.{String, string_bytes}
+use Rattle.std.proofs.Common.{◌≡◌, ◌∙◌, ◌⊎◌, ◌<◌, ◌^◌, ℕ, List, [], ◌∷◌, Option, Some, None, Result, Ok, Err, inl, inr, refl, sym, ap, subst, true, codes}
+use Rattle.std.specs.Prelude.{MatchBool, String, bytes_eq, string_bytes}
 use Rattle.std.specs.Result.{IsErrAnd}
 use Rattle.std.specs.declared.alloc.Global.{Global}
 use Rattle.std.specs.Str.Parse.{ParsesUnsigned, digits_value, without_leading_plus}
@@ -12,6 +12,7 @@ use Rattle.clap.specs.declared.error.kind.ErrorKind.{ErrorKind}
 use Rattle.clap.specs.declared.error.kind.ErrorKind.TheVariants as kind
 use Rattle.clap.proofs.OnLiterals.{clap_on_literals}
 use Rattle.clap.proofs.WalkLemmas.{one_text-rows}
+use Rattle.mtrace_replay.specs.declared.settings.Settings.{Settings}
 use Rattle.mtrace_replay.specs.declared.status.RunFault.TheVariants.{OutOfMemory}
 use Rattle.tlsf_tool.specs.declared.asked.Command.{Command}
 use Rattle.tlsf_tool.specs.declared.asked.Command.TheVariants.{Report, Sites, Fit, Save, Check}
@@ -19,7 +20,7 @@ use Rattle.tlsf_tool.specs.declared.asked.Name.{Name}
 use Rattle.tlsf_tool.specs.declared.asked.Name.TheVariants.{Leaks, Peak, Walk}
 use Rattle.tlsf_tool.specs.declared.asked.ToolFault.{ToolFault}
 use Rattle.tlsf_tool.specs.declared.asked.ToolFault.TheVariants.{Help, Usage, CannotOpen, ReadsOnce, Run}
-use Rattle.tlsf_tool.specs.CommandLine.{AskFor, HasNumber, HasNoLog, MatchesAskFor, bare_line, report_line, fit_line, save_line, check_line, name_text, texts_of, tlsf_line, wrong_with}
+use Rattle.tlsf_tool.specs.CommandLine.{AskFor, HasNumber, HasSettings, HasNoLog, MatchesAskFor, bare_line, report_line, fit_line, save_line, check_line, name_text, texts_of, tlsf_line, wrong_with}
 use Rattle.tlsf_tool.specs.Faults.{ExplainsKind, ExplainsWords, IsUsage}
 use Rattle.tlsf_tool.specs.Asks.{Asks, Picks}
 
@@ -85,67 +86,62 @@ AsksNothing found = (command : Command) → MatchesAskFor found command → ⊥
 no_such : (one : Option Text) (text : Text) → one ≡ None → one ≡ Some text → ⊥
 no_such one text none some = let e : None ≡ Some text = sym none ∙ some in cc
 
--- the bytes of a text as the digits of a number, the first one last: the names of two commands have two
-abbrev pub number_of : Text → ℕ
-number_of [] = 0
-number_of (b ∷ text) = b + 256 * number_of text
+-- the subcommand of a command
+abbrev subcommand_text : Command → Text
+subcommand_text (Report name settings log) = name_text name
+subcommand_text (Sites settings log) = codes "sites"
+subcommand_text (Fit step log) = codes "fit"
+subcommand_text (Save settings log image) = codes "save"
+subcommand_text (Check image) = codes "check"
 
--- what a name asks for where the log or the settings are missing, and where the image is
+asked_under : (found : Text × List Row) (command : Command) → MatchesAskFor (Some found) command → found.0 ≡ subcommand_text command
+asked_under found (Report name settings log) asks = asks.0
+asked_under found (Sites settings log) asks = asks.0
+asked_under found (Fit step log) asks = asks.0
+asked_under found (Save settings log image) asks = asks.0
+asked_under found (Check image) asks = asks.0
+
+-- what matches of these rows ask for, where the log or the settings are missing, or the image
 module _ (rows : List Row) where
+  -- what the subcommand of this text needs is missing: its settings, its log or its image
+  abbrev IsMissing : Text → Type 0
+  IsMissing text = MatchBool (bytes_eq text (codes "check")) (first_of (codes "IMAGE") rows ≡ None)
+      (MatchBool (bytes_eq text (codes "fit")) (first_of (codes "LOG") rows ≡ None)
+      (MatchBool (bytes_eq text (codes "save")) (HasNoLog rows ⊎ (first_of (codes "IMAGE") rows ≡ None)) (HasNoLog rows)))
+
+  no_log : (settings : Settings) (log : String Global) → HasNoLog rows → HasSettings rows settings → first_of (codes "LOG") rows ≡ Some (string_bytes log) → ⊥
+  no_log settings log (inl never) has is = never settings has
+  no_log settings log (inr none) has is = no_such (first_of (codes "LOG") rows) (string_bytes log) none is
+
+  has_all : (text : Text) (command : Command) → MatchesAskFor (Some (text, rows)) command → IsMissing (subcommand_text command) → ⊥
+  has_all text (Report Leaks settings log) asks missing = no_log settings log missing asks.1 asks.2
+  has_all text (Report Peak settings log) asks missing = no_log settings log missing asks.1 asks.2
+  has_all text (Report Walk settings log) asks missing = no_log settings log missing asks.1 asks.2
+  has_all text (Sites settings log) asks missing = no_log settings log missing asks.1 asks.2
+  has_all text (Fit step log) asks none = no_such (first_of (codes "LOG") rows) (string_bytes log) none asks.2
+  has_all text (Save settings log image) asks (inl missing) = no_log settings log missing asks.1 asks.2
+  has_all text (Save settings log image) asks (inr none) = no_such (first_of (codes "IMAGE") rows) (string_bytes image) none asks.3
+  has_all text (Check image) asks none = no_such (first_of (codes "IMAGE") rows) (string_bytes image) none asks.1
+
+  text_asks_nothing : (text : Text) → IsMissing text → AsksNothing (Some (text, rows))
+  text_asks_nothing text missing command asks = has_all text command asks (subst IsMissing (asked_under (text, rows) command asks) missing)
+
   pub report_asks_nothing : (name : Name) → HasNoLog rows → AsksNothing (Some (name_text name, rows))
-  report_asks_nothing name (inl never) (Report n settings log) asks = never settings asks.1
-  report_asks_nothing name (inr none) (Report n settings log) asks = no_such (first_of (codes "LOG") rows) (string_bytes log) none asks.2
-  report_asks_nothing Leaks missing (Sites settings log) asks = let e : 495722784108 ≡ 495623367027 = ap number_of asks.0 in omega (arith, e)
-  report_asks_nothing Peak missing (Sites settings log) asks = let e : 1801545072 ≡ 495623367027 = ap number_of asks.0 in omega (arith, e)
-  report_asks_nothing Walk missing (Sites settings log) asks = let e : 1802264951 ≡ 495623367027 = ap number_of asks.0 in omega (arith, e)
-  report_asks_nothing Leaks missing (Fit step log) asks = let e : 495722784108 ≡ 7629158 = ap number_of asks.0 in omega (arith, e)
-  report_asks_nothing Leaks missing (Save settings log image) asks = let e : 495722784108 ≡ 1702257011 = ap number_of asks.0 in omega (arith, e)
-  report_asks_nothing Peak missing (Fit step log) asks = let e : 1801545072 ≡ 7629158 = ap number_of asks.0 in omega (arith, e)
-  report_asks_nothing Peak missing (Save settings log image) asks = let e : 1801545072 ≡ 1702257011 = ap number_of asks.0 in omega (arith, e)
-  report_asks_nothing Walk missing (Fit step log) asks = let e : 1802264951 ≡ 7629158 = ap number_of asks.0 in omega (arith, e)
-  report_asks_nothing Walk missing (Save settings log image) asks = let e : 1802264951 ≡ 1702257011 = ap number_of asks.0 in omega (arith, e)
-  report_asks_nothing Leaks missing (Check image) asks = let e : 495722784108 ≡ 461229090915 = ap number_of asks.0 in omega (arith, e)
-  report_asks_nothing Peak missing (Check image) asks = let e : 1801545072 ≡ 461229090915 = ap number_of asks.0 in omega (arith, e)
-  report_asks_nothing Walk missing (Check image) asks = let e : 1802264951 ≡ 461229090915 = ap number_of asks.0 in omega (arith, e)
+  report_asks_nothing Leaks missing = text_asks_nothing (codes "leaks") missing
+  report_asks_nothing Peak missing = text_asks_nothing (codes "peak") missing
+  report_asks_nothing Walk missing = text_asks_nothing (codes "walk") missing
 
   pub sites_asks_nothing : HasNoLog rows → AsksNothing (Some (codes "sites", rows))
-  sites_asks_nothing (inl never) (Sites settings log) asks = never settings asks.1
-  sites_asks_nothing (inr none) (Sites settings log) asks = no_such (first_of (codes "LOG") rows) (string_bytes log) none asks.2
-  sites_asks_nothing missing (Fit step log) asks = let e : 495623367027 ≡ 7629158 = ap number_of asks.0 in omega (arith, e)
-  sites_asks_nothing missing (Report Leaks settings log) asks = let e : 495623367027 ≡ 495722784108 = ap number_of asks.0 in omega (arith, e)
-  sites_asks_nothing missing (Report Peak settings log) asks = let e : 495623367027 ≡ 1801545072 = ap number_of asks.0 in omega (arith, e)
-  sites_asks_nothing missing (Report Walk settings log) asks = let e : 495623367027 ≡ 1802264951 = ap number_of asks.0 in omega (arith, e)
-  sites_asks_nothing missing (Save settings log image) asks = let e : 495623367027 ≡ 1702257011 = ap number_of asks.0 in omega (arith, e)
-  sites_asks_nothing missing (Check image) asks = let e : 495623367027 ≡ 461229090915 = ap number_of asks.0 in omega (arith, e)
+  sites_asks_nothing missing = text_asks_nothing (codes "sites") missing
 
   pub fit_asks_nothing : first_of (codes "LOG") rows ≡ None → AsksNothing (Some (codes "fit", rows))
-  fit_asks_nothing missing (Fit step log) asks = no_such (first_of (codes "LOG") rows) (string_bytes log) missing asks.2
-  fit_asks_nothing missing (Report Leaks settings log) asks = let e : 7629158 ≡ 495722784108 = ap number_of asks.0 in omega (arith, e)
-  fit_asks_nothing missing (Report Peak settings log) asks = let e : 7629158 ≡ 1801545072 = ap number_of asks.0 in omega (arith, e)
-  fit_asks_nothing missing (Report Walk settings log) asks = let e : 7629158 ≡ 1802264951 = ap number_of asks.0 in omega (arith, e)
-  fit_asks_nothing missing (Sites settings log) asks = let e : 7629158 ≡ 495623367027 = ap number_of asks.0 in omega (arith, e)
-  fit_asks_nothing missing (Save settings log image) asks = let e : 7629158 ≡ 1702257011 = ap number_of asks.0 in omega (arith, e)
-  fit_asks_nothing missing (Check image) asks = let e : 7629158 ≡ 461229090915 = ap number_of asks.0 in omega (arith, e)
+  fit_asks_nothing none = text_asks_nothing (codes "fit") none
 
   pub save_asks_nothing : HasNoLog rows ⊎ (first_of (codes "IMAGE") rows ≡ None) → AsksNothing (Some (codes "save", rows))
-  save_asks_nothing (inl (inl never)) (Save settings log image) asks = never settings asks.1
-  save_asks_nothing (inl (inr none)) (Save settings log image) asks = no_such (first_of (codes "LOG") rows) (string_bytes log) none asks.2
-  save_asks_nothing (inr none) (Save settings log image) asks = no_such (first_of (codes "IMAGE") rows) (string_bytes image) none asks.3
-  save_asks_nothing missing (Fit step log) asks = let e : 1702257011 ≡ 7629158 = ap number_of asks.0 in omega (arith, e)
-  save_asks_nothing missing (Report Leaks settings log) asks = let e : 1702257011 ≡ 495722784108 = ap number_of asks.0 in omega (arith, e)
-  save_asks_nothing missing (Report Peak settings log) asks = let e : 1702257011 ≡ 1801545072 = ap number_of asks.0 in omega (arith, e)
-  save_asks_nothing missing (Report Walk settings log) asks = let e : 1702257011 ≡ 1802264951 = ap number_of asks.0 in omega (arith, e)
-  save_asks_nothing missing (Sites settings log) asks = let e : 1702257011 ≡ 495623367027 = ap number_of asks.0 in omega (arith, e)
-  save_asks_nothing missing (Check image) asks = let e : 1702257011 ≡ 461229090915 = ap number_of asks.0 in omega (arith, e)
+  save_asks_nothing missing = text_asks_nothing (codes "save") missing
 
   pub check_asks_nothing : first_of (codes "IMAGE") rows ≡ None → AsksNothing (Some (codes "check", rows))
-  check_asks_nothing missing (Check image) asks = no_such (first_of (codes "IMAGE") rows) (string_bytes image) missing asks.1
-  check_asks_nothing missing (Fit step log) asks = let e : 461229090915 ≡ 7629158 = ap number_of asks.0 in omega (arith, e)
-  check_asks_nothing missing (Report Leaks settings log) asks = let e : 461229090915 ≡ 495722784108 = ap number_of asks.0 in omega (arith, e)
-  check_asks_nothing missing (Report Peak settings log) asks = let e : 461229090915 ≡ 1801545072 = ap number_of asks.0 in omega (arith, e)
-  check_asks_nothing missing (Report Walk settings log) asks = let e : 461229090915 ≡ 1802264951 = ap number_of asks.0 in omega (arith, e)
-  check_asks_nothing missing (Sites settings log) asks = let e : 461229090915 ≡ 495623367027 = ap number_of asks.0 in omega (arith, e)
-  check_asks_nothing missing (Save settings log image) asks = let e : 461229090915 ≡ 1702257011 = ap number_of asks.0 in omega (arith, e)
+  check_asks_nothing none = text_asks_nothing (codes "check") none
 
 pub refuses : {P : Type 0} (fault : ToolFault) → IsUsage fault ⊎ (fault ≡ Run OutOfMemory) → P
     → (fault ≡ Run OutOfMemory) ⊎ (IsUsage fault × P)

@@ -96,7 +96,7 @@ fn line_of(broken: Option<Rule>) -> &'static [u8]
 }
 
 /// Whether an image is clean, by the first rule that it breaks.
-fn status_of(broken: Option<Rule>) -> Status
+fn status_by_rule(broken: Option<Rule>) -> Status
     ensures { result ≡ check_status broken }
 {
     match broken {
@@ -126,7 +126,7 @@ fn checked<R: Source, W: Sink>(
         return Err(RunFault::OutOfMemory);
     };
     match put_line(writer, line_of(broken)) {
-        Ok(()) => Ok(status_of(broken)),
+        Ok(()) => Ok(status_by_rule(broken)),
         Err(_) => Err(RunFault::Write),
     }
 }

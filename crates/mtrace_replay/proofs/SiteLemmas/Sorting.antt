@@ -1,4 +1,4 @@
--- What the clauses of std's sorts come to.
+-- What the clauses of std's sorts imply.
 use Rattle.std.proofs.Common.{◌≡◌, ℕ, ◌+◌, ◌<◌, ◌≤◌, Bool, false, List, [], ◌∷◌, length, get_or, map, drop, reverse, ap, arith, subst, zero, suc}
 use Rattle.std.specs.List.{sum_by, All, AllByRecursion}
 use Rattle.std.specs.List.Sorted.{IsSortedBy, IsSortedByKey}

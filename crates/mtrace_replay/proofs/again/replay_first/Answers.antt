@@ -46,7 +46,7 @@ pub loop-preserved : goal.loop-preserved
 loop-preserved g c =
     let passed = rw c.in-Ok-Some.field-0-is at c.in-Ok-Some.ensures.line in
     let given = passed c.event.result c.event.ensures in
-    let gave = calls_more c.loop.lines.status c.advance.new.self.status _ _ _ given.was_reading c.loop.invariant.gave c.in-Ok-Some.ensures.calls in
+    let gave = calls_more c.loop.lines.stage c.advance.new.self.stage _ _ _ given.was_reading c.loop.invariant.gave c.in-Ok-Some.ensures.calls in
     let fed = c.in-Ok.ensures in
     record {
       so_far = (λ settings stands. let so_far = c.loop.invariant.so_far settings stands in
@@ -58,7 +58,7 @@ loop-preserved g c =
       none = c.clear.ensures;
       whole = c.in-Ok-Some.ensures.whole ∙ c.loop.invariant.whole;
       gave = gave;
-      not_failed = calls_of_line c.advance.new.self.status _ _ _ _ _ given.taken gave;
+      not_failed = calls_of_line c.advance.new.self.stage _ _ _ _ _ given.taken gave;
       records = c.feed_lent.ensures.records ∙ c.loop.invariant.records;
     }
 

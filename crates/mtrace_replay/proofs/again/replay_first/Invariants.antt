@@ -17,7 +17,7 @@ invariant-loop g l =
       many : l.lines.count ≡ l.counter;
       none : l.findings ≡ [];
       whole : g.R.Source.whole l.reader ≡ g.R.Source.whole l.initial.reader;
-      gave : CallsFor l.lines.status (g.R.Source.trace l.initial.reader) (g.R.Source.trace l.reader);
+      gave : CallsFor l.lines.stage (g.R.Source.trace l.initial.reader) (g.R.Source.trace l.reader);
       not_failed : HasNotFailed (g.R.Source.trace l.initial.reader) (g.R.Source.trace l.reader);
       records : l.replay.content.records ≡ l.initial.replay.content.records;
     }

@@ -1,6 +1,6 @@
 use Rattle.std.proofs.Common.{◌≡◌, Bool, true, false, refl, sym, ◌∙◌, subst, inl, inr, ◌⊎◌}
 use Rattle.std.specs.Prelude.{Ok, Err, IsErrOf, IsTrue}
-use Rattle.mtrace_replay.specs.declared.report.Report.TheVariants.{Notes}
+use Rattle.mtrace_replay.specs.declared.report.Report.TheVariants.{Nothing}
 use Rattle.mtrace_replay.specs.declared.settings.Settings.{Settings}
 use Rattle.mtrace_replay.specs.declared.status.Status.{Status}
 use Rattle.mtrace_replay.specs.declared.status.RunFault.{RunFault}
@@ -28,7 +28,7 @@ returns-in-Ok-tell_fit g c =
     let puts = g.W.Sink.trace in
     let ended = c.in-Ok.ended in
     let E : Settings → Type 0 = λ settings. EndsAt settings ended.status ended.replay (left c.args.reader.now) (left c.replay_log.new.reader) (taken c.args.writer.now) (taken c.replay_log.new.writer) in
-    let R : Settings → Type 0 = λ settings. Runs Notes settings left pulls taken puts (Ok ended.status) c.args.reader.now c.replay_log.new.reader c.args.writer.now c.replay_log.new.writer in
+    let R : Settings → Type 0 = λ settings. Runs Nothing settings left pulls taken puts (Ok ended.status) c.args.reader.now c.replay_log.new.reader c.args.writer.now c.replay_log.new.writer in
     let last = subst E c.greatest.ensures (c.in-Ok.ensures.last refl) in
     let ran = subst R c.greatest.ensures c.in-Ok.ensures.ran in
     let follow = c.in-Ok-tell_fit.ensures last.reports.lines last.stands in
@@ -55,7 +55,7 @@ returns g c =
     let ended = c.in-Ok.ended in
     let fault = c.in-Err-tell_fit.fault in
     let E : Settings → Type 0 = λ settings. EndsAt settings ended.status ended.replay (left c.args.reader.now) (left c.replay_log.new.reader) (taken c.args.writer.now) (taken c.replay_log.new.writer) in
-    let R : Settings → Type 0 = λ settings. Runs Notes settings left pulls taken puts (Ok ended.status) c.args.reader.now c.replay_log.new.reader c.args.writer.now c.replay_log.new.writer in
+    let R : Settings → Type 0 = λ settings. Runs Nothing settings left pulls taken puts (Ok ended.status) c.args.reader.now c.replay_log.new.reader c.args.writer.now c.replay_log.new.writer in
     let last = subst E c.greatest.ensures (c.in-Ok.ensures.last refl) in
     let ran = subst R c.greatest.ensures c.in-Ok.ensures.ran in
     let follow = c.in-Err-tell_fit.ensures last.reports.lines last.stands in

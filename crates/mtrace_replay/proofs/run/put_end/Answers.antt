@@ -1,22 +1,22 @@
 use Rattle.std.proofs.Common.{refl}
 use Rattle.mtrace_log.proofs.Writing.{puts_then, fails_early, puts_exit}
-use Rattle.mtrace_replay.specs.Texts.{notes_text, report_text}
+use Rattle.mtrace_replay.specs.Texts.{diagnostics_text, report_text}
 use Rattle.mtrace_replay.specs.Replay.{entries}
 use Rattle.mtrace_replay.proofs.run.put_end.Goals as goal
 
-pub returns-in_err-put_note : goal.returns-in_err-put_note
-returns-in_err-put_note g c = record {
+pub returns-in_err-put_diagnostics : goal.returns-in_err-put_diagnostics
+returns-in_err-put_diagnostics g c = record {
   kept = λ is. refl;
   put =
-      puts_exit g.W.Sink.taken g.W.Sink.trace c.from_residual.result _ c.from_residual.ensures.1 _ c.args.writer.now c.put_note.new.writer
-      (fails_early g.W.Sink.taken g.W.Sink.trace c.args.writer.now c.put_note.new.writer (notes_text c.args.note.now.items)
-      (report_text c.args.report (entries c.args.replay.now) c.args.replay.now.totals c.args.replay.now.content) c.in_err-put_note.ensures);
+      puts_exit g.W.Sink.taken g.W.Sink.trace c.from_residual.result _ c.from_residual.ensures.1 _ c.args.writer.now c.put_diagnostics.new.writer
+      (fails_early g.W.Sink.taken g.W.Sink.trace c.args.writer.now c.put_diagnostics.new.writer (diagnostics_text c.args.diagnostics.now.items)
+      (report_text c.args.report (entries c.args.replay.now) c.args.replay.now.totals c.args.replay.now.content) c.in_err-put_diagnostics.ensures);
 }
 
 pub returns : goal.returns
 returns g c = record {
   kept = c.put_report.ensures.kept;
   put =
-      puts_then g.W.Sink.taken g.W.Sink.trace c.put_report.result c.args.writer.now c.put_note.new.writer c.put_report.new.writer (notes_text c.args.note.now.items)
-      (report_text c.args.report (entries c.args.replay.now) c.args.replay.now.totals c.args.replay.now.content) c.in_ok-put_note.ensures c.put_report.ensures.put;
+      puts_then g.W.Sink.taken g.W.Sink.trace c.put_report.result c.args.writer.now c.put_diagnostics.new.writer c.put_report.new.writer (diagnostics_text c.args.diagnostics.now.items)
+      (report_text c.args.report (entries c.args.replay.now) c.args.replay.now.totals c.args.replay.now.content) c.in_ok-put_diagnostics.ensures c.put_report.ensures.put;
 }

@@ -1,9 +1,9 @@
 use Rattle.std.proofs.Common.{List, sym, subst, ap, ◌∙◌, not}
 use Rattle.mtrace_replay.specs.declared.diagnostic.Diagnostic.{Diagnostic}
 use Rattle.mtrace_log.specs.Output.{Wrote, Begins}
-use Rattle.mtrace_replay.specs.Texts.{notes_text}
-use Rattle.mtrace_replay.specs.Run.{is_some_note}
-use Rattle.mtrace_replay.proofs.RunLemmas.{some_note-is, no_note-is}
+use Rattle.mtrace_replay.specs.Texts.{diagnostics_text}
+use Rattle.mtrace_replay.specs.Run.{is_some_diagnostic}
+use Rattle.mtrace_replay.proofs.RunLemmas.{some_diagnostic-is, no_diagnostic-is}
 use Rattle.mtrace_log.proofs.Writing.{Wrote-nothing}
 use Rattle.mtrace_log.specs.declared.call.Call.TheVariants.{Took}
 use Rattle.mtrace_log.proofs.TraceLemmas.{moved_none}
@@ -12,14 +12,14 @@ use Rattle.mtrace_replay.proofs.run.replay_line.Goals as goal
 pub returns-then-is_empty : goal.returns-then-is_empty
 returns-then-is_empty g c =
     let taken = g.W.Sink.taken c.args.writer.now in
-    let empty = no_note-is c.feed_lent.new.findings (sym c.is_empty.ensures ∙ c.if-is_empty.true) in
+    let empty = no_diagnostic-is c.feed_lent.new.findings (sym c.is_empty.ensures ∙ c.if-is_empty.true) in
     record {
       done = λ settings past stands.
-          let none = sym empty ∙ c.in-Ok.ensures.note settings past stands in
+          let none = sym empty ∙ c.in-Ok.ensures.diagnostics settings past stands in
           record {
             stands = c.in-Ok.ensures.stands settings past stands;
-            wrote = subst (λ notes. Wrote taken taken (notes_text notes)) none (Wrote-nothing taken);
-            noted_is = ap is_some_note none;
+            wrote = subst (λ diagnostics. Wrote taken taken (diagnostics_text diagnostics)) none (Wrote-nothing taken);
+            has_diagnostics_is = ap is_some_diagnostic none;
           };
       counted = c.in-Ok.ensures.counted;
       cleared = empty;
@@ -31,14 +31,14 @@ returns-then-is_empty g c =
 
 pub returns-in-Ok-put_findings : goal.returns-in-Ok-put_findings
 returns-in-Ok-put_findings g c =
-    let P : List Diagnostic → Type 0 = λ notes. Wrote (g.W.Sink.taken c.args.writer.now) (g.W.Sink.taken c.put_findings.new.writer) (notes_text notes) in
+    let P : List Diagnostic → Type 0 = λ diagnostics. Wrote (g.W.Sink.taken c.args.writer.now) (g.W.Sink.taken c.put_findings.new.writer) (diagnostics_text diagnostics) in
     record {
       done = λ settings past stands.
-          let is = c.in-Ok.ensures.note settings past stands in
+          let is = c.in-Ok.ensures.diagnostics settings past stands in
           record {
             stands = c.in-Ok.ensures.stands settings past stands;
             wrote = subst P is c.in-Ok-put_findings.ensures.put.wrote;
-            noted_is = sym (ap not (sym c.is_empty.ensures ∙ c.if-is_empty.false)) ∙ some_note-is c.feed_lent.new.findings ∙ ap is_some_note is;
+            has_diagnostics_is = sym (ap not (sym c.is_empty.ensures ∙ c.if-is_empty.false)) ∙ some_diagnostic-is c.feed_lent.new.findings ∙ ap is_some_diagnostic is;
           };
       counted = c.in-Ok.ensures.counted;
       cleared = c.put_findings.ensures.cleared;
@@ -50,7 +50,7 @@ returns-in-Ok-put_findings g c =
 
 pub returns-in-Err : goal.returns-in-Err
 returns-in-Err g c =
-    let P : List Diagnostic → Type 0 = λ notes. Begins (g.W.Sink.taken c.args.writer.now) (g.W.Sink.taken c.put_findings.new.writer) (notes_text notes) in
+    let P : List Diagnostic → Type 0 = λ diagnostics. Begins (g.W.Sink.taken c.args.writer.now) (g.W.Sink.taken c.put_findings.new.writer) (diagnostics_text diagnostics) in
     record {
       done = tt;
       counted = tt;
@@ -59,7 +59,7 @@ returns-in-Err g c =
       took = tt;
       write = λ settings past stands. record {
         stands = c.in-Ok.ensures.stands settings past stands;
-        begun = subst P (c.in-Ok.ensures.note settings past stands) c.in-Err.ensures.put.begun;
+        begun = subst P (c.in-Ok.ensures.diagnostics settings past stands) c.in-Err.ensures.put.begun;
       };
       failed = c.in-Err.ensures.put.failed;
     }

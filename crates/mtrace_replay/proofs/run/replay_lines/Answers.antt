@@ -19,7 +19,7 @@ loop-number-init g c =
       none = c.none-findings.ensures;
       records = refl;
       whole = refl;
-      gave = (let P : Progress → Type 0 = λ lines. CallsFor lines.status gave gave in subst P (sym c.new-lines.ensures) (moved_none Gave gave));
+      gave = (let P : Progress → Type 0 = λ lines. CallsFor lines.stage gave gave in subst P (sym c.new-lines.ensures) (moved_none Gave gave));
       took = moved_none Took (g.W.Sink.trace c.args.writer.now);
     }
 
@@ -31,7 +31,7 @@ returns-in-Ok-None g c =
     kept.gave c.in-Ok-None.ensures.calls found.0 found.1 in
     record {
       done = λ settings stands.
-          underway_end g.R.Source.left settings c.loop-number.lines c.advance.new.self c.loop-number.replay c.loop-number.noted (g.R.Source.left c.args.reader.now) c.loop-number.reader c.advance.new.reader
+          underway_end g.R.Source.left settings c.loop-number.lines c.advance.new.self c.loop-number.replay c.loop-number.has_diagnostics (g.R.Source.left c.args.reader.now) c.loop-number.reader c.advance.new.reader
           (g.W.Sink.taken c.args.writer.now) (g.W.Sink.taken c.loop-number.writer) (kept.under_way settings stands) found.1;
       records = kept.records;
       whole = c.advance.ensures.whole ∙ kept.whole;
@@ -57,7 +57,7 @@ returns-in-Err g c =
       writer_took = λ other. kept.took;
       writer_failed = λ is. absurd (cc);
       read = λ is settings stands.
-          underway_fault g.R.Source.left settings c.loop-number.lines c.advance.new.self c.loop-number.replay c.loop-number.noted (g.R.Source.left c.args.reader.now) c.loop-number.reader c.advance.new.reader
+          underway_fault g.R.Source.left settings c.loop-number.lines c.advance.new.self c.loop-number.replay c.loop-number.has_diagnostics (g.R.Source.left c.args.reader.now) c.loop-number.reader c.advance.new.reader
           (g.W.Sink.taken c.args.writer.now) (g.W.Sink.taken c.loop-number.writer) _ _ c.in-Err.field-0 (kept.under_way settings stands) c.in-Err.ensures.fault c.in-Err.ensures.nothing_held came;
       write = λ is. absurd (cc);
     }
@@ -73,7 +73,7 @@ loop-number-preserved g c =
     let passed = rw c.in-Ok-Some.field-0-is at c.in-Ok-Some.ensures.line in
     let given = passed c.event.result c.event.ensures in
     record {
-      under_way = (λ settings stands. let under = c.loop-number.invariant.under_way settings stands in underway_line settings c.loop-number.lines c.advance.new.self c.loop-number.replay c.replay_line.new.replay c.loop-number.noted c.in-Ok.more
+      under_way = (λ settings stands. let under = c.loop-number.invariant.under_way settings stands in underway_line settings c.loop-number.lines c.advance.new.self c.loop-number.replay c.replay_line.new.replay c.loop-number.has_diagnostics c.in-Ok.more
           (g.R.Source.left c.args.reader.now) (g.R.Source.left c.loop-number.reader) (g.R.Source.left c.advance.new.reader)
           (g.W.Sink.taken c.args.writer.now) (g.W.Sink.taken c.loop-number.writer) (g.W.Sink.taken c.replay_line.new.writer) (record { number = c.in-Ok-Some.number; event = c.event.result })
           under given (c.in-Ok.ensures.done settings (reverse under.so_far.lines) under.so_far.stands));
@@ -81,7 +81,7 @@ loop-number-preserved g c =
       none = c.in-Ok.ensures.cleared;
       records = c.in-Ok.ensures.records ∙ c.loop-number.invariant.records;
       whole = c.in-Ok-Some.ensures.whole ∙ c.loop-number.invariant.whole;
-      gave = calls_more c.loop-number.lines.status c.advance.new.self.status _ _ _ given.was_reading c.loop-number.invariant.gave c.in-Ok-Some.ensures.calls;
+      gave = calls_more c.loop-number.lines.stage c.advance.new.self.stage _ _ _ given.was_reading c.loop-number.invariant.gave c.in-Ok-Some.ensures.calls;
       took = moved_append Took _ _ _ c.loop-number.invariant.took c.in-Ok.ensures.took;
     }
 
@@ -95,14 +95,14 @@ returns-in-Err-replay_line g c =
       records = c.replay_line.ensures.records ∙ kept.records;
       whole = c.advance.ensures.whole ∙ kept.whole;
       reader_ended = tt;
-      reader_not_failed = λ other. calls_of_line c.advance.new.self.status _ _ _ _ _ given.taken
-          (calls_more c.loop-number.lines.status c.advance.new.self.status _ _ _ given.was_reading kept.gave c.in-Ok-Some.ensures.calls);
+      reader_not_failed = λ other. calls_of_line c.advance.new.self.stage _ _ _ _ _ given.taken
+          (calls_more c.loop-number.lines.stage c.advance.new.self.stage _ _ _ given.was_reading kept.gave c.in-Ok-Some.ensures.calls);
       writer_took = λ other. absurd (other refl);
       writer_failed = λ is. moved_then_append Took Failed _ _ _ kept.took c.in-Err-replay_line.ensures.failed;
       read = λ is. absurd (cc);
       write = λ is settings stands report.
           let under = kept.under_way settings stands in
-          underway_write report settings c.loop-number.lines c.advance.new.self c.loop-number.replay c.replay_line.new.replay c.loop-number.noted
+          underway_write report settings c.loop-number.lines c.advance.new.self c.loop-number.replay c.replay_line.new.replay c.loop-number.has_diagnostics
           (g.R.Source.left c.args.reader.now) (g.R.Source.left c.loop-number.reader) (g.R.Source.left c.advance.new.reader)
           (g.W.Sink.taken c.args.writer.now) (g.W.Sink.taken c.loop-number.writer) (g.W.Sink.taken c.replay_line.new.writer) (record { number = c.in-Ok-Some.number; event = c.event.result })
           under given (c.in-Err-replay_line.ensures.write settings (reverse under.so_far.lines) under.so_far.stands);

@@ -14,12 +14,12 @@ invariant-loop-number g l =
     let taken = g.W.Sink.taken in
     record {
       under_way : (settings : Settings) → StandsFor l.initial.replay settings []
-          → IsUnderWay settings l.lines l.replay l.noted (left l.initial.reader) (left l.reader) (taken l.initial.writer) (taken l.writer);
+          → IsUnderWay settings l.lines l.replay l.has_diagnostics (left l.initial.reader) (left l.reader) (taken l.initial.writer) (taken l.writer);
       counted : l.replay.totals.lines ≡ l.lines.count;
       none : l.findings ≡ [];
       records : l.replay.content.records ≡ l.initial.replay.content.records;
       whole : g.R.Source.whole l.reader ≡ g.R.Source.whole l.initial.reader;
-      gave : CallsFor l.lines.status (g.R.Source.trace l.initial.reader) (g.R.Source.trace l.reader);
+      gave : CallsFor l.lines.stage (g.R.Source.trace l.initial.reader) (g.R.Source.trace l.reader);
       took : HasTaken (g.W.Sink.trace l.initial.writer) (g.W.Sink.trace l.writer);
     }
 

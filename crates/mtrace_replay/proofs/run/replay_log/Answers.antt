@@ -15,7 +15,7 @@ returns-in-Ok-finish-clause-ran g c =
     let done = c.in-Ok-replay_lines.ensures.done c.args.settings c.in-Ok.ensures.made in
     let took = c.in-Ok-replay_lines.ensures.writer_took (λ e. cc) in
     record {
-      finished = report_all c.args.report c.args.settings c.replay_lines.new.replay c.in-Ok-replay_lines.noted c.in-Ok-finish.status (left c.args.reader.now) (left c.replay_lines.new.reader)
+      finished = report_all c.args.report c.args.settings c.replay_lines.new.replay c.in-Ok-replay_lines.has_diagnostics c.in-Ok-finish.status (left c.args.reader.now) (left c.replay_lines.new.reader)
           (taken c.args.writer.now) (taken c.replay_lines.new.writer) (taken c.finish.new.writer) done c.in-Ok-finish.ensures.all c.in-Ok-finish.ensures.status;
       reader_ended = search rules;
       writer_flushed = moved_then_append Took Flushed _ _ _ took c.in-Ok-finish.ensures.flushed;
@@ -36,7 +36,7 @@ returns-in-Ok-finish-clause-last g c =
     let taken = g.W.Sink.taken in
     let done = c.in-Ok-replay_lines.ensures.done c.args.settings c.in-Ok.ensures.made in
     λ only. let P : Report → Type 0 = λ report. Wrote (taken c.replay_lines.new.writer) (taken c.finish.new.writer) (end_text report c.replay_lines.new.replay) in
-    ends_at c.args.settings c.replay_lines.new.replay c.finish.new.replay c.in-Ok-replay_lines.noted c.in-Ok-finish.status (left c.args.reader.now) (left c.replay_lines.new.reader)
+    ends_at c.args.settings c.replay_lines.new.replay c.finish.new.replay c.in-Ok-replay_lines.has_diagnostics c.in-Ok-finish.status (left c.args.reader.now) (left c.replay_lines.new.reader)
     (taken c.args.writer.now) (taken c.replay_lines.new.writer) (taken c.finish.new.writer) done (subst P only c.in-Ok-finish.ensures.all) c.in-Ok-finish.ensures.status (c.in-Ok-finish.ensures.kept only) (c.in-Ok-replay_lines.ensures.records ∙ c.in-Ok.ensures.records)
 
 -- the writer failed at the end
@@ -52,7 +52,7 @@ returns-in-Ok-replay_lines-clause-ran g c =
       writer_flushed = search rules;
       read_fault = search rules;
       flush_asked = search rules;
-      write_fault = λ e. report_write c.args.report c.args.settings c.replay_lines.new.replay c.in-Ok-replay_lines.noted (left c.args.reader.now) (left c.replay_lines.new.reader)
+      write_fault = λ e. report_write c.args.report c.args.settings c.replay_lines.new.replay c.in-Ok-replay_lines.has_diagnostics (left c.args.reader.now) (left c.replay_lines.new.reader)
           (taken c.args.writer.now) (taken c.replay_lines.new.writer) (taken c.finish.new.writer) done c.in-Err.ensures.beginning;
       writer_failed = λ e. failed_after _ _ _ took c.in-Err.ensures.failed;
       no_memory = search rules;

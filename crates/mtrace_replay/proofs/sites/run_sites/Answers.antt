@@ -3,7 +3,7 @@ use Rattle.std.specs.Prelude.{Result, Ok, Err}
 use Rattle.mtrace_replay.specs.declared.status.Status.{Status}
 use Rattle.mtrace_replay.specs.declared.status.RunFault.{RunFault}
 use Rattle.mtrace_replay.specs.declared.status.RunFault.TheVariants.{OutOfMemory, BadSettings}
-use Rattle.mtrace_replay.specs.declared.report.Report.TheVariants.{Notes}
+use Rattle.mtrace_replay.specs.declared.report.Report.TheVariants.{Nothing}
 use Rattle.mtrace_replay.specs.Run.{Runs}
 use Rattle.mtrace_replay.specs.RunSites.{SitesFollow}
 use Rattle.mtrace_replay.proofs.RunsAgain.{follows_ok, follows_err, again_fault, again_ended}
@@ -12,7 +12,7 @@ use Rattle.mtrace_replay.proofs.sites.run_sites.Goals as goal
 pub returns-in-Err-BadSettings : goal.returns-in-Err-BadSettings
 returns-in-Err-BadSettings g c =
     let run : Result Status RunFault = Err BadSettings in
-    let runs : Runs Notes c.args.settings g.R.Source.left g.R.Source.trace g.W.Sink.taken g.W.Sink.trace run c.args.reader.now c.args.reader.now c.args.writer.now c.args.writer.now = record {
+    let runs : Runs Nothing c.args.settings g.R.Source.left g.R.Source.trace g.W.Sink.taken g.W.Sink.trace run c.args.reader.now c.args.reader.now c.args.writer.now c.args.writer.now = record {
       finished = search rules;
       reader_ended = search rules;
       writer_flushed = search rules;
@@ -32,7 +32,7 @@ returns-in-Err-BadSettings g c =
 pub returns-in-Err-OutOfMemory : goal.returns-in-Err-OutOfMemory
 returns-in-Err-OutOfMemory g c =
     let run : Result Status RunFault = Err OutOfMemory in
-    let runs : Runs Notes c.args.settings g.R.Source.left g.R.Source.trace g.W.Sink.taken g.W.Sink.trace run c.args.reader.now c.args.reader.now c.args.writer.now c.args.writer.now = record {
+    let runs : Runs Nothing c.args.settings g.R.Source.left g.R.Source.trace g.W.Sink.taken g.W.Sink.trace run c.args.reader.now c.args.reader.now c.args.writer.now c.args.writer.now = record {
       finished = search rules;
       reader_ended = search rules;
       writer_flushed = search rules;

@@ -6,7 +6,7 @@ use Rattle.tlsf_heap.proofs.Content.BareSteps.{size_at-renamed}
 use Rattle.mtrace_replay.specs.declared.diagnostic.Diagnostic.{Diagnostic}
 use Rattle.mtrace_replay.specs.declared.diagnostic.Kind.TheVariants.{Refused}
 use Rattle.mtrace_replay.specs.Holding.{Holding}
-use Rattle.mtrace_replay.specs.Moment.{note, allocation, asked_block}
+use Rattle.mtrace_replay.specs.Moment.{one_diagnostic, allocation, asked_block}
 use Rattle.mtrace_replay.specs.Index.{AreInOrder, IsNewSlot, held_at, held_bytes}
 use Rattle.mtrace_replay.specs.Step.{all_given, found, Comes, AreLive}
 use Rattle.mtrace_replay.proofs.HeapSteps.{bare_served, bare_refused}
@@ -55,8 +55,8 @@ returns-then-is_held g c =
     let held = c.args.held.now.all in
     let entry = c.args.entry.now in
     let moment = allocation entry.line entry.at entry.addr c.args.align entry.size (found (all_given held) entry.addr) content in
-    let P : List Diagnostic → Type 0 = λ notes. Comes content content (all_given held) (all_given held) notes None moment in
-    let Q : List Diagnostic → List Holding → Type 0 = λ notes all. Comes content content (all_given held) (all_given all) notes None moment in
+    let P : List Diagnostic → Type 0 = λ diagnostics. Comes content content (all_given held) (all_given held) diagnostics None moment in
+    let Q : List Diagnostic → List Holding → Type 0 = λ diagnostics all. Comes content content (all_given held) (all_given all) diagnostics None moment in
     record {
       comes = subst (Q c.set_one.new.self) (sym c.find_again-found.ensures.unchanged)
           (subst P (sym c.set_one.ensures) (comes_held held held content content entry.line entry.at entry.addr c.args.align entry.size (sym (seen_held c.find_again-found.new.self.all c.args.held.now.all c.find_again-found.result.address c.args.entry.now.addr c.is_held.result c.is_held.ensures.value c.find_again-found.ensures.unchanged c.find_again-found.ensures.address) ∙ c.if-is_held.true)));
@@ -79,14 +79,14 @@ returns-in-Ok g c =
     let ptr = c.in-Ok.block.ptr in
     let more : Holding = record { entry = entry; ptr = ptr } in
     let moment = allocation entry.line entry.at entry.addr c.args.align entry.size (found (all_given held) entry.addr) (bare old) in
-    let P : List Diagnostic → Option ℕ → Type 0 = λ notes end. Comes (bare old) (bare new) (all_given held) (all_given after) notes end moment in
+    let P : List Diagnostic → Option ℕ → Type 0 = λ diagnostics end. Comes (bare old) (bare new) (all_given held) (all_given after) diagnostics end moment in
     let absent = sym (seen_held c.find_again-found.new.self.all c.args.held.now.all c.find_again-found.result.address c.args.entry.now.addr c.is_held.result c.is_held.ensures.value c.find_again-found.ensures.unchanged c.find_again-found.ensures.address) ∙ c.if-is_held.false in
     let served = bare_served old new ptr.slot c.args.align c.asked_size.result ptr.place c.in-Ok.ensures.asks.ok in
     let end = ap (λ (n : ℕ). Some n) (c.in-Ok.ensures.end ∙ ap (λ (n : ℕ). ptr.place + n) (sym (size_at-renamed (λ owner. tt) ptr.place new.pools))) in
     let changed = (λ (other : ℕ). c.insert.ensures.held other ∙ ap (λ all. cond (entry.addr == other) (Some more) (held_at all other)) c.find_again-found.ensures.unchanged) in
     let asked = asked_least entry.size in
     record {
-      comes = subst (λ notes. P notes (Some c.in-Ok.block.end)) (sym c.requires.none) (subst (P []) (sym end)
+      comes = subst (λ diagnostics. P diagnostics (Some c.in-Ok.block.end)) (sym c.requires.none) (subst (P []) (sym end)
           (comes_served held after (bare old) (bare new) more c.args.align absent (ap (λ n. asked_block tt c.args.align n (bare old)) (sym c.asked_size.ensures) ∙ served) changed));
       live = live_after_asked held after old new c.keeps_good.ensures.good c.requires.live more c.args.align c.asked_size.result c.in-Ok.ensures.asks.ok (omega (arith, asked, c.asked_size.ensures)) changed;
       memory = tt;
@@ -116,11 +116,11 @@ returns-in-Err g c =
     let held = c.args.held.now.all in
     let entry = c.args.entry.now in
     let moment = allocation entry.line entry.at entry.addr c.args.align entry.size (found (all_given held) entry.addr) (bare old) in
-    let P : List Diagnostic → Type 0 = λ notes. Comes (bare old) (bare old) (all_given held) (all_given held) notes None moment in
-    let Q : List Diagnostic → Content ℕ → List Holding → Type 0 = λ notes content all. Comes (bare old) (bare content) (all_given held) (all_given all) notes None moment in
+    let P : List Diagnostic → Type 0 = λ diagnostics. Comes (bare old) (bare old) (all_given held) (all_given held) diagnostics None moment in
+    let Q : List Diagnostic → Content ℕ → List Holding → Type 0 = λ diagnostics content all. Comes (bare old) (bare content) (all_given held) (all_given all) diagnostics None moment in
     let refused = bare_refused old new 0 c.args.align c.asked_size.result c.in-Err.refusal (c.in-Err.ensures.asks.refused (search rules) 0) in
     let same = c.in-Err.ensures.asks.unchanged in
-    let told : P (note entry.line (Refused entry.addr c.in-Err.refusal)) =
+    let told : P (one_diagnostic entry.line (Refused entry.addr c.in-Err.refusal)) =
     comes_refused held held (bare old) (bare new) entry c.args.align c.in-Err.refusal (sym (seen_held c.find_again-found.new.self.all c.args.held.now.all c.find_again-found.result.address c.args.entry.now.addr c.is_held.result c.is_held.ensures.value c.find_again-found.ensures.unchanged c.find_again-found.ensures.address) ∙ c.if-is_held.false) (ap (λ n. asked_block tt c.args.align n (bare old)) (sym c.asked_size.ensures) ∙ refused) in
     record {
       comes = subst (Q c.set_one-in-Err.new.self new) (sym c.find_again-found.ensures.unchanged)

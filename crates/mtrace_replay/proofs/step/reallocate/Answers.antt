@@ -50,12 +50,12 @@ returns-in-Ok g c =
     let live = subst P under.2 (c.requires.live.live c.args.old.now.address under.0 under.1) in
     let served = bare_moved old new ptr.place ptr.slot live given.slot c.asked_size.result given.place given.slot c.in-Ok.ensures.asks.ok in
     let moment = moved entry.line entry.at c.args.old.now.address ptr.place entry.addr entry.size (bare old) (realloc (λ one other. true) tt (Some (ptr.place, tt)) (asked_size entry.size) (bare old)) in
-    let Q : List Diagnostic → Option ℕ → Type 0 = λ notes end. Comes (bare old) (bare new) (all_given held) (all_given after) notes end moment in
+    let Q : List Diagnostic → Option ℕ → Type 0 = λ diagnostics end. Comes (bare old) (bare new) (all_given held) (all_given after) diagnostics end moment in
     let end = ap (λ (n : ℕ). Some n) (c.in-Ok.ensures.end ∙ ap (λ (n : ℕ). given.place + n) (sym (size_at-renamed (λ owner. tt) given.place new.pools))) in
     let asked = asked_least entry.size in
     let R : Pointer → Type 0 = λ p. realloc (λ a b. a == b) given.slot (Some (p.place, p.slot)) c.asked_size.result old ≡ Ok (Some (given.place, given.slot), new) in
     record {
-      comes = subst (λ notes. Q notes (Some c.in-Ok.block.end)) (sym c.requires.none) (subst (Q []) (sym end)
+      comes = subst (λ diagnostics. Q diagnostics (Some c.in-Ok.block.end)) (sym c.requires.none) (subst (Q []) (sym end)
           (comes_moved held after (bare old) (bare new) c.args.old.now.address ptr.place (record { entry = entry; ptr = given })
           (ap (λ n. realloc (λ one other. true) tt (Some (ptr.place, tt)) n (bare old)) (sym c.asked_size.ensures) ∙ served) c.replace.ensures.held));
       live = live_after_realloc held after old new c.keeps_good.ensures.good c.requires.live c.args.old.now.address under.0 under.1 (record { entry = entry; ptr = given }) c.asked_size.result
@@ -84,7 +84,7 @@ returns-in_ok-take-in-Err g c =
     let refused = bare_not_moved old middle ptr.place ptr.slot live 0 c.asked_size.result c.in-Err.refusal (c.in-Err.ensures.asks.refused (search rules) 0) in
     let freed : new ≡ without ptr.place (bare old) = c.in_ok-take-in-Err.ensures.content ∙ ap (λ content. without ptr.place (bare content)) c.in-Err.ensures.asks.unchanged in
     let moment = moved entry.line entry.at c.args.old.now.address ptr.place entry.addr entry.size (bare old) (realloc (λ one other. true) tt (Some (ptr.place, tt)) (asked_size entry.size) (bare old)) in
-    let Q : List Diagnostic → Type 0 = λ notes. Comes (bare old) new (all_given held) (all_given after) notes None moment in
+    let Q : List Diagnostic → Type 0 = λ diagnostics. Comes (bare old) new (all_given held) (all_given after) diagnostics None moment in
     record {
       comes = subst Q (sym c.set_one.ensures) (comes_not_moved held after (bare old) new c.args.old.now.address ptr.place entry c.in-Err.refusal
           (ap (λ n. realloc (λ one other. true) tt (Some (ptr.place, tt)) n (bare old)) (sym c.asked_size.ensures) ∙ refused) freed c.in_ok-take-in-Err.ensures.held);

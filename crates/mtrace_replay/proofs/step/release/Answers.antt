@@ -16,8 +16,8 @@ returns-in_default g c =
     let heap = g.H.Heaped.content c.args.heap.now in
     let content = bare heap in
     let held = c.args.held.now.all in
-    let P : List Diagnostic → Type 0 = λ notes. Comes content content (all_given held) (all_given held) notes None (release c.args.number c.args.address (found (all_given held) c.args.address) content) in
-    let Q : List Diagnostic → List Holding → Type 0 = λ notes all. Comes content content (all_given held) (all_given all) notes None (release c.args.number c.args.address (found (all_given held) c.args.address) content) in
+    let P : List Diagnostic → Type 0 = λ diagnostics. Comes content content (all_given held) (all_given held) diagnostics None (release c.args.number c.args.address (found (all_given held) c.args.address) content) in
+    let Q : List Diagnostic → List Holding → Type 0 = λ diagnostics all. Comes content content (all_given held) (all_given all) diagnostics None (release c.args.number c.args.address (found (all_given held) c.args.address) content) in
     record {
       comes = subst (Q c.set_one.new.self) (sym c.find_again-found.ensures.unchanged)
           (subst P (sym c.set_one.ensures) (comes_not_held held held content content c.args.number c.args.address (under_none (held_at held c.args.address) (sym (seen_block c.find_again-found.new.self.all c.args.held.now.all c.find_again-found.result.address c.args.address c.block.result c.block.ensures.value c.find_again-found.ensures.unchanged c.find_again-found.ensures.address) ∙ c.in_default.is))));
@@ -56,7 +56,7 @@ returns g c =
     let held = c.args.held.now.all in
     let new = c.take.new.held.all in
     let under = under_some (held_at held c.args.address) c.in-Some.ptr (sym (seen_block c.find_again-found.new.self.all c.args.held.now.all c.find_again-found.result.address c.args.address c.block.result c.block.ensures.value c.find_again-found.ensures.unchanged c.find_again-found.ensures.address) ∙ c.in-Some.is) in
-    let P : List Diagnostic → Type 0 = λ notes. Comes content after (all_given held) (all_given new) notes None (release c.args.number c.args.address (found (all_given held) c.args.address) content) in
+    let P : List Diagnostic → Type 0 = λ diagnostics. Comes content after (all_given held) (all_given new) diagnostics None (release c.args.number c.args.address (found (all_given held) c.args.address) content) in
     record {
       comes = subst P (sym c.requires.none) (comes_released held new content after c.args.number c.args.address under.0 under.1
           (c.in_ok-take.ensures.content ∙ ap (λ (ptr : Pointer). without ptr.place content) (sym under.2)) (λ other. c.in_ok-take.ensures.held other ∙ ap (λ all. cond (c.find_again-found.result.address == other) None (held_at all other)) c.find_again-found.ensures.unchanged

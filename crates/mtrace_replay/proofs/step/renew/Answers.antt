@@ -6,12 +6,12 @@ use Rattle.tlsf_heap.specs.Realloc.{realloc}
 use Rattle.mtrace_replay.specs.declared.diagnostic.Diagnostic.{Diagnostic}
 use Rattle.mtrace_replay.specs.Holding.{Holding}
 use Rattle.mtrace_replay.specs.declared.diagnostic.Kind.TheVariants.{NotHeld, AlreadyHeld}
-use Rattle.mtrace_replay.specs.Moment.{Moment, note, unserved, noted_after, allocation, renewal, moved, asked_size}
+use Rattle.mtrace_replay.specs.Moment.{Moment, one_diagnostic, unserved, after_diagnostics, allocation, renewal, moved, asked_size}
 use Rattle.mtrace_replay.specs.Index.{held_at}
 use Rattle.mtrace_replay.specs.Step.{all_given, found, Comes, AreLive}
 use Rattle.std.proofs.lemmas.Result.{on_err_weaker}
 use Rattle.mtrace_replay.proofs.LookLemmas.{look_on, looks_up_fewer}
-use Rattle.mtrace_replay.proofs.StepLemmas.{comes_unserved, comes_after_note, under_none, under_some, seen_block, renewal_allocates, renewal_is_held, renewal_moves, renewal_asks_new, renewal_asks_moved}
+use Rattle.mtrace_replay.proofs.StepLemmas.{comes_unserved, comes_after_diagnostic, under_none, under_some, seen_block, renewal_allocates, renewal_is_held, renewal_moves, renewal_asks_new, renewal_asks_moved}
 use Rattle.mtrace_replay.proofs.step.renew.Goals as goal
 
 pub returns-in_default-block : goal.returns-in_default-block
@@ -28,11 +28,11 @@ returns-in_default-block g c =
     let first : Diagnostic = record { line = entry.line; kind = NotHeld old } in
     let C : List Holding → Type 0 = λ all. Comes content after (all_given all) (all_given new) c.allocate.new.findings c.in_ok-end.end
     (allocation entry.line entry.at entry.addr None entry.size (found (all_given all) entry.addr) content) in
-    let P : List Diagnostic → Option ℕ → Type 0 = λ notes end. Comes content after (all_given held) (all_given new) notes end (noted_after (first ∷ []) moment) in
+    let P : List Diagnostic → Option ℕ → Type 0 = λ diagnostics end. Comes content after (all_given held) (all_given new) diagnostics end (after_diagnostics (first ∷ []) moment) in
     record {
       comes = subst (Comes content after (all_given held) (all_given new) c.put_first.new.self c.in_ok-end.end) (sym is)
-          (subst (λ notes. P notes c.in_ok-end.end) (sym c.put_first.ensures)
-          (comes_after_note content after (all_given held) (all_given new) first c.allocate.new.findings c.in_ok-end.end moment (subst C c.find-found.ensures.unchanged c.in_ok-end.ensures.comes)));
+          (subst (λ diagnostics. P diagnostics c.in_ok-end.end) (sym c.put_first.ensures)
+          (comes_after_diagnostic content after (all_given held) (all_given new) first c.allocate.new.findings c.in_ok-end.end moment (subst C c.find-found.ensures.unchanged c.in_ok-end.ensures.comes)));
       live = c.in_ok-end.ensures.live;
       memory = tt;
       unchanged = tt;
@@ -53,13 +53,13 @@ returns-then-is_held_too g c =
     let value = c.is_held_too.ensures.value ∙ ap (λ all. not (entry.addr == old) && is_some (held_at all entry.addr)) c.find-found.ensures.unchanged in
     let same = c.is_held_too.ensures.unchanged ∙ c.find-found.ensures.unchanged in
     let is = renewal_is_held held content entry.line entry.at c.args.pending old entry.addr entry.size c.in-Some.is under.0 under.1 (sym value ∙ c.if-is_held_too.true) in
-    let notes = note entry.line (AlreadyHeld entry.addr) in
-    let P : List Diagnostic → Type 0 = λ ns. Comes content content (all_given held) (all_given held) ns None (unserved notes content) in
+    let diagnostics = one_diagnostic entry.line (AlreadyHeld entry.addr) in
+    let P : List Diagnostic → Type 0 = λ ns. Comes content content (all_given held) (all_given held) ns None (unserved diagnostics content) in
     let R : List Holding → Type 0 = λ all. Comes content content (all_given held) (all_given all) c.set_one-then-is_held_too.new.self None
     (renewal entry.line entry.at c.args.pending entry.addr entry.size (found (all_given held)) content) in
     record {
       comes = subst R (sym same) (subst (Comes content content (all_given held) (all_given held) c.set_one-then-is_held_too.new.self None) (sym is)
-          (subst P (sym c.set_one-then-is_held_too.ensures) (comes_unserved content (all_given held) notes)));
+          (subst P (sym c.set_one-then-is_held_too.ensures) (comes_unserved content (all_given held) diagnostics)));
       live = subst (λ all. AreLive all (g.H.Heaped.content c.args.heap.now)) (sym same) c.requires.live;
       memory = tt;
       unchanged = tt;

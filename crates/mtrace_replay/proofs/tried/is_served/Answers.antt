@@ -48,7 +48,7 @@ returns-then-totals-gt0 g c =
     let kept = c.loop-number.invariant in
     let passed = rw c.in-Ok-Some.field-0-is at c.in-Ok-Some.ensures.line in
     let given = passed c.event.result c.event.ensures in
-    let gave = calls_more c.loop-number.lines.status c.advance.new.self.status _ _ _ given.was_reading kept.gave c.in-Ok-Some.ensures.calls in
+    let gave = calls_more c.loop-number.lines.stage c.advance.new.self.stage _ _ _ given.was_reading kept.gave c.in-Ok-Some.ensures.calls in
     record {
       tried = λ settings stands.
           let so_far = kept.so_far settings stands in
@@ -58,7 +58,7 @@ returns-then-totals-gt0 g c =
           let some : 0 < c.totals.result.refused = c.if-totals-gt0.true in
           tried_refused settings c.advance.new.self c.feed_lent.new.self (left c.args.reader.now) (left c.advance.new.reader) now
           (subst (λ n. 0 < n) (ap (λ (totals : Totals). totals.refused) c.totals.ensures.totals) some);
-      not_failed = none_failed (g.R.Source.trace c.args.reader.now) (g.R.Source.trace c.advance.new.reader) (calls_of_line c.advance.new.self.status _ _ _ _ _ given.taken gave);
+      not_failed = none_failed (g.R.Source.trace c.args.reader.now) (g.R.Source.trace c.advance.new.reader) (calls_of_line c.advance.new.self.stage _ _ _ _ _ given.taken gave);
       read = tt;
       whole = c.advance.ensures.whole ∙ kept.whole;
       records = c.feed_lent.ensures.records ∙ kept.records;
@@ -79,6 +79,6 @@ loop-number-preserved g c =
       served = omega (arith, ap (λ (totals : Totals). totals.refused) c.totals.ensures.totals, c.if-totals-gt0.false);
       none = c.clear.ensures;
       whole = c.in-Ok-Some.ensures.whole ∙ c.loop-number.invariant.whole;
-      gave = calls_more c.loop-number.lines.status c.advance.new.self.status _ _ _ given.was_reading c.loop-number.invariant.gave c.in-Ok-Some.ensures.calls;
+      gave = calls_more c.loop-number.lines.stage c.advance.new.self.stage _ _ _ given.was_reading c.loop-number.invariant.gave c.in-Ok-Some.ensures.calls;
       records = c.feed_lent.ensures.records ∙ c.loop-number.invariant.records;
     }

@@ -16,7 +16,7 @@ invariant-loop-number g l =
       served : l.replay.totals.refused ≡ 0;
       none : l.findings ≡ [];
       whole : g.R.Source.whole l.reader ≡ g.R.Source.whole l.initial.reader;
-      gave : CallsFor l.lines.status (g.R.Source.trace l.initial.reader) (g.R.Source.trace l.reader);
+      gave : CallsFor l.lines.stage (g.R.Source.trace l.initial.reader) (g.R.Source.trace l.reader);
       records : l.replay.content.records ≡ l.initial.replay.content.records;
     }
 

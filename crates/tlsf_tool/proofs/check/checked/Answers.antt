@@ -14,7 +14,7 @@ returns-in-Ok-put_line g c =
         bytes = c.in_ok-bytes.bytes.items;
         read = c.in_ok-bytes.ensures.read;
         wrote = subst P (c.line_of.ensures ∙ ap check_text rule) c.in-Ok-put_line.ensures.0;
-        status_is = c.status_of.ensures ∙ ap check_status rule;
+        status_is = c.status_by_rule.ensures ∙ ap check_status rule;
       };
       flushed = c.in-Ok-put_line.ensures.1;
       read = λ failed. absurd (cc);

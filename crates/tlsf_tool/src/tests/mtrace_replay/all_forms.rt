@@ -101,14 +101,17 @@ fn expect_same_line(
     other: &mut Fed<PlainHeap>,
     events: (Result<Event, LineFault>, Result<Event, LineFault>),
 ) -> bool {
-    let (Ok(note), Ok(other_note)) = (one.feed_event(rt, events.0), other.feed_event(rt, events.1))
-    else {
+    let (Ok(diagnostics), Ok(other_diagnostics)) = (
+        one.feed_event(rt, events.0),
+        other.feed_event(rt, events.1),
+    ) else {
         panic!(rt; "no memory");
     };
-    expect_eq_at(rt, line, &note, &other_note);
+    expect_eq_at(rt, line, &diagnostics, &other_diagnostics);
     expect_eq_at(rt, line, one.replay.totals(), other.replay.totals());
     expect_same_held(rt, &one.replay, &other.replay, line);
-    note.as_slice()
+    diagnostics
+        .as_slice()
         .iter()
         .any(|d| matches!(d.kind, Kind::Refused(_, Refusal::BadAlign)))
 }

@@ -28,7 +28,7 @@ const TEXTS: [(Report, &[u8]); 4] = [
         b"line 1: 0x10 is not held\nline 3: 0x20 is not held\nline 5: not a line\npool 0: 4096 bytes\n0 16 used\n16 16 used\n32 16 used\n48 4048 free\npool 4096: 4096 bytes\n4096 4096 free\n",
     ),
     (
-        Report::Notes,
+        Report::Nothing,
         b"line 1: 0x10 is not held\nline 3: 0x20 is not held\nline 5: not a line\n",
     ),
 ];
@@ -44,7 +44,7 @@ fn run_one(
         Report::Leaks => run_leaks(alloc, reader, writer, SETTINGS),
         Report::Peak => run_peak(alloc, reader, writer, SETTINGS),
         Report::Walk => run_walk(alloc, reader, writer, SETTINGS),
-        Report::Notes => {
+        Report::Nothing => {
             let mut image = MemorySink::in_pieces(alloc, 4096);
             run_save(alloc, reader, writer, &mut image, SETTINGS)
         }

@@ -72,12 +72,12 @@ fn random_lines<H: Heaped>(rt: &impl Abort, alloc: Global, seed: u64, count: u64
                 size,
             }
         };
-        let Ok(note) = fed.feed_event(rt, Ok(event)) else {
+        let Ok(diagnostics) = fed.feed_event(rt, Ok(event)) else {
             panic!(rt; "no memory");
         };
         if let Some(line) = lines.get_mut(at as usize) {
-            assert!(rt; !frees || note.is_empty() == (*line > 0), "{number}");
-            if note.is_empty() {
+            assert!(rt; !frees || diagnostics.is_empty() == (*line > 0), "{number}");
+            if diagnostics.is_empty() {
                 *line = if frees { 0 } else { number };
             }
         }

@@ -63,8 +63,8 @@ fn expect_held_after<H: Heaped>(rt: &impl Abort, replay: &Replay<H>, lines: u64)
 /// Whether a line or the end was taken, with nothing wrong; else memory was refused.
 fn is_taken(rt: &impl Abort, text: &str, answer: Result<Note, ReplayFault>) -> bool {
     match answer {
-        Ok(note) => {
-            assert!(rt; note.is_empty(), "{text}");
+        Ok(diagnostics) => {
+            assert!(rt; diagnostics.is_empty(), "{text}");
             true
         }
         Err(fault) => {

@@ -36,7 +36,7 @@ type Told = (u64, u64, Wrong);
 /// Told by `finish`.
 const END: u64 = 0;
 
-/// Lines, with what they come to.
+/// Lines, with the diagnostics of a replay of them, and what it holds then.
 #[derive(Clone, Copy)]
 struct Row {
     name: &'static str,
@@ -68,8 +68,8 @@ const GREATEST_ALIGNMENT: Settings = Settings {
 };
 
 /// Compares the diagnostics of one answer.
-fn expect_note(rt: &impl Abort, name: &str, note: &Note, at: u64, wanted: &[Told]) {
-    let mut found = note.as_slice().iter();
+fn expect_diagnostics(rt: &impl Abort, name: &str, diagnostics: &Note, at: u64, wanted: &[Told]) {
+    let mut found = diagnostics.as_slice().iter();
     for (told_at, line, wrong) in wanted {
         if *told_at == at {
             match found.next() {
@@ -93,12 +93,12 @@ fn expect_row<H: Heaped>(rt: &impl Abort, alloc: Global, row: &Row) {
     };
     for text in row.lines {
         match fed.feed(rt, text) {
-            Ok(note) => expect_note(rt, row.name, &note, fed.lines, row.told),
+            Ok(diagnostics) => expect_diagnostics(rt, row.name, &diagnostics, fed.lines, row.told),
             Err(_) => panic!(rt; "{}: {text} is refused memory", row.name),
         }
     }
     match fed.replay.finish() {
-        Ok(note) => expect_note(rt, row.name, &note, END, row.told),
+        Ok(diagnostics) => expect_diagnostics(rt, row.name, &diagnostics, END, row.told),
         Err(_) => panic!(rt; "{}: no end", row.name),
     }
     expect_held(rt, row.name, &fed.replay, row.held);

@@ -53,11 +53,11 @@ fn row(place: u32, size: u32, used: bool) -> Row {
     Row { place, size, used }
 }
 
-/// What a run came to, and the bytes that its two writers took.
+/// A run's answer, and the bytes that its two writers took.
 #[derive(Drop)]
 struct Saved {
     answer: Result<Status, RunFault>,
-    notes: MemorySink,
+    diagnostics: MemorySink,
     image: MemorySink,
 }
 
@@ -66,14 +66,14 @@ fn save_log(
     alloc: Global,
     log: &[u8],
     settings: Settings,
-    mut notes: MemorySink,
+    mut diagnostics: MemorySink,
     mut image: MemorySink,
 ) -> Saved {
     let mut reader = MemorySource::in_pieces(log, 7);
-    let answer = run_save(alloc, &mut reader, &mut notes, &mut image, settings);
+    let answer = run_save(alloc, &mut reader, &mut diagnostics, &mut image, settings);
     Saved {
         answer,
-        notes,
+        diagnostics,
         image,
     }
 }
@@ -84,10 +84,10 @@ fn free_writer(alloc: Global) -> MemorySink {
 
 #[test]
 fn saved_vector(rt: HostRuntime) {
-    let (notes, image) = (free_writer(rt.alloc()), free_writer(rt.alloc()));
-    let saved = save_log(rt.alloc(), b"", LEAST, notes, image);
+    let (diagnostics, image) = (free_writer(rt.alloc()), free_writer(rt.alloc()));
+    let saved = save_log(rt.alloc(), b"", LEAST, diagnostics, image);
     expect_eq(&rt, saved.answer, Ok(Status::Clean));
-    expect_eq(&rt, saved.notes.bytes(), b"".as_slice());
+    expect_eq(&rt, saved.diagnostics.bytes(), b"".as_slice());
     expect_eq(&rt, saved.image.bytes(), vector().as_slice());
 }
 
@@ -98,18 +98,18 @@ fn loaded_pointers(rt: HostRuntime) {
         records: 2,
         ..LEAST
     };
-    let (notes, image) = (free_writer(rt.alloc()), free_writer(rt.alloc()));
+    let (diagnostics, image) = (free_writer(rt.alloc()), free_writer(rt.alloc()));
     let saved = save_log(
         rt.alloc(),
         b"+ 0x10 0x8\n- 0x20\n< 0x10\n",
         settings,
-        notes,
+        diagnostics,
         image,
     );
     expect_eq(&rt, saved.answer, Ok(Status::Found));
     expect_eq(
         &rt,
-        saved.notes.bytes(),
+        saved.diagnostics.bytes(),
         b"line 2: 0x20 is not held\nline 3: half of a reallocation\n".as_slice(),
     );
     expect_eq(&rt, saved.image.bytes().len(), 1_552);
@@ -142,8 +142,8 @@ fn loaded_block_is_freed(rt: HostRuntime) {
         records: 2,
         ..LEAST
     };
-    let (notes, image) = (free_writer(rt.alloc()), free_writer(rt.alloc()));
-    let saved = save_log(rt.alloc(), b"+ 0x10 0x8", settings, notes, image);
+    let (diagnostics, image) = (free_writer(rt.alloc()), free_writer(rt.alloc()));
+    let saved = save_log(rt.alloc(), b"+ 0x10 0x8", settings, diagnostics, image);
     expect_eq(&rt, saved.answer, Ok(Status::Found));
     expect_eq(&rt, saved.image.bytes().len(), 1_552);
     let mut heap = Heap::load_image(rt.alloc(), saved.image.bytes()).expect(&rt, "a heap");
@@ -189,8 +189,8 @@ fn faults_before_the_image(rt: HostRuntime) {
     expect_eq(&rt, two.answer, Err(RunFault::Write));
     expect_eq(&rt, two.image.bytes(), b"".as_slice());
     let bad = Settings { pool: 24, ..LEAST };
-    let (notes, image) = (free_writer(rt.alloc()), free_writer(rt.alloc()));
-    let three = save_log(rt.alloc(), log, bad, notes, image);
+    let (diagnostics, image) = (free_writer(rt.alloc()), free_writer(rt.alloc()));
+    let three = save_log(rt.alloc(), log, bad, diagnostics, image);
     expect_eq(&rt, three.answer, Err(RunFault::BadSettings));
     expect_eq(&rt, three.image.bytes(), b"".as_slice());
 }

@@ -1,9 +1,9 @@
-//! Lines, and what they come to in sum, over both heaps. Other totals are rows of whole reports, in the tests of the tool.
+//! Lines, and their totals, over both heaps. Other totals are rows of whole reports, in the tests of the tool.
 
 use super::*;
 use crate::tests::expect_eq;
 
-/// Lines, and what they come to.
+/// Lines, and their totals.
 struct Row {
     lines: &'static [&'static str],
     totals: Totals,

@@ -5,14 +5,14 @@ use Rattle.std.proofs.lemmas.List.{length-map}
 use Rattle.tlsf_heap.specs.Bare.{bare}
 use Rattle.mtrace_replay.specs.declared.diagnostic.Diagnostic.{Diagnostic}
 use Rattle.mtrace_replay.specs.declared.settings.Settings.{Settings}
-use Rattle.mtrace_replay.specs.Moment.{Reading}
-use Rattle.mtrace_replay.specs.Replay.{Replayed, StandsFor, added_notes}
+use Rattle.mtrace_replay.specs.Moment.{ReadLine}
+use Rattle.mtrace_replay.specs.Replay.{Replayed, StandsFor, added_diagnostics}
 use Rattle.mtrace_replay.specs.Step.{given_of, all_given, found}
 use Rattle.mtrace_replay.specs.Totals.{is_refusal}
 use Rattle.mtrace_replay.proofs.FoundLemmas.{addresses_given, sizes_given}
-use Rattle.mtrace_replay.proofs.NoteLemmas.{notes_few}
+use Rattle.mtrace_replay.proofs.DiagnosticLemmas.{diagnostics_few}
 use Rattle.mtrace_replay.proofs.HeldFew.{held_few}
-use Rattle.mtrace_replay.proofs.Standing.{served_within, refused_within, stands_for_line, notes_of_line}
+use Rattle.mtrace_replay.proofs.Standing.{served_within, refused_within, stands_for_line, diagnostics_of_line}
 use Rattle.mtrace_replay.proofs.replay.Replay.feed_lent.Goals as goal
 
 pub invariant_of-self : goal.invariant_of-self
@@ -34,8 +34,8 @@ put_half-requires g c =
     omega (
       arith,
       ap (length {A = Diagnostic}) c.half_before-half.ensures,
-      ap (length {A = Diagnostic}) c.in-Ok.ensures.comes.notes_are,
-      notes_few inside.totals.lines c.args.number c.args.event inside.pending (found (all_given inside.held.all)) (bare (g.H.Heaped.content inside.heap)),
+      ap (length {A = Diagnostic}) c.in-Ok.ensures.comes.diagnostics_are,
+      diagnostics_few inside.totals.lines c.args.number c.args.event inside.pending (found (all_given inside.held.all)) (bare (g.H.Heaped.content inside.heap)),
     )
 
 pub returns-in-Ok : goal.returns-in-Ok
@@ -54,16 +54,16 @@ returns-in-Ok g c =
       pending = c.old_address-next.result;
       out_of_memory = c.self.inside.out_of_memory;
     } in
-    let note : (settings : Settings) (past : List Reading) → StandsFor c.args.self.now settings past → c.put_half.new.findings ≡ added_notes settings event past = λ settings past.
-    let P : Replayed → Type 0 = λ old. (old.out_of_memory ≡ false → number ≡ old.totals.lines + 1) → StandsFor old settings past → c.put_half.new.findings ≡ added_notes settings event past in
+    let diagnostics : (settings : Settings) (past : List ReadLine) → StandsFor c.args.self.now settings past → c.put_half.new.findings ≡ added_diagnostics settings event past = λ settings past.
+    let P : Replayed → Type 0 = λ old. (old.out_of_memory ≡ false → number ≡ old.totals.lines + 1) → StandsFor old settings past → c.put_half.new.findings ≡ added_diagnostics settings event past in
     subst P c.self.view_is
-    (λ next stands. c.put_half.ensures ∙ ap (λ (notes : List Diagnostic). notes ++ c.outcome.new.findings) c.half_before-half.ensures
-    ∙ notes_of_line _ new settings past event c.outcome.new.findings c.in-Ok.end number stands (next c.if-self.false) c.in-Ok.ensures.comes)
+    (λ next stands. c.put_half.ensures ∙ ap (λ (all : List Diagnostic). all ++ c.outcome.new.findings) c.half_before-half.ensures
+    ∙ diagnostics_of_line _ new settings past event c.outcome.new.findings c.in-Ok.end number stands (next c.if-self.false) c.in-Ok.ensures.comes)
     c.requires.next in
     record {
       stands = λ settings past.
           let P : Replayed → Type 0 = λ old. (old.out_of_memory ≡ false → number ≡ old.totals.lines + 1)
-          → (StandsFor old settings past → c.put_half.new.findings ≡ added_notes settings event past)
+          → (StandsFor old settings past → c.put_half.new.findings ≡ added_diagnostics settings event past)
           → StandsFor old settings past → StandsFor new settings (event ∷ past) in
           subst P c.self.view_is
           (λ next told stands. stands_for_line _ new settings past event c.outcome.new.findings c.in-Ok.end number stands (next c.if-self.false) c.in-Ok.ensures.comes
@@ -71,9 +71,9 @@ returns-in-Ok g c =
           (subst IsStrictlyIncreasing (sym (addresses_given holdings)) c.keeps_order.ensures) c.old_address-next.ensures c.if-self.false
           c.bytes-bytes.result c.len-blocks.result c.has_refusal-is_refused.result c.after-self-inside.ensures
           (c.bytes-bytes.ensures ∙ sizes_given holdings) (c.len-blocks.ensures.len ∙ sym (length-map holdings given_of)) c.max-self-inside.ensures
-          (c.has_refusal-is_refused.ensures ∙ ap (λ (notes : List Diagnostic). list_any (λ (note : Diagnostic). is_refusal note.kind) notes) (told stands)))
-          c.requires.next (note settings past);
-      note = note;
+          (c.has_refusal-is_refused.ensures ∙ ap (λ (all : List Diagnostic). list_any (λ (diagnostic : Diagnostic). is_refusal diagnostic.kind) all) (told stands)))
+          c.requires.next (diagnostics settings past);
+      diagnostics = diagnostics;
       counted = search rules;
       for_good = search rules;
       fault = search rules;

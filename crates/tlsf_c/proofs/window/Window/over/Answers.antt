@@ -5,4 +5,4 @@ use Rattle.tlsf_c.proofs.window.Window.over.Goals as goal
 -- nothing is put yet
 pub invariant_of-result-clause-kept : goal.invariant_of-result-clause-kept
 invariant_of-result-clause-kept c =
-    placed_at_first c.args.room.now c.add.new.self.bytes (c.add.ensures.bytes ∙ ap (λ (bytes : List ℕ). bytes ++ c.args.room.now) c.new-told.ensures.bytes)
+    placed_at_first c.args.room.now c.add.new.self.bytes (c.add.ensures.bytes ∙ ap (λ (bytes : List ℕ). bytes ++ c.args.room.now) c.new-trace.ensures.bytes)

@@ -26,12 +26,12 @@ use denote.Triple.Spec.{Meets, triple_of}
 use denote.Triple.Table.{entered}
 use Rattle.core.proofs.mem.Facts.{says_two}
 use denote.Triple.Walked.{Stays, stay_ref, walk_of, AllGo, Goes-ref, Walks, ends_at, walked, walk_Meets}
-use Rattle.tlsf_c.specs.declared.told.Told.{Told}
-use Rattle.tlsf_c.specs.contracts.told.Told as T
-use Rattle.tlsf_c.specs.contracts.told.Told.add.Key.{name as #it}
-use Rattle.tlsf_c.specs.contracts.told.Told.add as it
-use Rattle.tlsf_c.proofs.told.Told.add.Statement as stated
-use Rattle.tlsf_c.proofs.told.Told.add.Code as code
+use Rattle.tlsf_c.specs.declared.window_trace.WindowTrace.{WindowTrace}
+use Rattle.tlsf_c.specs.contracts.window_trace.WindowTrace as T
+use Rattle.tlsf_c.specs.contracts.window_trace.WindowTrace.add.Key.{name as #it}
+use Rattle.tlsf_c.specs.contracts.window_trace.WindowTrace.add as it
+use Rattle.tlsf_c.proofs.window_trace.WindowTrace.add.Statement as stated
+use Rattle.tlsf_c.proofs.window_trace.WindowTrace.add.Code as code
 use denote.Ref.{Bor}
 use denote.Builtin.{u8}
 use denote.Exit.{yes}
@@ -42,18 +42,18 @@ use Rattle.mtrace_log.specs.contracts.call.Call as call
 use Rattle.std.proofs.Common.{◌<◌, ◌^◌, length}
 
 abbrev Arg : Type 0
-Arg = MutBor Told × (Bor Call × (Bor (List ℕ) × Unit {0}))
+Arg = MutBor WindowTrace × (Bor Call × (Bor (List ℕ) × Unit {0}))
 
 abbrev stayed : Stays (it.ended).signature.params (it.ended).kept
 stayed = (stay_ref (0 ∷ []) tt (plain (λ _. T.the_row)), (stay_none_ref (1 ∷ []) tt (plain (λ _. call.the_row)) yes, (stay_none_slice (2 ∷ []) tt (plain (λ _. u8)) yes, tt)))
 
-module _ {M : Type 1} {𝓤 : Ura M} (𝓛 : Logic 𝓤) (at_mem : Memory → SProp 𝓤) (run : Routine → Fun 𝓤) (κ κ' κ'' : Lft) (q q' q'' : Share) (b o : ℕ) (γ : GName) (h : Told) (k : Bor Call) (s : Bor (List ℕ)) where
+module _ {M : Type 1} {𝓤 : Ura M} (𝓛 : Logic 𝓤) (at_mem : Memory → SProp 𝓤) (run : Routine → Fun 𝓤) (κ κ' κ'' : Lft) (q q' q'' : Share) (b o : ℕ) (γ : GName) (h : WindowTrace) (k : Bor Call) (s : Bor (List ℕ)) where
   open 𝓛 use {H, A}
 
   abbrev x : Arg
   x = (record { ref_ptr = (b, o); ghost_name = γ; now = h }, (k, (s, tt)))
 
-  abbrev h' : Told
+  abbrev h' : WindowTrace
   h' = record { calls = k.now ∷ h.calls; bytes = h.bytes ++ s.now }
 
   abbrev at : List Val × (List Val × (List Val × Unit {0}))

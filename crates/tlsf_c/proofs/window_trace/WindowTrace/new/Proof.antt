@@ -22,11 +22,11 @@ use denote.Triple.Spec.{Meets, triple_of}
 use denote.Triple.Table.{entered}
 use Rattle.core.proofs.mem.Facts.{says_two}
 use denote.Triple.Walked.{Stays, walk_of, Walks, ends_at, walked, walk_Meets}
-use Rattle.tlsf_c.specs.contracts.told.Told.new.Key.{name as key}
-use Rattle.tlsf_c.specs.contracts.told.Told.new as f
-use Rattle.tlsf_c.proofs.told.Told.new.Statement as stated
-use Rattle.tlsf_c.proofs.told.Told.new.Code as code
-use Rattle.tlsf_c.specs.contracts.told.Told as made
+use Rattle.tlsf_c.specs.contracts.window_trace.WindowTrace.new.Key.{name as key}
+use Rattle.tlsf_c.specs.contracts.window_trace.WindowTrace.new as f
+use Rattle.tlsf_c.proofs.window_trace.WindowTrace.new.Statement as stated
+use Rattle.tlsf_c.proofs.window_trace.WindowTrace.new.Code as code
+use Rattle.tlsf_c.specs.contracts.window_trace.WindowTrace as made
 
 abbrev stayed : Stays (f.ended).signature.params (f.ended).kept
 stayed = tt

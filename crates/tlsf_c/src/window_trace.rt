@@ -7,24 +7,24 @@ ghost use Rattle.mtrace_log.specs.declared.call.Call.{Call};
 use mtrace_log::Call;
 use std::marker::Model;
 
-/// What each call of a window came to, the latest first, and which bytes it was told. It takes no byte and no time.
+/// The outcome of each call of a window, the latest first, and which bytes it was told. It takes no byte and no time.
 #[derive(Drop)]
-pub(crate) struct Told {
+pub(crate) struct WindowTrace {
     pub ghost calls: { List Call },
     pub ghost bytes: { List ℕ },
 }
 
-impl Model for Told {
+impl Model for WindowTrace {
     ghost also_owns = { λ _. ftrue };
 }
 
-impl Told {
+impl WindowTrace {
     /// No call yet, and no byte.
-    pub(crate) fn new() -> Told
+    pub(crate) fn new() -> WindowTrace
         ensures calls { result.calls ≡ [] }
         ensures bytes { result.bytes ≡ [] }
     {
-        Told {}
+        WindowTrace {}
     }
 
     /// One call more, and these bytes.

@@ -1,8 +1,0 @@
-use Rattle.std.proofs.Common.{drop}
-use Rattle.mtrace_log.proofs.Writing.{IsPutting}
-use Rattle.mtrace_replay.specs.Texts.{notes_text}
-use Rattle.mtrace_replay.proofs.run.put_note.Given as goal
-
--- the lines so far are put, and those of the rest are left
-abbrev pub invariant-loop-diagnostic : goal.invariant-loop-diagnostic
-invariant-loop-diagnostic g l = IsPutting g.W.Sink.taken g.W.Sink.trace (notes_text l.note.items) (notes_text (drop l.diagnostic-index l.note.items)) l.initial.writer l.writer
