@@ -22,6 +22,7 @@ mod Moments
 mod ReplayingLemmas
 mod RowLemmas
 mod RunLemmas
+mod RunOutcomes
 mod RunsAgain
 pub mod SaveLemmas
 mod SearchLemmas

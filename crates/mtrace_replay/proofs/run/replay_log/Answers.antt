@@ -5,6 +5,7 @@ use Rattle.mtrace_replay.specs.Run.{end_text}
 use Rattle.mtrace_log.specs.declared.call.Call.TheVariants.{Took, Flushed}
 use Rattle.mtrace_log.proofs.TraceLemmas.{moved_then_append, flush_after, failed_after}
 use Rattle.mtrace_replay.proofs.RunLemmas.{report_all, ends_at, report_write}
+use Rattle.mtrace_replay.proofs.RunOutcomes.{runs_to_status, runs_to_read, runs_to_write}
 use Rattle.mtrace_replay.proofs.run.replay_log.Goals as goal
 
 -- the log has ended, and all was written
@@ -14,21 +15,10 @@ returns-in-Ok-finish-clause-ran g c =
     let taken = g.W.Sink.taken in
     let done = c.in-Ok-replay_lines.ensures.done c.args.settings c.in-Ok.ensures.made in
     let took = c.in-Ok-replay_lines.ensures.writer_took (λ e. cc) in
-    record {
-      finished = report_all c.args.report c.args.settings c.replay_lines.new.replay c.in-Ok-replay_lines.has_diagnostics c.in-Ok-finish.status (left c.args.reader.now) (left c.replay_lines.new.reader)
-          (taken c.args.writer.now) (taken c.replay_lines.new.writer) (taken c.finish.new.writer) done c.in-Ok-finish.ensures.all c.in-Ok-finish.ensures.status;
-      reader_ended = search rules;
-      writer_flushed = moved_then_append Took Flushed _ _ _ took c.in-Ok-finish.ensures.flushed;
-      read_fault = search rules;
-      flush_asked = search rules;
-      write_fault = search rules;
-      writer_failed = search rules;
-      no_memory = search rules;
-      reader_not_failed = search rules;
-      bad_settings = search rules;
-      nothing_done = search rules;
-      no_image_fault = search rules;
-    }
+    runs_to_status c.args.report c.args.settings left g.R.Source.trace taken g.W.Sink.trace c.in-Ok-finish.status c.args.reader.now c.replay_lines.new.reader c.args.writer.now c.finish.new.writer
+    (report_all c.args.report c.args.settings c.replay_lines.new.replay c.in-Ok-replay_lines.has_diagnostics c.in-Ok-finish.status (left c.args.reader.now) (left c.replay_lines.new.reader)
+    (taken c.args.writer.now) (taken c.replay_lines.new.writer) (taken c.finish.new.writer) done c.in-Ok-finish.ensures.all c.in-Ok-finish.ensures.status)
+    (search rules) (moved_then_append Took Flushed _ _ _ took c.in-Ok-finish.ensures.flushed) (search rules) (search rules)
 
 pub returns-in-Ok-finish-clause-last : goal.returns-in-Ok-finish-clause-last
 returns-in-Ok-finish-clause-last g c =
@@ -46,50 +36,19 @@ returns-in-Ok-replay_lines-clause-ran g c =
     let taken = g.W.Sink.taken in
     let done = c.in-Ok-replay_lines.ensures.done c.args.settings c.in-Ok.ensures.made in
     let took = c.in-Ok-replay_lines.ensures.writer_took (λ e. cc) in
-    record {
-      finished = search rules;
-      reader_ended = search rules;
-      writer_flushed = search rules;
-      read_fault = search rules;
-      flush_asked = search rules;
-      write_fault = λ e. report_write c.args.report c.args.settings c.replay_lines.new.replay c.in-Ok-replay_lines.has_diagnostics (left c.args.reader.now) (left c.replay_lines.new.reader)
-          (taken c.args.writer.now) (taken c.replay_lines.new.writer) (taken c.finish.new.writer) done c.in-Err.ensures.beginning;
-      writer_failed = λ e. failed_after _ _ _ took c.in-Err.ensures.failed;
-      no_memory = search rules;
-      reader_not_failed = search rules;
-      bad_settings = search rules;
-      nothing_done = search rules;
-      no_image_fault = search rules;
-    }
+    runs_to_write c.args.report c.args.settings left g.R.Source.trace taken g.W.Sink.trace c.args.reader.now c.replay_lines.new.reader c.args.writer.now c.finish.new.writer
+    (report_write c.args.report c.args.settings c.replay_lines.new.replay c.in-Ok-replay_lines.has_diagnostics (left c.args.reader.now) (left c.replay_lines.new.reader)
+    (taken c.args.writer.now) (taken c.replay_lines.new.writer) (taken c.finish.new.writer) done c.in-Err.ensures.beginning)
+    (failed_after _ _ _ took c.in-Err.ensures.failed) (search rules) (search rules)
 
+-- the reader failed
 pub returns-clause-ran : goal.returns-clause-ran
-returns-clause-ran g c = record {
-  finished = search rules;
-  reader_ended = search rules;
-  writer_flushed = search rules;
-  read_fault = search rules;
-  flush_asked = λ e. flush_after _ _ _ (c.in-Err-Reader.ensures.writer_took (λ is. cc)) c.ask_flush.ensures.asked;
-  write_fault = search rules;
-  writer_failed = search rules;
-  no_memory = search rules;
-  reader_not_failed = search rules;
-  bad_settings = search rules;
-  nothing_done = search rules;
-  no_image_fault = search rules;
-}
+returns-clause-ran g c =
+    runs_to_read c.args.report c.args.settings g.R.Source.left g.R.Source.trace g.W.Sink.taken g.W.Sink.trace c.args.reader.now c.replay_lines.new.reader c.args.writer.now c.ask_flush.new.writer
+    (search rules) (flush_after _ _ _ (c.in-Err-Reader.ensures.writer_took (λ is. cc)) c.ask_flush.ensures.asked) (search rules)
 
+-- the writer failed before the end
 pub returns-in-Err-Writer-clause-ran : goal.returns-in-Err-Writer-clause-ran
-returns-in-Err-Writer-clause-ran g c = record {
-  finished = search rules;
-  reader_ended = search rules;
-  writer_flushed = search rules;
-  read_fault = search rules;
-  flush_asked = search rules;
-  write_fault = search rules;
-  writer_failed = search rules;
-  no_memory = search rules;
-  reader_not_failed = search rules;
-  bad_settings = search rules;
-  nothing_done = search rules;
-  no_image_fault = search rules;
-}
+returns-in-Err-Writer-clause-ran g c =
+    runs_to_write c.args.report c.args.settings g.R.Source.left g.R.Source.trace g.W.Sink.taken g.W.Sink.trace c.args.reader.now c.replay_lines.new.reader c.args.writer.now c.replay_lines.new.writer
+    (search rules) (search rules) (search rules) (search rules)

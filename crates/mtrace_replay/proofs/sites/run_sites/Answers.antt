@@ -1,51 +1,20 @@
 use Rattle.std.proofs.Common.{rules, refl}
-use Rattle.std.specs.Prelude.{Result, Ok, Err}
-use Rattle.mtrace_replay.specs.declared.status.Status.{Status}
-use Rattle.mtrace_replay.specs.declared.status.RunFault.{RunFault}
-use Rattle.mtrace_replay.specs.declared.status.RunFault.TheVariants.{OutOfMemory, BadSettings}
+use Rattle.std.specs.Prelude.{Ok, Err}
 use Rattle.mtrace_replay.specs.declared.report.Report.TheVariants.{Nothing}
-use Rattle.mtrace_replay.specs.Run.{Runs}
 use Rattle.mtrace_replay.specs.RunSites.{SitesFollow}
 use Rattle.mtrace_replay.proofs.RunsAgain.{follows_ok, follows_err, again_fault, again_ended}
+use Rattle.mtrace_replay.proofs.RunOutcomes.{runs_without_memory, runs_by_bad_settings}
 use Rattle.mtrace_replay.proofs.sites.run_sites.Goals as goal
 
 pub returns-in-Err-BadSettings : goal.returns-in-Err-BadSettings
 returns-in-Err-BadSettings g c =
-    let run : Result Status RunFault = Err BadSettings in
-    let runs : Runs Nothing c.args.settings g.R.Source.left g.R.Source.trace g.W.Sink.taken g.W.Sink.trace run c.args.reader.now c.args.reader.now c.args.writer.now c.args.writer.now = record {
-      finished = search rules;
-      reader_ended = search rules;
-      writer_flushed = search rules;
-      read_fault = search rules;
-      flush_asked = search rules;
-      write_fault = search rules;
-      writer_failed = search rules;
-      no_memory = search rules;
-      reader_not_failed = search rules;
-      bad_settings = search rules;
-      nothing_done = search rules;
-      no_image_fault = search rules;
-    } in
+    let runs = runs_by_bad_settings Nothing c.args.settings g.R.Source.left g.R.Source.trace g.W.Sink.taken g.W.Sink.trace c.args.reader.now c.args.writer.now (search rules) (search rules) in
     again_fault c.args.settings (λ lines. SitesFollow c.args.settings lines g.R.Source.left g.R.Source.whole g.R.Source.trace g.W.Sink.taken g.W.Sink.trace) g.R.Source.left g.R.Source.whole g.R.Source.trace g.W.Sink.taken g.W.Sink.trace _
     c.args.reader.now c.args.reader.now c.args.writer.now c.args.writer.now runs
 
 pub returns-in-Err-OutOfMemory : goal.returns-in-Err-OutOfMemory
 returns-in-Err-OutOfMemory g c =
-    let run : Result Status RunFault = Err OutOfMemory in
-    let runs : Runs Nothing c.args.settings g.R.Source.left g.R.Source.trace g.W.Sink.taken g.W.Sink.trace run c.args.reader.now c.args.reader.now c.args.writer.now c.args.writer.now = record {
-      finished = search rules;
-      reader_ended = search rules;
-      writer_flushed = search rules;
-      read_fault = search rules;
-      flush_asked = search rules;
-      write_fault = search rules;
-      writer_failed = search rules;
-      no_memory = search rules;
-      reader_not_failed = search rules;
-      bad_settings = search rules;
-      nothing_done = search rules;
-      no_image_fault = search rules;
-    } in
+    let runs = runs_without_memory Nothing c.args.settings g.R.Source.left g.R.Source.trace g.W.Sink.taken g.W.Sink.trace c.args.reader.now c.args.writer.now (search rules) (search rules) in
     again_fault c.args.settings (λ lines. SitesFollow c.args.settings lines g.R.Source.left g.R.Source.whole g.R.Source.trace g.W.Sink.taken g.W.Sink.trace) g.R.Source.left g.R.Source.whole g.R.Source.trace g.W.Sink.taken g.W.Sink.trace _
     c.args.reader.now c.args.reader.now c.args.writer.now c.args.writer.now runs
 
