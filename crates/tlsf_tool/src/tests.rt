@@ -1,19 +1,20 @@
-//! Rows of whole runs: logs, faults of reader and writer, and words. Each module named for a crate has that crate's tests.
+//! Rows of whole runs: logs, faults of reader and writer, and words. The tests of a crate below stand in the module of its
+//! name without `tlsf_` or `mtrace_`.
 
 mod buffer;
+mod class;
 mod fit;
 mod glibc_log;
+mod heap;
 mod hostile;
 mod images;
-mod mtrace_log;
-mod mtrace_replay;
+mod log;
 mod program;
+mod replay;
 mod reports;
 mod rows;
 mod sites;
-mod tlsf_class;
-mod tlsf_heap;
-mod tlsf_store;
+mod store;
 mod words;
 
 use std::fmt::Debug;

@@ -3,7 +3,7 @@
 use crate::check::check_image;
 use crate::service::serve_save;
 use crate::tests::expect_eq;
-use crate::tests::tlsf_heap::image_bytes::{Bytes, HEADS_AT, RECORDS_AT, vector};
+use crate::tests::heap::image_bytes::{Bytes, HEADS_AT, RECORDS_AT, vector};
 use mtrace_log::memory::{Full, MemorySink, MemorySource};
 use mtrace_replay::Settings;
 use std::alloc::{AllocError, Global};

@@ -1,6 +1,6 @@
 //! Worked images that are read, and bytes that break a rule.
 
-use crate::tests::tlsf_heap::image_bytes::vector;
+use crate::tests::heap::image_bytes::vector;
 use crate::tests::{expect_eq, expect_eq_at};
 use std::process::Abort;
 use tlsf_class::Class;
