@@ -1,5 +1,5 @@
-//! How far a long run is, told where standard error is a terminal. No contract speaks of it: it passes on what is read and
-//! written, and nothing else.
+//! How far a long run is, told where standard error is a terminal. No contract speaks of the notice. What is read and
+//! written is passed on, by the contracts of std's `Read` and `Write`.
 
 use memchr::memchr_iter;
 use std::cell::Cell;
@@ -73,6 +73,8 @@ pub(crate) struct Counted<'a, R> {
 }
 
 impl<'a, R: Read> Counted<'a, R> {
+    ghost use Rattle.std.specs.Prelude.{◌≡◌};
+
     /// The reader, of which no line is counted yet.
     pub fn new(notice: &'a Notice<'a>, reader: R) -> Counted<'a, R> {
         Counted {
@@ -85,7 +87,9 @@ impl<'a, R: Read> Counted<'a, R> {
     }
 
     /// Counts the lines that end in these bytes, and tells once a second how many there are.
-    fn count(&mut self, bytes: &[u8]) {
+    fn count(&mut self, bytes: &[u8])
+        ensures { self.new.reader ≡ self.old.reader }
+    {
         if self.notice.start.is_none() {
             return;
         }
@@ -99,6 +103,8 @@ impl<'a, R: Read> Counted<'a, R> {
 }
 
 impl<R: Read> Read for Counted<'_, R> {
+    ghost remaining = { λ counted. R.remaining counted.reader };
+
     fn read(&mut self, buf: &mut [u8]) -> io::Result<usize> {
         let answer = self.reader.read(buf);
         match &answer {
@@ -135,6 +141,8 @@ impl<'a, W: Write> Cleared<'a, W> {
 }
 
 impl<W: Write> Write for Cleared<'_, W> {
+    ghost contents = { λ cleared. W.contents cleared.writer };
+
     fn write(&mut self, buf: &[u8]) -> io::Result<usize> {
         self.notice.clear();
         self.writer.write(buf)
