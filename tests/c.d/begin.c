@@ -1,4 +1,4 @@
-/* The ten lines of docs/C.md. */
+/* The first program of docs/C.md. */
 #include <stdio.h>
 #include <string.h>
 
@@ -10,9 +10,10 @@ int main(void)
 {
     tlsf_heap heap = {0};
     tlsf_heap_block block;
-    tlsf_heap_create_in(table, sizeof table, 200, &heap);
-    tlsf_heap_add_pool(&heap, 0, sizeof array);
-    if (tlsf_heap_malloc(&heap, 100, &block) == TLSF_OK) {
+    if (tlsf_heap_create_in(table, sizeof table, 200, &heap) != TLSF_OK)
+        return 1;
+    if (tlsf_heap_add_pool(&heap, 0, sizeof array) == TLSF_OK
+        && tlsf_heap_malloc(&heap, 100, &block) == TLSF_OK) {
         char *text = (char *)tlsf_heap_address(array, block);
         puts(strcpy(text, "a hundred bytes"));
         tlsf_heap_free(&heap, block);
