@@ -23,7 +23,7 @@ use Rattle.tlsf_heap.proofs.Good.LiveBlocks.{none_stands, stands_first, stands_l
 
 module _ {A : Type 0} where
   -- what stands where a block gave way to others is one of these, or stands elsewhere
-  elsewhere_or_other : (place : ℕ) (others blocks : List (Block A)) (b : Block A) → Contains (replaced place others blocks) b → (b.place ≢ place) ⊎ Contains others b
+  pub elsewhere_or_other : (place : ℕ) (others blocks : List (Block A)) (b : Block A) → Contains (replaced place others blocks) b → (b.place ≢ place) ⊎ Contains others b
   elsewhere_or_other place others [] b has = none_stands b has
   elsewhere_or_other place others (block ∷ blocks) b has = elim (cases_Bool (is_at place block)) [
     | inl here ↦
@@ -83,7 +83,7 @@ module _ {A : Type 0} where
       let is : free (λ owner. true) place content ≡ Ok (after_free place content) = rw there refl in
       cc
 
-contains_first_or_later : {X : Type 0} (first x : X) (rest : List X) → Contains (first ∷ rest) x → (first ≡ x) ⊎ Contains rest x
+pub contains_first_or_later : {X : Type 0} (first x : X) (rest : List X) → Contains (first ∷ rest) x → (first ≡ x) ⊎ Contains rest x
 contains_first_or_later first x rest has = elim (Contains-append_cases (first ∷ []) rest x has) [
   | inl one ↦ elim (Contains-push_cases [] first x one) [
     | inl none ↦ absurd (omega (arith, none.1))

@@ -1,23 +1,21 @@
 -- What is held is told by the last moment that gave it, where no later one took it.
-use Rattle.std.proofs.Common.{◌≡◌, ◌≢◌, ◌↔◌, ℕ, suc, List, [], ◌∷◌, ◌++◌, length, ◌⊎◌, inl, inr, Bool, true, false, not, cond, Option, Some, None, is_some, Result, Ok, Err, refl, sym, ap, ◌∙◌, subst}
-use Rattle.std.specs.Prelude.{◌==◌, ◌&&◌, if◌then◌else◌}
+use Rattle.std.proofs.Common.{◌≡◌, ◌≢◌, ◌↔◌, ℕ, suc, List, [], ◌∷◌, ◌++◌, length, ◌⊎◌, inl, inr, true, false, cond, Option, Some, None, Result, Ok, Err, refl, sym, ap, ◌∙◌, subst}
+use Rattle.std.specs.Prelude.{◌==◌}
 use Rattle.std.specs.List.{AllByRecursion}
 use Rattle.std.proofs.lemmas.Bool.{cases_Bool, eqb-true, eq-eqb}
-use Rattle.mtrace_log.specs.declared.event.Event.TheVariants.{Start, End, Alloc, Free, Old, New, Failed, Aligned}
-use Rattle.mtrace_log.specs.declared.event.LineFault.TheVariants as fault
 use Rattle.mtrace_replay.specs.declared.diagnostic.Diagnostic.{Diagnostic}
-use Rattle.mtrace_replay.specs.declared.diagnostic.Kind.TheVariants.{NotHeld, AlreadyHeld}
 use Rattle.tlsf_heap.specs.declared.refusal.Refusal.{Refusal}
-use Rattle.tlsf_heap.specs.Realloc.{realloc}
 use Rattle.mtrace_replay.specs.Started.{Bare}
-use Rattle.mtrace_replay.specs.Moment.{ReadLine, Given, Moment, after_diagnostics, one_diagnostic, unserved, asked_size, asked_block, answered, allocation, release, moved, reallocation, renewal, outcome, moment}
+use Rattle.mtrace_replay.specs.Moment.{ReadLine, Given, Moment, after_diagnostics, outcome, moment, Act, idle, give, take, move, plan, answered, moved, done}
+use Rattle.mtrace_replay.specs.Entry.{Entry}
+use Rattle.mtrace_replay.proofs.PlanLemmas.{Fits, is_planned}
 use Rattle.mtrace_replay.specs.History.{held, given_or, unless_taken, moments, pending, content_after}
 use Rattle.mtrace_replay.specs.Held.{IsHeldUnder}
 
 -- what a moment gives has its line's number, and an address that was not held, or that it takes
-record Gives (number : ℕ) (before : ℕ → Option Given) (moment : Moment) : Type 0 where
-  number_is : (given : Given) → moment.given ≡ Some given → given.entry.line ≡ number
-  was_free : (given : Given) → moment.given ≡ Some given → (before given.entry.addr ≡ None) ⊎ (moment.taken ≡ Some given.entry.addr)
+pub record Gives (number : ℕ) (before : ℕ → Option Given) (moment : Moment) : Type 0 where
+  pub number_is : (given : Given) → moment.given ≡ Some given → given.entry.line ≡ number
+  pub was_free : (given : Given) → moment.given ≡ Some given → (before given.entry.addr ≡ None) ⊎ (moment.taken ≡ Some given.entry.addr)
 
 gives_none : (number : ℕ) (before : ℕ → Option Given) (moment : Moment) → moment.given ≡ None → Gives number before moment
 gives_none number before moment none = record {
@@ -35,68 +33,32 @@ gives_entry number before moment given gave line free = record {
 gives_after : (number : ℕ) (before : ℕ → Option Given) (diagnostics : List Diagnostic) (moment : Moment) → Gives number before moment → Gives number before (after_diagnostics diagnostics moment)
 gives_after number before diagnostics moment gives = record { number_is = gives.number_is; was_free = gives.was_free }
 
-answered_gives : (number : ℕ) (before : ℕ → Option Given) (at : Option (List ℕ)) (address size : ℕ) (content : Bare) (answer : Result (ℕ × Bare) Refusal)
-    → before address ≡ None → Gives number before (answered number at address size content answer)
-answered_gives number before at address size content (Ok (place, new)) free = gives_entry number before _ _ refl refl (inl free)
-answered_gives number before at address size content (Err refusal) free = gives_none number before _ refl
+answered_gives : (number : ℕ) (before : ℕ → Option Given) (entry : Entry) (content : Bare) (answer : Result (ℕ × Bare) Refusal) → entry.line ≡ number → before entry.addr ≡ None
+    → Gives number before (answered entry content answer)
+answered_gives number before entry content (Ok (place, new)) is free = gives_entry number before _ _ refl is (inl free)
+answered_gives number before entry content (Err refusal) is free = gives_none number before _ refl
 
-allocation_gives : (number : ℕ) (before : ℕ → Option Given) (at : Option (List ℕ)) (address : ℕ) (align : Option ℕ) (size : ℕ) (here : Option Given) (content : Bare)
-    → before address ≡ here → Gives number before (allocation number at address align size here content)
-allocation_gives number before at address align size (Some given) content is = gives_none number before _ refl
-allocation_gives number before at address align size None content is = answered_gives number before at address size content (asked_block tt align (asked_size size) content) is
+moved_gives : (number : ℕ) (before : ℕ → Option Given) (old from : ℕ) (entry : Entry) (content : Bare) (answer : Result (Option (ℕ × Unit {0}) × Bare) Refusal) → entry.line ≡ number
+    → (before entry.addr ≡ None) ⊎ (old ≡ entry.addr) → Gives number before (moved old from entry content answer)
+moved_gives number before old from entry content (Ok (Some (place, owner), new)) is free = gives_entry number before _ _ refl is (elim free [
+  | inl none ↦ inl none
+  | inr same ↦ inr (ap Some same)
+])
+moved_gives number before old from entry content (Ok (None, new)) is free = gives_none number before _ refl
+moved_gives number before old from entry content (Err refusal) is free = gives_none number before _ refl
 
-release_gives : (number : ℕ) (before : ℕ → Option Given) (address : ℕ) (here : Option Given) (content : Bare) → Gives number before (release number address here content)
-release_gives number before address None content = gives_none number before _ refl
-release_gives number before address (Some given) content = gives_none number before _ refl
-
-moved_gives : (number : ℕ) (before : ℕ → Option Given) (at : Option (List ℕ)) (old from address size : ℕ) (content : Bare) (answer : Result (Option (ℕ × Unit {0}) × Bare) Refusal)
-    → (before address ≡ None) ⊎ (Some old ≡ Some address) → Gives number before (moved number at old from address size content answer)
-moved_gives number before at old from address size content (Ok (Some (place, owner), new)) free = gives_entry number before _ _ refl refl free
-moved_gives number before at old from address size content (Ok (None, new)) free = gives_none number before _ refl
-moved_gives number before at old from address size content (Err refusal) free = gives_none number before _ refl
-
--- a block can be given under an address that is the old one, or not held
-free_again : (old address : ℕ) (here : Option Given) → not (address == old) && is_some here ≡ false → (here ≡ None) ⊎ (Some old ≡ Some address)
-free_again old address None h = inl refl
-free_again old address (Some given) h = elim (cases_Bool (address == old)) [
-  | inl same ↦ inr (ap (λ (n : ℕ). Some n) (sym (eqb-true address old same)))
-  | inr apart ↦ absurd (let e : not false && true ≡ false = ap (λ b. not b && true) (sym apart) ∙ h in cc)
-]
-
-reallocation_gives : (number : ℕ) (before : ℕ → Option Given) (at : Option (List ℕ)) (old : ℕ) (there : Option Given) (address size : ℕ) (here : Option Given) (content : Bare)
-    → before address ≡ here → Gives number before (reallocation number at old there address size here content)
-reallocation_gives number before at old None address size here content is =
-    gives_after number before (one_diagnostic number (NotHeld old)) (allocation number at address None size here content) (allocation_gives number before at address None size here content is)
-reallocation_gives number before at old (Some given) address size here content is = by_test (not (address == old) && is_some here) refl
-  where
-    by_test : (test : Bool) → not (address == old) && is_some here ≡ test
-        → Gives number before (if test then unserved (one_diagnostic number (AlreadyHeld address)) content
-        else moved number at old given.place address size content (realloc (λ one other. true) tt (Some (given.place, tt)) (asked_size size) content))
-    by_test true h = gives_none number before _ refl
-    by_test false h = moved_gives number before at old given.place address size content _ (elim (free_again old address here h) [
-      | inl free ↦ inl (is ∙ free)
-      | inr same ↦ inr same
-    ])
-
-renewal_gives : (number : ℕ) (before : ℕ → Option Given) (at : Option (List ℕ)) (pending : Option ℕ) (address size : ℕ) (content : Bare)
-    → Gives number before (renewal number at pending address size before content)
-renewal_gives number before at None address size content = gives_none number before _ refl
-renewal_gives number before at (Some old) address size content = reallocation_gives number before at old (before old) address size (before address) content refl
+done_gives : (number : ℕ) (before : ℕ → Option Given) (act : Act) (content : Bare) → Fits number before act → Gives number before (done act content)
+done_gives number before idle content fits = gives_none number before _ refl
+done_gives number before (give entry align) content fits = answered_gives number before entry content _ fits.0 fits.1
+done_gives number before (take address place) content fits = gives_none number before _ refl
+done_gives number before (move old place entry) content fits = moved_gives number before old place entry content _ fits.0 fits.2
 
 outcome_gives : (number : ℕ) (line : ReadLine) (pending : Option ℕ) (before : ℕ → Option Given) (content : Bare) → Gives number before (outcome number line pending before content)
-outcome_gives number (Err fault.TooLong) pending before content = gives_none number before _ refl
-outcome_gives number (Err fault.NotALine) pending before content = gives_none number before _ refl
-outcome_gives number (Ok Start) pending before content = gives_none number before _ refl
-outcome_gives number (Ok End) pending before content = gives_none number before _ refl
-outcome_gives number (Ok (Alloc at None size)) pending before content = gives_none number before _ refl
-outcome_gives number (Ok (Alloc at (Some address) size)) pending before content = allocation_gives number before at address None size (before address) content refl
-outcome_gives number (Ok (Free at address)) pending before content = release_gives number before address (before address) content
-outcome_gives number (Ok (Old at address)) pending before content = gives_none number before _ refl
-outcome_gives number (Ok (New at address size)) pending before content = renewal_gives number before at pending address size content
-outcome_gives number (Ok (Failed at address size)) pending before content = gives_none number before _ refl
-outcome_gives number (Ok (Aligned at address align size)) pending before content = allocation_gives number before at address (Some align) size (before address) content refl
+outcome_gives number line pending before content =
+    let now = plan number line pending before in
+    gives_after number before now.first (done now.act content) (done_gives number before now.act content (is_planned number before line pending).fits)
 
-moment_gives : (count : ℕ) (line : ReadLine) (pending : Option ℕ) (before : ℕ → Option Given) (content : Bare) → Gives (suc count) before (moment count line pending before content)
+pub moment_gives : (count : ℕ) (line : ReadLine) (pending : Option ℕ) (before : ℕ → Option Given) (content : Bare) → Gives (suc count) before (moment count line pending before content)
 moment_gives count line pending before content = gives_after (suc count) before _ (outcome (suc count) line pending before content) (outcome_gives (suc count) line pending before content)
 
 -- each moment gives so, after those before it

@@ -8,7 +8,9 @@ mod Flat
 mod FitLemmas
 mod FoundLemmas
 mod GapLemmas
+mod GivenSizes
 mod HeapSteps
+mod HeldBytes
 mod HeldFew
 mod HeldLemmas
 mod HoldingLemmas
@@ -20,6 +22,7 @@ mod LogRows
 mod LookLemmas
 mod Moments
 mod ReplayingLemmas
+mod PlanLemmas
 mod RowLemmas
 mod RunLemmas
 mod RunOutcomes
@@ -37,6 +40,7 @@ mod StartLemmas
 mod StartSteps
 mod StepLemmas
 mod Stood
+mod SurePool
 mod TextLemmas
 mod ToldLemmas
 mod TotalsLemmas

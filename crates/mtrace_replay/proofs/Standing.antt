@@ -1,13 +1,12 @@
 -- A replay stands for one line more.
+use Rattle.std.proofs.Math.Path.{fun_ext}
 use Rattle.std.proofs.Common.{◌⊎◌, inl, inr, cond, option_map, is_some, Bool, true, false, ◌≤◌, Option, Some, None, ◌≡◌, ℕ, suc, ◌+◌, List, [], ◌∷◌, ◌++◌, length, refl, sym, ap, ◌∙◌, subst, arith}
-use Rattle.std.specs.Prelude.{Ok, Err, if◌then◌else◌, max}
+use Rattle.std.specs.Prelude.{if◌then◌else◌, max}
 use Rattle.std.specs.List.Sorted.{IsStrictlyIncreasing}
-use Rattle.mtrace_log.specs.declared.event.Event.TheVariants.{Start, End, Alloc, Free, Old, New, Failed, Aligned}
-use Rattle.mtrace_log.specs.declared.event.LineFault.TheVariants as fault
 use Rattle.mtrace_replay.specs.declared.diagnostic.Diagnostic.{Diagnostic}
 use Rattle.mtrace_replay.specs.declared.settings.Settings.{Settings}
 use Rattle.mtrace_replay.specs.Started.{Bare, started}
-use Rattle.mtrace_replay.specs.Moment.{ReadLine, Given, Moment, outcome, renewal, reallocation, allocation, release, moment, is_new, half}
+use Rattle.mtrace_replay.specs.Moment.{ReadLine, Given, Moment, outcome, moment, is_new, half}
 use Rattle.mtrace_replay.specs.History.{entries_of, AreHeld, held, given_or, unless_taken, held_after, moments, content_after, pending, old_address}
 use Rattle.mtrace_replay.specs.Replay.{Replayed, StandsFor, added_diagnostics}
 use Rattle.mtrace_replay.specs.Step.{given_of, all_given, found, Comes, AreLive}
@@ -32,32 +31,6 @@ use Rattle.mtrace_replay.proofs.TotalsStep.{totals_of_line}
 use Rattle.mtrace_replay.proofs.Moments.{moments-line}
 use Rattle.mtrace_replay.proofs.SortedLemmas.{addresses}
 
--- a line leaves the same by two look-ups that agree
-same_renewal : (number : ℕ) (at : Option (List ℕ)) (line : Option ℕ) (address size : ℕ) (one other : ℕ → Option Given) (content : Bare) → ((q : ℕ) → one q ≡ other q)
-    → renewal number at line address size one content ≡ renewal number at line address size other content
-same_renewal number at None address size one other content same = refl
-same_renewal number at (Some old) address size one other content same =
-    ap (λ held. reallocation number at old held address size (one address) content) (same old)
-    ∙ ap (λ held. reallocation number at old (other old) address size held content) (same address)
-
-same_outcome : (number : ℕ) (line : ReadLine) (before : Option ℕ) (one other : ℕ → Option Given) (content : Bare) → ((q : ℕ) → one q ≡ other q)
-    → outcome number line before one content ≡ outcome number line before other content
-same_outcome number (Err fault.TooLong) before one other content same = refl
-same_outcome number (Err fault.NotALine) before one other content same = refl
-same_outcome number (Ok Start) before one other content same = refl
-same_outcome number (Ok End) before one other content same = refl
-same_outcome number (Ok (Alloc at None size)) before one other content same = refl
-same_outcome number (Ok (Alloc at (Some address) size)) before one other content same = ap (λ held. allocation number at address None size held content) (same address)
-same_outcome number (Ok (Free at address)) before one other content same = ap (λ held. release number address held content) (same address)
-same_outcome number (Ok (Old at address)) before one other content same = refl
-same_outcome number (Ok (New at address size)) before one other content same = same_renewal number at before address size one other content same
-same_outcome number (Ok (Failed at address size)) before one other content same = refl
-same_outcome number (Ok (Aligned at address align size)) before one other content same = ap (λ held. allocation number at address (Some align) size held content) (same address)
-
--- what a moment leaves held, by two look-ups that agree
-same_held : (moment : Moment) (one other : ℕ → Option Given) → ((q : ℕ) → one q ≡ other q) → (address : ℕ) → held_after moment one address ≡ held_after moment other address
-same_held moment one other same address = ap (λ before. given_or moment.given address (unless_taken moment.taken address before)) (same address)
-
 module _ (old new : Replayed) (settings : Settings) (past : List ReadLine) (line : ReadLine) (diagnostics : List Diagnostic) (end : Option ℕ) (number : ℕ)
     (stands : StandsFor old settings past) (next : number ≡ old.totals.lines + 1)
     (comes : Comes old.content new.content old.given new.given diagnostics end (outcome number line old.pending (found old.given) old.content)) where
@@ -76,7 +49,7 @@ module _ (old new : Replayed) (settings : Settings) (past : List ReadLine) (line
   outcome_is =
       ap (λ n. outcome n line old.pending (found old.given) old.content) (next ∙ omega (arith, stands.lines_are))
       ∙ ap (λ p. outcome (suc (length past)) line p (found old.given) old.content) stands.pending_is
-      ∙ same_outcome (suc (length past)) line (pending past) (found old.given) (held (moments (started settings) past)) old.content (found_is_held old.given (moments (started settings) past) stands.held)
+      ∙ ap (λ look. outcome (suc (length past)) line (pending past) look old.content) (fun_ext (found_is_held old.given (moments (started settings) past) stands.held))
       ∙ ap (outcome (suc (length past)) line (pending past) (held (moments (started settings) past))) stands.content_is
 
   comes_so : Comes old.content new.content old.given new.given diagnostics end its_outcome
@@ -86,7 +59,7 @@ module _ (old new : Replayed) (settings : Settings) (past : List ReadLine) (line
   held_after_line : IsStrictlyIncreasing (addresses new.given) → AreHeld new.given (now ∷ before)
   unfolding its_outcome before now
   held_after_line ordered = held_as_found new.given _ ordered (λ address. comes_so.held_is address
-      ∙ same_held its_outcome (found old.given) (held (moments (started settings) past)) (found_is_held old.given (moments (started settings) past) stands.held) address)
+      ∙ ap (λ look. held_after its_outcome look address) (fun_ext (found_is_held old.given (moments (started settings) past) stands.held)))
 
   module _ (heap : Content ℕ) (holdings : List Holding) (good : IsGood heap) (are : AreLive holdings heap) (heap_is : new.content ≡ bare heap) (given_is : new.given ≡ all_given holdings) where
     bare_is : bare heap ≡ its_outcome.content

@@ -5,6 +5,7 @@ use Rattle.std.specs.List.{AllByRecursion, list_all}
 use Rattle.tlsf_class.specs.Classes.{unit, greatest_size}
 use Rattle.tlsf_heap.specs.Content.{Block, Pool, used_records, blocks_of}
 use Rattle.tlsf_heap.specs.Malloc.{gap}
+use Rattle.tlsf_heap.specs.Room.{pool_bytes}
 use Rattle.tlsf_heap.specs.Pools.{most_pools, most_records, end_of_places, add_pool, with_pool, is_apart, can_be_pool, in_order_of_base, created}
 use Rattle.mtrace_replay.specs.declared.settings.Settings.{Settings}
 use Rattle.mtrace_replay.specs.Settings.{are_bad}
@@ -58,6 +59,7 @@ record IsReady (settings : Settings) (left : ℕ) (content : Bare) : Type 0 wher
   count : left + length content.pools ≡ settings.pools
   used : used_records content ≡ length content.pools
   records : content.records ≡ settings.records
+  bytes : left * settings.pool + pool_bytes content.pools ≡ settings.pools * settings.pool
 
 -- pools at or above a base are apart from one that ends there
 all_apart : (base bytes above : ℕ) (pools : List (Pool (Unit {0}))) → base + bytes ≤ above → AllByRecursion (λ (pool : Pool (Unit {0})). above ≤ pool.base) pools → list_all (is_apart base bytes) pools ≡ true
@@ -112,6 +114,7 @@ module _ (settings : Settings) (good : AreGood settings) (i : ℕ) (content : Ba
         count = omega (arith, ap length stands, ready.count);
         used = ap (λ pools. length (blocks_of pools)) stands ∙ omega (arith, length-append (gap {A = Unit {0}} (i * settings.pool) settings.pool) (blocks_of content.pools), one_block, ready.used, ap length stands);
         records = ready.records;
+        bytes = omega (arith, next, ap pool_bytes stands, ready.bytes);
       }
 
 all_ready : (settings : Settings) → AreGood settings → (left : ℕ) (content : Bare) → IsReady settings left content → IsReady settings 0 (with_pools settings left content)
@@ -123,7 +126,7 @@ all_ready settings good (suc i) content ready =
 
 is_started : (settings : Settings) → are_bad settings ≡ false → IsReady settings 0 (started settings)
 unfolding started
-is_started settings h = all_ready settings (are_good settings h) settings.pools (created settings.records) (record { above = tt; count = omega arith; used = refl; records = refl })
+is_started settings h = all_ready settings (are_good settings h) settings.pools (created settings.records) (record { above = tt; count = omega arith; used = refl; records = refl; bytes = omega arith })
 
 -- where the settings are not bad, the heap starts with all their pools
 pub all_pools_stand : (settings : Settings) → are_bad settings ≡ false → length (started settings).pools ≡ settings.pools
@@ -136,3 +139,7 @@ started_records settings h = omega (arith, (is_started settings h).records, (are
 -- as many as the settings say
 pub started_room : (settings : Settings) → are_bad settings ≡ false → (started settings).records ≡ settings.records
 started_room settings h = omega (arith, (is_started settings h).records)
+
+-- and of the bytes that they say
+pub started_bytes : (settings : Settings) → are_bad settings ≡ false → pool_bytes (started settings).pools ≡ settings.pools * settings.pool
+started_bytes settings h = omega (arith, (is_started settings h).bytes)

@@ -1,20 +1,21 @@
 -- What each case of a line leaves, told of what is held by its look-ups.
 use Rattle.std.proofs.Common.{◌<◌, ◌≤◌, arith, ◌≡◌, ℕ, Bool, true, false, cond, not, ◌+◌, List, [], ◌∷◌, is_some, option_map, Option, Some, None, inl, inr, refl, sym, ap, ◌∙◌, subst, Ok, Err}
-use Rattle.std.specs.Prelude.{◌==◌, ◌&&◌}
+use Rattle.std.specs.Prelude.{◌==◌, ◌&&◌, Result}
 use Rattle.std.proofs.lemmas.Bool.{cases_Bool, eqb-true, eqb-false}
 use Rattle.tlsf_heap.specs.declared.refusal.Refusal.{Refusal}
-use Rattle.tlsf_heap.specs.Content.{blocks_of, size_at}
+use Rattle.tlsf_heap.specs.Content.{Content, blocks_of, size_at}
 use Rattle.tlsf_heap.specs.Pointer.{Pointer}
 use Rattle.tlsf_heap.specs.Realloc.{realloc}
 use Rattle.tlsf_heap.proofs.Content.BareSteps.{ap-cond}
 use Rattle.mtrace_replay.specs.Entry.{Entry}
 use Rattle.mtrace_replay.specs.declared.diagnostic.Diagnostic.{Diagnostic}
+use Rattle.mtrace_replay.specs.declared.diagnostic.Kind.{Kind}
 use Rattle.mtrace_replay.specs.declared.diagnostic.Kind.TheVariants.{NotHeld, AlreadyHeld, Refused}
 use Rattle.mtrace_replay.specs.Holding.{Holding}
 use Rattle.mtrace_replay.specs.Started.{Bare}
-use Rattle.mtrace_replay.specs.Moment.{Given, Moment, unserved, one_diagnostic, after_diagnostics, asked_size, asked_block, without, answered, allocation, release, moved, reallocation, renewal, renewal_asks}
-use Rattle.mtrace_replay.specs.Index.{held_at}
-use Rattle.mtrace_replay.specs.Step.{given_of, all_given, found, Comes, IsUnder}
+use Rattle.mtrace_replay.specs.Moment.{Given, give, take, move, Plan, none_for, doing, allocation, release, preceded, reallocation, renewal, one_diagnostic, asked_size, asked_block, without, answered, moved, carried_out}
+use Rattle.mtrace_replay.specs.Index.{Indexed, held_at}
+use Rattle.mtrace_replay.specs.Step.{given_of, all_given, found, Comes, IsUnder, Replays}
 
 -- at least as many bytes are asked for as the line says, and some
 pub asked_least : (size : ℕ) → (size ≤ asked_size size) × (0 < asked_size size)
@@ -85,30 +86,56 @@ found_changed : (old new : List Holding) (address : ℕ) (now : Option Holding) 
 found_changed old new address now before changed other =
     found_given new other ∙ ap (option_map given_of) (changed other) ∙ ap-cond (option_map given_of) (address == other) now (before other)
 
+-- what does one plan does another that is the same
+pub replays_as : {H E : Type 0} {content : H → Content ℕ} {touches : H → ℕ} {lacks : H → Type 0} {looks most : ℕ} {one other : Plan} {diagnostics : List Diagnostic} {result : Result (Option ℕ) E} {heap_old heap_new : H} {held_old held_new : Indexed}
+    → one ≡ other → Replays content touches lacks looks most other diagnostics result heap_old heap_new held_old held_new → Replays content touches lacks looks most one diagnostics result heap_old heap_new held_old held_new
+replays_as {content = content} {touches = touches} {lacks = lacks} {looks = looks} {most = most} {diagnostics = diagnostics} {result = result} {heap_old = heap_old} {heap_new = heap_new} {held_old = held_old} {held_new = held_new} same replays =
+    subst (λ planned. Replays content touches lacks looks most planned diagnostics result heap_old heap_new held_old held_new) (sym same) replays
+
+-- the plans, told of what is held by its look-ups
+module _ (held : List Holding) where
+  pub allocation_held : (entry : Entry) (align : Option ℕ) → is_some (held_at held entry.addr) ≡ true → allocation entry align (found (all_given held) entry.addr) ≡ none_for entry.line (AlreadyHeld entry.addr)
+  allocation_held entry align is = let some = some_is (held_at held entry.addr) is in ap (allocation entry align) (found_under held entry.addr (Some some.0) some.1)
+
+  pub allocation_free : (entry : Entry) (align : Option ℕ) → is_some (held_at held entry.addr) ≡ false → allocation entry align (found (all_given held) entry.addr) ≡ doing (give entry align)
+  allocation_free entry align is = ap (allocation entry align) (found_under held entry.addr None (none_is (held_at held entry.addr) is))
+
+  pub release_none : (number address : ℕ) → held_at held address ≡ None → release number address (found (all_given held) address) ≡ none_for number (NotHeld address)
+  release_none number address none = ap (release number address) (found_under held address None none)
+
+  pub release_under : (number address : ℕ) (ptr : Pointer) → IsUnder ptr (held_at held address) → release number address (found (all_given held) address) ≡ doing (take address ptr.place)
+  release_under number address ptr under =
+      ap (release number address) (found_under held address (Some under.0) under.1) ∙ ap (λ (p : Pointer). doing (take address p.place)) under.2
+
+  module _ (entry : Entry) (pending : Option ℕ) (old : ℕ) (is_pending : pending ≡ Some old) where
+    renewed : (one : Option Given) → found (all_given held) old ≡ one → renewal entry pending (found (all_given held)) ≡ reallocation entry old one (found (all_given held) entry.addr)
+    renewed one is =
+        ap (λ line. renewal entry line (found (all_given held))) is_pending ∙ ap (λ there. reallocation entry old there (found (all_given held) entry.addr)) is
+
+    pub renewal_allocates : held_at held old ≡ None → renewal entry pending (found (all_given held)) ≡ preceded (NotHeld old) entry.line (allocation entry None (found (all_given held) entry.addr))
+    renewal_allocates none = renewed None (found_under held old None none)
+
+    -- by whether the new address is another one that is held
+    pub renewal_under : (ptr : Pointer) (test : Bool) → IsUnder ptr (held_at held old) → not (entry.addr == old) && is_some (held_at held entry.addr) ≡ test
+        → renewal entry pending (found (all_given held)) ≡ cond test (none_for entry.line (AlreadyHeld entry.addr)) (doing (move old ptr.place entry))
+    renewal_under ptr test under is =
+        renewed (Some (given_of under.0)) (found_under held old (Some under.0) under.1)
+        ∙ ap (λ some. cond (not (entry.addr == old) && some) (none_for entry.line (AlreadyHeld entry.addr)) (doing (move old under.0.ptr.place entry))) (found_some held entry.addr)
+        ∙ ap (λ b. cond b (none_for entry.line (AlreadyHeld entry.addr)) (doing (move old under.0.ptr.place entry))) is
+        ∙ ap (λ (p : Pointer). cond test (none_for entry.line (AlreadyHeld entry.addr)) (doing (move old p.place entry))) under.2
+
 -- a line that changes nothing
-pub comes_unserved : (content : Bare) (given : List Given) (diagnostics : List Diagnostic) → Comes content content given given diagnostics None (unserved diagnostics content)
-comes_unserved content given diagnostics = record { content_is = refl; held_is = (λ address. refl); diagnostics_are = refl; end_is = refl }
+pub comes_unserved : (content : Bare) (given : List Given) (number : ℕ) (kind : Kind) → Comes content content given given (one_diagnostic number kind) None (carried_out (none_for number kind) content)
+comes_unserved content given number kind = record { content_is = refl; held_is = (λ address. refl); diagnostics_are = refl; end_is = refl }
 
 module _ (old new : List Holding) (content after : Bare) where
-  -- `+` or `*` for an address that is held
-  pub comes_held : (number : ℕ) (at : Option (List ℕ)) (address : ℕ) (align : Option ℕ) (size : ℕ) → is_some (held_at old address) ≡ true
-      → Comes content content (all_given old) (all_given old) (one_diagnostic number (AlreadyHeld address)) None (allocation number at address align size (found (all_given old) address) content)
-  comes_held number at address align size is =
-      let some = some_is (held_at old address) is in
-      let P : Option Given → Type 0 = λ held. Comes content content (all_given old) (all_given old) (one_diagnostic number (AlreadyHeld address)) None (allocation number at address align size held content) in
-      subst P (sym (found_under old address (Some some.0) some.1)) (comes_unserved content (all_given old) (one_diagnostic number (AlreadyHeld address)))
-
-  -- `+` or `*` that was served
-  pub comes_served : (holding : Holding) (align : Option ℕ) → is_some (held_at old holding.entry.addr) ≡ false → asked_block tt align (asked_size holding.entry.size) content ≡ Ok (holding.ptr.place, after)
+  -- a block was given
+  pub comes_served : (holding : Holding) (align : Option ℕ) → asked_block tt align (asked_size holding.entry.size) content ≡ Ok (holding.ptr.place, after)
       → ((other : ℕ) → held_at new other ≡ cond (holding.entry.addr == other) (Some holding) (held_at old other))
-      → Comes content after (all_given old) (all_given new) [] (Some (holding.ptr.place + size_at holding.ptr.place (blocks_of after.pools))) (allocation holding.entry.line holding.entry.at holding.entry.addr align holding.entry.size (found (all_given old) holding.entry.addr) content)
-  comes_served holding align absent served changed =
+      → Comes content after (all_given old) (all_given new) [] (Some (holding.ptr.place + size_at holding.ptr.place (blocks_of after.pools))) (carried_out (doing (give holding.entry align)) content)
+  comes_served holding align served changed =
       let entry = holding.entry in
-      let is : allocation entry.line entry.at entry.addr align entry.size (found (all_given old) entry.addr) content
-      ≡ record { given = Some (given_of holding); taken = None; diagnostics = []; content = after } =
-      ap (λ held. allocation entry.line entry.at entry.addr align entry.size held content) (found_under old entry.addr None (none_is (held_at old entry.addr) absent))
-      ∙ ap (answered entry.line entry.at entry.addr entry.size content) served in
-      subst (Comes content after (all_given old) (all_given new) [] (Some (holding.ptr.place + size_at holding.ptr.place (blocks_of after.pools)))) (sym is) (record {
+      subst (λ answer. Comes content after (all_given old) (all_given new) [] (Some (holding.ptr.place + size_at holding.ptr.place (blocks_of after.pools))) (answered entry content answer)) (sym served) (record {
         content_is = refl;
         held_is = (λ other. found_changed old new entry.addr (Some holding) (held_at old) changed other
             ∙ ap (cond (entry.addr == other) (Some (given_of holding))) (sym (found_given old other)));
@@ -116,45 +143,30 @@ module _ (old new : List Holding) (content after : Bare) where
         end_is = refl;
       })
 
-  -- `+` or `*` that was refused
-  pub comes_refused : (entry : Entry) (align : Option ℕ) (refusal : Refusal) → is_some (held_at old entry.addr) ≡ false → asked_block tt align (asked_size entry.size) content ≡ Err refusal
-      → Comes content content (all_given old) (all_given old) (one_diagnostic entry.line (Refused entry.addr refusal)) None
-      (allocation entry.line entry.at entry.addr align entry.size (found (all_given old) entry.addr) content)
-  comes_refused entry align refusal absent refused =
-      let is : allocation entry.line entry.at entry.addr align entry.size (found (all_given old) entry.addr) content ≡ unserved (one_diagnostic entry.line (Refused entry.addr refusal)) content =
-      ap (λ held. allocation entry.line entry.at entry.addr align entry.size held content) (found_under old entry.addr None (none_is (held_at old entry.addr) absent))
-      ∙ ap (answered entry.line entry.at entry.addr entry.size content) refused in
-      subst (Comes content content (all_given old) (all_given old) (one_diagnostic entry.line (Refused entry.addr refusal)) None) (sym is)
-      (comes_unserved content (all_given old) (one_diagnostic entry.line (Refused entry.addr refusal)))
+  -- a block was refused
+  pub comes_refused : (entry : Entry) (align : Option ℕ) (refusal : Refusal) → asked_block tt align (asked_size entry.size) content ≡ Err refusal
+      → Comes content content (all_given old) (all_given old) (one_diagnostic entry.line (Refused entry.addr refusal)) None (carried_out (doing (give entry align)) content)
+  comes_refused entry align refusal refused =
+      subst (λ answer. Comes content content (all_given old) (all_given old) (one_diagnostic entry.line (Refused entry.addr refusal)) None (answered entry content answer)) (sym refused)
+      (record { content_is = refl; held_is = (λ address. refl); diagnostics_are = refl; end_is = refl })
 
-  -- `-` for an address that isn't held
-  pub comes_not_held : (number address : ℕ) → held_at old address ≡ None
-      → Comes content content (all_given old) (all_given old) (one_diagnostic number (NotHeld address)) None (release number address (found (all_given old) address) content)
-  comes_not_held number address absent =
-      let P : Option Given → Type 0 = λ held. Comes content content (all_given old) (all_given old) (one_diagnostic number (NotHeld address)) None (release number address held content) in
-      subst P (sym (found_under old address None absent)) (comes_unserved content (all_given old) (one_diagnostic number (NotHeld address)))
+  -- an address was taken
+  pub comes_released : (address place : ℕ) → after ≡ without place content → ((other : ℕ) → held_at new other ≡ cond (address == other) None (held_at old other))
+      → Comes content after (all_given old) (all_given new) [] None (carried_out (doing (take address place)) content)
+  comes_released address place freed changed = record {
+    content_is = freed;
+    held_is = (λ other. found_changed old new address None (held_at old) changed other ∙ ap (cond (address == other) None) (sym (found_given old other)));
+    diagnostics_are = refl;
+    end_is = refl;
+  }
 
-  -- `-`
-  pub comes_released : (number address : ℕ) (holding : Holding) → held_at old address ≡ Some holding → after ≡ without holding.ptr.place content
-      → ((other : ℕ) → held_at new other ≡ cond (address == other) None (held_at old other))
-      → Comes content after (all_given old) (all_given new) [] None (release number address (found (all_given old) address) content)
-  comes_released number address holding held freed changed =
-      let P : Option Given → Type 0 = λ given. Comes content after (all_given old) (all_given new) [] None (release number address given content) in
-      subst P (sym (found_under old address (Some holding) held)) (record {
-        content_is = freed;
-        held_is = (λ other. found_changed old new address None (held_at old) changed other ∙ ap (cond (address == other) None) (sym (found_given old other)));
-        diagnostics_are = refl;
-        end_is = refl;
-      })
-
-  -- `>` that was served
+  -- a block was moved
   pub comes_moved : (address from : ℕ) (holding : Holding) → realloc (λ one other. true) tt (Some (from, tt)) (asked_size holding.entry.size) content ≡ Ok (Some (holding.ptr.place, tt), after)
       → ((other : ℕ) → held_at new other ≡ cond (holding.entry.addr == other) (Some holding) (cond (address == other) None (held_at old other)))
-      → Comes content after (all_given old) (all_given new) [] (Some (holding.ptr.place + size_at holding.ptr.place (blocks_of after.pools))) (moved holding.entry.line holding.entry.at address from holding.entry.addr holding.entry.size content
-      (realloc (λ one other. true) tt (Some (from, tt)) (asked_size holding.entry.size) content))
+      → Comes content after (all_given old) (all_given new) [] (Some (holding.ptr.place + size_at holding.ptr.place (blocks_of after.pools))) (carried_out (doing (move address from holding.entry)) content)
   comes_moved address from holding served changed =
       let entry = holding.entry in
-      subst (λ answer. Comes content after (all_given old) (all_given new) [] (Some (holding.ptr.place + size_at holding.ptr.place (blocks_of after.pools))) (moved entry.line entry.at address from entry.addr entry.size content answer)) (sym served) (record {
+      subst (λ answer. Comes content after (all_given old) (all_given new) [] (Some (holding.ptr.place + size_at holding.ptr.place (blocks_of after.pools))) (moved address from entry content answer)) (sym served) (record {
         content_is = refl;
         held_is = (λ other. found_changed old new entry.addr (Some holding) (λ q. cond (address == q) None (held_at old q)) changed other
             ∙ ap (cond (entry.addr == other) (Some (given_of holding)))
@@ -163,76 +175,20 @@ module _ (old new : List Holding) (content after : Bare) where
         end_is = refl;
       })
 
-  -- `>` that was refused
+  -- a block was refused for one that is freed then
   pub comes_not_moved : (address from : ℕ) (entry : Entry) (refusal : Refusal) → realloc (λ one other. true) tt (Some (from, tt)) (asked_size entry.size) content ≡ Err refusal
       → after ≡ without from content → ((other : ℕ) → held_at new other ≡ cond (address == other) None (held_at old other))
-      → Comes content after (all_given old) (all_given new) (one_diagnostic entry.line (Refused entry.addr refusal)) None (moved entry.line entry.at address from entry.addr entry.size content
-      (realloc (λ one other. true) tt (Some (from, tt)) (asked_size entry.size) content))
+      → Comes content after (all_given old) (all_given new) (one_diagnostic entry.line (Refused entry.addr refusal)) None (carried_out (doing (move address from entry)) content)
   comes_not_moved address from entry refusal refused freed changed =
-      subst (λ answer. Comes content after (all_given old) (all_given new) (one_diagnostic entry.line (Refused entry.addr refusal)) None (moved entry.line entry.at address from entry.addr entry.size content answer)) (sym refused) (record {
+      subst (λ answer. Comes content after (all_given old) (all_given new) (one_diagnostic entry.line (Refused entry.addr refusal)) None (moved address from entry content answer)) (sym refused) (record {
         content_is = freed;
         held_is = (λ other. found_changed old new address None (held_at old) changed other ∙ ap (cond (address == other) None) (sym (found_given old other)));
         diagnostics_are = refl;
         end_is = refl;
       })
 
--- a diagnostic before those of a moment
-pub comes_after_diagnostic : (content after : Bare) (old new : List Given) (first : Diagnostic) (diagnostics : List Diagnostic) (end : Option ℕ) (moment : Moment)
-    → Comes content after old new diagnostics end moment → Comes content after old new (first ∷ diagnostics) end (after_diagnostics (first ∷ []) moment)
-comes_after_diagnostic content after old new first diagnostics end moment comes =
-    record { content_is = comes.content_is; held_is = comes.held_is; diagnostics_are = ap (λ ns. first ∷ ns) comes.diagnostics_are; end_is = comes.end_is }
-
-module _ (old_held : List Holding) (content : Bare) (number : ℕ) (at : Option (List ℕ)) (pending : Option ℕ) (old address size : ℕ) (is_pending : pending ≡ Some old) where
-  -- `>` after `<`, told of what both are held under
-  renewed : (one other : Option Given) → found (all_given old_held) old ≡ one → found (all_given old_held) address ≡ other
-      → renewal number at pending address size (found (all_given old_held)) content ≡ reallocation number at old one address size other content
-  renewed one other is is_too =
-      ap (λ line. renewal number at line address size (found (all_given old_held)) content) is_pending
-      ∙ ap (λ held. reallocation number at old held address size (found (all_given old_held) address) content) is
-      ∙ ap (λ held. reallocation number at old one address size held content) is_too
-
-  -- the old address isn't held
-  pub renewal_allocates : held_at old_held old ≡ None
-      → renewal number at pending address size (found (all_given old_held)) content
-      ≡ after_diagnostics (one_diagnostic number (NotHeld old)) (allocation number at address None size (found (all_given old_held) address) content)
-  renewal_allocates none = renewed None (found (all_given old_held) address) (found_under old_held old None none) refl
-
-  module _ (holding : Holding) (held : held_at old_held old ≡ Some holding) where
-    -- whether the new address is another one that is held
-    abbrev pub is_held_too : Bool
-    is_held_too = not (address == old) && is_some (held_at old_held address)
-
-    by_both : renewal number at pending address size (found (all_given old_held)) content
-        ≡ cond is_held_too (unserved (one_diagnostic number (AlreadyHeld address)) content)
-        (moved number at old holding.ptr.place address size content (realloc (λ one other. true) tt (Some (holding.ptr.place, tt)) (asked_size size) content))
-    by_both =
-        renewed (Some (given_of holding)) (option_map given_of (held_at old_held address)) (found_under old_held old (Some holding) held) (found_given old_held address)
-        ∙ ap (λ some. cond (not (address == old) && some) (unserved (one_diagnostic number (AlreadyHeld address)) content)
-        (moved number at old holding.ptr.place address size content (realloc (λ one other. true) tt (Some (holding.ptr.place, tt)) (asked_size size) content)))
-        (some_given (held_at old_held address))
-
-    pub renewal_is_held : is_held_too ≡ true → renewal number at pending address size (found (all_given old_held)) content ≡ unserved (one_diagnostic number (AlreadyHeld address)) content
-    renewal_is_held is =
-        by_both ∙ ap (λ b. cond b (unserved (one_diagnostic number (AlreadyHeld address)) content)
-        (moved number at old holding.ptr.place address size content (realloc (λ one other. true) tt (Some (holding.ptr.place, tt)) (asked_size size) content))) is
-
-    pub renewal_moves : is_held_too ≡ false → renewal number at pending address size (found (all_given old_held)) content
-        ≡ moved number at old holding.ptr.place address size content (realloc (λ one other. true) tt (Some (holding.ptr.place, tt)) (asked_size size) content)
-    renewal_moves is =
-        by_both ∙ ap (λ b. cond b (unserved (one_diagnostic number (AlreadyHeld address)) content)
-        (moved number at old holding.ptr.place address size content (realloc (λ one other. true) tt (Some (holding.ptr.place, tt)) (asked_size size) content))) is
-
--- `>` asks as `+` does where the old address isn't held
-pub renewal_asks_new : (held : List Holding) (pending : Option ℕ) (old address : ℕ) → pending ≡ Some old → held_at held old ≡ None
-    → renewal_asks pending address (found (all_given held)) ≡ not (is_some (found (all_given held) address))
-renewal_asks_new held pending old address is none =
-    ap (λ p. renewal_asks p address (found (all_given held))) is
-    ∙ ap (λ b. cond b (not (not (address == old) && is_some (found (all_given held) address))) (not (is_some (found (all_given held) address)))) (found_some held old ∙ ap is_some none)
-
--- and asks for another block where the old address is held, unless the new one is another that is held
-pub renewal_asks_moved : (held : List Holding) (pending : Option ℕ) (old address : ℕ) (holding : Holding) → pending ≡ Some old → held_at held old ≡ Some holding
-    → (not (address == old) && is_some (held_at held address)) ≡ false → renewal_asks pending address (found (all_given held)) ≡ true
-renewal_asks_moved held pending old address holding is some free =
-    ap (λ p. renewal_asks p address (found (all_given held))) is
-    ∙ ap (λ b. cond b (not (not (address == old) && is_some (found (all_given held) address))) (not (is_some (found (all_given held) address)))) (found_some held old ∙ ap is_some some)
-    ∙ ap (λ b. not (not (address == old) && b)) (found_some held address) ∙ ap not free
+-- a diagnostic before those of a plan
+pub comes_after_diagnostic : (content after : Bare) (old new : List Given) (kind : Kind) (number : ℕ) (diagnostics : List Diagnostic) (end : Option ℕ) (planned : Plan)
+    → Comes content after old new diagnostics end (carried_out planned content) → Comes content after old new (record { line = number; kind = kind } ∷ diagnostics) end (carried_out (preceded kind number planned) content)
+comes_after_diagnostic content after old new kind number diagnostics end planned comes =
+    record { content_is = comes.content_is; held_is = comes.held_is; diagnostics_are = ap (λ ns. record { line = number; kind = kind } ∷ ns) comes.diagnostics_are; end_is = comes.end_is }

@@ -1,17 +1,64 @@
--- What is held at most, and which lines are refused for want of a record.
-use Rattle.std.specs.Prelude.{◌≢◌, ℕ, ◌≤◌, List, length}
+-- What is held at most, which blocks are asked for at most, and for what reasons a line isn't refused.
+use Rattle.std.specs.Prelude.{◌≡◌, ◌≢◌, ℕ, suc, ◌+◌, ◌≤◌, List, [], ◌∷◌, length, unwrap_or, Some, None, ⊤}
 use Rattle.std.specs.List.{AllByRecursion}
+use Rattle.tlsf_class.specs.Classes.{low, need}
+use Rattle.tlsf_class.specs.Rounding.{round}
+use Rattle.tlsf_heap.specs.declared.refusal.Refusal.{Refusal}
 use Rattle.tlsf_heap.specs.declared.refusal.Refusal.TheVariants.{TableFull}
+use Rattle.tlsf_heap.specs.Memalign.{size_asked}
 use Rattle.mtrace_replay.specs.declared.diagnostic.Diagnostic.{Diagnostic}
 use Rattle.mtrace_replay.specs.declared.diagnostic.Kind.TheVariants.{Refused}
-use Rattle.mtrace_replay.specs.Moment.{Given, Moment}
-use Rattle.mtrace_replay.specs.History.{AreHeld}
+use Rattle.mtrace_replay.specs.Moment.{ReadLine, Given, Moment, asked_size, Act, give, move, plan}
+use Rattle.mtrace_replay.specs.Started.{Bare}
+use Rattle.mtrace_replay.specs.History.{AreHeld, held, moments, pending}
 use Rattle.mtrace_replay.specs.Totals.{first_moments}
 
 -- after any number of lines no more addresses are held
 abbrev pub HoldsAtMost : ℕ → List Moment → Type 0
 HoldsAtMost most past = (k : ℕ) → (all : List Given) × AreHeld all (first_moments k past) × (length all ≤ most)
 
+-- the bytes that were asked for, rounded up
+abbrev pub rounded_size : Given → ℕ
+rounded_size given = unwrap_or (round (asked_size given.entry.size)) 0
+
+-- the same of all
+abbrev pub rounded_total : List Given → ℕ
+rounded_total [] = 0
+rounded_total (given ∷ all) = rounded_size given + rounded_total all
+
+-- after any number of lines what is held has no more bytes together
+abbrev pub HoldsBytesAtMost : ℕ → List Moment → Type 0
+HoldsBytesAtMost bytes past = (k : ℕ) → (all : List Given) × AreHeld all (first_moments k past) × (rounded_total all ≤ bytes)
+
+-- Rounded up, n is m bytes, for which the lists are asked for a block of `asked m` bytes: from class c on each block has them,
+-- and the lowest size of class c is at most `size`.
+pub record AsksAtMost (size : ℕ) (asked : ℕ → ℕ) (n : ℕ) : Type 0 where
+  pub m : ℕ
+  pub rounds : round n ≡ Some m
+  pub c : ℕ
+  pub needed : need (asked m) ≡ Some c
+  pub sized : low c ≤ size
+
+-- what the line behind these does
+abbrev pub act_of : Bare → ReadLine → List ReadLine → Act
+act_of start line past = (plan (suc (length past)) line (pending past) (held (moments start past))).act
+
+-- what each line does, the latest first
+abbrev pub acts_of : Bare → List ReadLine → List Act
+acts_of start [] = []
+acts_of start (line ∷ past) = act_of start line past ∷ acts_of start past
+
+-- no block is asked for, or one in these bounds
+abbrev pub IsOfAtMost : ℕ → Act → Type 0
+IsOfAtMost size (give entry None) = AsksAtMost size (λ m. m) (asked_size entry.size)
+IsOfAtMost size (give entry (Some align)) = AsksAtMost size (size_asked align) (asked_size entry.size)
+IsOfAtMost size (move old place entry) = AsksAtMost size (λ m. m) (asked_size entry.size)
+IsOfAtMost size _ = ⊤
+
+-- the line isn't refused for this reason
+abbrev pub IsNeverRefused : Refusal → Moment → Type 0
+IsNeverRefused why moment = AllByRecursion (λ (diagnostic : Diagnostic). (address : ℕ) → diagnostic.kind ≢ Refused address why) moment.diagnostics
+
 -- the line isn't refused for want of a record
 abbrev pub IsNeverFull : Moment → Type 0
-IsNeverFull moment = AllByRecursion (λ (diagnostic : Diagnostic). (address : ℕ) → diagnostic.kind ≢ Refused address TableFull) moment.diagnostics
+IsNeverFull = IsNeverRefused TableFull

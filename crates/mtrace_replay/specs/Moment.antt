@@ -1,7 +1,7 @@
--- What one line of a log leaves, by the line before it, by what is held, and on what the heap holds.
+-- What one line of a log asks for, by the line before it and by what is held: its plan. What that leaves, on what the heap holds.
 use Rattle.std.specs.Prelude.{ℕ, suc, Bool, true, false, not, ◌&&◌, List, [], ◌∷◌, ◌++◌, is_some, Option, Some, None, Result, Ok, Err, if◌then◌else◌, ◌==◌}
 use Rattle.mtrace_log.specs.Event.{Event}
-use Rattle.mtrace_log.specs.declared.event.Event.TheVariants.{Start, End, Alloc, Free, Old, New, Failed, Aligned}
+use Rattle.mtrace_log.specs.declared.event.Event.TheVariants.{Alloc, Free, New, Aligned}
 use Rattle.mtrace_log.specs.declared.event.LineFault.{LineFault}
 use Rattle.mtrace_log.specs.declared.event.LineFault.TheVariants as fault
 use Rattle.mtrace_replay.specs.Entry.{Entry}
@@ -25,6 +25,68 @@ pub record Given : Type 0 where
   pub entry : Entry
   pub place : ℕ
 
+abbrev pub one_diagnostic : ℕ → Kind → List Diagnostic
+one_diagnostic number kind = record { line = number; kind = kind } ∷ []
+
+-- What is done: nothing; a block is asked for, for the entry; the address is taken, and the block at the place freed;
+-- the block of the old address, at the place, is reallocated for the entry.
+pub data Act : Type 0 where
+  idle : Act
+  give : Entry → Option ℕ → Act
+  take : (address place : ℕ) → Act
+  move : (old place : ℕ) → Entry → Act
+
+-- what is done, and what is wrong with the line before that
+pub record Plan : Type 0 where
+  pub first : List Diagnostic
+  pub act : Act
+
+abbrev pub none_for : ℕ → Kind → Plan
+none_for number kind = record { first = one_diagnostic number kind; act = idle }
+
+abbrev pub doing : Act → Plan
+doing act = record { first = []; act = act }
+
+-- a block for the entry, by what its address is held under
+abbrev pub allocation : Entry → Option ℕ → Option Given → Plan
+allocation entry align None = doing (give entry align)
+allocation entry align (Some given) = none_for entry.line (AlreadyHeld entry.addr)
+
+-- `- address`, by what the address is held under
+abbrev pub release : ℕ → ℕ → Option Given → Plan
+release number address None = none_for number (NotHeld address)
+release number address (Some given) = doing (take address given.place)
+
+-- the same, after another diagnostic
+abbrev pub preceded : Kind → ℕ → Plan → Plan
+preceded kind number planned = record { first = one_diagnostic number kind ++ planned.first; act = planned.act }
+
+-- `>` after `< old`, by what the two are held under
+abbrev pub reallocation : Entry → (old : ℕ) → (held_old held_new : Option Given) → Plan
+reallocation entry old None here = preceded (NotHeld old) entry.line (allocation entry None here)
+reallocation entry old (Some from) here =
+    if not (entry.addr == old) && is_some here then none_for entry.line (AlreadyHeld entry.addr) else doing (move old from.place entry)
+
+-- `>`, by the address of the line before, where that is `<`
+abbrev pub renewal : Entry → Option ℕ → (ℕ → Option Given) → Plan
+renewal entry None held = none_for entry.line Stray
+renewal entry (Some old) held = reallocation entry old (held old) (held entry.addr)
+
+-- the plan of the line of this number
+abbrev pub plan : ℕ → ReadLine → Option ℕ → (ℕ → Option Given) → Plan
+plan number (Err fault.TooLong) pending held = none_for number TooLong
+plan number (Err fault.NotALine) pending held = none_for number NotALine
+plan number (Ok (Alloc at (Some address) size)) pending held = allocation (record { addr = address; size = size; line = number; at = at }) None (held address)
+plan number (Ok (Aligned at address align size)) pending held = allocation (record { addr = address; size = size; line = number; at = at }) (Some align) (held address)
+plan number (Ok (Free at address)) pending held = release number address (held address)
+plan number (Ok (New at address size)) pending held = renewal (record { addr = address; size = size; line = number; at = at }) pending held
+plan number (Ok _) pending held = doing idle
+
+-- whether the heap is asked
+abbrev pub acts : Act → Bool
+acts idle = false
+acts _ = true
+
 -- the outcome of one line: what it was given, the address that it took, its diagnostics, and the heap after it
 pub record Moment : Type 0 where
   pub given : Option Given
@@ -35,9 +97,6 @@ pub record Moment : Type 0 where
 -- nothing was given and nothing taken
 abbrev pub unserved : List Diagnostic → Bare → Moment
 unserved diagnostics content = record { given = None; taken = None; diagnostics = diagnostics; content = content }
-
-abbrev pub one_diagnostic : ℕ → Kind → List Diagnostic
-one_diagnostic number kind = record { line = number; kind = kind } ∷ []
 
 -- the same, after other diagnostics
 abbrev pub after_diagnostics : List Diagnostic → Moment → Moment
@@ -56,74 +115,33 @@ asked_block owner (Some align) n content = memalign owner align n content
 abbrev pub without : ℕ → Bare → Bare
 without place content = left_by content (free (λ owner. true) place content)
 
--- `+ address size` or `* address align size`, by what the heap answered
-abbrev pub answered : ℕ → Option (List ℕ) → ℕ → ℕ → Bare → Result (ℕ × Bare) Refusal → Moment
-answered number at address size content (Ok (place, new)) =
-    record { given = Some (record { entry = record { addr = address; size = size; line = number; at = at }; place = place }); taken = None; diagnostics = []; content = new }
-answered number at address size content (Err refusal) = unserved (one_diagnostic number (Refused address refusal)) content
+-- a block was given to the entry, or none
+abbrev pub answered : Entry → Bare → Result (ℕ × Bare) Refusal → Moment
+answered entry content (Ok (place, new)) = record { given = Some (record { entry = entry; place = place }); taken = None; diagnostics = []; content = new }
+answered entry content (Err refusal) = unserved (one_diagnostic entry.line (Refused entry.addr refusal)) content
 
--- `+ address size` or `* address align size`, by what the address is held under
-abbrev pub allocation : ℕ → Option (List ℕ) → (address : ℕ) → (align : Option ℕ) → (size : ℕ) → Option Given → Bare → Moment
-allocation number at address align size (Some given) content = unserved (one_diagnostic number (AlreadyHeld address)) content
-allocation number at address align size None content = answered number at address size content (asked_block tt align (asked_size size) content)
+-- the block of the old address was given to the entry, or freed
+abbrev pub moved : (old from : ℕ) → Entry → Bare → Result (Option (ℕ × Unit {0}) × Bare) Refusal → Moment
+moved old from entry content (Ok (Some (place, owner), new)) =
+    record { given = Some (record { entry = entry; place = place }); taken = Some old; diagnostics = []; content = new }
+moved old from entry content (Ok (None, new)) = record { given = None; taken = Some old; diagnostics = []; content = new }
+moved old from entry content (Err refusal) =
+    record { given = None; taken = Some old; diagnostics = one_diagnostic entry.line (Refused entry.addr refusal); content = without from content }
 
--- `- address`, by what the address is held under
-abbrev pub release : ℕ → ℕ → Option Given → Bare → Moment
-release number address None content = unserved (one_diagnostic number (NotHeld address)) content
-release number address (Some given) content = record { given = None; taken = Some address; diagnostics = []; content = without given.place content }
+-- what an act leaves
+abbrev pub done : Act → Bare → Moment
+done idle content = unserved [] content
+done (give entry align) content = answered entry content (asked_block tt align (asked_size entry.size) content)
+done (take address place) content = record { given = None; taken = Some address; diagnostics = []; content = without place content }
+done (move old place entry) content = moved old place entry content (realloc (λ one other. true) tt (Some (place, tt)) (asked_size entry.size) content)
 
--- `> address size` after `< old`, by what the heap answered for the block of the old address, which began at `from`
-abbrev pub moved : ℕ → Option (List ℕ) → (old from address size : ℕ) → Bare → Result (Option (ℕ × Unit {0}) × Bare) Refusal → Moment
-moved number at old from address size content (Ok (Some (place, owner), new)) =
-    record { given = Some (record { entry = record { addr = address; size = size; line = number; at = at }; place = place }); taken = Some old; diagnostics = []; content = new }
-moved number at old from address size content (Ok (None, new)) = record { given = None; taken = Some old; diagnostics = []; content = new }
-moved number at old from address size content (Err refusal) =
-    record { given = None; taken = Some old; diagnostics = one_diagnostic number (Refused address refusal); content = without from content }
-
--- `> address size` after `< old`, by what the two are held under
-abbrev pub reallocation : ℕ → Option (List ℕ) → (old : ℕ) → Option Given → (address size : ℕ) → Option Given → Bare → Moment
-reallocation number at old None address size held_new content = after_diagnostics (one_diagnostic number (NotHeld old)) (allocation number at address None size held_new content)
-reallocation number at old (Some given) address size held_new content =
-    if not (address == old) && is_some held_new then unserved (one_diagnostic number (AlreadyHeld address)) content
-    else moved number at old given.place address size content (realloc (λ one other. true) tt (Some (given.place, tt)) (asked_size size) content)
-
--- `> address size`, by the address of the line before, where that is `<`
-abbrev pub renewal : ℕ → Option (List ℕ) → Option ℕ → (address size : ℕ) → (ℕ → Option Given) → Bare → Moment
-renewal number at None address size held content = unserved (one_diagnostic number Stray) content
-renewal number at (Some old) address size held content = reallocation number at old (held old) address size (held address) content
+-- what a plan leaves
+abbrev pub carried_out : Plan → Bare → Moment
+carried_out planned content = after_diagnostics planned.first (done planned.act content)
 
 -- what the line of this number leaves, but for what it tells of the line before
 abbrev pub outcome : ℕ → ReadLine → Option ℕ → (ℕ → Option Given) → Bare → Moment
-outcome number (Err fault.TooLong) pending held content = unserved (one_diagnostic number TooLong) content
-outcome number (Err fault.NotALine) pending held content = unserved (one_diagnostic number NotALine) content
-outcome number (Ok Start) pending held content = unserved [] content
-outcome number (Ok End) pending held content = unserved [] content
-outcome number (Ok (Alloc at None size)) pending held content = unserved [] content
-outcome number (Ok (Alloc at (Some address) size)) pending held content = allocation number at address None size (held address) content
-outcome number (Ok (Free at address)) pending held content = release number address (held address) content
-outcome number (Ok (Old at address)) pending held content = unserved [] content
-outcome number (Ok (New at address size)) pending held content = renewal number at pending address size held content
-outcome number (Ok (Failed at address size)) pending held content = unserved [] content
-outcome number (Ok (Aligned at address align size)) pending held content = allocation number at address (Some align) size (held address) content
-
--- whether the table names a request for `> address size`, by the address of the line before, where that is `<`
-abbrev pub renewal_asks : Option ℕ → (address : ℕ) → (ℕ → Option Given) → Bool
-renewal_asks None address held = false
-renewal_asks (Some old) address held =
-    if is_some (held old) then not (not (address == old) && is_some (held address)) else not (is_some (held address))
-
--- whether the table names a request for the line
-abbrev pub asks : ReadLine → Option ℕ → (ℕ → Option Given) → Bool
-asks (Err fault) pending held = false
-asks (Ok Start) pending held = false
-asks (Ok End) pending held = false
-asks (Ok (Alloc at None size)) pending held = false
-asks (Ok (Alloc at (Some address) size)) pending held = not (is_some (held address))
-asks (Ok (Free at address)) pending held = is_some (held address)
-asks (Ok (Old at address)) pending held = false
-asks (Ok (New at address size)) pending held = renewal_asks pending address held
-asks (Ok (Failed at address size)) pending held = false
-asks (Ok (Aligned at address align size)) pending held = not (is_some (held address))
+outcome number line pending held content = carried_out (plan number line pending held) content
 
 -- whether a line is `>`
 abbrev pub is_new : ReadLine → Bool

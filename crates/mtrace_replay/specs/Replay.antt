@@ -10,7 +10,7 @@ use Rattle.mtrace_replay.specs.declared.totals.Totals.{Totals}
 use Rattle.mtrace_replay.specs.Started.{Bare, started}
 use Rattle.mtrace_replay.specs.Step.{found}
 use Rattle.mtrace_replay.specs.Totals.{AreTotals, IsMost}
-use Rattle.mtrace_replay.specs.Moment.{ReadLine, Given, moment, asks, half}
+use Rattle.mtrace_replay.specs.Moment.{ReadLine, Given, moment, plan, acts, half}
 use Rattle.mtrace_replay.specs.History.{AreHeld, held, moments, content_after, pending, entries_of}
 
 -- a replay: the heap's content, how often it was touched, how many addresses were compared, and the totals. `given`
@@ -63,7 +63,7 @@ pub record Feeds {H N : Type 0} (lacks : H → Type 0) (items : N → List Diagn
   pub records : new.content.records ≡ old.content.records
   pub compared : (digits : ℕ) → old.content.records < 2 ^ digits → new.comparisons ≤ old.comparisons + 3 * digits
   pub bound : new.touches ≤ old.touches + 384
-  pub idle : asks line old.pending (found old.given) ≡ false → new.touches ≡ old.touches
+  pub idle : acts (plan number line old.pending (found old.given)).act ≡ false → new.touches ≡ old.touches
 
 -- what is wrong at the end is told, unless memory was refused
 pub record TellsEnd {H N : Type 0} (lacks : H → Type 0) (items : N → List Diagnostic) (result : Result N ReplayFault) (replay : Replayed) : Type 0 where

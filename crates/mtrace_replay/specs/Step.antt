@@ -15,7 +15,7 @@ use Rattle.mtrace_replay.specs.Holding.{Holding}
 use Rattle.mtrace_replay.specs.declared.totals.Totals.{Totals}
 use Rattle.mtrace_replay.specs.Started.{Bare}
 use Rattle.mtrace_replay.specs.declared.step.Block.{Block}
-use Rattle.mtrace_replay.specs.Moment.{Given, Moment, without}
+use Rattle.mtrace_replay.specs.Moment.{Given, Moment, Plan, carried_out, acts, without}
 use Rattle.mtrace_replay.specs.History.{held_after}
 use Rattle.mtrace_replay.specs.Index.{Indexed, held_at, LooksUp}
 
@@ -59,19 +59,19 @@ pub record AreLive (holdings : List Holding) (content : Content ℕ) : Type 0 wh
   pub records : content.records ≤ most_records
 
 -- What a line does, or a part of it, which answers where the block ends that it was given, if any. Where no memory is
--- refused, the heap, what is held and the diagnostics are as the moment says, and what is held is live. Else what is held
+-- refused, the heap, what is held and the diagnostics are as the plan says, and what is held is live. Else what is held
 -- is as it was. The heap has as many records as before. The look-ups are counted, and the touches are at most `most`:
 -- none where nothing is asked of the heap.
-pub record Replays {H E : Type 0} (content : H → Content ℕ) (touches : H → ℕ) (lacks : H → Type 0) (looks most : ℕ) (asks : Bool) (moment : Moment)
+pub record Replays {H E : Type 0} (content : H → Content ℕ) (touches : H → ℕ) (lacks : H → Type 0) (looks most : ℕ) (planned : Plan)
     (diagnostics : List Diagnostic) (result : Result (Option ℕ) E) (heap_old heap_new : H) (held_old held_new : Indexed) : Type 0 where
-  pub comes : IfOk result (λ end. Comes (bare (content heap_old)) (bare (content heap_new)) (all_given held_old.all) (all_given held_new.all) diagnostics end moment)
+  pub comes : IfOk result (λ end. Comes (bare (content heap_old)) (bare (content heap_new)) (all_given held_old.all) (all_given held_new.all) diagnostics end (carried_out planned (bare (content heap_old))))
   pub live : OnOk result (AreLive held_new.all (content heap_new))
   pub memory : OnErr result (MayLack lacks)
   pub unchanged : OnErr result (held_new.all ≡ held_old.all)
   pub records : (content heap_new).records ≡ (content heap_old).records
   pub looked : LooksUp looks held_old held_new
   pub bound : touches heap_new ≤ touches heap_old + most
-  pub idle : asks ≡ false → touches heap_new ≡ touches heap_old
+  pub idle : acts planned.act ≡ false → touches heap_new ≡ touches heap_old
 
 -- What a call leaves that asks the heap for a block, by the request under each slot. The block that it gives has a slot that no block
 -- had, or an old one. Where the heap refuses, it stays as it is. At most this many touches are made.

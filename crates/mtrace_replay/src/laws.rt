@@ -1,6 +1,8 @@
 //! Laws of the definitions, each the contract of a function that does nothing.
 
-ghost use Rattle.std.specs.Prelude.{◌≡◌, ◌==◌, ◌↔◌, ◌+◌, ◌*◌, ◌≤◌, ℕ, Bool, false, List, length, take, Some};
+ghost use Rattle.std.specs.Prelude.{◌≡◌, ◌==◌, ◌↔◌, ◌+◌, ◌-◌, ◌*◌, ◌<◌, ◌≤◌, ℕ, Bool, false, List, length, take, Some};
+ghost use Rattle.tlsf_class.specs.Classes.{unit};
+ghost use Rattle.tlsf_heap.specs.declared.refusal.Refusal.TheVariants.{NoFit, TableFull};
 ghost use Rattle.tlsf_heap.specs.Run.{MayLack};
 ghost use Rattle.mtrace_replay.specs.declared.settings.Settings.{Settings};
 ghost use Rattle.mtrace_replay.specs.Started.{Bare, started};
@@ -13,7 +15,7 @@ ghost use Rattle.std.specs.List.{AllByRecursion};
 ghost use Rattle.mtrace_replay.specs.Settings.{are_bad};
 ghost use Rattle.mtrace_replay.specs.Fit.{one_pool};
 ghost use Rattle.mtrace_replay.specs.RunFit.{refusals, IsTried};
-ghost use Rattle.mtrace_replay.specs.Enough.{HoldsAtMost, IsNeverFull};
+ghost use Rattle.mtrace_replay.specs.Enough.{HoldsAtMost, HoldsBytesAtMost, acts_of, IsOfAtMost, IsNeverRefused, IsNeverFull};
 ghost use Rattle.mtrace_replay.specs.Held.{IsHeldUnder};
 ghost use Rattle.mtrace_replay.specs.Entry.{Entry};
 ghost use Rattle.mtrace_replay.specs.Sites.{Site, AreSites};
@@ -55,6 +57,16 @@ pub fn verdict_of_all_lines()
 pub fn records_are_enough()
     ensures { (pool records most : ℕ) (past : List ReadLine) → are_bad (one_pool pool records) ≡ false → 2 * most + 3 ≤ records
         → HoldsAtMost most (moments (started (one_pool pool records)) past) → AllByRecursion IsNeverFull (moments (started (one_pool pool records)) past) }
+{}
+
+/// On one pool no line of a log is refused for want of a block or of a record, where after any number of its lines at most
+/// `most` addresses are held, for which at most `bytes` bytes were asked, each size rounded up, and each line that asks for a
+/// block asks for one of a class whose lowest size is at most `size`: the pool has more than the `bytes`, and for each of the
+/// `most` and one more the most that a free block has that is too small; and there are 2 * `most` + 3 records or more.
+pub fn sure_pool()
+    ensures { (pool records most bytes size : ℕ) (past : List ReadLine) → are_bad (one_pool pool records) ≡ false → 2 * most + 3 ≤ records → bytes + (most + 1) * (size - unit) < pool
+        → HoldsAtMost most (moments (started (one_pool pool records)) past) → HoldsBytesAtMost bytes (moments (started (one_pool pool records)) past) → AllByRecursion (IsOfAtMost size) (acts_of (started (one_pool pool records)) past)
+        → AllByRecursion (IsNeverRefused NoFit) (moments (started (one_pool pool records)) past) × AllByRecursion (IsNeverRefused TableFull) (moments (started (one_pool pool records)) past) }
 {}
 
 /// Where settings are not bad, no pool of theirs is refused: the heap starts with all of them.

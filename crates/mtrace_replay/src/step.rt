@@ -1,12 +1,11 @@
 //! What one line does to the heap and to what is held.
 
 ghost use Rattle.std.specs.Prelude.{◌≡◌, ◌≢◌, ◌+◌, ◌<◌, ◌≤◌, ◌&&◌, not, is_some, true, [], Some, None, ◌==◌};
-ghost use Rattle.tlsf_heap.specs.Bare.{bare};
 ghost use Rattle.tlsf_heap.specs.Content.{blocks_of, size_at};
 ghost use Rattle.tlsf_heap.specs.Free.{is_live};
 ghost use Rattle.tlsf_heap.specs.Realloc.{realloc as reallocated};
 ghost use Rattle.mtrace_replay.specs.Index.{held_at, IsFound, TellsWhether};
-ghost use Rattle.mtrace_replay.specs.Moment.{asked_size as size_asked, asked_block, allocation, release as released, moved, renewal, renewal_asks, asks, outcome as outcome_of};
+ghost use Rattle.mtrace_replay.specs.Moment.{asked_size as size_asked, asked_block, allocation, release as released, doing, move, renewal, plan};
 ghost use Rattle.mtrace_replay.specs.Step.{found, all_given, Replays, AsksBlock, GivesBlock, Takes, IsUnder, AreLive};
 
 use crate::diagnostic::{Diagnostic, Kind};
@@ -102,8 +101,7 @@ fn allocate<H: Heaped>(
     requires live { AreLive held.old.all (H.content heap.old) }
     requires room { held.old.room ≡ (H.content heap.old).records }
     requires none { findings.old ≡ [] }
-    ensures { Replays H.content H.touches H.lacks 2 164 (not (is_some (found (all_given held.old.all) entry.now.addr)))
-        (allocation entry.now.line entry.now.at entry.now.addr align entry.now.size (found (all_given held.old.all) entry.now.addr) (bare (H.content heap.old)))
+    ensures { Replays H.content H.touches H.lacks 2 164 (allocation entry.now align (found (all_given held.old.all) entry.now.addr))
         findings.new result heap.old heap.new held.old held.new }
 {
     let found = held.find_again(entry.addr);
@@ -163,8 +161,7 @@ fn release<H: Heaped>(
 ) -> Result<Option<u64>, AllocError>
     requires live { AreLive held.old.all (H.content heap.old) }
     requires none { findings.old ≡ [] }
-    ensures { Replays H.content H.touches H.lacks 2 96 (is_some (found (all_given held.old.all) address))
-        (released number address (found (all_given held.old.all) address) (bare (H.content heap.old)))
+    ensures { Replays H.content H.touches H.lacks 2 96 (released number address (found (all_given held.old.all) address))
         findings.new result heap.old heap.new held.old held.new }
 {
     let found = held.find_again(address);
@@ -191,9 +188,7 @@ fn reallocate<H: Heaped>(
     requires held { IsUnder ptr (held_at held.old.all old.now.address) }
     requires free { old.now.address ≢ entry.now.addr → held_at held.old.all entry.now.addr ≡ None }
     requires none { findings.old ≡ [] }
-    ensures { Replays H.content H.touches H.lacks 1 356 true
-        (moved entry.now.line entry.now.at old.now.address ptr.place entry.now.addr entry.now.size (bare (H.content heap.old))
-        (reallocated (λ one other. true) tt (Some (ptr.place, tt)) (size_asked entry.now.size) (bare (H.content heap.old))))
+    ensures { Replays H.content H.touches H.lacks 1 356 (doing (move old.now.address ptr.place entry.now))
         findings.new result heap.old heap.new held.old held.new }
 {
     heap.keeps_good();
@@ -232,8 +227,7 @@ fn renew<H: Heaped>(
     requires live { AreLive held.old.all (H.content heap.old) }
     requires room { held.old.room ≡ (H.content heap.old).records }
     requires none { findings.old ≡ [] }
-    ensures { Replays H.content H.touches H.lacks 3 356 (renewal_asks pending entry.now.addr (found (all_given held.old.all)))
-        (renewal entry.now.line entry.now.at pending entry.now.addr entry.now.size (found (all_given held.old.all)) (bare (H.content heap.old)))
+    ensures { Replays H.content H.touches H.lacks 3 356 (renewal entry.now pending (found (all_given held.old.all)))
         findings.new result heap.old heap.new held.old held.new }
 {
     let number = entry.line;
@@ -288,8 +282,7 @@ pub(crate) fn outcome<H: Heaped>(
     requires live { AreLive held.old.all (H.content heap.old) }
     requires room { held.old.room ≡ (H.content heap.old).records }
     requires none { findings.old ≡ [] }
-    ensures { Replays H.content H.touches H.lacks 3 356 (asks event.entry pending (found (all_given held.old.all)))
-        (outcome_of number event.entry pending (found (all_given held.old.all)) (bare (H.content heap.old)))
+    ensures { Replays H.content H.touches H.lacks 3 356 (plan number event.entry pending (found (all_given held.old.all)))
         findings.new result heap.old heap.new held.old held.new }
 {
     match event {

@@ -3,6 +3,8 @@ pub mod Calls
 pub mod Slots
 pub mod SlotsLeft
 pub mod Implied
+pub mod Room
+pub mod Within
 pub mod AlignedImplied
 pub mod RemovedPool
 pub mod Realloc

@@ -22,5 +22,7 @@ pub mod Run
 pub mod Bare
 pub mod PlainHeap
 pub mod Implied
+pub mod Room
+pub mod Within
 pub mod Inner
 pub mod Images

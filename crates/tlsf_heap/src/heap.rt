@@ -41,7 +41,7 @@ impl Model for Heap {
 }
 
 impl Heap {
-    ghost use Rattle.std.specs.Prelude.{◌≡◌, true, ℕ, ◌+◌, ◌*◌, ◌%◌, ◌<◌, ◌≤◌, ◌⊎◌, ◌↔◌, map, Some, None, Ok, Err, IfOk, IfErr, OnOk, OnErr};
+    ghost use Rattle.std.specs.Prelude.{◌≡◌, ◌≢◌, true, ℕ, ◌+◌, ◌*◌, ◌%◌, ◌<◌, ◌≤◌, ◌⊎◌, ◌↔◌, map, Some, None, Ok, Err, IfOk, IfErr, OnOk, OnErr};
     ghost use Rattle.tlsf_store.specs.declared.errors.StoreError.TheVariants.{BadCount};
     ghost use Rattle.tlsf_store.specs.Records.{most_records};
     ghost use Rattle.tlsf_heap.specs.Touches.{AtMost, add_pool_touches, remove_pool_touches, malloc_touches, memalign_touches, free_touches, realloc_touches, block_size_touches};
@@ -58,6 +58,7 @@ impl Heap {
     ghost use Rattle.tlsf_heap.specs.Pools.{created, add_pool as added, remove_pool as removed};
     ghost use Rattle.tlsf_heap.specs.Counted.{range_of, IsUnchanged, Reads};
     ghost use Rattle.tlsf_heap.specs.Implied.{NoneFits, NoneFitsAligned, HasFewRecords, HasFewRecordsAndOne, IsLaidOut};
+    ghost use Rattle.tlsf_heap.specs.Room.{HasRoom, HasRoomAligned};
     ghost use Rattle.tlsf_heap.specs.declared.refusal.Refusal.TheVariants.{NoFit, TableFull};
     ghost use Rattle.tlsf_class.specs.Classes.{classes};
     ghost use Rattle.tlsf_heap.specs.declared.image.rule.Rule.{Rule};
@@ -171,12 +172,16 @@ impl Heap {
     ///
     /// `ZeroSize` for 0. `NoFit` where none of these lists has a block, or `n` is above the greatest size. Then each
     /// free block is smaller than that class's lowest size, where the class exists. `TableFull` where a rest would be
-    /// left and each record is in use. Then there are at most two records a live block and one a pool.
+    /// left and each record is in use. Then there are at most two records a live block and one a pool. Neither comes
+    /// where there are more records than that, and the pools have more bytes than the live blocks and, for each of these
+    /// and each pool, one free block of a unit less than that lowest size.
     pub fn malloc(&mut self, n: u64) -> Result<Ptr, Refusal>
         ensures ok { IfOk result (λ ptr. IsServed (λ slot. served slot n) ptr self.old.content self.new.content) }
         ensures refused { Refuses result (λ refusal. (slot : ℕ) → served slot n self.old.content ≡ Err refusal) (IsUnchanged self.old self.new) }
         ensures no_fit { result ≡ Err NoFit → NoneFits n self.old.content }
         ensures table_full { result ≡ Err TableFull → HasFewRecords self.old.content }
+        ensures room_fits { HasRoom n self.old.content → result ≢ Err NoFit }
+        ensures room_records { HasRoom n self.old.content → result ≢ Err TableFull }
         ensures bound { AtMost malloc_touches self.old.touches self.new.touches }
     {
         malloc(&mut self.store, n)
@@ -193,13 +198,17 @@ impl Heap {
     /// `BadAlign` where `align` isn't a power of two from 1 to 2^29; `ZeroSize` where `n` is 0. `NoFit` where none of
     /// these lists has a block, or `n` is above the greatest size. Then each free block is smaller than that class's
     /// lowest size, where the class exists. `TableFull` where the blocks in front and behind need more records than
-    /// are left. Then there are at most two records a live block, one a pool and one more.
+    /// are left. Then there are at most two records a live block, one a pool and one more. Neither comes where there are
+    /// more records than that, and the pools have more bytes than the live blocks and, for each of these and each pool,
+    /// one free block of a unit less than that lowest size.
     pub fn memalign(&mut self, align: u64, n: u64) -> Result<Ptr, Refusal>
         ensures ok { IfOk result (λ ptr. IsServed (λ slot. aligned slot align n) ptr self.old.content self.new.content) }
         ensures multiple { IfOk result (λ ptr. ptr.place % align ≡ 0) }
         ensures refused { Refuses result (λ refusal. (slot : ℕ) → aligned slot align n self.old.content ≡ Err refusal) (IsUnchanged self.old self.new) }
         ensures no_fit { result ≡ Err NoFit → NoneFitsAligned align n self.old.content }
         ensures table_full { result ≡ Err TableFull → HasFewRecordsAndOne self.old.content }
+        ensures room_fits { HasRoomAligned align n self.old.content → result ≢ Err NoFit }
+        ensures room_records { HasRoomAligned align n self.old.content → result ≢ Err TableFull }
         ensures bound { AtMost memalign_touches self.old.touches self.new.touches }
     {
         memalign(&mut self.store, align, n)
@@ -228,11 +237,14 @@ impl Heap {
     /// # Errors
     ///
     /// `BadPointer` unless a live block has both the pointer's place and its slot. The errors of `malloc` without a
-    /// pointer, or where the block has to move: then the old block is as it was.
+    /// pointer, or where the block has to move: then the old block is as it was. Neither `NoFit` nor `TableFull` comes
+    /// where the records and the bytes are enough for `malloc` of `n` bytes.
     pub fn realloc(&mut self, ptr: Option<Ptr>, n: u64) -> Result<Option<Ptr>, Refusal>
         ensures ok { IfOk result (λ given. IsMoved (realloc_ptr ptr n) ptr given self.old.content self.new.content) }
         ensures refused { Refuses result (λ refusal. (slot : ℕ) → realloc_ptr ptr n slot self.old.content ≡ Err refusal) (IsUnchanged self.old self.new) }
         ensures table_full { result ≡ Err TableFull → HasFewRecords self.old.content }
+        ensures room_fits { HasRoom n self.old.content → result ≢ Err NoFit }
+        ensures room_records { HasRoom n self.old.content → result ≢ Err TableFull }
         ensures bound { AtMost realloc_touches self.old.touches self.new.touches }
     {
         realloc(&mut self.store, ptr, n)

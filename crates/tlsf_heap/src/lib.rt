@@ -16,6 +16,7 @@ mod heap_as_heaped;
 mod heaped;
 mod image;
 mod image_fault;
+pub mod laws;
 mod load;
 mod malloc;
 mod memalign;

@@ -86,3 +86,27 @@ module _ {A : Type 0} (owner : A) (refusal : Refusal) where
           let refused = sized_refused place known m content (sym (realloc_resized same owner known place n m content live some rounded) ∙ e) in
           let asked : malloc owner n content ≡ malloc_rounded owner (round n) content = ap (λ b. cond b (Err ZeroSize) (malloc_rounded owner (round n) content)) (ne_eqb n 0 some) in
           inl (asked ∙ ap (λ r. malloc_rounded owner r content) rounded ∙ refused)
+
+  -- where the bytes can be rounded up, as malloc or for the pointer
+  pub realloc_as_malloc : (same : A → A → Bool) (pointer : Option (ℕ × A)) (n : ℕ) (content : Content A) → refusal ≢ BadPointer → refusal ≢ ZeroSize → (n ≢ 0 → (m : ℕ) × (round n ≡ Some m))
+      → realloc same owner pointer n content ≡ Err refusal → (n ≢ 0) × (malloc owner n content ≡ Err refusal)
+  realloc_as_malloc same None n content known some rounds e = of (malloc owner n content) refl e
+    where
+      of : (answer : Result (ℕ × Content A) Refusal) → malloc owner n content ≡ answer → given_anew owner answer ≡ Err refusal → (n ≢ 0) × (malloc owner n content ≡ Err refusal)
+      of (Ok new) is e = absurd (cc)
+      of (Err why) is e =
+          let same_why : why ≡ refusal = cc in
+          let refused : malloc owner n content ≡ Err refusal = is ∙ ap (λ r. Err r) same_why in
+          (λ nothing. some (let zero_size : malloc owner n content ≡ Err ZeroSize = ap (λ k. malloc owner k content) nothing in cc), refused)
+  realloc_as_malloc same (Some (place, held)) n content known some rounds e =
+      elim (cases_Bool (is_live (λ other. same other held) place (blocks_of content.pools))) [
+        | inr stale ↦ let refused : realloc same owner (Some (place, held)) n content ≡ Err BadPointer = rw stale refl in absurd (known (cc))
+        | inl live ↦ elim (cases_eq n 0) [
+          | inl nothing ↦ let freed = realloc_freed same owner held place n content live nothing in absurd (cc)
+          | inr positive ↦
+              let m = rounds positive in
+              let refused : malloc_rounded owner (Some m.0) content ≡ Err refusal = sized_refused place held m.0 content (sym (realloc_resized same owner held place n m.0 content live positive m.1) ∙ e) in
+              let asked : malloc owner n content ≡ malloc_rounded owner (round n) content = rw (ne_eqb n 0 positive) refl in
+              (positive, asked ∙ ap (λ r. malloc_rounded owner r content) m.1 ∙ refused)
+        ]
+      ]

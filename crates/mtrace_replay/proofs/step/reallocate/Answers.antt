@@ -7,7 +7,7 @@ use Rattle.tlsf_heap.specs.Free.{is_live}
 use Rattle.tlsf_heap.specs.Pointer.{Pointer}
 use Rattle.tlsf_heap.specs.Realloc.{realloc}
 use Rattle.mtrace_replay.specs.declared.diagnostic.Diagnostic.{Diagnostic}
-use Rattle.mtrace_replay.specs.Moment.{moved, without, asked_size}
+use Rattle.mtrace_replay.specs.Moment.{move, doing, carried_out, without}
 use Rattle.mtrace_replay.specs.Step.{all_given, Comes}
 use Rattle.mtrace_replay.proofs.HeapSteps.{bare_moved, bare_not_moved}
 use Rattle.mtrace_replay.proofs.Living.{live_after_realloc}
@@ -49,7 +49,7 @@ returns-in-Ok g c =
     let P : Pointer → Type 0 = λ p. is_live (λ slot. slot == p.slot) p.place (blocks_of old.pools) ≡ true in
     let live = subst P under.2 (c.requires.live.live c.args.old.now.address under.0 under.1) in
     let served = bare_moved old new ptr.place ptr.slot live given.slot c.asked_size.result given.place given.slot c.in-Ok.ensures.asks.ok in
-    let moment = moved entry.line entry.at c.args.old.now.address ptr.place entry.addr entry.size (bare old) (realloc (λ one other. true) tt (Some (ptr.place, tt)) (asked_size entry.size) (bare old)) in
+    let moment = carried_out (doing (move c.args.old.now.address ptr.place entry)) (bare old) in
     let Q : List Diagnostic → Option ℕ → Type 0 = λ diagnostics end. Comes (bare old) (bare new) (all_given held) (all_given after) diagnostics end moment in
     let end = ap (λ (n : ℕ). Some n) (c.in-Ok.ensures.end ∙ ap (λ (n : ℕ). given.place + n) (sym (size_at-renamed (λ owner. tt) given.place new.pools))) in
     let asked = asked_least entry.size in
@@ -83,7 +83,7 @@ returns-in_ok-take-in-Err g c =
     let live = subst P under.2 (c.requires.live.live c.args.old.now.address under.0 under.1) in
     let refused = bare_not_moved old middle ptr.place ptr.slot live 0 c.asked_size.result c.in-Err.refusal (c.in-Err.ensures.asks.refused (search rules) 0) in
     let freed : new ≡ without ptr.place (bare old) = c.in_ok-take-in-Err.ensures.content ∙ ap (λ content. without ptr.place (bare content)) c.in-Err.ensures.asks.unchanged in
-    let moment = moved entry.line entry.at c.args.old.now.address ptr.place entry.addr entry.size (bare old) (realloc (λ one other. true) tt (Some (ptr.place, tt)) (asked_size entry.size) (bare old)) in
+    let moment = carried_out (doing (move c.args.old.now.address ptr.place entry)) (bare old) in
     let Q : List Diagnostic → Type 0 = λ diagnostics. Comes (bare old) new (all_given held) (all_given after) diagnostics None moment in
     record {
       comes = subst Q (sym c.set_one.ensures) (comes_not_moved held after (bare old) new c.args.old.now.address ptr.place entry c.in-Err.refusal

@@ -6,6 +6,7 @@ use Rattle.tlsf_heap.specs.Inner.Following.{content_of}
 use Rattle.tlsf_heap.specs.Malloc.{malloc}
 use Rattle.tlsf_heap.proofs.Inner.Standing.{content_is_good}
 use Rattle.tlsf_heap.proofs.Good.Implied.{no_fit, malloc_full}
+use Rattle.tlsf_heap.proofs.Good.Room.{room_fits, room_records}
 use Rattle.tlsf_heap.proofs.Content.MallocCases.{malloc_lacks_none}
 use Rattle.tlsf_heap.proofs.heap.Heap.malloc.Goals as goal
 
@@ -27,3 +28,11 @@ returns-clause-refused c = record {
   never_memory = λ is. malloc_lacks_none 0 c.args.n (content_of c.self.inside.store.cells) (refused c OutOfMemory is);
   unchanged = search rules;
 }
+
+pub returns-clause-room_fits : goal.returns-clause-room_fits
+returns-clause-room_fits c =
+    rw (← c.self.view_is) (λ room is. room_fits 0 c.args.n (content_of c.self.inside.store.cells) (content_is_good c.self.inside.store.cells c.self.invariant) room (refused c NoFit is))
+
+pub returns-clause-room_records : goal.returns-clause-room_records
+returns-clause-room_records c =
+    rw (← c.self.view_is) (λ room is. room_records 0 c.args.n (content_of c.self.inside.store.cells) (content_is_good c.self.inside.store.cells c.self.invariant) room (refused c TableFull is))

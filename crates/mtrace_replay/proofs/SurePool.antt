@@ -1,0 +1,125 @@
+-- A log on one pool is refused neither for want of a block nor for want of a record, where the pool is large enough for what
+-- is held and asked for.
+use Rattle.std.proofs.Common.{◌≡◌, ℕ, ◌+◌, ◌-◌, ◌*◌, ◌<◌, ◌≤◌, true, List, [], ◌∷◌, length, Some, None, refl, sym, ap, ◌∙◌, subst, arith}
+use Rattle.std.specs.List.{AllByRecursion}
+use Rattle.std.proofs.Math.Nat.{mul-le-mul}
+use Rattle.tlsf_class.specs.Classes.{unit, low}
+use Rattle.tlsf_heap.specs.declared.refusal.Refusal.TheVariants.{NoFit}
+use Rattle.tlsf_heap.specs.Content.{Pool, blocks_of, used_records}
+use Rattle.tlsf_heap.specs.Memalign.{size_asked}
+use Rattle.tlsf_heap.specs.Good.{IsGood}
+use Rattle.tlsf_heap.specs.Implied.{live_blocks}
+use Rattle.tlsf_heap.specs.Room.{live_bytes, pool_bytes, HasRoomFor}
+use Rattle.tlsf_heap.proofs.Good.Implied.{few_blocks as used_few}
+use Rattle.tlsf_heap.proofs.Good.Room.{room_fits, aligned_room_fits, realloc_room_fits}
+use Rattle.mtrace_replay.specs.Started.{Bare}
+use Rattle.mtrace_replay.specs.Moment.{ReadLine, Given, Moment, asked_size, Act, idle, give, take, move}
+use Rattle.mtrace_replay.specs.History.{AreHeld, moments, content_after}
+use Rattle.mtrace_replay.specs.Enough.{HoldsAtMost, HoldsBytesAtMost, rounded_size, rounded_total, AsksAtMost, act_of, acts_of, IsOfAtMost, IsNeverRefused}
+use Rattle.mtrace_replay.proofs.TotalsLemmas.{AreAllFree, first_moments_all}
+use Rattle.mtrace_replay.proofs.EnoughRecords.{bytes_of, IsRefusedAs, stands_all, few_blocks, one_still, owns_sized, first_but_last, never_refused}
+use Rattle.mtrace_replay.proofs.HeldBytes.{few_bytes, all_bytes}
+
+module _ (most bytes size : ℕ) where
+  -- a good content that is large enough for the bounds, and keeps to them
+  record IsEnough (content : Bare) : Type 0 where
+    good : IsGood content
+    one : length content.pools ≡ 1
+    few : live_blocks content ≤ most
+    small : live_bytes (blocks_of content.pools) ≤ bytes
+    large : bytes + (most + 1) * (size - unit) < pool_bytes content.pools
+    records : 2 * most + 3 ≤ content.records
+
+  room : (asked : ℕ → ℕ) (rests n : ℕ) (content : Bare) → rests ≤ 2 → IsEnough content → AsksAtMost size asked n → HasRoomFor asked rests n content
+  room asked rests n content two enough asks =
+      let less : live_blocks content + length content.pools ≤ most + 1 = omega (arith, enough.few, enough.one) in
+      let smaller : low asks.c - unit ≤ size - unit = omega (arith, asks.sized) in
+      let product : (live_blocks content + length content.pools) * (low asks.c - unit) ≤ (most + 1) * (size - unit) = mul-le-mul less smaller in
+      record {
+        m = asks.m;
+        rounds = asks.rounds;
+        c = asks.c;
+        needed = asks.needed;
+        bytes = omega (arith, enough.small, product, enough.large);
+        records = omega (arith, two, enough.few, enough.one, enough.records);
+      }
+
+  -- a block fits what is done
+  act_fits : (act : Act) (content : Bare) → IsEnough content → IsOfAtMost size act → IsRefusedAs act content NoFit → ⊥
+  act_fits idle content enough of refused = refused
+  act_fits (give entry None) content enough of refused =
+      room_fits tt (asked_size entry.size) content enough.good (room (λ m. m) 1 (asked_size entry.size) content (omega arith) enough of) refused
+  act_fits (give entry (Some align)) content enough of refused =
+      aligned_room_fits tt align (asked_size entry.size) content enough.good (room (size_asked align) 2 (asked_size entry.size) content (omega arith) enough of) refused
+  act_fits (take address place) content enough of refused = refused
+  act_fits (move old place entry) content enough of refused =
+      realloc_room_fits tt (λ one other. true) (Some (place, tt)) (asked_size entry.size) content enough.good (room (λ m. m) 1 (asked_size entry.size) content (omega arith) enough of) refused
+
+  module _ (start : Bare) (good : IsGood start) (free : AreAllFree start) (one : length start.pools ≡ 1)
+    (large : bytes + (most + 1) * (size - unit) < pool_bytes start.pools) (enough : 2 * most + 3 ≤ start.records) where
+    -- what is so of the lines
+    record IsWithin (past : List ReadLine) : Type 0 where
+      holds : HoldsAtMost most (moments start past)
+      bytes_held : HoldsBytesAtMost bytes (moments start past)
+      of : AllByRecursion (IsOfAtMost size) (acts_of start past)
+
+    fewer : (line : ReadLine) (past : List ReadLine) → IsWithin (line ∷ past) → IsWithin past
+    fewer line past within = record {
+      holds = first_but_last start good free (λ first. (all : List Given) × AreHeld all first × (length all ≤ most)) line past within.holds;
+      bytes_held = first_but_last start good free (λ first. (all : List Given) × AreHeld all first × (rounded_total all ≤ bytes)) line past within.bytes_held;
+      of = within.of.1;
+    }
+
+    as_large : (pools : List (Pool (Unit {0}))) → bytes_of pools ≡ bytes_of start.pools → pool_bytes pools ≡ pool_bytes start.pools
+    as_large pools same = summed pools ∙ ap sum same ∙ sym (summed start.pools)
+      where
+        sum : List ℕ → ℕ
+        sum [] = 0
+        sum (n ∷ ns) = n + sum ns
+
+        summed : (pools : List (Pool (Unit {0}))) → pool_bytes pools ≡ sum (bytes_of pools)
+        summed [] = refl
+        summed (pool ∷ pools) = omega (arith, summed pools)
+
+    room_left : (past : List ReadLine) → IsWithin past → used_records (content_after start (moments start past)) < (content_after start (moments start past)).records
+    room_left past within =
+        let content = content_after start (moments start past) in
+        let stands = stands_all start good free past in
+        omega (arith, used_few content.pools 0 stands.good.pools_good, few_blocks start good free most past within.holds, one_still start good free one past, stands.records, enough)
+
+    -- the live blocks have no more bytes than what is held
+    few_live_bytes : (past : List ReadLine) → IsWithin past → live_bytes (blocks_of (content_after start (moments start past)).pools) ≤ bytes
+    few_live_bytes past within =
+        let ms = moments start past in
+        let now = within.bytes_held (length ms) in
+        let all_held : AreHeld now.0 ms = subst (λ (first : List Moment). AreHeld now.0 first) (first_moments_all ms) now.1 in
+        let owns = owns_sized start good free IsWithin fewer room_left past within in
+        omega (
+          arith,
+          few_bytes (λ (given : Given). given.place) rounded_size (content_after start ms) now.0 (stands_all start good free past).good (λ b has live. (let own = owns b has live in (own.0, (all_held.each own.0).1 own.1, own.2, own.3))),
+          total now.0,
+          now.2,
+        )
+      where
+        total : (all : List Given) → all_bytes rounded_size all ≡ rounded_total all
+        total [] = refl
+        total (given ∷ all) = omega (arith, total all)
+
+    enough_still : (past : List ReadLine) → IsWithin past → IsEnough (content_after start (moments start past))
+    enough_still past within =
+        let ms = moments start past in
+        let stands = stands_all start good free past in
+        record {
+          good = stands.good;
+          one = one_still start good free one past;
+          few = few_blocks start good free most past within.holds;
+          small = few_live_bytes past within;
+          large = omega (arith, large, as_large (content_after start ms).pools stands.pools);
+          records = omega (arith, enough, stands.records);
+        }
+
+    pub always_fits : (past : List ReadLine) → HoldsAtMost most (moments start past) → HoldsBytesAtMost bytes (moments start past) → AllByRecursion (IsOfAtMost size) (acts_of start past)
+        → AllByRecursion (IsNeverRefused NoFit) (moments start past)
+    always_fits past holds bytes_held of = never_refused start good free NoFit IsWithin fewer
+        (λ line past within refused. act_fits (act_of start line past) (content_after start (moments start past)) (enough_still past (fewer line past within)) within.of.0 refused)
+        past (record { holds = holds; bytes_held = bytes_held; of = of })

@@ -1,0 +1,311 @@
+-- A run that stays within its bounds is refused neither for want of a block nor for want of a record.
+use Rattle.std.proofs.Common.{◌≡◌, ◌≢◌, ℕ, ◌+◌, ◌-◌, ◌*◌, ◌<◌, ◌≤◌, Bool, true, List, [], ◌∷◌, length, map, Option, Some, None, Ok, Err, inl, inr, refl, sym, ap, ◌∙◌, subst, arith, All}
+use Rattle.std.specs.Prelude.{◌==◌, ◌&&◌, nat_le, Result}
+use Rattle.std.specs.List.{list_all}
+use Rattle.std.proofs.lemmas.Bool.{cases_Bool, eq-eqb}
+use Rattle.std.proofs.lemmas.List.{length-map}
+use Rattle.std.proofs.lemmas.List.Elements.{All-cons}
+use Rattle.std.proofs.Math.Nat.{mul-le-mul}
+use Rattle.tlsf_class.specs.Classes.{unit, low}
+use Rattle.tlsf_heap.specs.declared.request.Request.{Request}
+use Rattle.tlsf_heap.specs.declared.request.Request.TheVariants.{AddPool, RemovePool, Malloc, Memalign, Free, Realloc, BlockSize}
+use Rattle.tlsf_heap.specs.declared.answer.Answer.{Answer}
+use Rattle.tlsf_heap.specs.declared.answer.Answer.TheVariants.{Done, Given, Moved, Size, Refused}
+use Rattle.tlsf_heap.specs.declared.refusal.Refusal.{Refusal}
+use Rattle.tlsf_heap.specs.declared.refusal.Refusal.TheVariants.{ZeroSize, NoFit, TableFull, BadPointer, BadAlign, BadPool, PoolsFull}
+use Rattle.tlsf_heap.specs.Content.{Block, Pool, Content, blocks_of, size_at, used_records}
+use Rattle.tlsf_heap.specs.Malloc.{replaced_in, malloc}
+use Rattle.tlsf_heap.specs.Memalign.{is_alignment, size_asked, memalign}
+use Rattle.tlsf_heap.specs.Pools.{most_pools, can_be_pool, is_apart, created, with_pool, add_pool}
+use Rattle.tlsf_heap.specs.Free.{free, is_live, after_free, free_previous, free_next, without_block}
+use Rattle.tlsf_heap.specs.Realloc.{given_anew, realloc}
+use Rattle.tlsf_heap.specs.BlockSize.{block_size}
+use Rattle.tlsf_heap.specs.Pointer.{Pointer, place_and_slot, slot_of}
+use Rattle.tlsf_heap.specs.Good.{IsGood}
+use Rattle.tlsf_heap.specs.Implied.{live_blocks}
+use Rattle.tlsf_heap.specs.Room.{pool_bytes, HasRoomFor}
+use Rattle.tlsf_heap.specs.Run.{Does, Gives, Moves, Tells, IsRefused, Step, Run}
+use Rattle.tlsf_heap.specs.Within.{TakesWithin, IsWithin, StaysWithin, IsLargeEnough, IsNotFull}
+use Rattle.tlsf_heap.proofs.Content.Given.{malloc_gave, realloc_gave}
+use Rattle.tlsf_heap.proofs.Content.MemalignCases.{memalign_given}
+use Rattle.tlsf_heap.proofs.Content.ReallocCases.{realloc_as_malloc}
+use Rattle.tlsf_heap.proofs.Good.Calls.{malloc_is_good, add_pool_is_good, created_is_good}
+use Rattle.tlsf_heap.proofs.Good.Realloc.{realloc_is_good}
+use Rattle.tlsf_heap.proofs.Meaning.AlignedIsGood.{memalign_is_good}
+use Rattle.tlsf_heap.proofs.Meaning.FreedIsGood.{freed_is_good}
+use Rattle.tlsf_heap.proofs.Good.Room.{room_fits, room_records, aligned_room_fits, aligned_room_records}
+
+-- what every request but those of pools leaves as it was
+record Keeps {A : Type 0} (old new : Content A) : Type 0 where
+  pools : length new.pools ≡ length old.pools
+  bytes : pool_bytes new.pools ≡ pool_bytes old.pools
+  records : new.records ≡ old.records
+
+module _ {A : Type 0} where
+  replaced_bytes : (place : ℕ) (others : List (Block A)) (pools : List (Pool A)) → pool_bytes (map (replaced_in place others) pools) ≡ pool_bytes pools
+  replaced_bytes place others [] = refl
+  replaced_bytes place others (pool ∷ pools) = ap (λ n. pool.bytes + n) (replaced_bytes place others pools)
+
+  without_pools : (gone : Option (Block A)) (pools : List (Pool A)) → length (without_block gone pools) ≡ length pools
+  without_pools None pools = refl
+  without_pools (Some block) pools = length-map pools _
+
+  without_bytes : (gone : Option (Block A)) (pools : List (Pool A)) → pool_bytes (without_block gone pools) ≡ pool_bytes pools
+  without_bytes None pools = refl
+  without_bytes (Some block) pools = replaced_bytes block.place [] pools
+
+  malloc_keeps : (owner : A) (n : ℕ) (content : Content A) (given : ℕ × Content A) → malloc owner n content ≡ Ok given → Keeps content given.1
+  malloc_keeps owner n content given served =
+      let gave = malloc_gave owner content n given served in
+      subst (λ (g : ℕ × Content A). Keeps content g.1) gave.4 (record {
+        pools = length-map content.pools _;
+        bytes = replaced_bytes _ _ content.pools;
+        records = refl;
+      })
+
+  memalign_keeps : (owner : A) (align n : ℕ) (content : Content A) (given : ℕ × Content A) → memalign owner align n content ≡ Ok given → Keeps content given.1
+  memalign_keeps owner align n content given served =
+      let gave = memalign_given owner align n content given served in
+      subst (λ (g : ℕ × Content A). Keeps content g.1) gave.1 (record {
+        pools = length-map content.pools _;
+        bytes = replaced_bytes _ _ content.pools;
+        records = refl;
+      })
+
+  freed_keeps : (place : ℕ) (content : Content A) → Keeps content (after_free place content)
+  freed_keeps place content =
+      let previous : Option (Block A) = free_previous place content in
+      let next : Option (Block A) = free_next place content in
+      record {
+        pools = length-map (without_block next (without_block previous content.pools)) _ ∙ (without_pools next (without_block previous content.pools) ∙ without_pools previous content.pools);
+        bytes = replaced_bytes _ _ (without_block next (without_block previous content.pools)) ∙ (without_bytes next (without_block previous content.pools) ∙ without_bytes previous content.pools);
+        records = refl;
+      }
+
+  -- free of a live block
+  free_gave : (is_meant : A → Bool) (place : ℕ) (content new : Content A) → free is_meant place content ≡ Ok new → (is_live is_meant place (blocks_of content.pools) ≡ true) × (after_free place content ≡ new)
+  free_gave is_meant place content new e = elim (cases_Bool (is_live is_meant place (blocks_of content.pools))) [
+    | inl live ↦ let is : free is_meant place content ≡ Ok (after_free place content) = rw live refl in (live, cc)
+    | inr stale ↦ let refused : free is_meant place content ≡ Err BadPointer = rw stale refl in absurd (cc)
+  ]
+
+  realloc_keeps : (same : A → A → Bool) (owner : A) (pointer : Option (ℕ × A)) (n : ℕ) (content : Content A) (given : Option (ℕ × A) × Content A) → realloc same owner pointer n content ≡ Ok given → Keeps content given.1
+  realloc_keeps same owner None n content given served = of (malloc owner n content) refl served
+    where
+      of : (answer : Result (ℕ × Content A) Refusal) → malloc owner n content ≡ answer → given_anew owner answer ≡ Ok given → Keeps content given.1
+      of (Err refusal) is e = absurd (cc)
+      of (Ok new) is e =
+          let there : (Some (new.0, owner), new.1) ≡ given = cc in
+          subst (λ (g : Option (ℕ × A) × Content A). Keeps content g.1) there (malloc_keeps owner n content new is)
+  realloc_keeps same owner (Some (place, known)) n content given served =
+      realloc_gave same owner known place n content (λ (g : Option (ℕ × A) × Content A). Keeps content g.1)
+      (λ live none. freed_keeps place content)
+      (λ live some. record { pools = refl; bytes = refl; records = refl })
+      (λ m live some. (let next : Option (Block A) = free_next place content in record {
+        pools = length-map (without_block next content.pools) _ ∙ without_pools next content.pools;
+        bytes = replaced_bytes _ _ (without_block next content.pools) ∙ without_bytes next content.pools;
+        records = refl;
+      }))
+      (λ new live some is. (let first = malloc_keeps owner n content new is in let then = freed_keeps place new.1 in record {
+        pools = then.pools ∙ first.pools;
+        bytes = then.bytes ∙ first.bytes;
+        records = then.records ∙ first.records;
+      }))
+      given served
+
+  -- free and block_size are refused for the pointer alone
+  free_refused : (is_meant : A → Bool) (place : ℕ) (content : Content A) (refusal : Refusal) → free is_meant place content ≡ Err refusal → refusal ≡ BadPointer
+  free_refused is_meant place content refusal e = elim (cases_Bool (is_live is_meant place (blocks_of content.pools))) [
+    | inl live ↦ let is : free is_meant place content ≡ Ok (after_free place content) = rw live refl in absurd (cc)
+    | inr stale ↦ let refused : free is_meant place content ≡ Err BadPointer = rw stale refl in cc
+  ]
+
+  size_refused : (is_meant : A → Bool) (place : ℕ) (content : Content A) (refusal : Refusal) → block_size is_meant place content ≡ Err refusal → refusal ≡ BadPointer
+  size_refused is_meant place content refusal e = elim (cases_Bool (is_live is_meant place (blocks_of content.pools))) [
+    | inl live ↦ let is : block_size is_meant place content ≡ Ok (size_at place (blocks_of content.pools)) = rw live refl in absurd (cc)
+    | inr stale ↦ let refused : block_size is_meant place content ≡ Err BadPointer = rw stale refl in cc
+  ]
+
+  -- no request for no bytes is refused for want of a block or of a record
+  some_bytes : (owner : A) (n : ℕ) (content : Content A) (refusal : Refusal) → refusal ≢ ZeroSize → malloc owner n content ≡ Err refusal → n ≢ 0
+  some_bytes owner n content refusal other refused = λ nothing. other (let zero_size : malloc owner n content ≡ Err ZeroSize = ap (λ k. malloc owner k content) nothing in cc)
+
+  some_aligned_bytes : (owner : A) (align n : ℕ) (content : Content A) (refusal : Refusal) → refusal ≢ BadAlign → refusal ≢ ZeroSize → memalign owner align n content ≡ Err refusal → n ≢ 0
+  some_aligned_bytes owner align n content refusal aligned other refused = λ nothing. elim (cases_Bool (is_alignment align)) [
+    | inl is ↦ let zero_size : memalign owner align n content ≡ Err ZeroSize = rw (is, eq-eqb n 0 nothing) refl in other (cc)
+    | inr isn't ↦ let bad : memalign owner align n content ≡ Err BadAlign = rw isn't refl in aligned (cc)
+  ]
+
+module _ (blocks bytes size : ℕ) where
+  -- a good content that is large enough for the bounds
+  record IsEnough (content : Content ℕ) : Type 0 where
+    good : IsGood content
+    large : IsLargeEnough blocks bytes size content
+
+  still_enough : (old new : Content ℕ) → IsEnough old → IsGood new → Keeps old new → IsEnough new
+  still_enough old new enough good keeps = record {
+    good = good;
+    large = record {
+      one_pool = keeps.pools ∙ enough.large.one_pool;
+      pool = omega (arith, enough.large.pool, keeps.bytes);
+      records = omega (arith, enough.large.records, keeps.records);
+    };
+  }
+
+  -- what is within the bounds finds room
+  room : (asked : ℕ → ℕ) (rests n : ℕ) (content : Content ℕ) → rests ≤ 2 → IsEnough content → TakesWithin blocks bytes size asked n content → HasRoomFor asked rests n content
+  room asked rests n content most enough within =
+      let less : live_blocks content + length content.pools ≤ blocks + 1 = omega (arith, within.few, enough.large.one_pool) in
+      let smaller : low within.c - unit ≤ size - unit = omega (arith, within.sized) in
+      let product : (live_blocks content + length content.pools) * (low within.c - unit) ≤ (blocks + 1) * (size - unit) = mul-le-mul less smaller in
+      record {
+        m = within.m;
+        rounds = within.rounds;
+        c = within.c;
+        needed = within.needed;
+        bytes = omega (arith, within.small, product, enough.large.pool);
+        records = omega (arith, most, within.few, enough.large.one_pool, enough.large.records);
+      }
+
+  abbrev AllWithin : (ℕ → ℕ) → ℕ → Content ℕ → Type 0
+  AllWithin asked n content = n ≢ 0 → TakesWithin blocks bytes size asked n content
+
+  malloc_fits : (owner n : ℕ) (content : Content ℕ) → IsEnough content → AllWithin (λ m. m) n content → malloc owner n content ≡ Err NoFit → ⊥
+  malloc_fits owner n content enough within refused =
+      room_fits owner n content enough.good (room (λ m. m) 1 n content (omega arith) enough (within (some_bytes owner n content NoFit (λ e. cc) refused))) refused
+
+  malloc_records : (owner n : ℕ) (content : Content ℕ) → IsEnough content → AllWithin (λ m. m) n content → malloc owner n content ≡ Err TableFull → ⊥
+  malloc_records owner n content enough within refused =
+      room_records owner n content enough.good (room (λ m. m) 1 n content (omega arith) enough (within (some_bytes owner n content TableFull (λ e. cc) refused))) refused
+
+  memalign_fits : (owner align n : ℕ) (content : Content ℕ) → IsEnough content → AllWithin (size_asked align) n content → memalign owner align n content ≡ Err NoFit → ⊥
+  memalign_fits owner align n content enough within refused =
+      let some = some_aligned_bytes owner align n content NoFit (λ e. cc) (λ e. cc) refused in
+      aligned_room_fits owner align n content enough.good (room (size_asked align) 2 n content (omega arith) enough (within some)) refused
+
+  memalign_records : (owner align n : ℕ) (content : Content ℕ) → IsEnough content → AllWithin (size_asked align) n content → memalign owner align n content ≡ Err TableFull → ⊥
+  memalign_records owner align n content enough within refused =
+      let some = some_aligned_bytes owner align n content TableFull (λ e. cc) (λ e. cc) refused in
+      aligned_room_records owner align n content enough.good (room (size_asked align) 2 n content (omega arith) enough (within some)) refused
+
+  realloc_fits : (owner : ℕ) (pointer : Option (ℕ × ℕ)) (n : ℕ) (content : Content ℕ) → IsEnough content → AllWithin (λ m. m) n content → realloc (λ a b. a == b) owner pointer n content ≡ Err NoFit → ⊥
+  realloc_fits owner pointer n content enough within refused =
+      malloc_fits owner n content enough within (realloc_as_malloc owner NoFit (λ a b. a == b) pointer n content (λ e. cc) (λ e. cc) (λ some. (let w = within some in (w.m, w.rounds))) refused).1
+
+  realloc_records : (owner : ℕ) (pointer : Option (ℕ × ℕ)) (n : ℕ) (content : Content ℕ) → IsEnough content → AllWithin (λ m. m) n content → realloc (λ a b. a == b) owner pointer n content ≡ Err TableFull → ⊥
+  realloc_records owner pointer n content enough within refused =
+      malloc_records owner n content enough within (realloc_as_malloc owner TableFull (λ a b. a == b) pointer n content (λ e. cc) (λ e. cc) (λ some. (let w = within some in (w.m, w.rounds))) refused).1
+
+  -- no request is refused for want of a block, nor of a record
+  request_fits : (request : Request) (content : Content ℕ) → IsEnough content → IsWithin blocks bytes size request content → IsRefused request NoFit content → ⊥
+  request_fits (AddPool base pool) content enough within refused = within
+  request_fits (RemovePool base) content enough within refused = within
+  request_fits (Malloc n) content enough within refused = malloc_fits 0 n content enough within (refused 0)
+  request_fits (Memalign align n) content enough within refused = memalign_fits 0 align n content enough within (refused 0)
+  request_fits (Free pointer) content enough within refused = let why = free_refused (λ slot. slot == pointer.slot) pointer.place content NoFit refused in cc
+  request_fits (Realloc pointer n) content enough within refused = realloc_fits 0 (place_and_slot pointer) n content enough within (refused 0)
+  request_fits (BlockSize pointer) content enough within refused = let why = size_refused (λ slot. slot == pointer.slot) pointer.place content NoFit refused in cc
+
+  request_records : (request : Request) (content : Content ℕ) → IsEnough content → IsWithin blocks bytes size request content → IsRefused request TableFull content → ⊥
+  request_records (AddPool base pool) content enough within refused = within
+  request_records (RemovePool base) content enough within refused = within
+  request_records (Malloc n) content enough within refused = malloc_records 0 n content enough within (refused 0)
+  request_records (Memalign align n) content enough within refused = memalign_records 0 align n content enough within (refused 0)
+  request_records (Free pointer) content enough within refused = let why = free_refused (λ slot. slot == pointer.slot) pointer.place content TableFull refused in cc
+  request_records (Realloc pointer n) content enough within refused = realloc_records 0 (place_and_slot pointer) n content enough within (refused 0)
+  request_records (BlockSize pointer) content enough within refused = let why = size_refused (λ slot. slot == pointer.slot) pointer.place content TableFull refused in cc
+
+  step_not_full : (lacks : Type 0) (request : Request) (answer : Answer) (old new : Content ℕ) → IsEnough old → IsWithin blocks bytes size request old → Step lacks request answer old new → IsNotFull answer
+  step_not_full lacks request answer old new enough within step =
+      let P : Answer → Type 0 = λ a. Step lacks request a old new in (
+        λ is. request_fits request old enough within ((subst P is step).1 (λ e. cc)),
+        λ is. request_records request old enough within ((subst P is step).1 (λ e. cc)),
+      )
+
+  -- what a request leaves is large enough still
+  does_enough : (request : Request) (old new : Content ℕ) → IsEnough old → IsWithin blocks bytes size request old → Does request old new → IsEnough new
+  does_enough (AddPool base pool) old new enough within does = absurd within
+  does_enough (RemovePool base) old new enough within does = absurd within
+  does_enough (Malloc n) old new enough within does = absurd does
+  does_enough (Memalign align n) old new enough within does = absurd does
+  does_enough (Free pointer) old new enough within does =
+      let gave = free_gave (λ slot. slot == pointer.slot) pointer.place old new does in
+      subst IsEnough gave.1 (still_enough old (after_free pointer.place old) enough (freed_is_good (λ slot. slot == pointer.slot) pointer.place old enough.good gave.0) (freed_keeps pointer.place old))
+  does_enough (Realloc pointer n) old new enough within does = absurd does
+  does_enough (BlockSize pointer) old new enough within does = absurd does
+
+  gives_enough : (request : Request) (pointer : Pointer) (old new : Content ℕ) → IsEnough old → Gives request pointer old new → IsEnough new
+  gives_enough (AddPool base pool) pointer old new enough gives = absurd gives
+  gives_enough (RemovePool base) pointer old new enough gives = absurd gives
+  gives_enough (Malloc n) pointer old new enough gives =
+      still_enough old new enough (malloc_is_good pointer.slot n old (pointer.place, new) enough.good gives.ok) (malloc_keeps pointer.slot n old (pointer.place, new) gives.ok)
+  gives_enough (Memalign align n) pointer old new enough gives =
+      still_enough old new enough (memalign_is_good pointer.slot align n old (pointer.place, new) enough.good gives.ok) (memalign_keeps pointer.slot align n old (pointer.place, new) gives.ok)
+  gives_enough (Free freed) pointer old new enough gives = absurd gives
+  gives_enough (Realloc of n) pointer old new enough gives = absurd gives
+  gives_enough (BlockSize of) pointer old new enough gives = absurd gives
+
+  moves_enough : (request : Request) (given : Option Pointer) (old new : Content ℕ) → IsEnough old → Moves request given old new → IsEnough new
+  moves_enough (AddPool base pool) given old new enough moves = absurd moves
+  moves_enough (RemovePool base) given old new enough moves = absurd moves
+  moves_enough (Malloc n) given old new enough moves = absurd moves
+  moves_enough (Memalign align n) given old new enough moves = absurd moves
+  moves_enough (Free pointer) given old new enough moves = absurd moves
+  moves_enough (Realloc pointer n) given old new enough moves =
+      still_enough old new enough
+      (realloc_is_good (λ a b. a == b) (slot_of given) (place_and_slot pointer) n old (place_and_slot given, new) enough.good moves.ok)
+      (realloc_keeps (λ a b. a == b) (slot_of given) (place_and_slot pointer) n old (place_and_slot given, new) moves.ok)
+  moves_enough (BlockSize pointer) given old new enough moves = absurd moves
+
+  tells_enough : (request : Request) (told : ℕ) (old new : Content ℕ) → IsEnough old → Tells request told old new → IsEnough new
+  tells_enough (AddPool base pool) told old new enough tells = absurd tells
+  tells_enough (RemovePool base) told old new enough tells = absurd tells
+  tells_enough (Malloc n) told old new enough tells = absurd tells
+  tells_enough (Memalign align n) told old new enough tells = absurd tells
+  tells_enough (Free pointer) told old new enough tells = absurd tells
+  tells_enough (Realloc pointer n) told old new enough tells = absurd tells
+  tells_enough (BlockSize pointer) told old new enough tells = subst IsEnough (sym tells.1) enough
+
+  step_enough : (lacks : Type 0) (request : Request) (answer : Answer) (old new : Content ℕ) → IsEnough old → IsWithin blocks bytes size request old → Step lacks request answer old new → IsEnough new
+  step_enough lacks request Done old new enough within step = does_enough request old new enough within step
+  step_enough lacks request (Given pointer) old new enough within step = gives_enough request pointer old new enough step
+  step_enough lacks request (Moved given) old new enough within step = moves_enough request given old new enough step
+  step_enough lacks request (Size told) old new enough within step = tells_enough request told old new enough step
+  step_enough lacks request (Refused refusal) old new enough within step = subst IsEnough (sym step.0) enough
+
+  run_fits : (lacks : Type 0) (requests : List Request) (answers : List Answer) (old new : Content ℕ) (before after : ℕ) (run : Run lacks requests answers old new before after)
+      → IsEnough old → StaysWithin blocks bytes size lacks requests answers old new before after run → All IsNotFull answers
+  run_fits lacks [] [] old new before after run enough within = λ k d less. absurd (omega (arith, less))
+  run_fits lacks [] (answer ∷ answers) old new before after run enough within = absurd run
+  run_fits lacks (request ∷ requests) [] old new before after run enough within = absurd run
+  run_fits lacks (request ∷ requests) (answer ∷ answers) old new before after run enough within =
+      All-cons IsNotFull answer answers (step_not_full lacks request answer old run.0 enough within.0 run.2)
+      (run_fits lacks requests answers run.0 new run.1 after run.5 (step_enough lacks request answer old run.0 enough within.0 run.2) within.1)
+
+  -- no request of a run within the bounds is refused for want of a block or of a record
+  pub run_not_full : (lacks : Type 0) (requests : List Request) (answers : List Answer) (old new : Content ℕ) (before after : ℕ) (run : Run lacks requests answers old new before after)
+      → IsGood old → IsLargeEnough blocks bytes size old → StaysWithin blocks bytes size lacks requests answers old new before after run → All IsNotFull answers
+  run_not_full lacks requests answers old new before after run good large within = run_fits lacks requests answers old new before after run (record { good = good; large = large }) within
+
+module _ {A : Type 0} where
+  -- what add_pool leaves
+  pool_added : (base bytes : ℕ) (content new : Content A) → add_pool base bytes content ≡ Ok new → with_pool base bytes content ≡ new
+  pool_added base bytes content new e =
+      elim (cases_Bool (can_be_pool base bytes && list_all (is_apart base bytes) content.pools)) [
+        | inr bad ↦ let refused : add_pool base bytes content ≡ Err BadPool = rw bad refl in absurd (cc)
+        | inl can ↦ elim (cases_Bool (nat_le most_pools (length content.pools))) [
+          | inl full ↦ let refused : add_pool base bytes content ≡ Err PoolsFull = rw (can, full) refl in absurd (cc)
+          | inr few ↦ elim (cases_Bool (nat_le content.records (used_records content))) [
+            | inl none_left ↦ let refused : add_pool base bytes content ≡ Err TableFull = rw (can, few, none_left) refl in absurd (cc)
+            | inr room ↦ let added : add_pool base bytes content ≡ Ok (with_pool base bytes content) = rw (can, few, room) refl in cc
+          ]
+        ]
+      ]
+
+-- a heap with one pool is good, and large enough where the numbers are
+pub one_pool_enough : (blocks bytes size records base pool : ℕ) (content : Content ℕ) → add_pool base pool (created records) ≡ Ok content
+    → bytes + (blocks + 1) * (size - unit) < pool → 2 * blocks + 2 < records → IsGood content × IsLargeEnough blocks bytes size content
+one_pool_enough blocks bytes size records base pool content added large many =
+    (add_pool_is_good base pool (created records) content (created_is_good records) added,
+    subst (IsLargeEnough blocks bytes size) (pool_added base pool (created records) content added)
+    (record { one_pool = refl; pool = omega (arith, large); records = many }))

@@ -1,0 +1,55 @@
+-- Runs that stay within bounds told beforehand: of live blocks, of the bytes in them, and of what a request asks the lists for.
+use Rattle.std.specs.Prelude.{◌≡◌, ◌≢◌, ℕ, ◌+◌, ◌-◌, ◌*◌, ◌<◌, ◌≤◌, List, [], ◌∷◌, length, Some, ⊤}
+use Rattle.tlsf_class.specs.Classes.{unit, low, need}
+use Rattle.tlsf_class.specs.Rounding.{round}
+use Rattle.tlsf_heap.specs.declared.request.Request.{Request}
+use Rattle.tlsf_heap.specs.declared.request.Request.TheVariants.{AddPool, RemovePool, Malloc, Memalign, Free, Realloc, BlockSize}
+use Rattle.tlsf_heap.specs.declared.answer.Answer.{Answer}
+use Rattle.tlsf_heap.specs.declared.answer.Answer.TheVariants.{Refused}
+use Rattle.tlsf_heap.specs.declared.refusal.Refusal.TheVariants.{NoFit, TableFull}
+use Rattle.tlsf_heap.specs.Content.{Content, blocks_of}
+use Rattle.tlsf_heap.specs.Memalign.{size_asked}
+use Rattle.tlsf_heap.specs.Implied.{live_blocks}
+use Rattle.tlsf_heap.specs.Room.{live_bytes, pool_bytes}
+use Rattle.tlsf_heap.specs.Run.{Run}
+
+-- A request for n bytes finds at most `blocks` live blocks, of at most `bytes` bytes together. Rounded up, n is m bytes, for
+-- which the lists are asked for a block of `asked m` bytes: from class c on each block has them, and the lowest size of class c
+-- is at most `size`.
+pub record TakesWithin (blocks bytes size : ℕ) (asked : ℕ → ℕ) (n : ℕ) (content : Content ℕ) : Type 0 where
+  pub few : live_blocks content ≤ blocks
+  pub small : live_bytes (blocks_of content.pools) ≤ bytes
+  pub m : ℕ
+  pub rounds : round n ≡ Some m
+  pub c : ℕ
+  pub needed : need (asked m) ≡ Some c
+  pub sized : low c ≤ size
+
+-- A request keeps to the bounds on the content that it finds. Each does that asks for no bytes. No pool comes or goes.
+abbrev pub IsWithin : (blocks bytes size : ℕ) → Request → Content ℕ → Type 0
+IsWithin blocks bytes size (AddPool base pool) content = ⊥
+IsWithin blocks bytes size (RemovePool base) content = ⊥
+IsWithin blocks bytes size (Malloc n) content = n ≢ 0 → TakesWithin blocks bytes size (λ m. m) n content
+IsWithin blocks bytes size (Memalign align n) content = n ≢ 0 → TakesWithin blocks bytes size (size_asked align) n content
+IsWithin blocks bytes size (Free pointer) content = ⊤
+IsWithin blocks bytes size (Realloc pointer n) content = n ≢ 0 → TakesWithin blocks bytes size (λ m. m) n content
+IsWithin blocks bytes size (BlockSize pointer) content = ⊤
+
+-- each request of the run keeps to the bounds, on the content that the one before left
+abbrev pub StaysWithin : (blocks bytes size : ℕ) (lacks : Type 0) (requests : List Request) (answers : List Answer) (old new : Content ℕ) (before after : ℕ) → Run lacks requests answers old new before after → Type 0
+StaysWithin blocks bytes size lacks [] [] old new before after run = ⊤
+StaysWithin blocks bytes size lacks [] (answer ∷ answers) old new before after run = ⊤
+StaysWithin blocks bytes size lacks (request ∷ requests) [] old new before after run = ⊤
+StaysWithin blocks bytes size lacks (request ∷ requests) (answer ∷ answers) old new before after run =
+    IsWithin blocks bytes size request old × StaysWithin blocks bytes size lacks requests answers run.0 new run.1 after run.5
+
+-- There is one pool. It has more than the `bytes`, and for each of the `blocks` and one more the most that a free block has
+-- that is too small: a unit less than `size`. There are more than two records for each of the `blocks`, and two.
+pub record IsLargeEnough (blocks bytes size : ℕ) (content : Content ℕ) : Type 0 where
+  pub one_pool : length content.pools ≡ 1
+  pub pool : bytes + (blocks + 1) * (size - unit) < pool_bytes content.pools
+  pub records : 2 * blocks + 2 < content.records
+
+-- the answer isn't that no block fits, nor that no record is left
+abbrev pub IsNotFull : Answer → Type 0
+IsNotFull answer = (answer ≢ Refused NoFit) × (answer ≢ Refused TableFull)
