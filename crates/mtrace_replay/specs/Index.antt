@@ -1,6 +1,7 @@
 -- What is held, by address, as a list in order of address.
 use Rattle.std.specs.Prelude.{◌≡◌, ◌≢◌, Bool, ℕ, ◌+◌, ◌*◌, ◌<◌, ◌≤◌, ◌^◌, List, length, map, find, sum_by, Option, Some, ◌==◌, IfOk, IfErr}
 use Rattle.std.specs.List.Sorted.{IsStrictlyIncreasing}
+use Rattle.tlsf_heap.specs.Touches.{AtMost}
 use Rattle.mtrace_replay.specs.Holding.{Holding}
 use Rattle.mtrace_replay.specs.declared.key.Key.{Key}
 use Rattle.mtrace_replay.specs.declared.index.LookUp.{LookUp}
@@ -34,7 +35,7 @@ held_bytes holdings = sum_by (λ holding. holding.entry.size) holdings
 -- look-ups, this many: each compares at most as many addresses as the room has binary digits; the room stays
 pub record LooksUp (times : ℕ) (old new : Indexed) : Type 0 where
   pub room : new.room ≡ old.room
-  pub compared : (digits : ℕ) → old.room < 2 ^ digits → new.comparisons ≤ old.comparisons + times * digits
+  pub compared : (digits : ℕ) → old.room < 2 ^ digits → AtMost (times * digits) old.comparisons new.comparisons
 
 -- the address stands at the key there, held or not, or else it would stand there
 pub record IsFound (keys : List Key) (found : LookUp) : Type 0 where

@@ -3,7 +3,6 @@
 ghost use Rattle.std.specs.Prelude.{◌≡◌, ◌==◌, ◌↔◌, ◌+◌, ◌-◌, ◌*◌, ◌<◌, ◌≤◌, ℕ, Bool, false, List, length, take, Some};
 ghost use Rattle.tlsf_class.specs.Classes.{unit};
 ghost use Rattle.tlsf_heap.specs.declared.refusal.Refusal.TheVariants.{NoFit, TableFull};
-ghost use Rattle.tlsf_heap.specs.Run.{MayLack};
 ghost use Rattle.mtrace_replay.specs.declared.settings.Settings.{Settings};
 ghost use Rattle.mtrace_replay.specs.Started.{Bare, started};
 ghost use Rattle.mtrace_replay.specs.Moment.{ReadLine, Given, Moment};
@@ -77,5 +76,5 @@ pub fn all_pools_stand()
 /// `Heap` lacks no memory. So over it each `feed` and each `finish` succeeds: what a replay needs it took when it was
 /// made.
 pub fn nothing_is_lacked()
-    ensures { MayLack ⟦<Heap as Heaped>⟧.lacks → ⊥ }
+    ensures { ⟦<Heap as Heaped>⟧.lacks → ⊥ }
 {}

@@ -85,7 +85,6 @@ pub struct Replay<H: Heaped> {
 
 impl<H: Heaped> Model for Replay<H> {
     ghost use Rattle.tlsf_heap.specs.Bare.{bare};
-    ghost use Rattle.tlsf_heap.specs.Run.{MayLack};
     ghost use Rattle.mtrace_replay.specs.Replay.{Replayed};
     ghost use Rattle.mtrace_replay.specs.Step.{all_given, Keeps};
 
@@ -104,7 +103,7 @@ impl<H: Heaped> Model for Replay<H> {
 
     // The blocks that are held are live, and no two are one, until memory is refused. There are at most as many as
     // records, and the index has room for as many.
-    ghost invariant = { λ r. Keeps r.held (H.content r.heap) r.totals (MayLack H.lacks) r.out_of_memory };
+    ghost invariant = { λ r. Keeps r.held (H.content r.heap) r.totals H.lacks r.out_of_memory };
 }
 
 impl<H: Heaped> Replay<H> {

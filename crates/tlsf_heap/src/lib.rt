@@ -30,6 +30,7 @@ mod request;
 mod row;
 mod runs;
 mod search;
+mod sizing;
 mod span;
 mod walk;
 
@@ -45,4 +46,5 @@ pub use crate::refusal::Refusal;
 pub use crate::request::Request;
 pub use crate::row::Row;
 pub use crate::runs::run;
+pub use crate::sizing::{class_size, sure_pool};
 pub use tlsf_store::{END_OF_PLACES, MOST_POOLS, MOST_RECORDS, StoreError};
