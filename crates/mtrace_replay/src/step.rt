@@ -3,6 +3,7 @@
 ghost use Rattle.std.specs.Prelude.{◌≡◌, ◌≢◌, ◌+◌, ◌<◌, ◌≤◌, ◌&&◌, not, is_some, true, [], Some, None, ◌==◌};
 ghost use Rattle.tlsf_heap.specs.Content.{blocks_of, size_at};
 ghost use Rattle.tlsf_heap.specs.Free.{is_live};
+ghost use Rattle.tlsf_heap.specs.Touches.{AtMost};
 ghost use Rattle.tlsf_heap.specs.Realloc.{realloc as reallocated};
 ghost use Rattle.mtrace_replay.specs.Index.{held_at, IsFound, TellsWhether};
 ghost use Rattle.mtrace_replay.specs.Moment.{asked_size as size_asked, asked_block, allocation, release as released, doing, move, renewal, plan};
@@ -29,7 +30,7 @@ fn end_of_block<H: Heaped>(heap: &mut H, ptr: Ptr) -> u64
     requires live { is_live (λ slot. slot == ptr.slot) ptr.place (blocks_of (H.content heap.old).pools) ≡ true }
     ensures end { result ≡ ptr.place + size_at ptr.place (blocks_of (H.content heap.old).pools) }
     ensures unchanged { H.content heap.new ≡ H.content heap.old }
-    ensures bound { H.touches heap.new ≤ H.touches heap.old + 4 }
+    ensures bound { AtMost 4 (H.touches heap.old) (H.touches heap.new) }
 {
     match heap.block_size(ptr) {
         Ok(bytes) => u64::from(ptr.place()) + u64::from(bytes),
