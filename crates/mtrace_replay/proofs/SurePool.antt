@@ -14,12 +14,16 @@ use Rattle.tlsf_heap.specs.Within.{AsksAtMost, IsLargeEnough}
 use Rattle.tlsf_heap.proofs.Good.Room.{room_serves, aligned_room_serves, realloc_room_serves}
 use Rattle.tlsf_heap.proofs.Good.Within.{room_within}
 use Rattle.mtrace_replay.specs.Started.{Bare}
-use Rattle.mtrace_replay.specs.Moment.{ReadLine, Given, Moment, asked_size, Act, idle, give, take, move}
+use Rattle.mtrace_replay.specs.Moment.{ReadLine, Given, Moment, asked_size, rounded_bytes, Act, idle, give, take, move}
 use Rattle.mtrace_replay.specs.History.{AreHeld, moments, content_after}
-use Rattle.mtrace_replay.specs.Enough.{HoldsAtMost, HoldsBytesAtMost, rounded_size, rounded_total, act_of, acts_of, IsOfAtMost, IsNeverRefused}
+use Rattle.mtrace_replay.specs.Totals.{rounded_bytes_in}
+use Rattle.mtrace_replay.specs.Enough.{HoldsAtMost, HoldsBytesAtMost, act_of, acts_of, IsOfAtMost, IsNeverRefused}
 use Rattle.mtrace_replay.proofs.TotalsLemmas.{AreAllFree, first_moments_all}
 use Rattle.mtrace_replay.proofs.EnoughRecords.{bytes_of, IsRefusedAs, stands_all, few_blocks, one_still, owns_sized, first_but_last, never_refused}
 use Rattle.mtrace_replay.proofs.HeldBytes.{few_bytes, all_bytes}
+
+abbrev rounded_size : Given → ℕ
+rounded_size given = rounded_bytes given.entry.size
 
 module _ (most bytes size : ℕ) where
   -- a good content that is large enough for the bounds, and keeps to them
@@ -44,7 +48,7 @@ module _ (most bytes size : ℕ) where
       let other = realloc_room_serves tt (λ one other. true) (Some (place, tt)) (asked_size entry.size) content NoFit enough.good (room (λ m. m) 1 (asked_size entry.size) content (omega arith) enough of) refused in absurd (cc)
 
   module _ (start : Bare) (good : IsGood start) (free : AreAllFree start) (one : length start.pools ≡ 1)
-    (large : bytes + (most + 1) * (size - unit) < pool_bytes start.pools) (enough : 2 * most + 3 ≤ start.records) where
+      (large : bytes + (most + 1) * (size - unit) < pool_bytes start.pools) (enough : 2 * most + 3 ≤ start.records) where
     -- what is so of the lines
     record IsWithin (past : List ReadLine) : Type 0 where
       holds : HoldsAtMost most (moments start past)
@@ -54,7 +58,7 @@ module _ (most bytes size : ℕ) where
     fewer : (line : ReadLine) (past : List ReadLine) → IsWithin (line ∷ past) → IsWithin past
     fewer line past within = record {
       holds = first_but_last start good free (λ first. (all : List Given) × AreHeld all first × (length all ≤ most)) line past within.holds;
-      bytes_held = first_but_last start good free (λ first. (all : List Given) × AreHeld all first × (rounded_total all ≤ bytes)) line past within.bytes_held;
+      bytes_held = first_but_last start good free (λ first. (all : List Given) × AreHeld all first × (rounded_bytes_in all ≤ bytes)) line past within.bytes_held;
       of = within.of.1;
     }
 
@@ -89,7 +93,7 @@ module _ (most bytes size : ℕ) where
           now.2,
         )
       where
-        total : (all : List Given) → all_bytes rounded_size all ≡ rounded_total all
+        total : (all : List Given) → all_bytes rounded_size all ≡ rounded_bytes_in all
         total [] = refl
         total (given ∷ all) = omega (arith, total all)
 

@@ -1,6 +1,7 @@
 pub mod Again
 pub mod Appends
 pub mod Arrange
+pub mod Asked
 pub mod Compare
 pub mod Enough
 pub mod Entry

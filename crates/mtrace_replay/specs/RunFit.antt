@@ -11,7 +11,7 @@ use Rattle.mtrace_replay.specs.declared.status.RunFault.{RunFault}
 use Rattle.mtrace_replay.specs.declared.status.RunFault.TheVariants.{BadSettings}
 use Rattle.mtrace_replay.specs.declared.totals.Totals.{Totals}
 use Rattle.mtrace_replay.specs.Started.{started}
-use Rattle.mtrace_replay.specs.Totals.{AreTotals, IsMost, is_refused}
+use Rattle.mtrace_replay.specs.Totals.{blocks_in, AreTotals, IsMost, is_refused}
 use Rattle.mtrace_replay.specs.Moment.{ReadLine}
 use Rattle.mtrace_replay.specs.History.{history}
 use Rattle.mtrace_replay.specs.Fit.{one_pool, greatest_settings, enough_records, is_bad_step, step_of, sizes, Verdict, fitted}
@@ -48,7 +48,7 @@ pub record TellsFit (step : Option ℕ) (lines : List ReadLine) (whole : Bytes) 
   pub totals : Totals
   pub summed : AreTotals (started greatest_settings) (history greatest_settings lines) totals
   pub most : ℕ
-  pub is_most : IsMost (history greatest_settings lines) most
+  pub is_most : IsMost blocks_in (history greatest_settings lines) most
   pub rest : List ℕ
   pub tells : TellsSizes totals.refused (step_of step totals.peak_bytes) totals.peak_bytes most whole rest
   pub text_is : text ≡ greatest_line totals ++ most_line most ++ rest

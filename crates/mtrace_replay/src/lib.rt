@@ -4,6 +4,7 @@
 
 mod again;
 mod arrange;
+mod asked;
 mod diagnostic;
 mod entry;
 mod findings;
