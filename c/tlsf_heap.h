@@ -220,7 +220,7 @@ enum tlsf_status tlsf_heap_load_in(void *memory, size_t bytes, const unsigned ch
                                    size_t length, tlsf_heap *out);
 
 /* Where the table's memory comes from: the two functions that the proved library wants of a
- * program, beside memcpy, memmove and memset. tlsf_memory.c has both, over malloc and free, and
+ * program, beside memcpy and memset. tlsf_memory.c has both, over malloc and free, and
  * they are in libtlsf_heap.a. A program that has both itself gets its own; then it has no
  * tlsf_heap_create_in and no tlsf_heap_load_in, which stand beside them.
  *
