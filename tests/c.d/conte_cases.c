@@ -455,6 +455,18 @@ static void overruns(void)
            "a spoiled heap is none");
 }
 
+/* A control part that has forgotten its pools: no call looks for a block's pool behind the eight. */
+static void forgotten_pools(void)
+{
+    enum { AT = 24, BYTES = 8 * 24 };
+    tlsf_t tlsf = tlsf_create_with_pool(memory, sizeof memory);
+    void *one = tlsf_malloc(tlsf, 100);
+    memset(memory + AT, 0, BYTES);
+    expect(one != NULL && tlsf_get_pool(tlsf) == NULL && tlsf_malloc(tlsf, 100) == NULL
+               && tlsf_memalign(tlsf, 64, 100) == NULL && tlsf_realloc(tlsf, one, 2000) == NULL,
+           "where the pools are forgotten no block is handed out");
+}
+
 static void free_block(void *ptr, size_t size, int used, void *user)
 {
     (void)size;
@@ -575,6 +587,7 @@ int main(void)
     pointers();
     old_pointers();
     overruns();
+    forgotten_pools();
     ends();
     walks_that_end();
     walks_that_grow();
