@@ -35,6 +35,10 @@
 #include <stddef.h>
 #include <stdint.h>
 
+#if UINTPTR_MAX < 0xffffffffffffffff
+#error "tlsf_heap.h is for 64-bit processors: the library behind it is built for no other"
+#endif
+
 #ifdef __cplusplus
 extern "C" {
 #endif
@@ -220,9 +224,9 @@ enum tlsf_status tlsf_heap_load_in(void *memory, size_t bytes, const unsigned ch
                                    size_t length, tlsf_heap *out);
 
 /* Where the table's memory comes from: the two functions that the proved library wants of a
- * program, beside memcpy, memmove and memset. tlsf_memory.c has both, over malloc and free, and
- * they are in libtlsf_heap.a. A program that has both itself gets its own; then it has no
- * tlsf_heap_create_in and no tlsf_heap_load_in, which stand beside them.
+ * program, beside memcpy and memset. tlsf_memory.c has both, over malloc and free, and they are in
+ * libtlsf_heap.a. A program that has both itself gets its own; then it has no tlsf_heap_create_in
+ * and no tlsf_heap_load_in, which stand beside them.
  *
  * rattle_alloc answers memory of `bytes` bytes at a multiple of align, which is at most 16. Where
  * there is none, ok is false, and p still points to some byte. rattle_dealloc gets back what
