@@ -36,7 +36,10 @@ REPORTS = {
     b"largest free: 16777216\nspread: -\n",
     "walk": b"pool 0: 16777216 bytes\n0 16777216 free\n",
     "save": b"",
+    "sites": b"Held at the peak, line 0: 0 blocks, 0 bytes.\nHeld at the end: 0 blocks, 0 bytes.\n",
 }
+# The words whose log may be a pipe.
+ONCE = ("leaks", "peak", "walk", "save")
 
 
 def report(word, log):
@@ -75,7 +78,7 @@ def words_of(case):
     log = "-" if case["log"] in ("-", "pipe", "typed") else case["log"]
     if case["word"] == "check":
         return ["check", case["log"]]
-    return [case["word"], log] + ([case.get("image", "image")] if case["word"] == "save" else [])
+    return [case["word"], *case.get("options", []), log] + ([case.get("image", "image")] if case["word"] == "save" else [])
 
 
 def started(case, folder, end):
@@ -148,18 +151,25 @@ def served(word, text, noted, **more):
 
 def slow_cases():
     """Each word and each kind of log; and where standard output is the terminal, too."""
-    for word in REPORTS:
+    for word in ONCE:
         for log in ("file", "fifo", "pipe", "-"):
             yield f"{word} of a slow {log}", served(word, QUIET, b"", log=log)
+    yield "sites of a slow file", served("sites", QUIET, b"", log="file")
     # The log is read three times, with six reads each: the first of the two sizes is tried then.
     yield "sizes of a slow file", {
         "word": "fit", "log": "file", "text": QUIET, "status": 0, "how": {"IO_WAIT": "2,14"}, "sizes": [1],
         "told": [lines_in(QUIET, 2), 2 * QUIET.count(b"\n") + lines_in(QUIET, 2)],
         "written": b"peak: 0 bytes at line 0\nheld at most: 0 blocks\nrecords: 3\nleast pool: 16 bytes\n"
         b"safe pool: 16 bytes\nsizes tried: 2, 0 refused\n"}
+    # 201 sizes, with two reads each behind two of the first reading: 150 are tried at the first read of the next one.
+    yield "150 sizes of a slow file", {
+        "word": "fit", "options": ["--step", "16"], "log": "file", "text": b"+ 0x10 0xc80\n", "status": 1, "how": {"IO_WAIT": "303"},
+        "sizes": [150], "told": [152],
+        "written": b"peak: 3200 bytes at line 1\nheld at most: 1 blocks\nrecords: 5\nleast pool: 3200 bytes\n"
+        b"safe pool: 3200 bytes\nsizes tried: 201, 0 refused\n"}
     yield "a slow log with diagnostics", served("leaks", LOUD, diagnostics(LOUD), log="file")
     yield "a slow log with diagnostics, saved", served("save", LOUD, diagnostics(LOUD), log="fifo")
-    for word in REPORTS:
+    for word in ONCE:
         yield f"{word}, all on the terminal", served(word, LOUD, diagnostics(LOUD), log="pipe", stdout="terminal")
 
 

@@ -1,4 +1,4 @@
-ghost use Rattle.std.specs.Prelude.{◌≡◌, ℕ, ◌-◌, ◌^◌, ◌<◌, List, [], ◌∷◌, length, Option, None};
+ghost use Rattle.std.specs.Prelude.{◌≡◌, ◌↔◌, ℕ, ◌-◌, ◌^◌, ◌<◌, List, [], ◌∷◌, length, Option, None, IsTrue};
 ghost use Rattle.std.specs.Io.KnownBytes.{Keeps};
 ghost use Rattle.std.specs.Io.Seek.{MovesTo};
 ghost use Rattle.mtrace_log.specs.declared.call.Call.{Call};
@@ -35,14 +35,27 @@ impl<R: Read> FromRead<R> {
         }
     }
 
+    /// Counts one more call, where one is left: whether it is.
+    fn takes_call(&mut self) -> bool
+        ensures left { IsTrue result ↔ (0 < calls_left self.old) }
+        ensures counted { calls_left self.new ≡ calls_left self.old - 1 }
+        ensures reader { reader_of self.new ≡ reader_of self.old }
+        ensures told { reader_trace self.new ≡ reader_trace self.old }
+    {
+        if self.calls == u64::MAX {
+            return false;
+        }
+        self.calls += 1;
+        true
+    }
+
     /// Reads once, where a read is left. Its outcome is not told yet.
     fn read_once(&mut self, buf: &mut [u8]) -> Result<usize, Failed>
         ensures { ReadsOnce R.remaining (reader_trace self.old) result buf.new self.old self.new }
     {
-        if self.calls == u64::MAX {
+        if !self.takes_call() {
             return Err(Failed);
         }
-        self.calls += 1;
         match self.reader.read(buf) {
             Ok(count) => Ok(count),
             Err(_) => Err(Failed),

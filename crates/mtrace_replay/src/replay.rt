@@ -26,6 +26,8 @@ pub enum ReplayFault {
     OutOfMemory = 2,
 }
 
+const _: () = prove!(ReplayFault::BadSettings as u32 == 1 && ReplayFault::OutOfMemory as u32 == 2);
+
 /// The address of a line `<`.
 fn old_address(event: &Result<Event<LentLocation<'_>>, LineFault>) -> Option<Addr>
     ensures { result ≡ address_of_old event.now }

@@ -28,3 +28,11 @@ pub enum RunFault {
     #[error("write failed")]
     Image = 5,
 }
+
+const _: () = prove!(
+    RunFault::Read as u32 == 1
+        && RunFault::Write as u32 == 2
+        && RunFault::OutOfMemory as u32 == 3
+        && RunFault::BadSettings as u32 == 4
+        && RunFault::Image as u32 == 5
+);

@@ -1,7 +1,9 @@
 -- What the answer of loading an image tells of its rules.
-use Rattle.std.proofs.Common.{◌≡◌, false, sym, ◌∙◌, refl, Option, Some, None}
+use Rattle.std.proofs.Common.{◌≡◌, ◌⊎◌, inl, inr, false, sym, ◌∙◌, refl, Option, Some, None}
 use Rattle.std.specs.Prelude.{Result, Ok, Err, if◌then◌else◌}
-use Rattle.std.specs.Result.{is_ok, is_err}
+use Rattle.std.specs.Result.{is_ok, is_err, IsErrAnd}
+use Rattle.mtrace_replay.specs.declared.status.RunFault.{RunFault}
+use Rattle.mtrace_replay.specs.declared.status.RunFault.TheVariants as fault
 use Rattle.tlsf_heap.specs.declared.image.rule.Rule.{Rule}
 use Rattle.tlsf_heap.specs.declared.image_fault.ImageFault.{ImageFault}
 use Rattle.tlsf_heap.specs.declared.image_fault.ImageFault.TheVariants.{Broken, OutOfMemory}
@@ -19,3 +21,10 @@ some_where_broken (Some other) result rule broken memory is = let e : Err (Broke
 pub where_ok : {T E X : Type 0} (result : Result T E) (new one other : X) → new ≡ (if is_ok result then one else other) → false ≡ is_err result → new ≡ one
 where_ok (Ok done) new one other is ok = is
 where_ok (Err failure) new one other is ok = absurd (cc)
+
+-- what is handed on of a reading isn't a failed write
+pub no_write : {T P : Type 0} (result : Result T RunFault) (failure : RunFault) → IsErrAnd result (λ other. other ≡ failure)
+    → (failure ≡ fault.Read) ⊎ (failure ≡ fault.OutOfMemory) → result ≡ Err fault.Write → P
+no_write (Ok done) failure is which write = absurd is
+no_write (Err other) failure is (inl read) write = absurd (cc)
+no_write (Err other) failure is (inr memory) write = absurd (cc)

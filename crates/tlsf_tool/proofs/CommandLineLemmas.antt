@@ -19,7 +19,7 @@ use Rattle.tlsf_tool.specs.declared.asked.Command.TheVariants.{Report, Sites, Fi
 use Rattle.tlsf_tool.specs.declared.asked.Name.{Name}
 use Rattle.tlsf_tool.specs.declared.asked.Name.TheVariants.{Leaks, Peak, Walk}
 use Rattle.tlsf_tool.specs.declared.asked.ToolFault.{ToolFault}
-use Rattle.tlsf_tool.specs.declared.asked.ToolFault.TheVariants.{Help, Usage, CannotOpen, ReadsOnce, Run}
+use Rattle.tlsf_tool.specs.declared.asked.ToolFault.TheVariants.{Help, Usage, CannotOpen, ReadsOnce, ReadsFileOnce, Run}
 use Rattle.tlsf_tool.specs.CommandLine.{AskFor, HasNumber, HasSettings, HasNoLog, MatchesAskFor, bare_line, report_line, fit_line, save_line, check_line, name_text, texts_of, tlsf_line, wrong_with}
 use Rattle.tlsf_tool.specs.Faults.{ExplainsKind, ExplainsWords, IsUsage}
 use Rattle.tlsf_tool.specs.Asks.{Asks, Picks}
@@ -179,6 +179,7 @@ no_memory_explained k (Help text) is (inr version) = absurd (let e : kind.OutOfM
 no_memory_explained k (Usage text) is explains = explains.2 is
 no_memory_explained k (CannotOpen log) is explains = explains
 no_memory_explained k ReadsOnce is explains = explains
+no_memory_explained k (ReadsFileOnce log) is explains = explains
 no_memory_explained k (Run fault) is explains = explains
 
 pub explained : (kinds : Kinds) (e : Error) (fault : ToolFault) → HasKind kinds e

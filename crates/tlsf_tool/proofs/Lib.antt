@@ -1,3 +1,4 @@
 mod CheckLemmas
 mod CommandLineLemmas
+mod PlanLemmas
 mod StatusLemmas

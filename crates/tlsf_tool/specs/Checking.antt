@@ -1,7 +1,7 @@
 -- What checking an image reads and writes.
 use Rattle.std.specs.Prelude.{◌≡◌, ◌≢◌, ◌≤◌, ◌⊎◌, ℕ, ◌+◌, List, ◌∷◌, ◌++◌, length, take, codes, Option, Some, None, Result, Err, IfOk, IfErr, OnOk, OnErr, IsErrOf}
 use Rattle.std.specs.Io.KnownBytes.{prepend_known, IsAtEnd}
-use Rattle.mtrace_log.specs.Output.{Wrote}
+use Rattle.mtrace_log.specs.Output.{Wrote, Begins}
 use Rattle.mtrace_log.specs.Trace.{pulled, HasGivenAndFailed, HasNotFailed, HasTakenAndFlushed, HasFailedToWrite}
 use Rattle.mtrace_log.specs.declared.call.Call.{Call}
 use Rattle.mtrace_log.specs.declared.failed.Failed.{Failed}
@@ -59,6 +59,12 @@ pub record Checks (status : Status) (left_old left_new taken_old taken_new : Byt
   pub wrote : Wrote taken_old taken_new (check_text (first_broken bytes))
   pub status_is : status ≡ check_status (first_broken bytes)
 
+-- the image was read, and of what is wrong with it a beginning was written
+pub record ChecksInPart (left_old left_new taken_old taken_new : Bytes) : Type 0 where
+  pub bytes : List ℕ
+  pub read : HasReadImage bytes left_old left_new
+  pub begun : Begins taken_old taken_new (check_text (first_broken bytes))
+
 -- what one call of the reader gives at the front of a piece, of which it has this room
 pub record Pulls {R : Type 0} (left : R → Bytes) (pulls : R → List Call) (result : Result ℕ Failed) (piece : List ℕ) (room : ℕ) (old new : R) : Type 0 where
   pub bound : IfOk result (λ n. n ≤ room)
@@ -80,6 +86,7 @@ pub record ChecksImage {R W : Type 0} (left : R → Bytes) (pulls : R → List C
   pub flushed : OnOk result (HasTakenAndFlushed (puts writer_old) (puts writer_new))
   pub read : IsErrOf result Read → HasGivenAndFailed (pulls reader_old) (pulls reader_new)
   pub not_failed : result ≢ Err Read → HasNotFailed (pulls reader_old) (pulls reader_new)
+  pub begun : IsErrOf result Write → ChecksInPart (left reader_old) (left reader_new) (taken writer_old) (taken writer_new)
   pub write : IsErrOf result Write → HasFailedToWrite (puts writer_old) (puts writer_new)
   pub unwritten : result ≢ Err Write → OnErr result (writer_new ≡ writer_old)
   pub faults : IfErr result (λ fault. (fault ≡ Read) ⊎ ((fault ≡ Write) ⊎ (fault ≡ OutOfMemory)))

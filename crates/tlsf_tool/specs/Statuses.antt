@@ -1,11 +1,18 @@
 -- The statuses that the program ends with.
-use Rattle.std.specs.Prelude.{◌≡◌, ◌≤◌, ℕ, Result, Ok, Err}
+use Rattle.std.specs.Prelude.{◌≡◌, ◌≤◌, ◌⊎◌, ℕ, List, Result, Ok, Err}
+use Rattle.mtrace_log.specs.declared.call.Call.{Call}
+use Rattle.mtrace_replay.specs.Run.{Bytes}
+use Rattle.mtrace_replay.specs.RunSites.{RunsSites}
+use Rattle.mtrace_replay.specs.RunFit.{RunsFit}
+use Rattle.mtrace_replay.specs.Saving.{PutsAndFlushes}
+use Rattle.tlsf_tool.specs.declared.plan.Rereading.{Rereading}
+use Rattle.tlsf_tool.specs.declared.plan.Rereading.TheVariants.{Sites, Fit}
 use Rattle.tlsf_tool.specs.declared.asked.Name.{Name}
 use Rattle.tlsf_tool.specs.declared.asked.Name.TheVariants.{Leaks, Peak, Walk}
 use Rattle.mtrace_replay.specs.declared.report.Report.{Report}
 use Rattle.mtrace_replay.specs.declared.report.Report.TheVariants as report
 use Rattle.tlsf_tool.specs.declared.asked.ToolFault.{ToolFault}
-use Rattle.tlsf_tool.specs.declared.asked.ToolFault.TheVariants.{Help, Usage, CannotOpen, ReadsOnce, Run}
+use Rattle.tlsf_tool.specs.declared.asked.ToolFault.TheVariants.{Help, Usage, CannotOpen, ReadsOnce, ReadsFileOnce, Run}
 use Rattle.mtrace_replay.specs.declared.status.Status.{Status}
 use Rattle.mtrace_replay.specs.declared.status.Status.TheVariants.{Clean, Found}
 use Rattle.mtrace_replay.specs.declared.status.RunFault.{RunFault}
@@ -40,9 +47,22 @@ pub record EndsAs {E : Type 0} (IsSo : Result Status RunFault → Type 0) (statu
   pub status_is : status_of_run outcome ≡ status
   pub no_errors : status ≤ 1 → errors_new ≡ errors_old
 
+-- the text is put and flushed, or a beginning is put, and the writer failed
+abbrev pub PutsHelp : {W : Type 0} → List ℕ → (taken : W → Bytes) (puts : W → List Call) → Result Status RunFault → (old new : W) → Type 0
+PutsHelp text taken puts outcome old new = ((outcome ≡ Ok Clean) ⊎ (outcome ≡ Err Write)) × PutsAndFlushes taken puts outcome text old new
+
+-- the run of what reads its log more than once
+abbrev pub Rereads : {R W : Type 0} → Rereading → (left whole : R → Bytes) (pulls : R → List Call) (taken : W → Bytes) (puts : W → List Call)
+    → Result Status RunFault → (reader_old reader_new : R) (writer_old writer_new : W) → Type 0
+Rereads (Sites settings) left whole pulls taken puts outcome reader_old reader_new writer_old writer_new =
+    RunsSites settings left whole pulls taken puts outcome reader_old reader_new writer_old writer_new
+Rereads (Fit step) left whole pulls taken puts outcome reader_old reader_new writer_old writer_new =
+    RunsFit step left whole pulls taken puts outcome reader_old reader_new writer_old writer_new
+
 abbrev pub status_of_fault : ToolFault → ℕ
 status_of_fault (Help text) = 0
 status_of_fault (Usage text) = 2
 status_of_fault (CannotOpen log) = 3
 status_of_fault ReadsOnce = 2
+status_of_fault (ReadsFileOnce log) = 2
 status_of_fault (Run fault) = status_of_run_fault fault

@@ -70,14 +70,25 @@ pub enum ToolFault {
     #[error("{0}")]
     Usage(String),
     /// The file of this name can't be opened or made.
-    #[error("tlsf: cannot open {0}")]
+    #[error("tlsf: cannot open {}", shown(.0))]
     CannotOpen(String),
+    /// The file of this name has to be read more than once, and can't, as a pipe.
+    #[error("tlsf: {0} can't be read twice")]
+    ReadsFileOnce(String),
     /// A log that has to be read more than once is to come from standard input.
     #[error("tlsf: standard input can't be read twice")]
     ReadsOnce,
     /// The run ended early.
     #[error("tlsf: {0}")]
     Run(RunFault),
+}
+
+/// A file's name as it stands, and two quotes for the empty one.
+fn shown(name: &String) -> &str {
+    if name.as_str().is_empty() {
+        return "''";
+    }
+    name.as_str()
 }
 
 impl ToolFault {
@@ -99,7 +110,7 @@ impl ToolFault {
     {
         match self {
             ToolFault::Help(_) => 0,
-            ToolFault::Usage(_) | ToolFault::ReadsOnce => 2,
+            ToolFault::Usage(_) | ToolFault::ReadsOnce | ToolFault::ReadsFileOnce(_) => 2,
             ToolFault::CannotOpen(_) => 3,
             ToolFault::Run(fault) => fault_status(*fault),
         }

@@ -2,14 +2,13 @@
 
 ghost use Rattle.std.specs.Prelude.{◌≡◌, ◌<◌, ◌≤◌, IfOk};
 ghost use Rattle.tlsf_heap.specs.Images.Rules.{first_broken};
-ghost use Rattle.mtrace_replay.specs.Saving.{PutsAndFlushes};
 ghost use Rattle.tlsf_tool.specs.Checking.{Pulls, ReadsImage, ChecksImage, check_text, check_status};
 ghost use Rattle.tlsf_tool.specs.Statuses.{EndsAs};
 
 use crate::asked::ToolFault;
-use crate::service::put_fault;
+use crate::service::{put_fault, put_text};
 use crate::statuses::{end_status, fault_status};
-use mtrace_log::{Failed, Sink, Source, put_all};
+use mtrace_log::{Failed, Sink, Source};
 use mtrace_replay::{RunFault, Status};
 use std::alloc::{AllocError, Global};
 use tlsf_heap::{Heap, ImageFault, Rule};
@@ -105,14 +104,6 @@ fn status_by_rule(broken: Option<Rule>) -> Status
     }
 }
 
-/// Puts the line, and flushes.
-fn put_line<W: Sink>(writer: &mut W, line: &[u8]) -> Result<(), Failed>
-    ensures { PutsAndFlushes W.taken W.trace result line.now writer.old writer.new }
-{
-    put_all(writer, line)?;
-    writer.flush()
-}
-
 /// Reads an image, and writes the first rule that it breaks. Answers whether it breaks one.
 fn checked<R: Source, W: Sink>(
     alloc: Global,
@@ -125,7 +116,7 @@ fn checked<R: Source, W: Sink>(
     let Ok(broken) = broken(alloc, bytes.as_slice()) else {
         return Err(RunFault::OutOfMemory);
     };
-    match put_line(writer, line_of(broken)) {
+    match put_text(writer, line_of(broken)) {
         Ok(()) => Ok(status_by_rule(broken)),
         Err(_) => Err(RunFault::Write),
     }

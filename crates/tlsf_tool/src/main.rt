@@ -1,9 +1,14 @@
 //! The program tlsf: replays a log of glibc's tracer mtrace(3) and reports memory that was not freed.
 #![tactic(auto)]
 
+ghost use Rattle.std.specs.Prelude.{◌≡◌, IfOk};
+ghost use Rattle.std.specs.Vec.Iter.{into_iter_items};
+
 mod asked;
 mod check;
 mod command_line;
+mod files;
+mod plan;
 mod progress;
 mod service;
 mod statuses;
@@ -11,29 +16,31 @@ mod statuses;
 mod tests;
 mod words;
 
-use crate::asked::{Command, Name, ToolFault};
+use crate::asked::{Name, ToolFault};
 use crate::check::check_image;
+use crate::files::{FileNumber, are_one, make_file, open_file};
+use crate::plan::{Origin, Plan, Rereading, Terminals, planned};
 use crate::progress::{Cleared, Counted, Notice};
-use crate::service::{serve, serve_fit, serve_save, serve_sites};
-use crate::words::command;
+use crate::service::{serve, serve_again, serve_help, serve_save};
 use mtrace_log::{FromRead, ToWrite};
 use mtrace_replay::{RunFault, Settings};
 use std::alloc::Global;
 use std::fs::File;
-use std::io::{BufWriter, IsTerminal, Read};
-use std::os::fd::AsRawFd;
+use std::io::{BufWriter, IsTerminal, Read, Seek, Stdout};
 use std::process::ExitCode;
-use std::{env, fs, io};
+use std::{env, io};
 
 /// The line on words that aren't text.
 const NOT_TEXT: &str = "tlsf: a word is no text; for more, try 'tlsf --help'\n";
 
-/// The descriptor of standard error, the last of the standard streams.
-const LAST_STREAM: i32 = 2;
+/// The name under which the system tells of the file that is standard input.
+const STANDARD_INPUT: &str = "/dev/stdin";
 
 /// The words in a list. To collect them would ask for its memory again where that is refused.
-fn listed_words(rt: &HostRuntime, all: env::Args<Global>) -> Result<Vec<String>, ToolFault> {
-    let mut words = Vec::new(rt.alloc());
+fn listed_words(alloc: Global, all: env::Args<Global>) -> Result<Vec<String>, ToolFault>
+    ensures { IfOk result (λ words. words.items ≡ into_iter_items all) }
+{
+    let mut words = Vec::new(alloc);
     for word in all {
         if words.push(word).is_err() {
             return Err(ToolFault::Run(RunFault::OutOfMemory));
@@ -45,7 +52,7 @@ fn listed_words(rt: &HostRuntime, all: env::Args<Global>) -> Result<Vec<String>,
 /// The words, of which the first is the program's name. Words that aren't text are wrong words.
 fn asked_words(rt: &HostRuntime) -> Result<Vec<String>, ToolFault> {
     match env::args(rt) {
-        Ok(all) => listed_words(rt, all),
+        Ok(all) => listed_words(rt.alloc(), all),
         Err(fault) if fault.kind() == io::ErrorKind::OutOfMemory => {
             Err(ToolFault::Run(RunFault::OutOfMemory))
         }
@@ -53,191 +60,187 @@ fn asked_words(rt: &HostRuntime) -> Result<Vec<String>, ToolFault> {
     }
 }
 
-/// The file, under a descriptor that is no standard stream's. Where one of these is closed, a file
-/// that is opened takes its number. What goes to the stream would then land in the file. A clone is
-/// always above them.
-fn above_streams(file: File) -> io::Result<File> {
-    if file.as_raw_fd() > LAST_STREAM {
-        return Ok(file);
-    }
-    file.try_clone()
-}
-
-/// Opens a file to read it.
-fn open_file(rt: &HostRuntime, name: &str) -> io::Result<File> {
-    above_streams(fs::open(rt, name)?)
-}
-
-/// Makes a file to write it, or empties the one that there is.
-fn make_file(rt: &HostRuntime, name: &str) -> io::Result<File> {
-    above_streams(fs::create(rt, name)?)
-}
-
-/// Serves a log that is open, with standard output and standard error.
-fn serve_log<R: Read + Drop>(
+/// Standard output, buffered, where a notice is cleared first.
+fn output<'a>(
     rt: &HostRuntime,
-    notice: &Notice<'_>,
+    notice: &'a Notice<'a>,
+) -> Result<ToWrite<BufWriter<Cleared<'a, Stdout>>>, ToolFault> {
+    match BufWriter::new(rt.alloc(), Cleared::new(notice, rt.stdout())) {
+        Ok(writer) => Ok(ToWrite::new(writer)),
+        Err(_) => Err(ToolFault::Run(RunFault::OutOfMemory)),
+    }
+}
+
+/// Opens the file of a log.
+fn open_log(rt: &HostRuntime, name: String) -> Result<File, ToolFault> {
+    match open_file(rt, name.as_str()) {
+        Ok(file) => Ok(file),
+        Err(_) => Err(ToolFault::CannotOpen(name)),
+    }
+}
+
+/// Makes a report of a log that is open.
+fn report<R: Read + Drop>(
+    rt: &HostRuntime,
+    is_told: bool,
     name: Name,
     settings: Settings,
     log: R,
 ) -> Result<u8, ToolFault> {
-    let Ok(writer) = BufWriter::new(rt.alloc(), Cleared::new(notice, rt.stdout())) else {
-        return Err(ToolFault::Run(RunFault::OutOfMemory));
-    };
+    let notice = Notice::new(rt, is_told);
+    let mut reader = FromRead::new(Counted::new(&notice, log));
+    let mut errors = ToWrite::new(Cleared::new(&notice, rt.stderr()));
+    let mut writer = output(rt, &notice)?;
     Ok(serve(
         rt.alloc(),
         name,
         settings,
-        &mut FromRead::new(Counted::new(notice, log)),
-        &mut ToWrite::new(writer),
-        &mut ToWrite::new(Cleared::new(notice, rt.stderr())),
+        &mut reader,
+        &mut writer,
+        &mut errors,
     ))
 }
 
-/// Opens the log and serves it.
-fn report_log(
-    rt: &HostRuntime,
-    name: Name,
-    settings: Settings,
-    log: String,
-) -> Result<u8, ToolFault> {
-    if log.as_str() == "-" {
-        let notice = Notice::new(rt, rt.stdin().is_terminal());
-        return serve_log(rt, &notice, name, settings, rt.stdin());
-    }
-    match open_file(rt, log.as_str()) {
-        Ok(file) => serve_log(rt, &Notice::new(rt, false), name, settings, file),
-        Err(_) => Err(ToolFault::CannotOpen(log)),
-    }
-}
-
-/// Opens a log that is read more than once.
-fn open_again(rt: &HostRuntime, log: String) -> Result<File, ToolFault> {
-    if log.as_str() == "-" {
-        return Err(ToolFault::ReadsOnce);
-    }
-    match open_file(rt, log.as_str()) {
-        Ok(file) => Ok(file),
-        Err(_) => Err(ToolFault::CannotOpen(log)),
-    }
-}
-
-/// Opens the log, which is read twice, and tells who holds its memory.
-fn tell_sites(rt: &HostRuntime, settings: Settings, log: String) -> Result<u8, ToolFault> {
-    let file = open_again(rt, log)?;
-    let notice = Notice::new(rt, false);
-    let Ok(writer) = BufWriter::new(rt.alloc(), Cleared::new(&notice, rt.stdout())) else {
-        return Err(ToolFault::Run(RunFault::OutOfMemory));
+/// Opens the file of a log, and reads it more than once.
+fn reread(rt: &HostRuntime, is_told: bool, what: Rereading, name: String) -> Result<u8, ToolFault> {
+    let Ok(mut log) = open_file(rt, name.as_str()) else {
+        return Err(ToolFault::CannotOpen(name));
     };
-    Ok(serve_sites(
-        rt.alloc(),
-        settings,
-        &mut FromRead::new(Counted::new(&notice, file)),
-        &mut ToWrite::new(writer),
-        &mut ToWrite::new(Cleared::new(&notice, rt.stderr())),
-    ))
+    if log.rewind().is_err() {
+        return Err(ToolFault::ReadsFileOnce(name));
+    }
+    let notice = Notice::new(rt, is_told);
+    let mut reader = FromRead::new(Counted::new(&notice, log));
+    let mut errors = ToWrite::new(Cleared::new(&notice, rt.stderr()));
+    let mut writer = output(rt, &notice)?;
+    Ok(serve_again(rt.alloc(), what, &mut reader, &mut writer, &mut errors))
 }
 
-/// Opens the log, which is read once for each size, and tells how large a pool it needs.
-fn tell_fit(rt: &HostRuntime, step: Option<u64>, log: String) -> Result<u8, ToolFault> {
-    let file = open_again(rt, log)?;
-    let notice = Notice::new(rt, false);
-    let Ok(writer) = BufWriter::new(rt.alloc(), Cleared::new(&notice, rt.stdout())) else {
-        return Err(ToolFault::Run(RunFault::OutOfMemory));
-    };
-    Ok(serve_fit(
-        rt.alloc(),
-        step,
-        &mut FromRead::new(Counted::new(&notice, file)),
-        &mut ToWrite::new(writer),
-        &mut ToWrite::new(Cleared::new(&notice, rt.stderr())),
-    ))
-}
-
-/// Makes the image and saves to it the heap at the end of a log that is open.
-fn save_open<R: Read + Drop>(
+/// Makes the file of an image, unless it is the log's, and saves to it the heap at the end of a log that is open.
+fn save<R: Read + Drop>(
     rt: &HostRuntime,
-    notice: &Notice<'_>,
+    is_told: bool,
     settings: Settings,
     log: R,
+    log_file: Option<FileNumber>,
     image: String,
 ) -> Result<u8, ToolFault> {
+    if are_one(log_file, FileNumber::of_name(rt, image.as_str())) {
+        return Err(ToolFault::CannotOpen(image));
+    }
     let Ok(file) = make_file(rt, image.as_str()) else {
         return Err(ToolFault::CannotOpen(image));
     };
-    let Ok(writer) = BufWriter::new(rt.alloc(), Cleared::new(notice, rt.stdout())) else {
-        return Err(ToolFault::Run(RunFault::OutOfMemory));
-    };
+    let notice = Notice::new(rt, is_told);
+    let mut reader = FromRead::new(Counted::new(&notice, log));
+    let mut errors = ToWrite::new(Cleared::new(&notice, rt.stderr()));
+    let mut writer = output(rt, &notice)?;
+    let mut image = ToWrite::new(file);
     Ok(serve_save(
         rt.alloc(),
         settings,
-        &mut FromRead::new(Counted::new(notice, log)),
-        &mut ToWrite::new(writer),
-        &mut ToWrite::new(file),
-        &mut ToWrite::new(Cleared::new(notice, rt.stderr())),
+        &mut reader,
+        &mut writer,
+        &mut image,
+        &mut errors,
     ))
 }
 
-/// Opens the log, makes the image, and saves.
-fn save_log(
+/// Opens the file of an image, and checks it.
+fn check_file(rt: &HostRuntime, image: String) -> Result<u8, ToolFault> {
+    let mut reader = FromRead::new(open_log(rt, image)?);
+    let mut writer = ToWrite::new(rt.stdout());
+    let mut errors = ToWrite::new(rt.stderr());
+    Ok(check_image(rt.alloc(), &mut reader, &mut writer, &mut errors))
+}
+
+/// Makes a report of a log, which is opened first where it is a file.
+fn report_log(
     rt: &HostRuntime,
+    is_told: bool,
+    name: Name,
     settings: Settings,
-    log: String,
-    image: String,
+    log: Origin,
 ) -> Result<u8, ToolFault> {
-    if log.as_str() == "-" {
-        let notice = Notice::new(rt, rt.stdin().is_terminal());
-        return save_open(rt, &notice, settings, rt.stdin(), image);
-    }
-    match open_file(rt, log.as_str()) {
-        Ok(file) => save_open(rt, &Notice::new(rt, false), settings, file, image),
-        Err(_) => Err(ToolFault::CannotOpen(log)),
+    match log {
+        Origin::Standard => report(rt, is_told, name, settings, rt.stdin()),
+        Origin::File(log) => report(rt, is_told, name, settings, open_log(rt, log)?),
     }
 }
 
-/// Opens an image and checks it.
-fn check_file(rt: &HostRuntime, image: String) -> Result<u8, ToolFault> {
-    match open_file(rt, image.as_str()) {
-        Ok(file) => Ok(check_image(
-            rt.alloc(),
-            &mut FromRead::new(file),
-            &mut ToWrite::new(rt.stdout()),
-            &mut ToWrite::new(rt.stderr()),
-        )),
-        Err(_) => Err(ToolFault::CannotOpen(image)),
+/// Saves the heap at the end of a log, which is opened first where it is a file.
+fn save_log(
+    rt: &HostRuntime,
+    is_told: bool,
+    settings: Settings,
+    log: Origin,
+    image: String,
+) -> Result<u8, ToolFault> {
+    match log {
+        Origin::Standard => {
+            let number = FileNumber::of_name(rt, STANDARD_INPUT);
+            save(rt, is_told, settings, rt.stdin(), number, image)
+        }
+        Origin::File(log) => {
+            let log = open_log(rt, log)?;
+            let number = FileNumber::of_file(&log);
+            save(rt, is_told, settings, log, number, image)
+        }
+    }
+}
+
+/// Does what is planned.
+fn act(rt: &HostRuntime, plan: Plan) -> Result<u8, ToolFault> {
+    match plan {
+        Plan::Report {
+            log,
+            name,
+            settings,
+            notice,
+        } => report_log(rt, notice, name, settings, log),
+        Plan::Reread { log, what, notice } => reread(rt, notice, what, log),
+        Plan::Save {
+            log,
+            image,
+            settings,
+            notice,
+        } => save_log(rt, notice, settings, log, image),
+        Plan::Check { image } => check_file(rt, image),
     }
 }
 
 /// Does what the words ask for.
-fn serve_words(rt: &HostRuntime) -> Result<u8, ToolFault> {
+fn run(rt: &HostRuntime) -> Result<u8, ToolFault> {
     let words = asked_words(rt)?;
-    match command(rt.alloc(), words.as_slice())? {
-        Command::Report {
-            name,
-            settings,
-            log,
-        } => report_log(rt, name, settings, log),
-        Command::Sites { settings, log } => tell_sites(rt, settings, log),
-        Command::Fit { step, log } => tell_fit(rt, step, log),
-        Command::Save {
-            settings,
-            log,
-            image,
-        } => save_log(rt, settings, log, image),
-        Command::Check { image } => check_file(rt, image),
+    let terminals = Terminals {
+        input: rt.stdin().is_terminal(),
+        errors: rt.stderr().is_terminal(),
+    };
+    act(rt, planned(rt.alloc(), words.as_slice(), terminals)?)
+}
+
+/// Tells a fault: help on standard output, any other on standard error. Answers the status that the program ends with.
+fn tell(rt: &HostRuntime, fault: &ToolFault) -> u8 {
+    match fault {
+        ToolFault::Help(text) => {
+            let mut writer = ToWrite::new(rt.stdout());
+            let mut errors = ToWrite::new(rt.stderr());
+            return serve_help(text.as_str(), &mut writer, &mut errors);
+        }
+        ToolFault::Usage(text) => {
+            let _ = eprint!(rt; "{text}");
+        }
+        _ => {
+            let _ = eprintln!(rt; "{fault}");
+        }
     }
+    fault.status()
 }
 
 fn main(rt: HostRuntime) -> ExitCode {
-    match serve_words(&rt) {
-        Ok(status) => ExitCode::from(status),
-        Err(fault) => {
-            let _ = match &fault {
-                ToolFault::Help(text) => print!(rt; "{text}"),
-                ToolFault::Usage(text) => eprint!(rt; "{text}"),
-                _ => eprintln!(rt; "{fault}"),
-            };
-            ExitCode::from(fault.status())
-        }
-    }
+    let status = match run(&rt) {
+        Ok(status) => status,
+        Err(fault) => tell(&rt, &fault),
+    };
+    ExitCode::from(status)
 }

@@ -1,11 +1,78 @@
-//! How far a long run is, told where standard error is a terminal. No contract speaks of the notice. What is read and
-//! written is passed on, by the contracts of std's `Read` and `Write`.
+//! How far a long run is. What is told of it has contracts, when and where has none. What is read and written is passed
+//! on, by the contracts of std's `Read` and `Write`.
 
-use memchr::memchr_iter;
+ghost use Rattle.std.specs.Prelude.{◌≡◌, ◌+◌, ◌-◌, ◌^◌, min};
+ghost use Rattle.tlsf_tool.specs.Progress.{line_ends, progress_of, CountsPiece};
+
 use std::cell::Cell;
 use std::io;
-use std::io::{IsTerminal, Read, Seek, SeekFrom, Write};
+use std::io::{Read, Seek, SeekFrom, Write};
 use std::time::Instant;
+
+/// How far a run is.
+#[derive(Clone, Copy, Debug, PartialEq, Eq)]
+pub struct Progress {
+    /// How many lines are read; what is read again is counted again.
+    pub lines: usize,
+    /// How many sizes are tried.
+    pub sizes: usize,
+}
+
+/// What is counted of a log, and when that was told last.
+#[derive(Clone, Copy, Debug, PartialEq, Eq)]
+pub struct Counts {
+    lines: usize,
+    begun: usize,
+    told: u64,
+}
+
+/// How many lines end in these bytes.
+fn line_ends_in(bytes: &[u8]) -> usize
+    ensures { result ≡ line_ends bytes.now }
+{
+    bytes.iter().filter(|byte| **byte == b'\n').count()
+}
+
+impl Counts {
+    /// Nothing is counted, and nothing was told.
+    pub const NONE: Counts = Counts {
+        lines: 0,
+        begun: 0,
+        told: 0,
+    };
+
+    /// How far the run is. A log that is begun again tries a size, and one that is begun once more has tried it.
+    fn progress(self) -> Progress
+        ensures { result ≡ progress_of self }
+    {
+        Progress {
+            lines: self.lines,
+            sizes: self.begun.saturating_sub(1),
+        }
+    }
+
+    /// Counts the lines that end in a piece, which came in this second of the run. Answers what is to be told, in each
+    /// second but the first once.
+    pub fn count(&mut self, bytes: &[u8], second: u64) -> Option<Progress>
+        ensures { CountsPiece bytes.now second result self.old self.new }
+    {
+        self.lines = self.lines.saturating_add(line_ends_in(bytes));
+        if self.told >= second {
+            return None;
+        }
+        self.told = second;
+        Some(self.progress())
+    }
+
+    /// Counts that the log was begun again.
+    pub fn begin(&mut self)
+        ensures lines { self.new.lines ≡ self.old.lines }
+        ensures begun { self.new.begun ≡ min (self.old.begun + 1) (2 ^ 64 - 1) }
+        ensures told { self.new.told ≡ self.old.told }
+    {
+        self.begun = self.begun.saturating_add(1);
+    }
+}
 
 /// A line on the terminal that says how many lines of the log are read. It is rewritten once a second, from the second
 /// second on, and cleared before anything else is written there.
@@ -17,14 +84,9 @@ pub(crate) struct Notice<'a> {
 }
 
 impl<'a> Notice<'a> {
-    /// The notice of a run that begins now. None is told where standard error is no terminal, nor where the log is typed,
-    /// as the terminal shows what is typed.
-    pub fn new(rt: &'a HostRuntime, is_typed: bool) -> Notice<'a> {
-        let start = if rt.stderr().is_terminal() && !is_typed {
-            Instant::now(rt).ok()
-        } else {
-            None
-        };
+    /// The notice of a run that begins now, where it is to be told.
+    pub fn new(rt: &'a HostRuntime, is_told: bool) -> Notice<'a> {
+        let start = if is_told { Instant::now(rt).ok() } else { None };
         Notice {
             rt,
             start,
@@ -44,7 +106,8 @@ impl<'a> Notice<'a> {
     }
 
     /// Writes the notice, over the one that stands: how many lines are read, and how many sizes are tried, where some are.
-    fn tell(&self, lines: usize, sizes: usize) {
+    fn tell(&self, progress: Progress) {
+        let Progress { lines, sizes } = progress;
         let _ = eprint!(self.rt; "\r\x1b[Ktlsf: {lines} lines read");
         if sizes > 0 {
             let _ = eprint!(self.rt; ", {sizes} sizes tried");
@@ -61,28 +124,21 @@ impl<'a> Notice<'a> {
     }
 }
 
-/// A reader whose lines are counted for a notice. It seeks as the reader does; what is read again is counted again. A log that
-/// is begun again tries a size, and one that is begun once more has tried it.
+/// A reader whose lines are counted for a notice. It seeks as the reader does.
 #[derive(Drop)]
 pub(crate) struct Counted<'a, R> {
     notice: &'a Notice<'a>,
     reader: R,
-    lines: usize,
-    begun: usize,
-    told: u64,
+    counts: Counts,
 }
 
 impl<'a, R: Read> Counted<'a, R> {
-    ghost use Rattle.std.specs.Prelude.{◌≡◌};
-
     /// The reader, of which no line is counted yet.
     pub fn new(notice: &'a Notice<'a>, reader: R) -> Counted<'a, R> {
         Counted {
             notice,
             reader,
-            lines: 0,
-            begun: 0,
-            told: 0,
+            counts: Counts::NONE,
         }
     }
 
@@ -93,11 +149,8 @@ impl<'a, R: Read> Counted<'a, R> {
         if self.notice.start.is_none() {
             return;
         }
-        self.lines = self.lines.wrapping_add(memchr_iter(b'\n', bytes).count());
-        let seconds = self.notice.seconds();
-        if seconds > self.told {
-            self.told = seconds;
-            self.notice.tell(self.lines, self.begun.saturating_sub(1));
+        if let Some(progress) = self.counts.count(bytes, self.notice.seconds()) {
+            self.notice.tell(progress);
         }
     }
 }
@@ -121,7 +174,7 @@ impl<R: Seek> Seek for Counted<'_, R> {
     ghost stream_bytes = { λ counted. R.stream_bytes counted.reader };
 
     fn seek(&mut self, to: SeekFrom) -> io::Result<u64> {
-        self.begun = self.begun.wrapping_add(1);
+        self.counts.begin();
         self.reader.seek(to)
     }
 }

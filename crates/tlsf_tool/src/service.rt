@@ -3,13 +3,14 @@
 ghost use Rattle.mtrace_replay.specs.Run.{Runs};
 ghost use Rattle.mtrace_replay.specs.RunSites.{RunsSites};
 ghost use Rattle.mtrace_replay.specs.RunFit.{RunsFit};
-ghost use Rattle.mtrace_replay.specs.Saving.{RunsAndSaves};
-ghost use Rattle.tlsf_tool.specs.Statuses.{report_of, EndsAs};
+ghost use Rattle.mtrace_replay.specs.Saving.{RunsAndSaves, PutsAndFlushes};
+ghost use Rattle.tlsf_tool.specs.Statuses.{report_of, EndsAs, Rereads, PutsHelp};
 
 use crate::asked::{Name, ToolFault};
+use crate::plan::Rereading;
 use crate::statuses::{end_status, fault_status};
 use arrayvec::ArrayString;
-use mtrace_log::{Again, Sink, Source, put_all};
+use mtrace_log::{Again, Failed, Sink, Source, put_all};
 use mtrace_replay::{
     RunFault, Settings, Status, run_fit, run_leaks, run_peak, run_save, run_sites, run_walk,
 };
@@ -24,6 +25,28 @@ pub(crate) fn put_fault<E: Sink>(errors: &mut E, fault: &ToolFault) {
     let mut text: ArrayString<LONGEST_FAULT> = ArrayString::new();
     if write!(text, "{fault}\n").is_ok() {
         let _ = put_all(errors, text.as_str().as_bytes());
+    }
+}
+
+/// Puts a text, and flushes.
+pub(crate) fn put_text<W: Sink>(writer: &mut W, text: &[u8]) -> Result<(), Failed>
+    ensures { PutsAndFlushes W.taken W.trace result text.now writer.old writer.new }
+{
+    put_all(writer, text)?;
+    writer.flush()
+}
+
+/// Puts help or the version, and flushes. Puts the line of a fault to `errors`, whose own fault doesn't matter. Answers
+/// the status that the program ends with: 0 where all is put, and 3 where the writer failed.
+pub fn serve_help<W: Sink, E: Sink>(text: &str, writer: &mut W, errors: &mut E) -> u8
+    ensures { EndsAs (λ outcome. PutsHelp text.now W.taken W.trace outcome writer.old writer.new) result errors.old errors.new }
+{
+    match put_text(writer, text.as_bytes()) {
+        Ok(()) => end_status(Status::Clean),
+        Err(_) => {
+            put_fault(errors, &ToolFault::Run(RunFault::Write));
+            fault_status(RunFault::Write)
+        }
     }
 }
 
@@ -110,6 +133,23 @@ pub fn serve_fit<R: Again, W: Sink, E: Sink>(
             put_fault(errors, &ToolFault::Run(fault));
             fault_status(fault)
         }
+    }
+}
+
+/// Serves a log that is read more than once, by `serve_sites` or `serve_fit`.
+pub fn serve_again<R: Again, W: Sink, E: Sink>(
+    alloc: Global,
+    what: Rereading,
+    reader: &mut R,
+    writer: &mut W,
+    errors: &mut E,
+) -> u8
+    ensures { EndsAs (λ outcome. Rereads what R.left R.whole R.trace W.taken W.trace outcome reader.old reader.new writer.old writer.new)
+        result errors.old errors.new }
+{
+    match what {
+        Rereading::Sites(settings) => serve_sites(alloc, settings, reader, writer, errors),
+        Rereading::Fit(step) => serve_fit(alloc, step, reader, writer, errors),
     }
 }
 

@@ -1,9 +1,9 @@
 //! The words of the command line.
 
-ghost use Rattle.std.specs.Prelude.{◌≡◌, ◌⊎◌, codes, string_bytes, Some, None};
+ghost use Rattle.std.specs.Prelude.{◌≡◌, ◌⊎◌, codes, string_bytes, Some, None, IfSome};
 ghost use Rattle.clap.specs.Words.{first_of, found_of, kind_of, rows_of, subcommand_rows_of};
 ghost use Rattle.tlsf_tool.specs.CommandLine.{HasNumber, HasSettings, HasNoLog, name_text};
-ghost use Rattle.tlsf_tool.specs.Faults.{ExplainsKind};
+ghost use Rattle.tlsf_tool.specs.Faults.{ExplainsKind, IsUsage};
 ghost use Rattle.tlsf_tool.specs.Asks.{Picks, Asks, MatchesGive, WordsGive};
 
 use crate::asked::{Command, Name, ToolFault};
@@ -155,12 +155,54 @@ fn asked(alloc: Global, matches: &ArgMatches<'_>) -> Result<Command, ToolFault>
     }
 }
 
-/// The fault of clap's error, with its text.
-fn fault_of(alloc: Global, error: &Error) -> ToolFault
+/// Whether the word is an option that takes a number.
+fn takes_number(word: &str) -> bool {
+    matches!(word, "--pool" | "--pools" | "--records" | "--step")
+}
+
+/// Whether the word is a number behind a minus sign.
+fn is_signed(word: &str) -> bool {
+    match word.strip_prefix('-') {
+        Some(digits) => !digits.is_empty() && digits.bytes().all(|byte| byte.is_ascii_digit()),
+        None => false,
+    }
+}
+
+/// The fault of a value with a sign, where words in front of `--` have one: clap would tell it as a word of its own.
+fn signed_fault(alloc: Global, words: &[String]) -> Option<ToolFault>
+    ensures { IfSome result (λ fault. IsUsage fault ⊎ (fault ≡ ToolFault.Run RunFault.OutOfMemory)) }
+{
+    let mut option = "";
+    for word in words {
+        let word = word.as_str();
+        if word == "--" {
+            return None;
+        }
+        if takes_number(option) && is_signed(word) {
+            let text = format!(in alloc;
+                "error: invalid value '{word}' for '{option}': it takes a number without a sign\n\nFor more information, try '--help'.\n"
+            );
+            return match text {
+                Ok(text) => Some(ToolFault::Usage(text)),
+                Err(_) => Some(NO_MEMORY),
+            };
+        }
+        option = word;
+    }
+    None
+}
+
+/// The fault of clap's error for these words, with its text.
+fn fault_of(alloc: Global, words: &[String], error: &Error) -> ToolFault
     ensures { (result ≡ ToolFault.Run RunFault.OutOfMemory) ⊎ ExplainsKind (kind_of error.now) result }
 {
     if error.kind() == ErrorKind::OutOfMemory {
         return NO_MEMORY;
+    }
+    if error.kind() == ErrorKind::UnknownArgument {
+        if let Some(fault) = signed_fault(alloc, words) {
+            return fault;
+        }
     }
     match error.to_string(alloc) {
         Ok(text) if error.use_stderr() => ToolFault::Usage(text),
@@ -183,6 +225,6 @@ pub fn command(alloc: Global, words: &[String]) -> Result<Command, ToolFault>
     };
     match line.try_get_matches_from(words) {
         Ok(matches) => asked(alloc, &matches),
-        Err(error) => Err(fault_of(alloc, &error)),
+        Err(error) => Err(fault_of(alloc, words, &error)),
     }
 }

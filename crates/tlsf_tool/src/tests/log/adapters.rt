@@ -146,7 +146,7 @@ fn expect_all_again<R: Again>(rt: &impl Abort, reader: &mut R) {
 fn begins_again_where_std_seeks(rt: HostRuntime) -> Result<(), Fail> {
     let digits = b"0123456789".as_slice();
     expect_all_again(&rt, &mut FromRead::new(Cursor::new(digits)));
-    let notice = Notice::new(&rt, true);
+    let notice = Notice::new(&rt, false);
     let buffered = BufReader::with_capacity(rt.alloc(), 5, Cursor::new(digits))?;
     expect_all_again(&rt, &mut FromRead::new(Counted::new(&notice, buffered)));
     Ok(())
@@ -247,10 +247,10 @@ impl Read for Digits {
 fn reads_many_bytes_from_std(rt: HostRuntime) {
     let mut reader = FromRead::new(Digits {
         given: 0,
-        bytes: 100_000,
+        bytes: 21_000_000,
     });
     let mut byte = [0u8; 7];
-    for number in 0..100_000u32 {
+    for number in 0..21_000_000u32 {
         assert!(rt; reader.pull(&mut byte) == Ok(1), "{number}");
         assert!(rt; byte[0] == b'0' + (number % 10) as u8, "{number}");
     }
@@ -271,5 +271,5 @@ fn expect_one_call(rt: &impl Abort, alloc: Global, count: u32) -> Result<(), Fai
 
 #[test]
 fn many_bytes_in_one_call(rt: HostRuntime) -> Result<(), Fail> {
-    expect_one_call(&rt, rt.alloc(), 100_000)
+    expect_one_call(&rt, rt.alloc(), 1_000_000)
 }
