@@ -83,6 +83,13 @@ size_t tlsf_size_records(uint32_t records)
 {
     return sizeof(struct control) + HANDED_IN + TLSF_HEAP_TABLE_BYTES(records);
 }
+size_t tlsf_sure_bytes(uint32_t blocks, size_t bytes, size_t largest)
+{
+    uint32_t class_size = largest == 0 ? 0 : tlsf_heap_class_size(1, (uint64_t)largest + FRONT);
+    uint64_t live = (uint64_t)bytes + (uint64_t)blocks * FRONT;
+    uint32_t pool = tlsf_heap_sure_pool(blocks, live, class_size);
+    return pool == 0 ? 0 : tlsf_size_records(2 * blocks + 3) + pool;
+}
 size_t tlsf_size(void) { return tlsf_size_records(TLSF_RECORDS); }
 size_t tlsf_align_size(void) { return UNIT; }
 size_t tlsf_block_size_min(void) { return UNIT; }

@@ -23,6 +23,7 @@ pub mod Saving
 pub mod Search
 pub mod Settings
 pub mod Sites
+pub mod Size
 pub mod Started
 pub mod Step
 pub mod Texts

@@ -219,7 +219,7 @@ fn fit_text<R: Again>(
 }
 
 /// Puts a text, and flushes.
-fn put_and_flush<W: Sink>(writer: &mut W, text: &[u8]) -> Result<(), Failed>
+pub(crate) fn put_and_flush<W: Sink>(writer: &mut W, text: &[u8]) -> Result<(), Failed>
     ensures { PutsAndFlushes W.taken W.trace result text.now writer.old writer.new }
 {
     if put_all(writer, text).is_err() {

@@ -1,6 +1,6 @@
 //! The text that tells how large a pool a log needs.
 
-ghost use Rattle.std.specs.Prelude.{◌≡◌, ◌+◌, ◌≤◌, ◌++◌, length};
+ghost use Rattle.std.specs.Prelude.{◌≡◌, ◌+◌, ◌^◌, ◌<◌, ◌≤◌, ◌++◌, length};
 ghost use Rattle.arrayvec.specs.ArrayVec.{array_vec_len};
 ghost use Rattle.mtrace_replay.specs.Appends.{Appends};
 ghost use Rattle.mtrace_replay.specs.Texts.{size_line, count_line, greatest_line, most_line, record_lines, served_lines, tried_lines, fitted_lines, untried_lines};
@@ -14,7 +14,7 @@ use crate::totals::Totals;
 use arrayvec::ArrayVec;
 
 /// Appends a line of a size behind its word, or that there is none.
-fn push_size_line(text: &mut LineText, word: &[u8], size: Option<u64>)
+pub(crate) fn push_size_line(text: &mut LineText, word: &[u8], size: Option<u64>)
     requires { array_vec_len text.old + length word.now + 50 ≤ LONGEST_TEXT }
     ensures { Appends (size_line word.now size) (length word.now + 50) text.old text.new }
 {
@@ -50,11 +50,11 @@ fn push_most(text: &mut LineText, totals: Totals, most: u64)
 }
 
 /// Appends the records, and the bytes of their table.
-fn push_records(text: &mut LineText, records: u32)
-    requires { array_vec_len text.old ≤ 300 }
+pub(crate) fn push_records(text: &mut LineText, records: u64)
+    requires few { array_vec_len text.old ≤ 300 }
+    requires fits { records < 2 ^ 40 }
     ensures { Appends (record_lines records) 130 text.old text.new }
 {
-    let records = u64::from(records);
     push_number_line(text, b"records: ", records);
     push_size_line(text, b"table: ", Some(16 * records + 1696));
 }
@@ -89,7 +89,7 @@ fn push_fitted(text: &mut LineText, records: u32, fitted: Fitted, sure: Option<u
     requires { array_vec_len text.old ≤ 300 }
     ensures { text.new.items ≡ text.old.items ++ fitted_lines records fitted sure }
 {
-    push_records(text, records);
+    push_records(text, u64::from(records));
     push_tried(text, fitted);
     push_size_line(text, b"sure pool: ", sure);
 }
