@@ -85,7 +85,8 @@ size_t tlsf_size_records(uint32_t records)
 }
 size_t tlsf_sure_bytes(uint32_t blocks, size_t bytes, size_t largest)
 {
-    uint32_t class_size = largest == 0 ? 0 : tlsf_heap_class_size(1, (uint64_t)largest + FRONT);
+    bool few = largest > 0 && largest < TLSF_HEAP_GREATEST && bytes < TLSF_HEAP_GREATEST;
+    uint32_t class_size = few ? tlsf_heap_class_size(1, (uint64_t)largest + FRONT) : 0;
     uint64_t live = (uint64_t)bytes + (uint64_t)blocks * FRONT;
     uint32_t pool = tlsf_heap_sure_pool(blocks, live, class_size);
     return pool == 0 ? 0 : tlsf_size_records(2 * blocks + 3) + pool;

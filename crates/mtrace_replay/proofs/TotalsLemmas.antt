@@ -13,8 +13,7 @@ use Rattle.tlsf_heap.proofs.Good.LiveBlocks.{none_stands, gap_is_free}
 use Rattle.mtrace_replay.specs.declared.settings.Settings.{Settings}
 use Rattle.mtrace_replay.specs.Started.{Bare, left_by, with_pools, started}
 use Rattle.mtrace_replay.specs.Moment.{Given, Moment}
-use Rattle.mtrace_replay.specs.History.{content_after, entries_of}
-use Rattle.mtrace_replay.specs.Texts.{total_size}
+use Rattle.mtrace_replay.specs.History.{content_after}
 use Rattle.mtrace_replay.specs.Totals.{first_moments, bytes_in, Measures, IsSum, IsMost, IsPeak, IsLiveAfter, IsHighPlace}
 use Rattle.mtrace_replay.proofs.SortedLemmas.{one_list}
 use Rattle.mtrace_replay.proofs.FoundLemmas.{none_held}

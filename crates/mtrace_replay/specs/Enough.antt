@@ -1,5 +1,5 @@
 -- What is held at most, which blocks are asked for at most, and for what reasons a line isn't refused.
-use Rattle.std.specs.Prelude.{◌≡◌, ◌≢◌, ℕ, suc, ◌≤◌, List, [], ◌∷◌, length, Some, None, ⊤}
+use Rattle.std.specs.Prelude.{◌≢◌, ℕ, suc, ◌≤◌, List, [], ◌∷◌, length, Some, None, ⊤}
 use Rattle.std.specs.List.{AllByRecursion}
 use Rattle.tlsf_heap.specs.declared.refusal.Refusal.{Refusal}
 use Rattle.tlsf_heap.specs.declared.refusal.Refusal.TheVariants.{TableFull}

@@ -1,5 +1,5 @@
 -- What is held, by address, as a list in order of address.
-use Rattle.std.specs.Prelude.{◌≡◌, ◌≢◌, Bool, ℕ, ◌+◌, ◌*◌, ◌<◌, ◌≤◌, ◌^◌, List, length, map, find, sum_by, Option, Some, ◌==◌, IfOk, IfErr}
+use Rattle.std.specs.Prelude.{◌≡◌, ◌≢◌, Bool, ℕ, ◌*◌, ◌<◌, ◌≤◌, ◌^◌, List, length, map, find, sum_by, Option, Some, ◌==◌, IfOk, IfErr}
 use Rattle.std.specs.List.Sorted.{IsStrictlyIncreasing}
 use Rattle.tlsf_heap.specs.Touches.{AtMost}
 use Rattle.mtrace_replay.specs.Moment.{rounded_bytes}

@@ -1,4 +1,4 @@
-use Rattle.std.proofs.Common.{ap, sym, ◌∙◌, arith}
+use Rattle.std.proofs.Common.{sym, ◌∙◌, arith}
 use Rattle.tlsf_class.proofs.RoundingLaws.{round-Some}
 use Rattle.mtrace_replay.proofs.step.rounded_bytes.Goals as goal
 
