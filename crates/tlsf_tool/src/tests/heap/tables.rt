@@ -216,6 +216,20 @@ fn bitmaps_spoiled(rt: HostRuntime) {
     assert!(rt; !is_whole(&mut store));
 }
 
+/// The entry of a pool behind one that is vacant.
+#[test]
+fn gap_between_pools(rt: HostRuntime) {
+    let mut store = filled(&rt, rt.alloc());
+    let pool = store.pool(0);
+    assert!(rt; pool.is_some());
+    store.set_pool(0, None);
+    store.set_pool(1, pool);
+    assert!(rt; !is_whole(&mut store));
+    store.set_pool(0, pool);
+    store.set_pool(1, None);
+    assert!(rt; is_whole(&mut store));
+}
+
 /// A record in use that is of no chain, and a pool whose entry is gone.
 #[test]
 fn counts_spoiled(rt: HostRuntime) {
