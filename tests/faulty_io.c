@@ -1,12 +1,13 @@
 /* The calls of the C library that read and write, which fail, move one byte or wait where the environment tells them
-   to. Each read and each write counts as one call, from 1 on. tests/faults and tests/program.d/progress preload them.
+   to. Each read and each write counts as one call, from 1 on. tests/faults and scripts of tests/program.d preload them.
    IO_FAIL=N       call N fails
    IO_FAIL_READ=N  the N-th read fails
    IO_SHORT=N      call N moves one byte at most
    IO_ERROR=E      the error of a call that fails; else 5, a fault of the device
    IO_WAIT=N,N..   the N-th read begins 1.2 seconds later
    IO_COUNT=FILE   at the end FILE gets the number of reads and the number of writes
-   IO_GROW=FILE    behind call IO_GROW_AT a line is appended to FILE */
+   IO_GROW=FILE    behind call IO_GROW_AT a line is appended to FILE
+   IO_CUT=FILE     behind call IO_CUT_AT FILE is cut to IO_CUT_TO bytes */
 #define _GNU_SOURCE
 #include <dlfcn.h>
 #include <errno.h>
@@ -56,10 +57,13 @@ static ssize_t begin(size_t count, bool is_read) {
 }
 
 static void end(void) {
-    const char *name = getenv("IO_GROW");
+    const char *grows = getenv("IO_GROW");
+    const char *is_cut = getenv("IO_CUT");
     int error = errno;
-    if (name != NULL && calls == number_of("IO_GROW_AT"))
-        append_line(name);
+    if (grows != NULL && calls == number_of("IO_GROW_AT"))
+        append_line(grows);
+    if (is_cut != NULL && calls == number_of("IO_CUT_AT") && truncate(is_cut, number_of("IO_CUT_TO")) != 0)
+        abort();
     errno = error;
 }
 

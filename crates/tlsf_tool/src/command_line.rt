@@ -50,7 +50,7 @@ const SITES: &str =
 
 /// What the report of the sizes means.
 const FIT: &str =
-    "Reports how large a pool the log needs, and how many records: sizes from its peak to twice its peak are tried. LOG is read once for each.";
+    "Reports how large a pool the log needs, and how many records: sizes from its peak to twice its peak are tried, and greater ones where none of these serves. LOG is read once for each.";
 
 /// What the sizes without a log mean.
 const SIZE: &str =

@@ -16,6 +16,7 @@ mod replay;
 mod reports;
 mod rows;
 mod sites;
+mod size;
 mod store;
 mod words;
 
