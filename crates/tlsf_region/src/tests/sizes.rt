@@ -35,6 +35,15 @@ fn lengths(rt: HostRuntime) {
     }
 }
 
+/// Each length up to 4,096.
+#[test]
+fn small_lengths(rt: HostRuntime) {
+    for len in 0..4_097 {
+        let mut region = made(&rt, rt.alloc(), len, 1);
+        expect_eq(&rt, region.add_pool(0, 16).is_ok(), len >= 16);
+    }
+}
+
 /// A hundred lengths from 2,000,000 on, with each rest that there is by 16 and by 100.
 #[test]
 fn large_lengths(rt: HostRuntime) {

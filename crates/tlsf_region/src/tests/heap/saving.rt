@@ -37,6 +37,25 @@ fn saved_images(rt: HostRuntime) {
     assert!(rt; has_rows(&mut loaded, 0, &[(0, 64, false)]));
 }
 
+/// A heap of this many records is saved, and loaded from its image.
+fn expect_loaded<A: Abort>(rt: &A, alloc: Global, records: u32) {
+    let mut heap = small(rt, alloc, records);
+    let mut image = MemorySink::in_pieces(alloc, usize::MAX);
+    expect_eq(rt, heap.save_image(&mut image), Ok(()));
+    assert!(rt; Heap::load_image(alloc, image.bytes()).is_ok(), "{records}");
+}
+
+/// Each count of records up to 1,024, and thirty up to the greatest.
+#[test]
+fn counts_of_loaded_heaps(rt: HostRuntime) {
+    for records in 1..1_025 {
+        expect_loaded(&rt, rt.alloc(), records);
+    }
+    for number in 0..30 {
+        expect_loaded(&rt, rt.alloc(), 65_535 - 2_113 * number);
+    }
+}
+
 /// The writer fails behind each number of bytes, or takes none there; the heap can be saved afterwards.
 #[test]
 fn image_writer_fails(rt: HostRuntime) {
