@@ -25,7 +25,7 @@
 
 #define EXPORT __attribute__((visibility("default")))
 
-enum { UNIT = 16, PAGE = 4096, POOL = 1 << 29 };
+enum { UNIT = TLSF_HEAP_UNIT, PAGE = 4096, POOL = 1 << 29 };
 
 static pthread_mutex_t lock = PTHREAD_MUTEX_INITIALIZER;
 static __thread bool forks;
@@ -78,18 +78,20 @@ static void after_fork(void)
 static void make(void)
 {
     const char *report = getenv("TLSF_REPORT");
+    bool reports = report != NULL && strcmp(report, "1") == 0;
     size_t records = setting("TLSF_RECORDS", TLSF_HEAP_RECORDS_MOST, TLSF_HEAP_RECORDS_MOST);
     size_t pool = (setting("TLSF_POOL", TLSF_HEAP_GREATEST, POOL) + UNIT - 1) / UNIT * UNIT;
     size_t bytes = tlsf_size_records((uint32_t)records) + pool;
     void *memory = mmap(NULL, bytes, PROT_READ | PROT_WRITE,
                         MAP_PRIVATE | MAP_ANONYMOUS | MAP_NORESERVE, -1, 0);
-    if (report != NULL && strcmp(report, "1") == 0) {
-        /* A program may close its own before it ends. */
-        report_to = fcntl(STDERR_FILENO, F_DUPFD_CLOEXEC, 100);
-    }
     if (memory == MAP_FAILED) {
-        say(STDERR_FILENO, "there is no memory for the pool and the table\n");
+        say(STDERR_FILENO, "there is no memory for the pool and the table: each call is refused\n");
         return;
+    }
+    /* A program may close its own before it ends. */
+    report_to = reports ? fcntl(STDERR_FILENO, F_DUPFD_CLOEXEC, 100) : -1;
+    if (reports && report_to < 0) {
+        say(STDERR_FILENO, "no report at the end: no descriptor from 100 on\n");
     }
     heap = tlsf_create_records(memory, bytes, (uint32_t)records);
     pthread_atfork(before_fork, after_fork, after_fork);
@@ -195,7 +197,9 @@ EXPORT int posix_memalign(void **out, size_t align, size_t bytes)
     void *address = align % sizeof address == 0 ? memalign(align, bytes) : NULL;
     int why = address == NULL ? errno : 0;
     errno = before;
-    *out = address == NULL ? *out : address;
+    if (address != NULL) {
+        *out = address;
+    }
     return why;
 }
 

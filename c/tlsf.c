@@ -35,11 +35,12 @@
 #define TLSF_WALK_ROWS 64
 #endif
 
-#if TLSF_RECORDS < 1 || TLSF_RECORDS > 65535
+#if TLSF_RECORDS < 1 || TLSF_RECORDS > TLSF_HEAP_RECORDS_MOST
 #error "TLSF_RECORDS is from 1 to 65535"
 #endif
 
-enum { UNIT = 16, FRONT = 16, LEAST_POOL = 32, HANDED_IN = 8, POOLS = 8, MARK = 0x7c5f };
+enum { UNIT = TLSF_HEAP_UNIT, POOLS = TLSF_HEAP_POOLS };
+enum { FRONT = 16, LEAST_POOL = UNIT + FRONT, HANDED_IN = 8, MARK = 0x7c5f };
 #define MAGIC ((uintptr_t)0x544c53465f484541)
 
 /* A pool: where its bytes are, and its places. One that isn't there has no bytes. */
@@ -81,6 +82,14 @@ static struct control *control_of(void *tlsf)
 size_t tlsf_size_records(uint32_t records)
 {
     return sizeof(struct control) + HANDED_IN + TLSF_HEAP_TABLE_BYTES(records);
+}
+size_t tlsf_sure_bytes(uint32_t blocks, size_t bytes, size_t largest)
+{
+    bool few = largest > 0 && largest < TLSF_HEAP_GREATEST && bytes < TLSF_HEAP_GREATEST;
+    uint32_t class_size = few ? tlsf_heap_class_size(1, (uint64_t)largest + FRONT) : 0;
+    uint64_t live = (uint64_t)bytes + (uint64_t)blocks * FRONT;
+    uint32_t pool = tlsf_heap_sure_pool(blocks, live, class_size);
+    return pool == 0 ? 0 : tlsf_size_records(2 * blocks + 3) + pool;
 }
 size_t tlsf_size(void) { return tlsf_size_records(TLSF_RECORDS); }
 size_t tlsf_align_size(void) { return UNIT; }
@@ -184,16 +193,17 @@ void tlsf_destroy(tlsf_t tlsf)
     }
 }
 
-/* The pointer to a live block, whose front is written. */
+/* The pointer to a live block, whose front is written. Only where the control part or the table is
+ * spoiled does the block lie in no pool, and then the pointer is null. */
 static void *hand_out(struct control *control, tlsf_heap_block block)
 {
     struct front front = {control, block.place, block.slot, MARK};
-    struct pool *pool = control->pools;
-    while (block.place - pool->place >= pool->bytes) {
-        pool++;
+    unsigned char *start = NULL;
+    for (int k = 0; k < POOLS && start == NULL; k++) {
+        uint32_t from = block.place - control->pools[k].place;
+        start = from < control->pools[k].bytes ? control->pools[k].memory + from : NULL;
     }
-    unsigned char *start = pool->memory + (block.place - pool->place);
-    return (unsigned char *)memcpy(start, &front, FRONT) + FRONT;
+    return start == NULL ? NULL : (unsigned char *)memcpy(start, &front, FRONT) + FRONT;
 }
 
 /* Whether a pointer lies in a pool of the heap, and the bytes in front of it say that it was handed
@@ -275,7 +285,7 @@ void *tlsf_realloc(tlsf_t tlsf, void *ptr, size_t size)
         return NULL;
     }
     void *other = hand_out(control, given);
-    return other == ptr ? ptr : memcpy(other, ptr, had < size ? had : size);
+    return other == ptr || other == NULL ? other : memcpy(other, ptr, had < size ? had : size);
 }
 
 /* The control part of a pool's heap, or a null pointer where the pool isn't there. */

@@ -87,6 +87,13 @@ size_t tlsf_alloc_overhead(void);
 /* The bytes that tlsf_create_records needs in front of a pool (this call isn't Conte's). */
 size_t tlsf_size_records(uint32_t records);
 
+/* The bytes with which tlsf_create_records, for 2 * blocks + 3 records, makes a heap that never
+ * answers null: in whatever order blocks are asked for and given back, as long as at most `blocks`
+ * are live, of at most `bytes` bytes together, each rounded up to 16, and none is asked for with more
+ * than `largest` bytes or by tlsf_memalign above 16. 0 where there is no such heap (this call isn't
+ * Conte's). */
+size_t tlsf_sure_bytes(uint32_t blocks, size_t bytes, size_t largest);
+
 /* Calls the walker with each block of the pool, live or free, in order of address. A null pointer
  * stands for a walker that prints. Blocks are read 64 at a time, each time from the end of the last
  * one on. So the walker may allocate and free. Each 64 blocks take a reading of the pool's whole

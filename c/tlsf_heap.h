@@ -35,6 +35,10 @@
 #include <stddef.h>
 #include <stdint.h>
 
+#if UINTPTR_MAX < 0xffffffffffffffff
+#error "tlsf_heap.h is for 64-bit processors: the library behind it is built for no other"
+#endif
+
 #ifdef __cplusplus
 extern "C" {
 #endif
@@ -58,6 +62,42 @@ extern "C" {
 /* How many bytes tlsf_heap_create_in and tlsf_heap_load_in take for a heap of `records` records:
  * 16 for each, 1,664 for the heap itself, and 16 in front of each of these two. */
 #define TLSF_HEAP_TABLE_BYTES(records) (1696u + 16u * (size_t)(records))
+
+/* The lowest size of the class that a request for `bytes` bytes, at a multiple of `align`, asks the
+ * free lists for: from that class on each block has the bytes. 0 where there is no such class, or no
+ * such alignment. Take 1 for `align` where blocks aren't aligned. */
+static inline uint32_t tlsf_heap_class_size(uint64_t align, uint64_t bytes)
+{
+    uint64_t size = (bytes + TLSF_HEAP_UNIT - 1u) / TLSF_HEAP_UNIT * TLSF_HEAP_UNIT;
+    uint64_t step = TLSF_HEAP_UNIT;
+    if (bytes == 0 || bytes > TLSF_HEAP_GREATEST || align == 0 || align > (1u << 29)
+        || (align & (align - 1u)) != 0) {
+        return 0;
+    }
+    size += align > TLSF_HEAP_UNIT ? align - TLSF_HEAP_UNIT : 0;
+    while (size >= 64u * step) {
+        step *= 2u;
+    }
+    size = (size + step - 1u) / step * step;
+    return size > 1056964608u ? 0 : (uint32_t)size;
+}
+
+/* The bytes of one pool that is always enough, in whatever order the program asks and gives back: at
+ * most `blocks` blocks are live, of at most `bytes` bytes together, each in whole units of 16, and
+ * `class_size` is the greatest tlsf_heap_class_size of the requests. Give the heap 2 * blocks + 3
+ * records. 0 where there is no such pool. The library's law says so of its own calls; these two
+ * functions are C and aren't proved. */
+static inline uint32_t tlsf_heap_sure_pool(uint64_t blocks, uint64_t bytes, uint32_t class_size)
+{
+    uint64_t too_small = class_size > TLSF_HEAP_UNIT ? class_size - TLSF_HEAP_UNIT : 0;
+    uint64_t pool;
+    if (class_size == 0 || blocks > (TLSF_HEAP_RECORDS_MOST - 3u) / 2u
+        || bytes > TLSF_HEAP_GREATEST) {
+        return 0;
+    }
+    pool = bytes + (blocks + 1u) * too_small + TLSF_HEAP_UNIT;
+    return pool > TLSF_HEAP_GREATEST ? 0 : (uint32_t)pool;
+}
 
 /* How many bytes the image of a heap of `records` records has: at most 1,050,080. */
 #define TLSF_HEAP_IMAGE_BYTES(records) (1520u + 16u * (size_t)(records))
@@ -220,9 +260,9 @@ enum tlsf_status tlsf_heap_load_in(void *memory, size_t bytes, const unsigned ch
                                    size_t length, tlsf_heap *out);
 
 /* Where the table's memory comes from: the two functions that the proved library wants of a
- * program, beside memcpy, memmove and memset. tlsf_memory.c has both, over malloc and free, and
- * they are in libtlsf_heap.a. A program that has both itself gets its own; then it has no
- * tlsf_heap_create_in and no tlsf_heap_load_in, which stand beside them.
+ * program, beside memcpy and memset. tlsf_memory.c has both, over malloc and free, and they are in
+ * libtlsf_heap.a. A program that has both itself gets its own; then it has no tlsf_heap_create_in
+ * and no tlsf_heap_load_in, which stand beside them.
  *
  * rattle_alloc answers memory of `bytes` bytes at a multiple of align, which is at most 16. Where
  * there is none, ok is false, and p still points to some byte. rattle_dealloc gets back what

@@ -23,7 +23,7 @@
 #define OF_THREAD __thread
 #endif
 
-enum { UNIT = 16 };
+enum { UNIT = TLSF_HEAP_UNIT };
 
 /* Whether a call over memory handed in is under way, and what is left of that memory. */
 static OF_THREAD struct handed {
@@ -49,10 +49,7 @@ struct rattle_tried rattle_alloc(size_t bytes, size_t align)
     return (struct rattle_tried){true, (unsigned char *)at + UNIT};
 }
 
-void rattle_dealloc(unsigned char *p)
-{
-    free(*(void **)(void *)(p - UNIT));
-}
+void rattle_dealloc(unsigned char *p) { free(*(void **)(void *)(p - UNIT)); }
 
 /* Begins a call over this memory. None of it is taken where it begins at no multiple of 16. */
 static void hand_in(void *memory, size_t bytes)

@@ -1,8 +1,9 @@
 /* Each call of malloc's family, for a program on libtlsf_malloc.so: what it answers, errno,
  * threads, and forks while threads ask. With the word `refused` pointers that are no live block's
  * are freed, which the C library's own malloc wouldn't bear. With `served` it writes how many times
- * one byte is served. With `hold` it ends with blocks held. With `alone` there are no threads and
- * no forks. */
+ * one byte is served. With `hold` it ends with blocks held; with `spoil_front` or `spoil_table` with
+ * bytes changed that aren't its own. With `locks` it asks while another thread has the lock. With
+ * `alone` there are no threads and no forks. */
 #define _GNU_SOURCE
 #include <errno.h>
 #include <malloc.h>
@@ -139,6 +140,15 @@ static void aligned(void)
     expect(is_at(page, 4096) && is_at(pages, 4096) && malloc_usable_size(pages) >= 4096, "valloc and pvalloc");
     free(page);
     free(pages);
+    page = valloc(5000);
+    pages = pvalloc(4097);
+    expect(is_at(page, 4096) && malloc_usable_size(page) >= 5000, "valloc of 5,000: all its bytes");
+    expect(is_at(pages, 4096) && malloc_usable_size(pages) >= 8192, "pvalloc of 4,097: two pages");
+    memset(page, 1, 5000);
+    memset(pages, 2, 8192);
+    expect(holds(page, 5000, 1) && holds(pages, 8192, 2), "their bytes are their own");
+    free(page);
+    free(pages);
 }
 
 /* ---- threads, and forks ---- */
@@ -180,9 +190,72 @@ static void handler(void)
     of_handlers = malloc(100);
 }
 
+/* A thread that asks for a block's size while another forks, and so has the lock. */
+static void *volatile sized;
+static volatile bool is_forking, is_answered, is_early;
+
+static void *ask_for_size(void *block)
+{
+    while (!is_forking) {
+        usleep(1000);
+    }
+    size_t room = malloc_usable_size(block);
+    is_answered = true;
+    return room >= 100 ? block : NULL;
+}
+
+/* Before a fork: what runs here has the lock of the malloc, which was registered later. */
+static void prepare(void)
+{
+    handler();
+    if (sized != NULL) {
+        is_forking = true;
+        usleep(300000);
+        is_early = is_answered;
+    }
+}
+
 __attribute__((constructor)) static void with_handlers(void)
 {
-    pthread_atfork(handler, handler, handler);
+    pthread_atfork(prepare, handler, handler);
+}
+
+static void locks(void)
+{
+    void *block = malloc(100), *answer = NULL;
+    pthread_t thread;
+    int status = 1;
+    pthread_create(&thread, NULL, ask_for_size, block);
+    sized = block;
+    pid_t child = fork();
+    if (child == 0) {
+        _exit(0);
+    }
+    sized = NULL;
+    pthread_join(thread, &answer);
+    expect(child > 0 && waitpid(child, &status, 0) == child && status == 0 && answer == block, "malloc_usable_size in a thread while another forks");
+    expect(!is_early, "it waits at the lock");
+    free(block);
+}
+
+/* A child of this process forks, and so does its child: each of the three is served. */
+static bool forks_again(int generations)
+{
+    int status = 1;
+    char *text = malloc(1000);
+    strcpy(text, "a child's");
+    text = realloc(text, 100000);
+    bool right = strcmp(text, "a child's") == 0;
+    free(text);
+    if (generations == 0) {
+        return right;
+    }
+    pid_t child = fork();
+    if (child == 0) {
+        alarm(20);
+        _exit(forks_again(generations - 1) ? 0 : 1);
+    }
+    return right && child > 0 && waitpid(child, &status, 0) == child && status == 0;
 }
 
 static void forks(void)
@@ -197,12 +270,7 @@ static void forks(void)
         pid_t child = fork();
         if (child == 0) {
             alarm(20);
-            char *text = malloc(1000);
-            strcpy(text, "a child's");
-            text = realloc(text, 100000);
-            bool right = strcmp(text, "a child's") == 0;
-            free(text);
-            _exit(right ? 0 : 1);
+            _exit(forks_again(k % 10 == 0 ? 2 : 0) ? 0 : 1);
         }
         good = good && child > 0 && waitpid(child, &status, 0) == child && status == 0;
     }
@@ -212,7 +280,7 @@ static void forks(void)
         pthread_join(threads[k], &answer);
         served = served && answer != NULL;
     }
-    expect(good, "a hundred children of a process whose threads ask are served");
+    expect(good, "a hundred children of a process whose threads ask are served, and children of theirs");
     expect(served, "each thread's bytes stay its own");
 }
 
@@ -253,6 +321,19 @@ static void hold(void)
     (void)third;
 }
 
+/* Ends with a byte spoiled in front of a block, or with bytes of the table, which stands behind the
+ * control part that the 16 bytes in front of a block name. */
+static void spoil(bool table)
+{
+    unsigned char *volatile block = malloc(100), *control;
+    memcpy(&control, block - 16, sizeof control);
+    if (table) {
+        memset(control + 512, 0xff, 256);
+    } else {
+        block[-1] ^= 1;
+    }
+}
+
 static unsigned served(void)
 {
     unsigned times = 0;
@@ -273,8 +354,16 @@ int main(int count, char **words)
         printf("%u\n", served());
         return 0;
     }
+    if (count > 1 && strncmp(words[1], "spoil", 5) == 0) {
+        spoil(strcmp(words[1], "spoil_table") == 0);
+        return 0;
+    }
     if (count > 1 && strcmp(words[1], "refused") == 0) {
         refused();
+        return cases_end();
+    }
+    if (count > 1 && strcmp(words[1], "locks") == 0) {
+        locks();
         return cases_end();
     }
     plain();

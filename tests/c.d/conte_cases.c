@@ -197,6 +197,56 @@ static void alignments(unsigned char *large)
     expect(whole, "what lies in front of an aligned block isn't lost");
 }
 
+/* Alignments of a megabyte and two, where the pool's memory is aligned to less than a page. */
+static void great_alignments(unsigned char *large)
+{
+    size_t two = (size_t)2 << 20;
+    unsigned char *even = large + (two - (uintptr_t)large % two);
+    bool aligned = true;
+    for (size_t k = 0; k < 8; k++) {
+        size_t skip = k * (two / 8) + 16 * (3 * k + 1);
+        tlsf_t tlsf = tlsf_create(memory);
+        tlsf_add_pool(tlsf, even + skip, 7 << 20);
+        tlsf_add_pool(tlsf, even + (16 << 20) + two - skip, 7 << 20);
+        for (size_t align = two / 2; align <= two; align *= 2) {
+            void *one = tlsf_memalign(tlsf, align, 100), *other = tlsf_memalign(tlsf, align, 100);
+            aligned = aligned && one != NULL && (uintptr_t)one % align == 0 && other != NULL
+                      && (uintptr_t)other % align == 0 && tlsf_check(tlsf) == 0;
+        }
+    }
+    expect(aligned, "alignments of 2^20 and 2^21 in pools that aren't so aligned");
+}
+
+/* Pools and the heap's own memory that touch, in each order; and those that share 16 bytes. */
+static void side_by_side(void)
+{
+    unsigned char *area = other_memory;
+    size_t own = tlsf_size_records(64) + 8;
+    tlsf_t tlsf = tlsf_create_records(area + 8192, own - own % 16, 64);
+    expect(tlsf_get_pool(tlsf) == NULL && tlsf_add_pool(tlsf, area + 4096, 1024) != NULL,
+           "a pool of 1,024 bytes");
+    expect(tlsf_add_pool(tlsf, area + 4096 - 1024 + 16, 1024) == NULL
+               && tlsf_add_pool(tlsf, area + 4096 + 1024 - 16, 1024) == NULL,
+           "one that shares 16 bytes with it is refused");
+    pool_t before = tlsf_add_pool(tlsf, area + 4096 - 1024, 1024),
+           behind = tlsf_add_pool(tlsf, area + 4096 + 1024, 1024);
+    expect(before != NULL && behind != NULL, "one directly in front of it, and one directly behind");
+    expect(tlsf_add_pool(tlsf, area + 8192 - 1024 + 16, 1024) == NULL
+               && tlsf_add_pool(tlsf, area + 8192 + own / 16 * 16 - 32, 1024) == NULL,
+           "one that shares 16 bytes with the heap itself is refused");
+    expect(tlsf_add_pool(tlsf, area + 8192 - 1024, 1024) != NULL
+               && tlsf_add_pool(tlsf, area + 8192 + own / 16 * 16, 1024) != NULL,
+           "one directly in front of the heap, and one directly behind");
+    unsigned char *first = (unsigned char *)tlsf_malloc(tlsf, 1000);
+    size_t filled = 0;
+    for (unsigned char *one = first; one != NULL; filled++) {
+        memset(one, (int)filled, 1000);
+        one = (unsigned char *)tlsf_malloc(tlsf, 1000);
+    }
+    expect(filled == 5 && tlsf_check(tlsf) == 0 && tlsf_malloc(tlsf, 1016) == NULL,
+           "each has a block of its own, and no block lies in two");
+}
+
 static void greatest(unsigned char *large)
 {
     tlsf_t tlsf = tlsf_create(memory);
@@ -405,6 +455,18 @@ static void overruns(void)
            "a spoiled heap is none");
 }
 
+/* A control part that has forgotten its pools: no call looks for a block's pool behind the eight. */
+static void forgotten_pools(void)
+{
+    enum { AT = 24, BYTES = 8 * 24 };
+    tlsf_t tlsf = tlsf_create_with_pool(memory, sizeof memory);
+    void *one = tlsf_malloc(tlsf, 100);
+    memset(memory + AT, 0, BYTES);
+    expect(one != NULL && tlsf_get_pool(tlsf) == NULL && tlsf_malloc(tlsf, 100) == NULL
+               && tlsf_memalign(tlsf, 64, 100) == NULL && tlsf_realloc(tlsf, one, 2000) == NULL,
+           "where the pools are forgotten no block is handed out");
+}
+
 static void free_block(void *ptr, size_t size, int used, void *user)
 {
     (void)size;
@@ -514,15 +576,18 @@ int main(void)
     expect((void *)large != MAP_FAILED, "4 GiB of addresses");
     if ((void *)large != MAP_FAILED) {
         alignments(large);
+        great_alignments(large);
         greatest(large);
         places(large);
         places_between(large);
         munmap(large, room);
     }
     pools();
+    side_by_side();
     pointers();
     old_pointers();
     overruns();
+    forgotten_pools();
     ends();
     walks_that_end();
     walks_that_grow();

@@ -62,11 +62,66 @@ static void the_bytes(void)
     tlsf_heap_destroy(&heap);
 }
 
-/* No heap comes of these bytes, and what out points to stays. */
+/* No heap comes of these bytes, over memory of malloc or handed in, and what out points to stays. */
 static bool refused(const unsigned char *bytes, size_t length, uint32_t status)
 {
+    static _Alignas(16) unsigned char table[TLSF_HEAP_TABLE_BYTES(2)];
     tlsf_heap none = {0};
-    return tlsf_heap_load(bytes, length, &none) == status && none.at == NULL;
+    return tlsf_heap_load(bytes, length, &none) == status && none.at == NULL
+           && tlsf_heap_load_in(table, sizeof table, bytes, length, &none) == status && none.at == NULL;
+}
+
+/* The image of a heap of two records: the pool of the first is free, and the second is vacant. */
+static void two_records(unsigned char *image)
+{
+    vector(image);
+    image[8] = 2;
+    memset(image + SMALL, 0, 16);
+}
+
+/* What two records can break, and one can't. */
+static void broken_chains(void)
+{
+    static const unsigned char block[16] = {32, 0, 0, 0, 0x21, 0, 0, 0, 0, 0, 0xff, 0xff, 0xff, 0xff, 0xff, 0xff};
+    unsigned char bytes[SMALL + 16];
+    tlsf_heap heap = {0};
+    two_records(bytes);
+    expect(tlsf_heap_load(bytes, sizeof bytes, &heap) == TLSF_OK, "an image of two records");
+    tlsf_heap_destroy(&heap);
+    memcpy(bytes + SMALL, block, sizeof block);
+    expect(refused(bytes, sizeof bytes, TLSF_BROKEN_ON_CHAINS), "a block on no pool's chain breaks rule 9");
+    bytes[1524] = 0x21;
+    bytes[1530] = 1;
+    bytes[1531] = 0;
+    expect(refused(bytes, sizeof bytes, TLSF_BROKEN_MERGED), "free blocks side by side break rule 10");
+    memset(bytes + SMALL + 8, 0xff, 2);
+    expect(refused(bytes, sizeof bytes, TLSF_BROKEN_CHAINS), "a block that isn't linked back breaks rule 7");
+}
+
+/* Each status has its name, and no other number has one. */
+static void names(void)
+{
+    static const struct {
+        uint32_t status;
+        const char *name;
+    } named[] = {
+        {0, "served"}, {1, "zero size"}, {2, "no fit"}, {3, "table full"}, {4, "bad pointer"}, {5, "bad alignment"},
+        {6, "bad pool"}, {7, "pools full"}, {8, "pool in use"}, {9, "out of memory"}, {10, "no pool"}, {11, "bad count"},
+        {14, "no room"}, {15, "bad memory"}, {101, "broken image: magic"}, {102, "broken image: length"},
+        {103, "broken image: pools"}, {104, "broken image: unused pools"}, {105, "broken image: states"},
+        {106, "broken image: links"}, {107, "broken image: chains"}, {108, "broken image: cover"},
+        {109, "broken image: block on no chain"}, {110, "broken image: free blocks side by side"},
+        {111, "broken image: lists"}, {112, "broken image: free block on no list"},
+    };
+    enum { COUNT = sizeof named / sizeof named[0] };
+    unsigned unknown = 0;
+    for (size_t k = 0; k < COUNT; k++) {
+        expect(strcmp(tlsf_heap_status_name(named[k].status), named[k].name) == 0, named[k].name);
+    }
+    for (uint32_t status = 0; status < 1000; status++) {
+        unknown += strcmp(tlsf_heap_status_name(status), "unknown") == 0;
+    }
+    expect(unknown == 1000 - COUNT, "no other number has a name");
 }
 
 static void broken_bytes(void)
@@ -221,6 +276,8 @@ int main(void)
 {
     the_bytes();
     broken_bytes();
+    broken_chains();
+    names();
     loaded_vector();
     saved_and_loaded();
     return cases_end();

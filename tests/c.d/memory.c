@@ -84,6 +84,28 @@ static void loads(void)
     expect(tlsf_heap_load(image, sizeof image, &heap) == TLSF_BROKEN_MAGIC && takes == 0, "bytes that are no image take no memory");
 }
 
+/* A call that fills a handle forgets the heap that it held: that goes on by a copy of the handle. */
+static void forgotten(void)
+{
+    static unsigned char image[TLSF_HEAP_IMAGE_BYTES(100)];
+    tlsf_heap heap = {0}, first, second;
+    tlsf_heap_block block = {0, 0};
+    uint64_t count = 0;
+    start(0);
+    bool served = tlsf_heap_create(100, &heap) == TLSF_OK && tlsf_heap_add_pool(&heap, 0, 4096) == TLSF_OK
+                  && tlsf_heap_malloc(&heap, 100, &block) == TLSF_OK && tlsf_heap_save(&heap, image, sizeof image, &count) == TLSF_OK;
+    first = heap;
+    served = served && tlsf_heap_create(100, &heap) == TLSF_OK;
+    expect(served && returns == 0 && live == 4 && heap.at != first.at, "create over a heap in use gives nothing back");
+    second = heap;
+    expect(tlsf_heap_load(image, sizeof image, &heap) == TLSF_OK && returns == 0 && live == 6 && heap.at != second.at, "load over a heap in use gives nothing back");
+    expect(tlsf_heap_check(&first) && tlsf_heap_free(&first, block) == TLSF_OK && tlsf_heap_check(&second), "what was forgotten is whole");
+    tlsf_heap_destroy(&first);
+    tlsf_heap_destroy(&second);
+    tlsf_heap_destroy(&heap);
+    expect(returns == 6 && live == 0, "three ends give all back");
+}
+
 /* Whether a heap took its two pieces: the table of its records, and the heap itself. */
 static bool has_taken(uint32_t records)
 {
@@ -188,6 +210,7 @@ int main(void)
     start(0);
     expect(tlsf_heap_create(0, &heap) == TLSF_BAD_COUNT && takes == 0, "a bad count takes no memory");
     loads();
+    forgotten();
     each_count();
     many_loads();
     return cases_end();

@@ -313,6 +313,12 @@ static void helpers(void)
     tlsf_heap_block block = first_split();
     unsigned char *at = (unsigned char *)tlsf_heap_address(bytes, block);
     expect(at == bytes, "the address of a block");
+    bool refused = true;
+    for (size_t inside = 1; inside < 112; inside++) {
+        tlsf_heap_block other = tlsf_heap_block_at(bytes, at + inside, block.slot);
+        refused = refused && other.place == block.place + inside && tlsf_heap_free(&heap, other) == TLSF_BAD_POINTER;
+    }
+    expect(refused, "the block at an address inside another is none");
     tlsf_heap_block back = tlsf_heap_block_at(bytes, at, block.slot);
     expect(back.place == block.place && tlsf_heap_free(&heap, back) == TLSF_OK, "and the block at an address");
     expect(strcmp(tlsf_heap_status_name(TLSF_TABLE_FULL), "table full") == 0, "the name of a status");

@@ -151,7 +151,7 @@ module _ {A X : Type 0} (place_of : X → ℕ) where
 pub realloc_full : {A : Type 0} (same : A → A → Bool) (owner : A) (pointer : Option (ℕ × A)) (n : ℕ) (content : Content A) → IsGood content → realloc same owner pointer n content ≡ Err TableFull → HasFewRecords content
 realloc_full same owner pointer n content good full = elim (realloc_refused owner TableFull same pointer n content full) [
   | inl malloc_is ↦ malloc_full owner n content good malloc_is
-  | inr (inl other) ↦ absurd (cc)
+  | inr (inl fit) ↦ let other = fit.0 in absurd (cc)
   | inr (inr other) ↦ absurd (cc)
 ]
 

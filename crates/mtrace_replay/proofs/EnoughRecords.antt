@@ -27,10 +27,10 @@ use Rattle.mtrace_replay.specs.declared.diagnostic.Kind.TheVariants.{Refused}
 use Rattle.mtrace_replay.specs.declared.settings.Settings.{Settings}
 use Rattle.mtrace_replay.specs.Started.{Bare, left_by, with_pools, started}
 use Rattle.mtrace_replay.specs.History.{AreHeld, held, held_after, given_or, unless_taken, moments, pending, content_after}
-use Rattle.mtrace_replay.specs.Moment.{ReadLine, Given, Moment, unserved, after_diagnostics, without, outcome, asked_size, asked_block, moment, is_new, half, Act, idle, give, take, move, plan, answered, moved, done}
+use Rattle.mtrace_replay.specs.Moment.{ReadLine, Given, Moment, unserved, after_diagnostics, without, outcome, asked_size, rounded_bytes, asked_block, moment, is_new, half, Act, idle, give, take, move, plan, answered, moved, done}
 use Rattle.mtrace_replay.specs.Entry.{Entry}
 use Rattle.mtrace_replay.specs.Totals.{first_moments}
-use Rattle.mtrace_replay.specs.Enough.{HoldsAtMost, IsNeverRefused, IsNeverFull, rounded_size, act_of}
+use Rattle.mtrace_replay.specs.Enough.{HoldsAtMost, IsNeverRefused, IsNeverFull, act_of}
 use Rattle.mtrace_replay.proofs.AskedBlock.{asked_records}
 use Rattle.mtrace_replay.proofs.Served.{moved_records}
 use Rattle.mtrace_replay.proofs.GivenSizes.{IsRounded, asked_sized, moved_sized}
@@ -90,7 +90,7 @@ AreRefusals answers diagnostics = AllByRecursion (λ (one : Diagnostic). (addres
 
 -- the block has no more bytes
 abbrev pub IsOfSize : Given → Block (Unit {0}) → Type 0
-IsOfSize given b = b.size ≤ rounded_size given
+IsOfSize given b = b.size ≤ rounded_bytes given.entry.size
 
 rounded_is : (given : Given) (b : Block (Unit {0})) → IsRounded (asked_size given.entry.size) b → IsOfSize given b
 rounded_is given b is = omega (arith, is.2, ap (λ m. unwrap_or m 0) is.1)
@@ -312,9 +312,9 @@ OwnsLive Fits content held =
     (b : Block (Unit {0})) → Contains (blocks_of content.pools) b → is_free b ≡ false → (given : Given) × (held given.entry.addr ≡ Some given) × (given.place ≡ b.place) × Fits given b
 
 module _ (Fits : Given → Block (Unit {0}) → Type 0) (content : Bare) (held : ℕ → Option Given) (moment : Moment) (owns : OwnsLive Fits content held)
-  (answers : Refusal → Type 0) (leaves : Leaves answers content held moment) (stood : StoodIn content moment)
-  (fresh : (new : Given) → moment.given ≡ Some new → (held new.entry.addr ≡ None) ⊎ (moment.taken ≡ Some new.entry.addr))
-  (fits : (new : Given) → moment.given ≡ Some new → (b : Block (Unit {0})) → Contains (blocks_of moment.content.pools) b → is_free b ≡ false → b.place ≡ new.place → Fits new b) where
+    (answers : Refusal → Type 0) (leaves : Leaves answers content held moment) (stood : StoodIn content moment)
+    (fresh : (new : Given) → moment.given ≡ Some new → (held new.entry.addr ≡ None) ⊎ (moment.taken ≡ Some new.entry.addr))
+    (fits : (new : Given) → moment.given ≡ Some new → (b : Block (Unit {0})) → Contains (blocks_of moment.content.pools) b → is_free b ≡ false → b.place ≡ new.place → Fits new b) where
   given_held : (new : Given) → moment.given ≡ Some new → held_after moment held new.entry.addr ≡ Some new
   given_held new is =
       ap (λ given. given_or given new.entry.addr (unless_taken moment.taken new.entry.addr (held new.entry.addr))) is

@@ -1,5 +1,5 @@
 -- What the sizes tell with one size more.
-use Rattle.std.proofs.Common.{◌≡◌, ℕ, zero, suc, ◌+◌, ◌-◌, ◌*◌, ◌/◌, ◌%◌, ◌<◌, ◌≤◌, Bool, true, false, cond, not, option_map, List, [], ◌∷◌, ◌++◌, map, length, length-append, reverse, Option, Some, None, refl, sym, subst, ap, ◌∙◌, arith}
+use Rattle.std.proofs.Common.{◌≡◌, ℕ, zero, suc, ◌+◌, ◌-◌, ◌*◌, ◌/◌, ◌%◌, ◌^◌, ◌<◌, ◌≤◌, Bool, true, false, cond, not, option_map, List, [], ◌∷◌, ◌++◌, map, length, length-append, reverse, Option, Some, None, refl, sym, subst, ap, ◌∙◌, arith}
 use Rattle.std.specs.Prelude.{◌&&◌}
 use Rattle.std.specs.List.{find, list_all}
 use Rattle.std.specs.Option.{option_or}
@@ -7,19 +7,21 @@ use Rattle.std.proofs.lemmas.List.Folds.{find-append, list_all-append}
 use Rattle.std.proofs.lemmas.List.Sums.{sum_by-append}
 use Rattle.mtrace_replay.specs.Fit.{Verdict, least_size, safe_size, refused_sizes, fitted}
 use Rattle.std.specs.List.{range_with_len}
-use Rattle.std.proofs.lemmas.List.{length-map, map-append}
-use Rattle.std.proofs.lemmas.List.Sums.{count_by-le-length}
-use Rattle.std.proofs.lemmas.List.FromFn.{length-map-range_with_len, map-range_with_len_more}
+use Rattle.std.proofs.lemmas.List.{map-append}
+use Rattle.std.proofs.lemmas.List.FromFn.{map-range_with_len_more}
 use Rattle.std.proofs.lemmas.Bool.{eq-eqb, le-ltb}
 use Rattle.std.proofs.lemmas.Nat.{mul-mod_second, div-add-mod'}
-use Rattle.std.proofs.Math.Nat.{mul-le-mul_right, mul-le-mul_left}
+use Rattle.std.proofs.Math.Nat.{mul-le-mul_right, mul-le-mul_left, mul_assoc, mul_comm, pow-suc}
 use Rattle.mtrace_log.proofs.TextLemmas.{AllByRecursion-append}
 use Rattle.tlsf_class.specs.Classes.{unit, greatest_size}
 use Rattle.tlsf_heap.specs.Pools.{most_records, end_of_places}
 use Rattle.mtrace_replay.specs.Settings.{are_bad}
-use Rattle.mtrace_replay.specs.Fit.{one_pool, greatest_settings, enough_records, step_of, first_number, last_number, sizes}
+use Rattle.mtrace_replay.specs.Fit.{one_pool, greatest_settings, enough_records, step_of, first_number, last_number, doubled, range}
 use Rattle.mtrace_replay.specs.Run.{Bytes}
-use Rattle.mtrace_replay.specs.RunFit.{IsTried, AreVerdicts, TellsSizes, TellsFit}
+use Rattle.mtrace_replay.specs.RunFit.{IsTried, AreVerdicts, TriesRanges, TellsSizes, TellsFit}
+use Rattle.tlsf_heap.specs.Sizing.{sure_pool}
+use Rattle.mtrace_replay.specs.Started.{started}
+use Rattle.mtrace_replay.specs.Asked.{greatest_class}
 use Rattle.mtrace_replay.specs.Moment.{ReadLine}
 use Rattle.mtrace_replay.specs.Replay.{Replayed, StandsFor}
 use Rattle.mtrace_replay.specs.Texts.{greatest_line, most_line, fitted_lines, untried_lines}
@@ -91,26 +93,17 @@ pub fitted-no : (verdicts : List Verdict) (size : ℕ)
 fitted-no verdicts size =
     rw (least-no verdicts size, safe-no verdicts size, refused-no verdicts size, length-append verdicts (serving size false)) refl
 
--- this many sizes were tried, and no more are refused
-pub few_tried : (records : ℕ) (whole : Bytes) (step first count : ℕ) (verdicts : List Verdict)
-    → AreVerdicts records whole (map (λ number. number * step) (range_with_len first count)) verdicts
-    → (length verdicts ≡ count) × (refused_sizes verdicts ≤ count)
-few_tried records whole step first count verdicts are =
-    let all : length verdicts ≡ count =
-    sym (length-map verdicts (λ (v : Verdict). v.size)) ∙ ap (length {A = ℕ}) are.sizes_are ∙ length-map-range_with_len (λ number. number * step) first count in
-    (all, omega (arith, all, count_by-le-length (λ (v : Verdict). not v.serves) verdicts))
-
 -- one size more
-pub one_tried : (records : ℕ) (whole : Bytes) (step first number count : ℕ) (verdicts : List Verdict) (verdict : Verdict) → first + count ≡ number
-    → AreVerdicts records whole (map (λ i. i * step) (range_with_len first count)) verdicts
-    → verdict.size ≡ number * step → (left : Bytes) × IsTried (one_pool verdict.size records) verdict.serves whole left
-    → AreVerdicts records whole (map (λ i. i * step) (range_with_len first (count + 1))) (verdicts ++ verdict ∷ [])
-one_tried records whole step first number count verdicts verdict place are size tried = record {
+pub one_tried : (records many : ℕ) (whole : Bytes) (step first number count : ℕ) (verdicts : List Verdict) (verdict : Verdict) → first + count ≡ number
+    → AreVerdicts records many whole (map (λ i. i * step) (range_with_len first count)) verdicts
+    → verdict.size ≡ number * step → (left : Bytes) × IsTried (one_pool verdict.size records) many verdict.serves whole left
+    → AreVerdicts records many whole (map (λ i. i * step) (range_with_len first (count + 1))) (verdicts ++ verdict ∷ [])
+one_tried records many whole step first number count verdicts verdict place are size tried = record {
   sizes_are = map-append (λ (v : Verdict). v.size) verdicts (verdict ∷ [])
       ∙ ap (λ sizes. sizes ++ verdict.size ∷ []) are.sizes_are
       ∙ ap (λ n. map (λ i. i * step) (range_with_len first count) ++ n ∷ []) size
       ∙ sym (map-range_with_len_more (λ i. i * step) first count number place);
-  each = AllByRecursion-append (λ (v : Verdict). (left : Bytes) × IsTried (one_pool v.size records) v.serves whole left) verdicts (verdict ∷ []) are.each (tried, tt);
+  each = AllByRecursion-append (λ (v : Verdict). (left : Bytes) × IsTried (one_pool v.size records) many v.serves whole left) verdicts (verdict ∷ []) are.each (tried, tt);
 }
 
 -- one pool of a whole number of units, and enough records, are no bad settings
@@ -142,14 +135,44 @@ some_units number step some units = omega (arith, units, mul-le-mul_right step s
 pub few_steps : (step : ℕ) → 0 < step → greatest_size / step ≤ greatest_size
 few_steps step some = omega (arith, mul-le-mul_left (greatest_size / step) some, div-add-mod' greatest_size step)
 
--- all sizes were tried
-pub all_tried : (records : ℕ) (whole : Bytes) (step peak first last count : ℕ) (verdicts : List Verdict) → first ≡ first_number step peak → last ≡ last_number step peak
-    → count ≡ suc last - first → AreVerdicts records whole (map (λ i. i * step) (range_with_len first count)) verdicts
-    → AreVerdicts records whole (sizes step peak) verdicts
-all_tried records whole step peak first last count verdicts first_is last_is many are =
-    let P : ℕ → ℕ → Type 0 = λ from n. AreVerdicts records whole (map (λ i. i * step) (range_with_len from n)) verdicts in
-    let same : count ≡ suc (last_number step peak) - first_number step peak = many ∙ ap (λ n. suc n - first) last_is ∙ ap (λ n. suc (last_number step peak) - n) first_is in
-    subst (P (first_number step peak)) same (subst (λ from. P from count) first_is are)
+-- the verdicts of sizes, and of others behind them
+pub more_verdicts : (records many : ℕ) (whole : Bytes) (tried more : List ℕ) (verdicts others : List Verdict) → AreVerdicts records many whole tried verdicts → AreVerdicts records many whole more others
+    → AreVerdicts records many whole (tried ++ more) (verdicts ++ others)
+more_verdicts records many whole tried more verdicts others are too = record {
+  sizes_are = map-append (λ (v : Verdict). v.size) verdicts others ∙ ap (λ sizes. sizes ++ map (λ (v : Verdict). v.size) others) are.sizes_are ∙ ap (λ sizes. tried ++ sizes) too.sizes_are;
+  each = AllByRecursion-append (λ (v : Verdict). (left : Bytes) × IsTried (one_pool v.size records) many v.serves whole left) verdicts others are.each too.each;
+}
+
+none_mapped : (found : Option Verdict) → option_map (λ (v : Verdict). v.size) found ≡ None → found ≡ None
+none_mapped None is = refl
+none_mapped (Some verdict) is = absurd (cc)
+
+-- where none serves, the first that serves is one behind
+pub least_behind : (before last : List Verdict) → least_size before ≡ None → least_size (before ++ last) ≡ least_size last
+least_behind before last none =
+    ap (option_map (λ (v : Verdict). v.size)) (find-append (λ (v : Verdict). v.serves) before last
+    ∙ ap (λ first. option_or first (find (λ (v : Verdict). v.serves) last)) (none_mapped (find (λ (v : Verdict). v.serves) before) none))
+
+-- a step twice as large
+pub doubled_more : (step now times : ℕ) → now ≡ doubled step times → now * 2 ≡ doubled step (suc times)
+doubled_more step now times is = ap (λ n. n * 2) is ∙ mul_assoc step (2 ^ times) 2 ∙ ap (λ n. step * n) (sym (pow-suc 2 times))
+
+-- no range is left where the step, doubled, leaves no number above the first
+pub no_range : (step now first times : ℕ) → now ≡ doubled step times → greatest_size / (2 * now) ≤ first → range step first (suc times) ≡ []
+no_range step now first times is few =
+    let same : 2 * now ≡ doubled step (suc times) = mul_comm 2 now ∙ doubled_more step now times is in
+    let last : last_number (doubled step (suc times)) first ≤ first = omega (arith, few, ap (λ n. greatest_size / n) same) in
+    let none : suc (last_number (doubled step (suc times)) first) - suc first ≡ 0 = omega (arith, last) in
+    ap (λ count. map (λ number. number * doubled step (suc times)) (range_with_len (suc first) count)) none
+
+-- the pool that is always enough, by what the replay of a log tells
+abbrev pub sure_of : Replayed → Option ℕ
+sure_of replay = sure_pool replay.most replay.most_rounded replay.class_size
+
+-- it is told by the log's lines
+sure_is : (lines : List ReadLine) (replay : Replayed) → StandsFor replay greatest_settings (reverse lines)
+    → sure_of replay ≡ sure_pool replay.most replay.most_rounded (greatest_class (started greatest_settings) (reverse lines))
+sure_is lines replay stands = ap (sure_pool replay.most replay.most_rounded) stands.class
 
 -- the text of a log that the greatest pool doesn't serve
 pub tells_untried : (step : Option ℕ) (lines : List ReadLine) (whole : Bytes) (replay : Replayed) → StandsFor replay greatest_settings (reverse lines) → 0 < replay.totals.refused
@@ -159,26 +182,36 @@ tells_untried step lines whole replay stands some = record {
   summed = stands.totals;
   most = replay.most;
   is_most = stands.most;
+  rounded = replay.most_rounded;
+  is_rounded = stands.rounded;
   rest = untried_lines;
   tells = by_refused replay.totals.refused some;
   text_is = refl;
 }
   where
-    by_refused : (refused : ℕ) → 0 < refused → TellsSizes refused (step_of step replay.totals.peak_bytes) replay.totals.peak_bytes replay.most whole untried_lines
+    by_refused : (refused : ℕ) → 0 < refused → TellsSizes refused (step_of step replay.totals.peak_bytes) replay.totals.peak_bytes replay.most replay.totals.lines
+        (sure_pool replay.most replay.most_rounded (greatest_class (started greatest_settings) (reverse lines))) whole untried_lines
     by_refused zero some = absurd (omega (arith, some))
     by_refused (suc more) some = refl
 
 -- the text of a log that it serves
 pub tells_fitted : (step : Option ℕ) (lines : List ReadLine) (whole : Bytes) (replay : Replayed) → StandsFor replay greatest_settings (reverse lines) → replay.totals.refused ≡ 0
-    → (verdicts : List Verdict) → AreVerdicts (enough_records replay.most) whole (sizes (step_of step replay.totals.peak_bytes) replay.totals.peak_bytes) verdicts
-    → TellsFit step lines whole (greatest_line replay.totals ++ most_line replay.most ++ fitted_lines (enough_records replay.most) (fitted verdicts))
-tells_fitted step lines whole replay stands none verdicts are = record {
+    → (verdicts : List Verdict) → (let peak = replay.totals.peak_bytes in TriesRanges (enough_records replay.most) replay.totals.lines (step_of step peak) (first_number (step_of step peak) peak) whole verdicts)
+    → TellsFit step lines whole (greatest_line replay.totals ++ most_line replay.most ++ fitted_lines (enough_records replay.most) (fitted verdicts) (sure_of replay))
+tells_fitted step lines whole replay stands none verdicts tries = record {
   totals = replay.totals;
   summed = stands.totals;
   most = replay.most;
   is_most = stands.most;
-  rest = fitted_lines (enough_records replay.most) (fitted verdicts);
-  tells = (let P : ℕ → Type 0 = λ refused. TellsSizes refused (step_of step replay.totals.peak_bytes) replay.totals.peak_bytes replay.most whole (fitted_lines (enough_records replay.most) (fitted verdicts)) in
-      subst P (sym none) (verdicts, are, refl));
+  rounded = replay.most_rounded;
+  is_rounded = stands.rounded;
+  rest = text (sure_of replay);
+  tells =
+      let P : ℕ → Type 0 = λ refused. TellsSizes refused (step_of step replay.totals.peak_bytes) replay.totals.peak_bytes replay.most replay.totals.lines
+      (sure_pool replay.most replay.most_rounded (greatest_class (started greatest_settings) (reverse lines))) whole (text (sure_of replay)) in
+      subst P (sym none) (verdicts, tries, ap text (sure_is lines replay stands));
   text_is = refl;
 }
+  where
+    text : Option ℕ → List ℕ
+    text sure = fitted_lines (enough_records replay.most) (fitted verdicts) sure

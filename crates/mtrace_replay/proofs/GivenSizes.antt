@@ -93,11 +93,11 @@ module _ {A : Type 0} where
       ) in
       let now : Content A = split_aligned_of owner align n content p in
       subst (λ (g : ℕ × Content A). IsGood g.1 → AreRounded n g.0 g.1) gave.1 (λ good_now b has live at. (
-          let found = found_counted test (blocks_of now.pools) counted in
-          let parts = and_parts (is_at start found.0) (found.0.size == p.asked) found.2 in
-          let own : b.size ≡ size_at start (blocks_of now.pools) = size_here start now b good_now has at in
-          let one : found.0.size ≡ size_at start (blocks_of now.pools) = size_here start now found.0 good_now found.1 (eqb-true found.0.place start parts.0) in
-          (p.asked, p.rounds, omega (arith, own, one, eqb-true found.0.size p.asked parts.1))))
+      let found = found_counted test (blocks_of now.pools) counted in
+      let parts = and_parts (is_at start found.0) (found.0.size == p.asked) found.2 in
+      let own : b.size ≡ size_at start (blocks_of now.pools) = size_here start now b good_now has at in
+      let one : found.0.size ≡ size_at start (blocks_of now.pools) = size_here start now found.0 good_now found.1 (eqb-true found.0.place start parts.0) in
+      (p.asked, p.rounds, omega (arith, own, one, eqb-true found.0.size p.asked parts.1))))
       (memalign_is_good owner align n content given good served)
 
   -- what realloc gives

@@ -1,6 +1,6 @@
 -- No more addresses are held than the heap has records.
-use Rattle.std.proofs.Common.{◌≡◌, ◌≢◌, ℕ, ◌*◌, ◌<◌, ◌≤◌, Bool, cond, true, false, List, [], ◌∷◌, length, map, Some, None, refl, sym, ap, ◌∙◌, subst, arith, inl, inr}
-use Rattle.std.specs.Prelude.{◌==◌, ◌&&◌, ◌||◌}
+use Rattle.std.proofs.Common.{◌≡◌, ◌≢◌, ℕ, ◌*◌, ◌<◌, ◌≤◌, Bool, cond, true, false, List, [], ◌∷◌, length, map, Option, Some, None, refl, sym, ap, ◌∙◌, subst, arith, inl, inr}
+use Rattle.std.specs.Prelude.{◌==◌, ◌&&◌, ◌||◌, unwrap_or}
 use Rattle.std.specs.List.{AllByRecursion, Contains, IsDistinct}
 use Rattle.std.specs.Set.{is_member}
 use Rattle.std.proofs.lemmas.Cmp.{nat_eq_equiv}
@@ -13,9 +13,12 @@ use Rattle.tlsf_heap.specs.Free.{is_owned_by, is_live}
 use Rattle.tlsf_heap.specs.Good.{IsGood}
 use Rattle.mtrace_replay.specs.Holding.{Holding}
 use Rattle.tlsf_class.specs.Classes.{greatest_size}
+use Rattle.tlsf_class.specs.Rounding.{round}
+use Rattle.tlsf_class.proofs.RoundingLaws.{round-Some}
+use Rattle.mtrace_replay.specs.Moment.{asked_size, rounded_bytes}
 use Rattle.tlsf_heap.specs.Pools.{most_records}
 use Rattle.std.proofs.lemmas.List.Sums.{sum_by-cons}
-use Rattle.mtrace_replay.specs.Index.{AreInOrder, held_at, held_bytes}
+use Rattle.mtrace_replay.specs.Index.{AreInOrder, held_at, held_bytes, held_rounded}
 use Rattle.mtrace_replay.specs.Step.{AreLive}
 use Rattle.mtrace_replay.proofs.SortedLemmas.{AreSorted, first_or_rest, has_first, has_more, above, sorted_rest, is_found}
 
@@ -133,3 +136,17 @@ held_fits holdings content ordered good are =
     let few = held_few holdings content ordered good are in
     let bytes = bytes_few holdings (λ holding has. are.small (key holding) holding (here holdings content ordered good holding has)) in
     omega (arith, few, bytes, are.records)
+
+-- no block has more bytes than the greatest size
+rounded_small : (size : ℕ) → rounded_bytes size ≤ greatest_size
+rounded_small size = of (round (asked_size size)) refl
+  where
+    of : (bytes : Option ℕ) → round (asked_size size) ≡ bytes → unwrap_or bytes 0 ≤ greatest_size
+    of None is = omega arith
+    of (Some bytes) is = (round-Some (asked_size size) bytes is).within
+
+pub rounded_few : (holdings : List Holding) → held_rounded holdings ≤ greatest_size * length holdings
+rounded_few [] = omega arith
+rounded_few (first ∷ rest) =
+    let sum = sum_by-cons (λ (holding : Holding). rounded_bytes holding.entry.size) first rest in
+    omega (arith, rounded_small first.entry.size, rounded_few rest, sum)

@@ -1,5 +1,5 @@
 -- What is held, by an index, and how it changes where one key does.
-use Rattle.std.proofs.Common.{◌≡◌, ◌≢◌, ℕ, zero, Bool, cond, suc, ◌+◌, ◌<◌, ◌≤◌, List, [], ◌∷◌, ◌++◌, take, drop, length, slice_index_or, slice_set, is_some, Option, Some, None, true, false, Less, arith, refl, sym, ap, ap₂, ◌∙◌, subst, inl, inr}
+use Rattle.std.proofs.Common.{sum_by, ◌≡◌, ◌≢◌, ℕ, zero, Bool, cond, suc, ◌+◌, ◌<◌, ◌≤◌, List, [], ◌∷◌, ◌++◌, take, drop, length, slice_index_or, slice_set, is_some, Option, Some, None, true, false, Less, arith, refl, sym, ap, ap₂, ◌∙◌, subst, inl, inr}
 use Rattle.std.specs.Prelude.{◌==◌, option_map, option_to_list, Result, Ok, Err, IfOk, IfErr}
 use Rattle.std.specs.List.{AllByRecursion, insert, remove}
 use Rattle.std.specs.List.Sorted.{IsStrictlySortedBy}
@@ -17,7 +17,8 @@ use Rattle.mtrace_replay.specs.Keys.{Rows, row_at, HasRow, Kept, KeepsRows, Sets
 use Rattle.mtrace_replay.specs.Key.{no_row, held_under, holding_of, all_held, IsRow, HaveRows, least_behind, RiseFrom, AreAbove}
 use Rattle.mtrace_replay.specs.Search.{StandsAt, FitsAt, IsVacantAt, AreOthers}
 use Rattle.mtrace_replay.specs.declared.index.LookUp.{LookUp}
-use Rattle.mtrace_replay.specs.Index.{addresses, held_at, held_bytes, AreInOrder, IsNewSlot, Indexed, IsFound, IsIndex}
+use Rattle.mtrace_replay.specs.Moment.{rounded_bytes}
+use Rattle.mtrace_replay.specs.Index.{addresses, held_at, held_bytes, held_rounded, AreInOrder, IsNewSlot, Indexed, IsFound, IsIndex}
 use Rattle.mtrace_replay.proofs.KeyLemmas.{above_all, fits_there, rise_remove, rise_insert, all_remove, all_insert, all_there}
 use Rattle.mtrace_replay.specs.Arrange.{held_keys}
 use Rattle.mtrace_replay.proofs.ArrangeLemmas.{alone_held, alone_rows, rows_of_alone}
@@ -86,16 +87,15 @@ module _ (address : ℕ) (was now : Option Holding) (old new : List Holding) (ch
   lengths : (o : Option Holding) → length (changes.before ++ (option_to_list o ++ changes.behind)) ≡ length changes.before + (length (option_to_list o) + length changes.behind)
   lengths o = length-append changes.before (option_to_list o ++ changes.behind) ∙ ap (λ n. length changes.before + n) (length-append (option_to_list o) changes.behind)
 
-  sums : (o : Option Holding) → held_bytes (changes.before ++ (option_to_list o ++ changes.behind)) ≡ held_bytes changes.before + (held_bytes (option_to_list o) + held_bytes changes.behind)
-  sums o = sum_by-append (λ (held : Holding). held.entry.size) changes.before (option_to_list o ++ changes.behind)
-      ∙ ap (λ n. held_bytes changes.before + n) (sum_by-append (λ (held : Holding). held.entry.size) (option_to_list o) changes.behind)
+  sums : (f : Holding → ℕ) (o : Option Holding) → sum_by f (changes.before ++ (option_to_list o ++ changes.behind)) ≡ sum_by f changes.before + (sum_by f (option_to_list o) + sum_by f changes.behind)
+  sums f o = sum_by-append f changes.before (option_to_list o ++ changes.behind) ∙ ap (λ n. sum_by f changes.before + n) (sum_by-append f (option_to_list o) changes.behind)
 
   -- how much is held after it, and of how many bytes
   pub changes_count : length new + length (option_to_list was) ≡ length old + length (option_to_list now)
   changes_count = omega (arith, ap (length {A = Holding}) changes.old_is, ap (length {A = Holding}) changes.new_is, lengths was, lengths now)
 
-  pub changes_bytes : held_bytes new + held_bytes (option_to_list was) ≡ held_bytes old + held_bytes (option_to_list now)
-  changes_bytes = omega (arith, ap held_bytes changes.old_is, ap held_bytes changes.new_is, sums was, sums now)
+  pub changes_sum : (f : Holding → ℕ) → sum_by f new + sum_by f (option_to_list was) ≡ sum_by f old + sum_by f (option_to_list now)
+  changes_sum f = omega (arith, ap (sum_by f) changes.old_is, ap (sum_by f) changes.new_is, sums f was, sums f now)
 
 above_from_bound : (address : ℕ) (keys : List Key) → RiseFrom (suc address) keys → AreAbove address keys
 above_from_bound address keys rise = above_all address (suc address) keys rise (omega arith)
@@ -264,12 +264,12 @@ module _ (kept : Kept) (address at : ℕ) (rise : RiseFrom 0 kept.keys) (have : 
     length-append (option_to_list (holding_of kept.rows key)) (all_held kept.rows (drop at (remove kept.keys at))),
   )
 
-  pub held_less : held_bytes (option_to_list (holding_of kept.rows key)) ≤ held_bytes (all_held kept.rows kept.keys)
-  held_less = omega (
+  pub held_less : (f : Holding → ℕ) → sum_by f (option_to_list (holding_of kept.rows key)) ≤ sum_by f (all_held kept.rows kept.keys)
+  held_less f = omega (
     arith,
-    ap held_bytes parts,
-    sum_by-append (λ (held : Holding). held.entry.size) (all_held kept.rows (take at (remove kept.keys at))) (option_to_list (holding_of kept.rows key) ++ all_held kept.rows (drop at (remove kept.keys at))),
-    sum_by-append (λ (held : Holding). held.entry.size) (option_to_list (holding_of kept.rows key)) (all_held kept.rows (drop at (remove kept.keys at))),
+    ap (sum_by f) parts,
+    sum_by-append f (all_held kept.rows (take at (remove kept.keys at))) (option_to_list (holding_of kept.rows key) ++ all_held kept.rows (drop at (remove kept.keys at))),
+    sum_by-append f (option_to_list (holding_of kept.rows key)) (all_held kept.rows (drop at (remove kept.keys at))),
   )
 
   -- it is vacated
@@ -340,18 +340,20 @@ module _ (kept now : Kept) (address : ℕ) (was is : Option Holding) (puts : Put
   pub puts_count : length (all_held now.rows now.keys) + length (option_to_list was) ≡ length (all_held kept.rows kept.keys) + length (option_to_list is)
   puts_count = changes_count address was is (all_held kept.rows kept.keys) (all_held now.rows now.keys) puts.changes
 
-  pub puts_bytes : held_bytes (all_held now.rows now.keys) + held_bytes (option_to_list was) ≡ held_bytes (all_held kept.rows kept.keys) + held_bytes (option_to_list is)
-  puts_bytes = changes_bytes address was is (all_held kept.rows kept.keys) (all_held now.rows now.keys) puts.changes
+  pub puts_sum : (f : Holding → ℕ) → sum_by f (all_held now.rows now.keys) + sum_by f (option_to_list was) ≡ sum_by f (all_held kept.rows kept.keys) + sum_by f (option_to_list is)
+  puts_sum = changes_sum address was is (all_held kept.rows kept.keys) (all_held now.rows now.keys) puts.changes
 
-  pub puts_keeps : (blocks bytes new_blocks new_bytes : ℕ) → IsIndex kept blocks bytes → length now.keys ≤ now.rows.room → now.rows.room ≡ kept.rows.room
-      → new_blocks + length (option_to_list was) ≡ blocks + length (option_to_list is) → new_bytes + held_bytes (option_to_list was) ≡ bytes + held_bytes (option_to_list is) → IsIndex now new_blocks new_bytes
-  puts_keeps blocks bytes new_blocks new_bytes index within room blocks_are bytes_are = record {
+  pub puts_keeps : (blocks bytes rounded new_blocks new_bytes new_rounded : ℕ) → IsIndex kept blocks bytes rounded → length now.keys ≤ now.rows.room → now.rows.room ≡ kept.rows.room
+      → new_blocks + length (option_to_list was) ≡ blocks + length (option_to_list is) → new_bytes + held_bytes (option_to_list was) ≡ bytes + held_bytes (option_to_list is)
+      → new_rounded + held_rounded (option_to_list was) ≡ rounded + held_rounded (option_to_list is) → IsIndex now new_blocks new_bytes new_rounded
+  puts_keeps blocks bytes rounded new_blocks new_bytes new_rounded index within room blocks_are bytes_are rounded_are = record {
     rise = puts.rise;
     rows = puts.rows;
     within = within;
     few = omega (arith, room, index.few);
     blocks_are = omega (arith, blocks_are, index.blocks_are, puts_count);
-    bytes_are = omega (arith, bytes_are, index.bytes_are, puts_bytes);
+    bytes_are = omega (arith, bytes_are, index.bytes_are, puts_sum (λ (held : Holding). held.entry.size));
+    rounded_are = omega (arith, rounded_are, index.rounded_are, puts_sum (λ (held : Holding). rounded_bytes held.entry.size));
   }
 
 -- the same keys are held, among other vacant ones
@@ -362,14 +364,15 @@ module _ (kept now : Kept) (have : HaveRows kept.rows kept.keys) (alone : held_k
   pub arranged_held : all_held now.rows now.keys ≡ all_held kept.rows kept.keys
   arranged_held = same_held kept.rows now.rows now.keys same ∙ sym (alone_held kept.rows now.keys) ∙ ap (all_held kept.rows) alone ∙ alone_held kept.rows kept.keys
 
-  pub arranged_keeps : (blocks bytes : ℕ) → IsIndex kept blocks bytes → RiseFrom 0 now.keys → length now.keys ≤ now.rows.room → now.rows.room ≡ kept.rows.room → IsIndex now blocks bytes
-  arranged_keeps blocks bytes index rise within room = record {
+  pub arranged_keeps : (blocks bytes rounded : ℕ) → IsIndex kept blocks bytes rounded → RiseFrom 0 now.keys → length now.keys ≤ now.rows.room → now.rows.room ≡ kept.rows.room → IsIndex now blocks bytes rounded
+  arranged_keeps blocks bytes rounded index rise within room = record {
     rise = rise;
     rows = rows_there kept.rows now.rows now.keys same;
     within = within;
     few = omega (arith, room, index.few);
     blocks_are = index.blocks_are ∙ sym (ap (length {A = Holding}) arranged_held);
     bytes_are = index.bytes_are ∙ sym (ap held_bytes arranged_held);
+    rounded_are = index.rounded_are ∙ sym (ap held_rounded arranged_held);
   }
 
 first_least : (rows : Rows) (address : ℕ) (keys : List Key) → AreAbove address keys → AllByRecursion (λ other. nat_cmp address other ≡ Less) (addresses (all_held rows keys))

@@ -9,12 +9,12 @@ look_on n m old middle new first then = record {
   compared = λ digits few.
       let one = first.compared digits few in
       let other = then.compared digits (omega (arith, few, first.room)) in
-      omega (arith, one, other);
+      record { floor = omega (arith, one.floor, other.floor); bound = omega (arith, one.bound, other.bound) };
 }
 
 -- fewer are at most as many
 pub looks_up_fewer : (n more : ℕ) (old new : Indexed) → LooksUp n old new → LooksUp (n + more) old new
 looks_up_fewer n more old new looks = record {
   room = looks.room;
-  compared = λ digits few. let most = looks.compared digits few in omega (arith, most);
+  compared = λ digits few. let most = looks.compared digits few in record { floor = most.floor; bound = omega (arith, most.bound) };
 }

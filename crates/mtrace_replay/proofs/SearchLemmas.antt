@@ -10,6 +10,7 @@ use Rattle.mtrace_replay.proofs.KeyLemmas.{above_behind, not_higher, not_below_o
 
 -- this many comparisons were made of those that the digits allow, and the rest is enough for what is left
 pub record Afford (digits before count left : ℕ) : Type 0 where
+  pub floor : before ≤ count
   pub rest : ℕ
   pub spent : count + rest ≤ before + digits
   pub enough : left < 2 ^ rest
@@ -21,6 +22,7 @@ half_left digits before count left less can some fewer = by_rest can.rest refl
     by_rest : (rest : ℕ) → can.rest ≡ rest → Afford digits before (count + 1) less
     by_rest zero is = absurd (omega (arith, some, fewer, subst (λ r. left < 2 ^ r) is can.enough))
     by_rest (suc rest) is = record {
+      floor = omega (arith, can.floor);
       rest = rest;
       spent = omega (arith, can.spent, is);
       enough = omega (arith, fewer, subst (λ r. left < 2 ^ r) is can.enough);

@@ -87,7 +87,7 @@ found_changed old new address now before changed other =
     found_given new other ∙ ap (option_map given_of) (changed other) ∙ ap-cond (option_map given_of) (address == other) now (before other)
 
 -- what does one plan does another that is the same
-pub replays_as : {H E : Type 0} {content : H → Content ℕ} {touches : H → ℕ} {lacks : H → Type 0} {looks most : ℕ} {one other : Plan} {diagnostics : List Diagnostic} {result : Result (Option ℕ) E} {heap_old heap_new : H} {held_old held_new : Indexed}
+pub replays_as : {H E : Type 0} {content : H → Content ℕ} {touches : H → ℕ} {lacks : Type 0} {looks most : ℕ} {one other : Plan} {diagnostics : List Diagnostic} {result : Result (Option ℕ) E} {heap_old heap_new : H} {held_old held_new : Indexed}
     → one ≡ other → Replays content touches lacks looks most other diagnostics result heap_old heap_new held_old held_new → Replays content touches lacks looks most one diagnostics result heap_old heap_new held_old held_new
 replays_as {content = content} {touches = touches} {lacks = lacks} {looks = looks} {most = most} {diagnostics = diagnostics} {result = result} {heap_old = heap_old} {heap_new = heap_new} {held_old = held_old} {held_new = held_new} same replays =
     subst (λ planned. Replays content touches lacks looks most planned diagnostics result heap_old heap_new held_old held_new) (sym same) replays

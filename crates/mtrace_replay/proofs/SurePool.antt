@@ -2,8 +2,7 @@
 -- is held and asked for.
 use Rattle.std.proofs.Common.{◌≡◌, ℕ, ◌+◌, ◌-◌, ◌*◌, ◌<◌, ◌≤◌, true, List, [], ◌∷◌, length, Some, None, refl, sym, ap, ◌∙◌, subst, arith}
 use Rattle.std.specs.List.{AllByRecursion}
-use Rattle.std.proofs.Math.Nat.{mul-le-mul}
-use Rattle.tlsf_class.specs.Classes.{unit, low}
+use Rattle.tlsf_class.specs.Classes.{unit}
 use Rattle.tlsf_heap.specs.declared.refusal.Refusal.TheVariants.{NoFit}
 use Rattle.tlsf_heap.specs.Content.{Pool, blocks_of, used_records}
 use Rattle.tlsf_heap.specs.Memalign.{size_asked}
@@ -11,52 +10,45 @@ use Rattle.tlsf_heap.specs.Good.{IsGood}
 use Rattle.tlsf_heap.specs.Implied.{live_blocks}
 use Rattle.tlsf_heap.specs.Room.{live_bytes, pool_bytes, HasRoomFor}
 use Rattle.tlsf_heap.proofs.Good.Implied.{few_blocks as used_few}
-use Rattle.tlsf_heap.proofs.Good.Room.{room_fits, aligned_room_fits, realloc_room_fits}
+use Rattle.tlsf_heap.specs.Within.{AsksAtMost, IsLargeEnough}
+use Rattle.tlsf_heap.proofs.Good.Room.{room_serves, aligned_room_serves, realloc_room_serves}
+use Rattle.tlsf_heap.proofs.Good.Within.{room_within}
 use Rattle.mtrace_replay.specs.Started.{Bare}
-use Rattle.mtrace_replay.specs.Moment.{ReadLine, Given, Moment, asked_size, Act, idle, give, take, move}
+use Rattle.mtrace_replay.specs.Moment.{ReadLine, Given, Moment, asked_size, rounded_bytes, Act, idle, give, take, move}
 use Rattle.mtrace_replay.specs.History.{AreHeld, moments, content_after}
-use Rattle.mtrace_replay.specs.Enough.{HoldsAtMost, HoldsBytesAtMost, rounded_size, rounded_total, AsksAtMost, act_of, acts_of, IsOfAtMost, IsNeverRefused}
+use Rattle.mtrace_replay.specs.Totals.{rounded_bytes_in}
+use Rattle.mtrace_replay.specs.Enough.{HoldsAtMost, HoldsBytesAtMost, act_of, acts_of, IsOfAtMost, IsNeverRefused}
 use Rattle.mtrace_replay.proofs.TotalsLemmas.{AreAllFree, first_moments_all}
 use Rattle.mtrace_replay.proofs.EnoughRecords.{bytes_of, IsRefusedAs, stands_all, few_blocks, one_still, owns_sized, first_but_last, never_refused}
 use Rattle.mtrace_replay.proofs.HeldBytes.{few_bytes, all_bytes}
+
+abbrev rounded_size : Given → ℕ
+rounded_size given = rounded_bytes given.entry.size
 
 module _ (most bytes size : ℕ) where
   -- a good content that is large enough for the bounds, and keeps to them
   record IsEnough (content : Bare) : Type 0 where
     good : IsGood content
-    one : length content.pools ≡ 1
     few : live_blocks content ≤ most
     small : live_bytes (blocks_of content.pools) ≤ bytes
-    large : bytes + (most + 1) * (size - unit) < pool_bytes content.pools
-    records : 2 * most + 3 ≤ content.records
+    large : IsLargeEnough most bytes size content
 
   room : (asked : ℕ → ℕ) (rests n : ℕ) (content : Bare) → rests ≤ 2 → IsEnough content → AsksAtMost size asked n → HasRoomFor asked rests n content
-  room asked rests n content two enough asks =
-      let less : live_blocks content + length content.pools ≤ most + 1 = omega (arith, enough.few, enough.one) in
-      let smaller : low asks.c - unit ≤ size - unit = omega (arith, asks.sized) in
-      let product : (live_blocks content + length content.pools) * (low asks.c - unit) ≤ (most + 1) * (size - unit) = mul-le-mul less smaller in
-      record {
-        m = asks.m;
-        rounds = asks.rounds;
-        c = asks.c;
-        needed = asks.needed;
-        bytes = omega (arith, enough.small, product, enough.large);
-        records = omega (arith, two, enough.few, enough.one, enough.records);
-      }
+  room asked rests n content two enough asks = room_within most bytes size asked rests n content two enough.large (record { few = enough.few; small = enough.small; asks = asks })
 
   -- a block fits what is done
   act_fits : (act : Act) (content : Bare) → IsEnough content → IsOfAtMost size act → IsRefusedAs act content NoFit → ⊥
   act_fits idle content enough of refused = refused
   act_fits (give entry None) content enough of refused =
-      room_fits tt (asked_size entry.size) content enough.good (room (λ m. m) 1 (asked_size entry.size) content (omega arith) enough of) refused
+      room_serves tt (asked_size entry.size) content NoFit enough.good (room (λ m. m) 1 (asked_size entry.size) content (omega arith) enough of) refused
   act_fits (give entry (Some align)) content enough of refused =
-      aligned_room_fits tt align (asked_size entry.size) content enough.good (room (size_asked align) 2 (asked_size entry.size) content (omega arith) enough of) refused
+      let other = aligned_room_serves tt align (asked_size entry.size) content NoFit enough.good (room (size_asked align) 2 (asked_size entry.size) content (omega arith) enough of) refused in absurd (cc)
   act_fits (take address place) content enough of refused = refused
   act_fits (move old place entry) content enough of refused =
-      realloc_room_fits tt (λ one other. true) (Some (place, tt)) (asked_size entry.size) content enough.good (room (λ m. m) 1 (asked_size entry.size) content (omega arith) enough of) refused
+      let other = realloc_room_serves tt (λ one other. true) (Some (place, tt)) (asked_size entry.size) content NoFit enough.good (room (λ m. m) 1 (asked_size entry.size) content (omega arith) enough of) refused in absurd (cc)
 
   module _ (start : Bare) (good : IsGood start) (free : AreAllFree start) (one : length start.pools ≡ 1)
-    (large : bytes + (most + 1) * (size - unit) < pool_bytes start.pools) (enough : 2 * most + 3 ≤ start.records) where
+      (large : bytes + (most + 1) * (size - unit) < pool_bytes start.pools) (enough : 2 * most + 3 ≤ start.records) where
     -- what is so of the lines
     record IsWithin (past : List ReadLine) : Type 0 where
       holds : HoldsAtMost most (moments start past)
@@ -66,7 +58,7 @@ module _ (most bytes size : ℕ) where
     fewer : (line : ReadLine) (past : List ReadLine) → IsWithin (line ∷ past) → IsWithin past
     fewer line past within = record {
       holds = first_but_last start good free (λ first. (all : List Given) × AreHeld all first × (length all ≤ most)) line past within.holds;
-      bytes_held = first_but_last start good free (λ first. (all : List Given) × AreHeld all first × (rounded_total all ≤ bytes)) line past within.bytes_held;
+      bytes_held = first_but_last start good free (λ first. (all : List Given) × AreHeld all first × (rounded_bytes_in all ≤ bytes)) line past within.bytes_held;
       of = within.of.1;
     }
 
@@ -101,7 +93,7 @@ module _ (most bytes size : ℕ) where
           now.2,
         )
       where
-        total : (all : List Given) → all_bytes rounded_size all ≡ rounded_total all
+        total : (all : List Given) → all_bytes rounded_size all ≡ rounded_bytes_in all
         total [] = refl
         total (given ∷ all) = omega (arith, total all)
 
@@ -111,11 +103,15 @@ module _ (most bytes size : ℕ) where
         let stands = stands_all start good free past in
         record {
           good = stands.good;
-          one = one_still start good free one past;
           few = few_blocks start good free most past within.holds;
           small = few_live_bytes past within;
-          large = omega (arith, large, as_large (content_after start ms).pools stands.pools);
-          records = omega (arith, enough, stands.records);
+          large =
+              let one_pool : length (content_after start ms).pools ≡ 1 = one_still start good free one past in
+              let product : (most + length (content_after start ms).pools) * (size - unit) ≡ (most + 1) * (size - unit) = ap (λ n. (most + n) * (size - unit)) one_pool in
+              record {
+                pools = omega (arith, product, large, as_large (content_after start ms).pools stands.pools);
+                records = omega (arith, enough, stands.records, one_pool);
+              };
         }
 
     pub always_fits : (past : List ReadLine) → HoldsAtMost most (moments start past) → HoldsBytesAtMost bytes (moments start past) → AllByRecursion (IsOfAtMost size) (acts_of start past)

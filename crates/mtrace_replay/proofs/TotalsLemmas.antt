@@ -13,9 +13,8 @@ use Rattle.tlsf_heap.proofs.Good.LiveBlocks.{none_stands, gap_is_free}
 use Rattle.mtrace_replay.specs.declared.settings.Settings.{Settings}
 use Rattle.mtrace_replay.specs.Started.{Bare, left_by, with_pools, started}
 use Rattle.mtrace_replay.specs.Moment.{Given, Moment}
-use Rattle.mtrace_replay.specs.History.{content_after, entries_of}
-use Rattle.mtrace_replay.specs.Texts.{total_size}
-use Rattle.mtrace_replay.specs.Totals.{first_moments, IsSum, IsCount, IsMost, IsPeak, IsLiveAfter, IsHighPlace}
+use Rattle.mtrace_replay.specs.History.{content_after}
+use Rattle.mtrace_replay.specs.Totals.{first_moments, bytes_in, Measures, IsSum, IsMost, IsPeak, IsLiveAfter, IsHighPlace}
 use Rattle.mtrace_replay.proofs.SortedLemmas.{one_list}
 use Rattle.mtrace_replay.proofs.FoundLemmas.{none_held}
 
@@ -48,19 +47,13 @@ first_or_all k moment past before all = elim (le_or_more k (length past)) [
   | inr beyond ↦ all beyond (first_moments_most k (moment ∷ past) beyond)
 ]
 
--- what is held has one sum, and one count
-pub sum_is_one : (past : List Moment) (one other : ℕ) → IsSum past one → IsSum past other → one ≡ other
-sum_is_one past one other is as_well = is.sum ∙ ap (λ all. total_size (entries_of all)) (one_list past is.all as_well.all is.held as_well.held) ∙ sym as_well.sum
-
-pub count_is_one : (past : List Moment) (one other : ℕ) → IsCount past one → IsCount past other → one ≡ other
-count_is_one past one other is as_well = is.count ∙ ap (λ (all : List Given). length all) (one_list past is.all as_well.all is.held as_well.held) ∙ sym as_well.count
+-- what is held has one measure
+pub measure_is_one : (measure : List Given → ℕ) (past : List Moment) (one other : ℕ) → Measures measure past one → Measures measure past other → one ≡ other
+measure_is_one measure past one other is as_well = is.measured ∙ ap measure (one_list past is.all as_well.all is.held as_well.held) ∙ sym as_well.measured
 
 -- nothing is held before the first line
-pub sum_none : IsSum [] 0
-sum_none = record { all = []; held = none_held; sum = refl }
-
-pub count_none : IsCount [] 0
-count_none = record { all = []; held = none_held; count = refl }
+pub none_measured : (measure : List Given → ℕ) → measure [] ≡ 0 → Measures measure [] 0
+none_measured measure nothing = record { all = []; held = none_held; measured = sym nothing }
 
 none_first : (k : ℕ) → first_moments k [] ≡ []
 none_first k = first_moments_most k [] (omega arith)
@@ -68,8 +61,8 @@ none_first k = first_moments_most k [] (omega arith)
 pub peak_none : IsPeak [] 0 0
 peak_none = record {
   within = omega arith;
-  reached = subst (λ (all : List Moment). IsSum all 0) (sym (none_first 0)) sum_none;
-  greatest = λ k sum is. (let same = sum_is_one [] sum 0 (subst (λ (all : List Moment). IsSum all sum) (none_first k) is) sum_none in omega (arith, same));
+  reached = subst (λ (all : List Moment). IsSum all 0) (sym (none_first 0)) (none_measured bytes_in refl);
+  greatest = λ k sum is. (let same = measure_is_one bytes_in [] sum 0 (subst (λ (all : List Moment). IsSum all sum) (none_first k) is) (none_measured bytes_in refl) in omega (arith, same));
   first = λ k sum below is. absurd (omega (arith, below));
 }
 
@@ -78,7 +71,7 @@ module _ (moment : Moment) (past : List Moment) (bytes line now : ℕ) (peak : I
   sum_cases : {X : Type 0} (k sum : ℕ) → IsSum (first_moments k (moment ∷ past)) sum → (k ≤ length past → IsSum (first_moments k past) sum → X) → (suc (length past) ≤ k → sum ≡ now → X) → X
   sum_cases k sum is before all = first_or_all k moment past
       (λ within same. before within (subst (λ (first : List Moment). IsSum first sum) same is))
-      (λ beyond same. all beyond (sum_is_one (moment ∷ past) sum now (subst (λ (first : List Moment). IsSum first sum) same is) sum_now))
+      (λ beyond same. all beyond (measure_is_one bytes_in (moment ∷ past) sum now (subst (λ (first : List Moment). IsSum first sum) same is) sum_now))
 
   -- the peak stays where the sum now is no greater
   pub peak_stays : now ≤ bytes → IsPeak (moment ∷ past) bytes line
@@ -98,38 +91,38 @@ module _ (moment : Moment) (past : List Moment) (bytes line now : ℕ) (peak : I
     first = λ k sum below is. sum_cases k sum is (λ within before. omega (arith, more, peak.greatest k sum before)) (λ beyond same. absurd (omega (arith, beyond, below)));
   }
 
-pub most_none : IsMost [] 0
-most_none = record {
-  reached = (0, subst (λ (all : List Moment). IsCount all 0) (sym (none_first 0)) count_none);
-  greatest = λ k count is. (let same = count_is_one [] count 0 (subst (λ (all : List Moment). IsCount all count) (none_first k) is) count_none in omega (arith, same));
+pub most_none : (measure : List Given → ℕ) → measure [] ≡ 0 → IsMost measure [] 0
+most_none measure nothing = record {
+  reached = (0, subst (λ (all : List Moment). Measures measure all 0) (sym (none_first 0)) (none_measured measure nothing));
+  greatest = λ k n is. (let same = measure_is_one measure [] n 0 (subst (λ (all : List Moment). Measures measure all n) (none_first k) is) (none_measured measure nothing) in omega (arith, same));
 }
 
--- the most that are held, with one line more
-pub most_goes_on : (moment : Moment) (past : List Moment) (most now : ℕ) → IsMost past most → IsCount (moment ∷ past) now → IsMost (moment ∷ past) (max most now)
-most_goes_on moment past most now is count_now = record {
+-- the greatest measure, with one line more
+pub most_goes_on : (measure : List Given → ℕ) (moment : Moment) (past : List Moment) (most now : ℕ) → IsMost measure past most → Measures measure (moment ∷ past) now → IsMost measure (moment ∷ past) (max most now)
+most_goes_on measure moment past most now is count_now = record {
   reached = elim (le_or_more now most) [
     | inl within ↦
         let same : most ≡ max most now = omega (arith, within) in
-        (reached.0, subst (λ n. IsCount (first_moments reached.0 (moment ∷ past)) n) same reached.1)
+        (reached.0, subst (λ n. Measures measure (first_moments reached.0 (moment ∷ past)) n) same reached.1)
     | inr more ↦
         let same : now ≡ max most now = omega (arith, more) in (
           length (moment ∷ past),
-          subst (λ n. IsCount (first_moments (length (moment ∷ past)) (moment ∷ past)) n) same
-              (subst (λ (first : List Moment). IsCount first now) (sym (first_moments_all (moment ∷ past))) count_now),
+          subst (λ n. Measures measure (first_moments (length (moment ∷ past)) (moment ∷ past)) n) same
+              (subst (λ (first : List Moment). Measures measure first now) (sym (first_moments_all (moment ∷ past))) count_now),
         )
   ];
   greatest = λ k count held. first_or_all k moment past
-      (λ within same. omega (arith, is.greatest k count (subst (λ (first : List Moment). IsCount first count) same held)))
-      (λ beyond same. omega (arith, count_is_one (moment ∷ past) count now (subst (λ (first : List Moment). IsCount first count) same held) count_now));
+      (λ within same. omega (arith, is.greatest k count (subst (λ (first : List Moment). Measures measure first count) same held)))
+      (λ beyond same. omega (arith, measure_is_one measure (moment ∷ past) count now (subst (λ (first : List Moment). Measures measure first count) same held) count_now));
 }
   where
     -- as many are held after the same number of lines, or after all of them where the number is greater
-    reached : (k : ℕ) × IsCount (first_moments k (moment ∷ past)) most
+    reached : (k : ℕ) × Measures measure (first_moments k (moment ∷ past)) most
     reached = elim (le_or_more is.reached.0 (length past)) [
-      | inl within ↦ (is.reached.0, subst (λ (first : List Moment). IsCount first most) (sym (first_moments_before is.reached.0 moment past within)) is.reached.1)
+      | inl within ↦ (is.reached.0, subst (λ (first : List Moment). Measures measure first most) (sym (first_moments_before is.reached.0 moment past within)) is.reached.1)
       | inr beyond ↦ (
         length past,
-        subst (λ (first : List Moment). IsCount first most)
+        subst (λ (first : List Moment). Measures measure first most)
             (first_moments_most is.reached.0 past (omega (arith, beyond)) ∙ sym (first_moments_before (length past) moment past (omega arith) ∙ first_moments_all past)) is.reached.1,
       )
     ]

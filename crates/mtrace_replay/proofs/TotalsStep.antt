@@ -16,7 +16,7 @@ use Rattle.mtrace_replay.specs.Totals.{is_served, is_refusal, is_refused, IsSum,
 use Rattle.mtrace_replay.proofs.TotalsLemmas.{peak_stays, peak_rises, high_stays, high_is_greater}
 
 -- an end is there where something was given
-some_mapped : {A B : Type 0} (f : A → B) (o : Option A) → is_some (option_map f o) ≡ is_some o
+pub some_mapped : {A B : Type 0} (f : A → B) (o : Option A) → is_some (option_map f o) ≡ is_some o
 some_mapped f None = refl
 some_mapped f (Some x) = refl
 
@@ -85,10 +85,10 @@ totals_of_line start past moment all old end refused bytes blocks are end_is ref
   served = count_more is_served moment past old.served (is_some end) are.served (ap is_some end_is ∙ some_mapped _ moment.given);
   refused = count_more is_refused moment past old.refused refused are.refused refused_is;
   live_bytes = sum_now;
-  live_blocks = record { all = all; held = held; count = count };
+  live_blocks = record { all = all; held = held; measured = count };
   peak = peak_by moment past old.lines old.peak_bytes old.peak_line bytes are.lines are.peak sum_now (nat_lt old.peak_bytes bytes) refl;
   high_place = high_by start past moment old.high_place are.high_place end stood given;
 }
   where
     sum_now : IsSum (moment ∷ past) bytes
-    sum_now = record { all = all; held = held; sum = sum }
+    sum_now = record { all = all; held = held; measured = sum }

@@ -1,8 +1,8 @@
 -- A log that is read again.
-use Rattle.std.specs.Prelude.{◌≡◌, ◌≢◌, ◌⊎◌, ℕ, ◌≤◌, List, [], ◌∷◌, length, reverse, Result, Ok, Err, IfOk, IfErr, OnOk, OnErr, IsErrOf}
+use Rattle.std.specs.Prelude.{◌≡◌, ◌≢◌, ◌⊎◌, ℕ, ◌<◌, List, [], ◌∷◌, length, reverse, Result, Ok, Err, IfOk, IfErr, OnOk, OnErr, IsErrOf}
 use Rattle.std.specs.Io.KnownBytes.{prepend_known}
 use Rattle.mtrace_log.specs.HasRead.{HasRead, HasReadAll}
-use Rattle.mtrace_log.specs.Trace.{HasNotFailed}
+use Rattle.mtrace_log.specs.Trace.{HasNotFailed, HasGivenAll}
 use Rattle.mtrace_replay.specs.declared.settings.Settings.{Settings}
 use Rattle.mtrace_replay.specs.Moment.{ReadLine}
 use Rattle.mtrace_replay.specs.Replay.{Replayed, StandsFor}
@@ -15,30 +15,41 @@ use Rattle.mtrace_replay.specs.Run.{Bytes, Reports, Runs, FailedInPiece}
 use Rattle.mtrace_log.specs.declared.call.Call.{Call}
 use Rattle.mtrace_log.specs.declared.call.Call.TheVariants.{Began, Failed}
 
--- The first lines of a text were read: `most` of them, or all where it has no more. Unused are the bytes that were asked of
--- the reader and belong to none of them.
-pub record HasReadFirst (most : ℕ) (before after : Bytes) (lines : List ReadLine) : Type 0 where
-  pub few : length lines ≤ most
+-- The first lines of a text were read, this many. Unused are the bytes that were asked of the reader and belong to none of
+-- them.
+pub record HasReadFirst (many : ℕ) (before after : Bytes) (lines : List ReadLine) : Type 0 where
+  pub count : length lines ≡ many
   pub unused : List ℕ
-  pub read : ((length lines ≡ most) × HasRead before (prepend_known unused after) lines) ⊎ HasReadAll before after lines
+  pub read : HasRead before (prepend_known unused after) lines ⊎ HasReadAll before after lines
+
+-- The text has fewer lines than this, and the reader told its end.
+pub record EndsEarly (many : ℕ) (before after : Bytes) (calls_old calls_new : List Call) : Type 0 where
+  pub lines : List ReadLine
+  pub fewer : length lines < many
+  pub read : HasReadAll before after lines
+  pub told : HasGivenAll calls_old calls_new
+
+-- The reader failed before it gave this many lines, or has fewer.
+abbrev pub StopsEarly : (many : ℕ) (before after : Bytes) (calls_old calls_new : List Call) → Type 0
+StopsEarly many before after calls_old calls_new =
+    ((first : List ReadLine) × FailedInPiece before after calls_old calls_new first) ⊎ EndsEarly many before after calls_old calls_new
 
 -- those lines were replayed
-pub record HasReplayedFirst (most : ℕ) (settings : Settings) (replay : Replayed) (left_old left_new : Bytes) : Type 0 where
+pub record HasReplayedFirst (many : ℕ) (settings : Settings) (replay : Replayed) (left_old left_new : Bytes) : Type 0 where
   pub lines : List ReadLine
-  pub read : HasReadFirst most left_old left_new lines
+  pub read : HasReadFirst many left_old left_new lines
   pub stands : StandsFor replay settings (reverse lines)
 
--- The reader didn't begin again, or failed while the first lines were read again.
-abbrev pub FailsAgain : (whole left_old left_new : Bytes) (calls_old calls_new : List Call) → Type 0
-FailsAgain whole left_old left_new calls_old calls_new =
-    ((left_new ≡ left_old) × (calls_new ≡ Failed ∷ calls_old))
-    ⊎ ((first : List ReadLine) × FailedInPiece whole left_new (Began ∷ calls_old) calls_new first)
+-- The reader didn't begin again, or failed while this many lines were read again, or has fewer lines then.
+abbrev pub FailsAgain : (many : ℕ) (whole left_old left_new : Bytes) (calls_old calls_new : List Call) → Type 0
+FailsAgain many whole left_old left_new calls_old calls_new =
+    ((left_new ≡ left_old) × (calls_new ≡ Failed ∷ calls_old)) ⊎ StopsEarly many whole left_new (Began ∷ calls_old) calls_new
 
 -- What a call leaves that reads and replays the first lines of a text, from this start on, behind these calls. They were replayed, or
 -- the reader failed.
-pub record ReplaysFirst {R E : Type 0} (left bytes : R → Bytes) (pulls : R → List Call) (start : Bytes) (calls : List Call) (Fails : Type 0) (most : ℕ)
+pub record ReplaysFirst {R E : Type 0} (left bytes : R → Bytes) (pulls : R → List Call) (start : Bytes) (calls : List Call) (Fails : Type 0) (many : ℕ)
     (result : Result (Unit {0}) E) (replay_old replay_new : Replayed) (reader_old reader_new : R) : Type 0 where
-  pub done : OnOk result ((settings : Settings) → StandsFor replay_old settings [] → HasReplayedFirst most settings replay_new start (left reader_new))
+  pub done : OnOk result ((settings : Settings) → StandsFor replay_old settings [] → HasReplayedFirst many settings replay_new start (left reader_new))
   pub not_failed : OnOk result (HasNotFailed calls (pulls reader_new))
   pub read : OnErr result ((settings : Settings) → StandsFor replay_old settings [] → Fails)
   pub whole : bytes reader_new ≡ bytes reader_old

@@ -1,43 +1,24 @@
 -- What is held at most, which blocks are asked for at most, and for what reasons a line isn't refused.
-use Rattle.std.specs.Prelude.{◌≡◌, ◌≢◌, ℕ, suc, ◌+◌, ◌≤◌, List, [], ◌∷◌, length, unwrap_or, Some, None, ⊤}
+use Rattle.std.specs.Prelude.{◌≢◌, ℕ, suc, ◌≤◌, List, [], ◌∷◌, length, Some, None, ⊤}
 use Rattle.std.specs.List.{AllByRecursion}
-use Rattle.tlsf_class.specs.Classes.{low, need}
-use Rattle.tlsf_class.specs.Rounding.{round}
 use Rattle.tlsf_heap.specs.declared.refusal.Refusal.{Refusal}
 use Rattle.tlsf_heap.specs.declared.refusal.Refusal.TheVariants.{TableFull}
 use Rattle.tlsf_heap.specs.Memalign.{size_asked}
+use Rattle.tlsf_heap.specs.Within.{AsksAtMost}
 use Rattle.mtrace_replay.specs.declared.diagnostic.Diagnostic.{Diagnostic}
 use Rattle.mtrace_replay.specs.declared.diagnostic.Kind.TheVariants.{Refused}
 use Rattle.mtrace_replay.specs.Moment.{ReadLine, Given, Moment, asked_size, Act, give, move, plan}
 use Rattle.mtrace_replay.specs.Started.{Bare}
 use Rattle.mtrace_replay.specs.History.{AreHeld, held, moments, pending}
-use Rattle.mtrace_replay.specs.Totals.{first_moments}
+use Rattle.mtrace_replay.specs.Totals.{first_moments, rounded_bytes_in}
 
 -- after any number of lines no more addresses are held
 abbrev pub HoldsAtMost : ℕ → List Moment → Type 0
 HoldsAtMost most past = (k : ℕ) → (all : List Given) × AreHeld all (first_moments k past) × (length all ≤ most)
 
--- the bytes that were asked for, rounded up
-abbrev pub rounded_size : Given → ℕ
-rounded_size given = unwrap_or (round (asked_size given.entry.size)) 0
-
--- the same of all
-abbrev pub rounded_total : List Given → ℕ
-rounded_total [] = 0
-rounded_total (given ∷ all) = rounded_size given + rounded_total all
-
 -- after any number of lines what is held has no more bytes together
 abbrev pub HoldsBytesAtMost : ℕ → List Moment → Type 0
-HoldsBytesAtMost bytes past = (k : ℕ) → (all : List Given) × AreHeld all (first_moments k past) × (rounded_total all ≤ bytes)
-
--- Rounded up, n is m bytes, for which the lists are asked for a block of `asked m` bytes: from class c on each block has them,
--- and the lowest size of class c is at most `size`.
-pub record AsksAtMost (size : ℕ) (asked : ℕ → ℕ) (n : ℕ) : Type 0 where
-  pub m : ℕ
-  pub rounds : round n ≡ Some m
-  pub c : ℕ
-  pub needed : need (asked m) ≡ Some c
-  pub sized : low c ≤ size
+HoldsBytesAtMost bytes past = (k : ℕ) → (all : List Given) × AreHeld all (first_moments k past) × (rounded_bytes_in all ≤ bytes)
 
 -- what the line behind these does
 abbrev pub act_of : Bare → ReadLine → List ReadLine → Act

@@ -1,5 +1,5 @@
 -- How large a pool a log needs: the sizes that are tried, and what they tell.
-use Rattle.std.specs.Prelude.{ℕ, suc, ◌+◌, ◌-◌, ◌*◌, ◌/◌, ◌%◌, Bool, not, ◌||◌, ◌==◌, nat_lt, min, max, false, List, [], ◌∷◌, map, length, count_by, Option, Some, None, option_map, if◌then◌else◌}
+use Rattle.std.specs.Prelude.{ℕ, zero, suc, ◌+◌, ◌-◌, ◌*◌, ◌/◌, ◌%◌, ◌^◌, Bool, not, ◌||◌, ◌==◌, nat_lt, min, max, false, List, [], ◌∷◌, ◌++◌, map, length, count_by, Option, Some, None, option_map, if◌then◌else◌}
 use Rattle.std.specs.Int.{div_ceil}
 use Rattle.std.specs.List.{range_with_len, find, list_all}
 use Rattle.tlsf_class.specs.Classes.{unit, greatest_size}
@@ -37,12 +37,27 @@ abbrev pub first_number : (step peak : ℕ) → ℕ
 first_number step peak = max (div_ceil peak step) 1
 
 -- twice as many, or as many as the greatest size has
-abbrev pub last_number : (step peak : ℕ) → ℕ
-last_number step peak = min (2 * first_number step peak) (greatest_size / step)
+abbrev pub last_number : (step first : ℕ) → ℕ
+last_number step first = min (2 * first) (greatest_size / step)
 
--- the sizes tried: the multiples of the step by these numbers, and those between
-abbrev pub sizes : (step peak : ℕ) → List ℕ
-sizes step peak = map (λ number. number * step) (range_with_len (first_number step peak) (suc (last_number step peak) - first_number step peak))
+-- the multiples of the step by these numbers, and those between
+abbrev pub multiples : (step from to : ℕ) → List ℕ
+multiples step from to = map (λ number. number * step) (range_with_len from (suc to - from))
+
+-- the step, doubled this many times
+abbrev pub doubled : (step times : ℕ) → ℕ
+doubled step times = step * 2 ^ times
+
+-- The sizes that are tried come in ranges. The first are the multiples of the step from the first number to twice as many.
+-- Each other range lies behind the one before, to twice as much, by a step twice as large.
+abbrev pub range : (step first times : ℕ) → List ℕ
+range step first zero = multiples step first (last_number step first)
+range step first (suc times) = multiples (doubled step (suc times)) (suc first) (last_number (doubled step (suc times)) first)
+
+-- the sizes of this many ranges
+abbrev pub ranges : (step first times : ℕ) → List ℕ
+ranges step first zero = []
+ranges step first (suc times) = ranges step first times ++ range step first times
 
 -- a size, and whether a pool of it serves the log
 pub record Verdict : Type 0 where

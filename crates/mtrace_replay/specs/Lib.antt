@@ -1,6 +1,7 @@
 pub mod Again
 pub mod Appends
 pub mod Arrange
+pub mod Asked
 pub mod Compare
 pub mod Enough
 pub mod Entry
@@ -22,6 +23,7 @@ pub mod Saving
 pub mod Search
 pub mod Settings
 pub mod Sites
+pub mod Size
 pub mod Started
 pub mod Step
 pub mod Texts

@@ -1,5 +1,5 @@
 -- What one line of a log asks for, by the line before it and by what is held: its plan. What that leaves, on what the heap holds.
-use Rattle.std.specs.Prelude.{ℕ, suc, Bool, true, false, not, ◌&&◌, List, [], ◌∷◌, ◌++◌, is_some, Option, Some, None, Result, Ok, Err, if◌then◌else◌, ◌==◌}
+use Rattle.std.specs.Prelude.{ℕ, suc, Bool, true, false, not, ◌&&◌, List, [], ◌∷◌, ◌++◌, is_some, unwrap_or, Option, Some, None, Result, Ok, Err, if◌then◌else◌, ◌==◌}
 use Rattle.mtrace_log.specs.Event.{Event}
 use Rattle.mtrace_log.specs.declared.event.Event.TheVariants.{Alloc, Free, New, Aligned}
 use Rattle.mtrace_log.specs.declared.event.LineFault.{LineFault}
@@ -9,6 +9,7 @@ use Rattle.mtrace_replay.specs.declared.diagnostic.Diagnostic.{Diagnostic}
 use Rattle.mtrace_replay.specs.declared.diagnostic.Kind.{Kind}
 use Rattle.mtrace_replay.specs.declared.diagnostic.Kind.TheVariants.{TooLong, NotALine, NotHeld, AlreadyHeld, Refused, Half, Stray}
 use Rattle.tlsf_heap.specs.declared.refusal.Refusal.{Refusal}
+use Rattle.tlsf_class.specs.Rounding.{round}
 use Rattle.tlsf_heap.specs.Content.{Content}
 use Rattle.tlsf_heap.specs.Malloc.{malloc}
 use Rattle.tlsf_heap.specs.Memalign.{memalign}
@@ -105,6 +106,10 @@ after_diagnostics diagnostics moment = record { given = moment.given; taken = mo
 -- a block of no byte is asked for as one of one byte
 abbrev pub asked_size : ℕ → ℕ
 asked_size size = if size == 0 then 1 else size
+
+-- the size of the block for this many bytes
+abbrev pub rounded_bytes : ℕ → ℕ
+rounded_bytes size = unwrap_or (round (asked_size size)) 0
 
 -- a block is asked for, at a multiple of an alignment where there is one
 abbrev pub asked_block : {A : Type 0} → A → Option ℕ → ℕ → Content A → Result (ℕ × Content A) Refusal

@@ -1,21 +1,23 @@
 -- What a replay stands for.
-use Rattle.std.specs.Prelude.{◌≡◌, ℕ, ◌+◌, ◌*◌, ◌^◌, ◌<◌, ◌≤◌, Bool, true, false, List, ◌∷◌, length, Option, Result, Err, IfOk, IfErr, OnOk, OnErr}
-use Rattle.tlsf_heap.specs.Run.{MayLack}
+use Rattle.std.specs.Prelude.{◌≡◌, ℕ, ◌*◌, ◌^◌, ◌<◌, Bool, true, false, List, ◌∷◌, length, Option, Result, Err, IfOk, IfErr, OnOk, OnErr}
 use Rattle.mtrace_replay.specs.Entry.{Entry}
 use Rattle.mtrace_replay.specs.declared.diagnostic.Diagnostic.{Diagnostic}
 use Rattle.mtrace_replay.specs.declared.replay.ReplayFault.{ReplayFault}
 use Rattle.mtrace_replay.specs.declared.replay.ReplayFault.TheVariants.{OutOfMemory}
 use Rattle.mtrace_replay.specs.declared.settings.Settings.{Settings}
 use Rattle.mtrace_replay.specs.declared.totals.Totals.{Totals}
+use Rattle.tlsf_heap.specs.Touches.{AtMost}
 use Rattle.mtrace_replay.specs.Started.{Bare, started}
+use Rattle.mtrace_replay.specs.Asked.{greatest_class}
 use Rattle.mtrace_replay.specs.Step.{found}
-use Rattle.mtrace_replay.specs.Totals.{AreTotals, IsMost}
+use Rattle.mtrace_replay.specs.Totals.{blocks_in, rounded_bytes_in, AreTotals, IsMost}
 use Rattle.mtrace_replay.specs.Moment.{ReadLine, Given, moment, plan, acts, half}
 use Rattle.mtrace_replay.specs.History.{AreHeld, held, moments, content_after, pending, entries_of}
 
 -- a replay: the heap's content, how often it was touched, how many addresses were compared, and the totals. `given`
--- is what is held, in order of address; `most`, the most addresses that were held. `pending` is the address of the
--- last line where that is `<`; `out_of_memory`, whether memory was refused
+-- is what is held, in order of address; `most`, the most addresses that were held, and `most_rounded` the most bytes in
+-- their blocks. `class_size` is the greatest class size that a served line asked for. `pending` is the address of the last
+-- line where that is `<`; `out_of_memory`, whether memory was refused
 pub record Replayed : Type 0 where
   pub content : Bare
   pub touches : ℕ
@@ -23,6 +25,8 @@ pub record Replayed : Type 0 where
   pub given : List Given
   pub totals : Totals
   pub most : ℕ
+  pub most_rounded : ℕ
+  pub class_size : Option ℕ
   pub pending : Option ℕ
   pub out_of_memory : Bool
 
@@ -38,7 +42,9 @@ pub record StandsFor (replay : Replayed) (settings : Settings) (past : List Read
   pub content_is : replay.content ≡ content_after (started settings) (moments (started settings) past)
   pub held : AreHeld replay.given (moments (started settings) past)
   pub totals : AreTotals (started settings) (moments (started settings) past) replay.totals
-  pub most : IsMost (moments (started settings) past) replay.most
+  pub most : IsMost blocks_in (moments (started settings) past) replay.most
+  pub rounded : IsMost rounded_bytes_in (moments (started settings) past) replay.most_rounded
+  pub class : replay.class_size ≡ greatest_class (started settings) past
 
 -- the diagnostics that one more line adds to those of the lines before it, of which the latest comes first
 abbrev pub added_diagnostics : Settings → ReadLine → List ReadLine → List Diagnostic
@@ -50,25 +56,25 @@ added_diagnostics settings line past =
 -- to the diagnostics. Else memory was refused, by a heap that may lack it: what is held and the totals stay, for
 -- good. There are at most three look-ups and 384 touches, and no touch where the line asks nothing of the heap. The
 -- heap has as many records as before.
-pub record Feeds {H N : Type 0} (lacks : H → Type 0) (items : N → List Diagnostic) (number : ℕ) (line : ReadLine) (result : Result N ReplayFault) (old new : Replayed) : Type 0 where
+pub record Feeds {N : Type 0} (lacks : Type 0) (items : N → List Diagnostic) (number : ℕ) (line : ReadLine) (result : Result N ReplayFault) (old new : Replayed) : Type 0 where
   pub stands : OnOk result ((settings : Settings) (past : List ReadLine) → StandsFor old settings past → StandsFor new settings (line ∷ past))
   pub diagnostics : IfOk result (λ diagnostics. (settings : Settings) (past : List ReadLine) → StandsFor old settings past → items diagnostics ≡ added_diagnostics settings line past)
   pub counted : OnOk result (new.totals.lines ≡ number)
   pub for_good : old.out_of_memory ≡ true → result ≡ Err OutOfMemory
   pub fault : IfErr result (λ fault. fault ≡ OutOfMemory)
   pub ends : OnErr result (new.out_of_memory ≡ true)
-  pub memory : OnErr result (MayLack lacks)
+  pub memory : OnErr result lacks
   pub unchanged : OnErr result (entries new ≡ entries old)
   pub totals_unchanged : OnErr result (new.totals ≡ old.totals)
   pub records : new.content.records ≡ old.content.records
-  pub compared : (digits : ℕ) → old.content.records < 2 ^ digits → new.comparisons ≤ old.comparisons + 3 * digits
-  pub bound : new.touches ≤ old.touches + 384
+  pub compared : (digits : ℕ) → old.content.records < 2 ^ digits → AtMost (3 * digits) old.comparisons new.comparisons
+  pub bound : AtMost 384 old.touches new.touches
   pub idle : acts (plan number line old.pending (found old.given)).act ≡ false → new.touches ≡ old.touches
 
 -- what is wrong at the end is told, unless memory was refused
-pub record TellsEnd {H N : Type 0} (lacks : H → Type 0) (items : N → List Diagnostic) (result : Result N ReplayFault) (replay : Replayed) : Type 0 where
+pub record TellsEnd {N : Type 0} (lacks : Type 0) (items : N → List Diagnostic) (result : Result N ReplayFault) (replay : Replayed) : Type 0 where
   pub diagnostics : IfOk result (λ diagnostics. items diagnostics ≡ half replay.totals.lines replay.pending)
   pub fault : IfErr result (λ fault. fault ≡ OutOfMemory)
   pub for_good : OnErr result (replay.out_of_memory ≡ true)
-  pub memory : OnErr result (MayLack lacks)
+  pub memory : OnErr result lacks
   pub works : OnOk result (replay.out_of_memory ≡ false)

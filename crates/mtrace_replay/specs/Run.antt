@@ -104,18 +104,6 @@ pub record StopsAtWrite (report : Report) (settings : Settings) (left_old left_n
   pub unused : List ℕ
   pub begun : BeginsText report settings left_old (prepend_known unused left_new) taken_old taken_new lines
 
--- what a run that answers a read fault leaves
-abbrev pub FailsToRead : {R W : Type 0} → (left : R → Bytes) (pulls : R → List Call) (taken : W → Bytes) (puts : W → List Call) → Settings → (reader_old reader_new : R) (writer_old writer_new : W) → Type 0
-FailsToRead left pulls taken puts settings reader_old reader_new writer_old writer_new =
-    StopsAtRead settings (left reader_old) (left reader_new) (pulls reader_old) (pulls reader_new) (taken writer_old) (taken writer_new)
-    × FlushWasAsked (puts writer_old) (puts writer_new)
-
--- what a run that answers a write fault leaves
-abbrev pub FailsToWrite : {R W : Type 0} → Report → (left : R → Bytes) (pulls : R → List Call) (taken : W → Bytes) (puts : W → List Call) → Settings → (reader_old reader_new : R) (writer_old writer_new : W) → Type 0
-FailsToWrite report left pulls taken puts settings reader_old reader_new writer_old writer_new =
-    StopsAtWrite report settings (left reader_old) (left reader_new) (taken writer_old) (taken writer_new)
-    × HasNotFailed (pulls reader_old) (pulls reader_new) × HasFailedToWrite (puts writer_old) (puts writer_new)
-
 -- What a run leaves, by what it answers. Where it answers a status, all of the log was read, what was written is its
 -- whole text, and the status is that text's. Bad settings come exactly where they are bad, and then nothing is done.
 pub record Runs {R W : Type 0} (report : Report) (settings : Settings) (left : R → Bytes) (pulls : R → List Call) (taken : W → Bytes) (puts : W → List Call)

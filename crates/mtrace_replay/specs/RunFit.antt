@@ -1,56 +1,71 @@
 -- What a run leaves that tells how large a pool a log needs.
-use Rattle.std.specs.Prelude.{◌≡◌, ◌≢◌, ◌⊎◌, ◌↔◌, ℕ, zero, suc, ◌<◌, Bool, true, false, List, ◌++◌, ◌∷◌, map, count_by, Option, Result, IfOk, OnOk, OnErr, IsErrOf, IsTrue}
+use Rattle.std.specs.Prelude.{◌≡◌, ◌≢◌, ◌⊎◌, ◌↔◌, ℕ, zero, suc, ◌<◌, ◌≤◌, Bool, true, false, List, [], ◌++◌, map, length, reverse, count_by, Option, None, IsSome, Result, IfOk, OnOk, OnErr, IsErrOf, IsTrue}
 use Rattle.std.specs.List.{AllByRecursion}
-use Rattle.std.specs.Io.KnownBytes.{prepend_known}
-use Rattle.mtrace_log.specs.HasRead.{HasRead, HasReadAll}
+use Rattle.tlsf_heap.specs.Sizing.{sure_pool}
 use Rattle.mtrace_log.specs.declared.call.Call.{Call}
-use Rattle.mtrace_log.specs.declared.call.Call.TheVariants.{Began, Failed}
+use Rattle.mtrace_log.specs.declared.call.Call.TheVariants.{Failed}
 use Rattle.mtrace_replay.specs.declared.settings.Settings.{Settings}
 use Rattle.mtrace_replay.specs.declared.status.Status.{Status}
 use Rattle.mtrace_replay.specs.declared.status.RunFault.{RunFault}
 use Rattle.mtrace_replay.specs.declared.status.RunFault.TheVariants.{BadSettings}
 use Rattle.mtrace_replay.specs.declared.totals.Totals.{Totals}
 use Rattle.mtrace_replay.specs.Started.{started}
-use Rattle.mtrace_replay.specs.Totals.{AreTotals, IsMost, is_refused}
+use Rattle.mtrace_replay.specs.Totals.{blocks_in, rounded_bytes_in, AreTotals, IsMost, is_refused}
 use Rattle.mtrace_replay.specs.Moment.{ReadLine}
+use Rattle.mtrace_replay.specs.Asked.{greatest_class}
 use Rattle.mtrace_replay.specs.History.{history}
-use Rattle.mtrace_replay.specs.Fit.{one_pool, greatest_settings, enough_records, is_bad_step, step_of, sizes, Verdict, fitted}
+use Rattle.mtrace_replay.specs.Fit.{one_pool, greatest_settings, enough_records, is_bad_step, step_of, first_number, range, ranges, Verdict, least_size, fitted}
 use Rattle.mtrace_replay.specs.Texts.{greatest_line, most_line, fitted_lines, untried_lines}
-use Rattle.mtrace_replay.specs.Run.{Bytes, FailedInPiece, IsPastLastNumber}
+use Rattle.mtrace_replay.specs.Run.{Bytes}
 use Rattle.mtrace_replay.specs.Replay.{Replayed}
-use Rattle.mtrace_replay.specs.Again.{Follows, RunsAgain}
+use Rattle.mtrace_replay.specs.Again.{HasReadFirst, FailsAgain, Follows, RunsAgain}
 
 -- how many of the lines are refused on a heap by the settings
 abbrev pub refusals : Settings → List ReadLine → ℕ
 refusals settings lines = count_by is_refused (history settings lines)
 
--- A log was tried on a heap by the settings. All of it was read, and no line is refused; or lines were read, and one
--- or more are refused.
-abbrev pub IsTried : Settings → (serves : Bool) → (whole left : Bytes) → Type 0
-IsTried settings true whole left = (lines : List ReadLine) × HasReadAll whole left lines × (refusals settings lines ≡ 0)
-IsTried settings false whole left =
-    (lines : List ReadLine) × (unused : List ℕ) × (HasRead whole (prepend_known unused left) lines ⊎ HasReadAll whole left lines) × (0 < refusals settings lines)
+-- This many lines of a log were tried on a heap by the settings. All of them were read, and none is refused; or one or more of
+-- those that were read are refused.
+abbrev pub IsTried : Settings → (many : ℕ) → (serves : Bool) → (whole left : Bytes) → Type 0
+IsTried settings many true whole left = (lines : List ReadLine) × HasReadFirst many whole left lines × (refusals settings lines ≡ 0)
+IsTried settings many false whole left =
+    (lines : List ReadLine) × (read : ℕ) × (read ≤ many) × HasReadFirst read whole left lines × (0 < refusals settings lines)
 
--- the log was tried on one pool of each size, with this many records, and these are the verdicts
-pub record AreVerdicts (records : ℕ) (whole : Bytes) (tried : List ℕ) (verdicts : List Verdict) : Type 0 where
+-- this many lines of the log were tried on one pool of each size, with this many records, and these are the verdicts
+pub record AreVerdicts (records many : ℕ) (whole : Bytes) (tried : List ℕ) (verdicts : List Verdict) : Type 0 where
   pub sizes_are : map (λ verdict. verdict.size) verdicts ≡ tried
-  pub each : AllByRecursion (λ verdict. (left : Bytes) × IsTried (one_pool verdict.size records) verdict.serves whole left) verdicts
+  pub each : AllByRecursion (λ verdict. (left : Bytes) × IsTried (one_pool verdict.size records) many verdict.serves whole left) verdicts
 
--- what is told of the sizes: nothing where the greatest pool refuses a line; else the log was tried on all of them
-abbrev pub TellsSizes : (refused : ℕ) (step peak most : ℕ) (whole : Bytes) (text : List ℕ) → Type 0
-TellsSizes zero step peak most whole text =
-    (verdicts : List Verdict) × AreVerdicts (enough_records most) whole (sizes step peak) verdicts × (text ≡ fitted_lines (enough_records most) (fitted verdicts))
-TellsSizes (suc more) step peak most whole text = text ≡ untried_lines
+-- One range after the other was tried, until one has a size that serves, or no range is left.
+pub record TriesRanges (records many step first : ℕ) (whole : Bytes) (verdicts : List Verdict) : Type 0 where
+  pub times : ℕ
+  pub before : List Verdict
+  pub last : List Verdict
+  pub all : verdicts ≡ before ++ last
+  pub before_are : AreVerdicts records many whole (ranges step first times) before
+  pub last_are : AreVerdicts records many whole (range step first times) last
+  pub none_before : least_size before ≡ None
+  pub ended : IsSome (least_size last) ⊎ (range step first (suc times) ≡ [])
 
--- The text of how large a pool a log needs. It has the peak and the most addresses held, on the greatest pool, and
--- what is told of the sizes.
+-- what is told of the sizes: nothing where the greatest pool refuses a line; else the log was tried on ranges of them
+abbrev pub TellsSizes : (refused : ℕ) (step peak most many : ℕ) (sure : Option ℕ) (whole : Bytes) (text : List ℕ) → Type 0
+TellsSizes zero step peak most many sure whole text =
+    (verdicts : List Verdict) × TriesRanges (enough_records most) many step (first_number step peak) whole verdicts × (text ≡ fitted_lines (enough_records most) (fitted verdicts) sure)
+TellsSizes (suc more) step peak most many sure whole text = text ≡ untried_lines
+
+-- The text of how large a pool a log needs. It has the peak and the most addresses held, on the greatest pool, and what is told
+-- of the sizes. The pool that is always enough is told by the most addresses, the most bytes in their blocks, and the greatest
+-- class size that a served line asks for.
 pub record TellsFit (step : Option ℕ) (lines : List ReadLine) (whole : Bytes) (text : List ℕ) : Type 0 where
   pub totals : Totals
   pub summed : AreTotals (started greatest_settings) (history greatest_settings lines) totals
   pub most : ℕ
-  pub is_most : IsMost (history greatest_settings lines) most
+  pub is_most : IsMost blocks_in (history greatest_settings lines) most
+  pub rounded : ℕ
+  pub is_rounded : IsMost rounded_bytes_in (history greatest_settings lines) rounded
   pub rest : List ℕ
-  pub tells : TellsSizes totals.refused (step_of step totals.peak_bytes) totals.peak_bytes most whole rest
+  pub tells : TellsSizes totals.refused (step_of step totals.peak_bytes) totals.peak_bytes most totals.lines
+      (sure_pool most rounded (greatest_class (started greatest_settings) (reverse lines))) whole rest
   pub text_is : text ≡ greatest_line totals ++ most_line most ++ rest
 
 -- calls were made, and none of them failed
@@ -59,19 +74,12 @@ pub record NoneFailed (old new : List Call) : Type 0 where
   pub none : AllByRecursion (λ call. call ≢ Failed) more
   pub calls : new ≡ more ++ old
 
--- The reader didn't begin again, or failed in a later reading, or has a line past the last number there.
-abbrev pub FailsIn : (whole left_old left_new : Bytes) (calls_old calls_new : List Call) → Type 0
-FailsIn whole left_old left_new calls_old calls_new =
-    ((left_new ≡ left_old) × (calls_new ≡ Failed ∷ calls_old))
-    ⊎ ((lines : List ReadLine) × (FailedInPiece whole left_new (Began ∷ calls_old) calls_new lines
-    ⊎ ((unused : List ℕ) × IsPastLastNumber whole (prepend_known unused left_new) (Began ∷ calls_old) calls_new lines)))
-
--- it did so after readings that didn't fail
-pub record FailsLater (whole left_old left_new : Bytes) (calls_old calls_new : List Call) : Type 0 where
+-- the reader failed in a later reading, or has fewer lines then, after readings that didn't fail
+pub record FailsLater (many : ℕ) (whole left_old left_new : Bytes) (calls_old calls_new : List Call) : Type 0 where
   pub left_middle : Bytes
   pub calls_middle : List Call
   pub none_failed : NoneFailed calls_old calls_middle
-  pub fails : FailsIn whole left_middle left_new calls_middle calls_new
+  pub fails : FailsAgain many whole left_middle left_new calls_middle calls_new
 
 -- What a call leaves that tries a log on the heap of a replay, with this many records: what it found, or the reader failed.
 pub record TriesLog {R E : Type 0} (Tried : Bool → Type 0) (Fails : Type 0) (bytes : R → Bytes) (pulls : R → List Call) (many : ℕ)
@@ -83,16 +91,16 @@ pub record TriesLog {R E : Type 0} (Tried : Bool → Type 0) (Fails : Type 0) (b
   pub records : replay.content.records ≡ many
 
 -- What a call leaves that reads the log again, once for each size: what it tells of that, or the reader failed.
-pub record ReadsAgain {R T E : Type 0} (Tells : T → Type 0) (left whole : R → Bytes) (pulls : R → List Call) (result : Result T E) (old new : R) : Type 0 where
+pub record ReadsAgain {R T E : Type 0} (many : ℕ) (Tells : T → Type 0) (left whole : R → Bytes) (pulls : R → List Call) (result : Result T E) (old new : R) : Type 0 where
   pub tells : IfOk result Tells
   pub not_failed : OnOk result (NoneFailed (pulls old) (pulls new))
-  pub read : OnErr result (FailsLater (whole old) (left old) (left new) (pulls old) (pulls new))
+  pub read : OnErr result (FailsLater many (whole old) (left old) (left new) (pulls old) (pulls new))
 
 -- the log whose lines these are was read again for each size, and what they tell was written
 abbrev pub FitFollows : {R W T : Type 0} → (step : Option ℕ) (lines : List ReadLine) (left whole : R → Bytes) (pulls : R → List Call) (taken : W → Bytes) (puts : W → List Call)
     → Result T RunFault → (reader_old reader_new : R) (writer_old writer_new : W) → Type 0
 FitFollows step lines left whole pulls taken puts result reader_old reader_new writer_old writer_new =
-    Follows (λ left_new. TellsFit step lines (whole reader_old)) NoneFailed (FailsLater (whole reader_old)) left pulls taken puts result reader_old reader_new writer_old writer_new
+    Follows (λ left_new. TellsFit step lines (whole reader_old)) NoneFailed (FailsLater (length lines) (whole reader_old)) left pulls taken puts result reader_old reader_new writer_old writer_new
 
 -- What a run leaves that tells how large a pool a log needs. `BadSettings` comes exactly where the step is bad, and
 -- then nothing is done. Else there is first a run without a report on the greatest pool, and then the log is read

@@ -56,11 +56,16 @@ pub record TellsSites (settings : Settings) (lines : List ReadLine) (whole left 
   pub at_end : HeldSites settings lines
   pub text_is : text ≡ section_of (peak_words totals.peak_line) at_peak ++ section_of end_words at_end
 
+-- the reader failed in the second reading, or has fewer lines then than the peak's number
+abbrev pub FailsAgainAtPeak : (settings : Settings) (lines : List ReadLine) (whole left_old left_new : Bytes) (calls_old calls_new : List Call) → Type 0
+FailsAgainAtPeak settings lines whole left_old left_new calls_old calls_new =
+    (totals : Totals) × AreTotals (started settings) (history settings lines) totals × FailsAgain totals.peak_line whole left_old left_new calls_old calls_new
+
 -- the log whose lines these are was read again, and who holds its memory was written
 abbrev pub SitesFollow : {R W T : Type 0} → (settings : Settings) (lines : List ReadLine) (left whole : R → Bytes) (pulls : R → List Call) (taken : W → Bytes) (puts : W → List Call)
     → Result T RunFault → (reader_old reader_new : R) (writer_old writer_new : W) → Type 0
 SitesFollow settings lines left whole pulls taken puts result reader_old reader_new writer_old writer_new =
-    Follows (TellsSites settings lines (whole reader_old)) (λ calls_old. HasNotFailed (Began ∷ calls_old)) (FailsAgain (whole reader_old)) left pulls taken puts
+    Follows (TellsSites settings lines (whole reader_old)) (λ calls_old. HasNotFailed (Began ∷ calls_old)) (FailsAgainAtPeak settings lines (whole reader_old)) left pulls taken puts
     result reader_old reader_new writer_old writer_new
 
 -- What a run leaves that tells who holds the memory of a log. There is first a run without a report, and then the log

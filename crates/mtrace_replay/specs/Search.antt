@@ -1,6 +1,7 @@
 -- Where an address stands among the keys of an index, and where it enters.
 use Rattle.std.specs.Prelude.{◌≡◌, ◌⊎◌, ℕ, ◌+◌, ◌<◌, ◌≤◌, ◌^◌, List, length, take, drop, slice_index_or, None}
 use Rattle.std.specs.List.{remove}
+use Rattle.tlsf_heap.specs.Touches.{AtMost}
 use Rattle.mtrace_replay.specs.declared.key.Key.{Key}
 use Rattle.mtrace_replay.specs.Key.{AreBelow, AreAbove}
 
@@ -14,7 +15,7 @@ FitsAt keys address at = (at ≤ length keys) × AreBelow address (take at keys)
 
 -- a search among this many made at most as many comparisons as their number has binary digits
 abbrev pub Compares : ℕ → (before after : ℕ) → Type 0
-Compares most before after = (digits : ℕ) → most < 2 ^ digits → after ≤ before + digits
+Compares most before after = (digits : ℕ) → most < 2 ^ digits → AtMost digits before after
 
 -- nothing is held there
 abbrev pub IsVacantAt : List Key → ℕ → Type 0

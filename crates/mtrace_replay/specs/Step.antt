@@ -6,10 +6,10 @@ use Rattle.tlsf_heap.specs.Pools.{most_records}
 use Rattle.tlsf_heap.specs.Free.{is_live}
 use Rattle.tlsf_heap.specs.Bare.{bare}
 use Rattle.tlsf_heap.specs.GoodSlots.{slot_times}
-use Rattle.tlsf_heap.specs.Run.{MayLack}
 use Rattle.tlsf_heap.specs.declared.refusal.Refusal.{Refusal}
 use Rattle.tlsf_heap.specs.declared.refusal.Refusal.TheVariants.{OutOfMemory}
 use Rattle.tlsf_heap.specs.Pointer.{Pointer}
+use Rattle.tlsf_heap.specs.Touches.{AtMost}
 use Rattle.mtrace_replay.specs.declared.diagnostic.Diagnostic.{Diagnostic}
 use Rattle.mtrace_replay.specs.Holding.{Holding}
 use Rattle.mtrace_replay.specs.declared.totals.Totals.{Totals}
@@ -62,46 +62,46 @@ pub record AreLive (holdings : List Holding) (content : Content ℕ) : Type 0 wh
 -- refused, the heap, what is held and the diagnostics are as the plan says, and what is held is live. Else what is held
 -- is as it was. The heap has as many records as before. The look-ups are counted, and the touches are at most `most`:
 -- none where nothing is asked of the heap.
-pub record Replays {H E : Type 0} (content : H → Content ℕ) (touches : H → ℕ) (lacks : H → Type 0) (looks most : ℕ) (planned : Plan)
+pub record Replays {H E : Type 0} (content : H → Content ℕ) (touches : H → ℕ) (lacks : Type 0) (looks most : ℕ) (planned : Plan)
     (diagnostics : List Diagnostic) (result : Result (Option ℕ) E) (heap_old heap_new : H) (held_old held_new : Indexed) : Type 0 where
   pub comes : IfOk result (λ end. Comes (bare (content heap_old)) (bare (content heap_new)) (all_given held_old.all) (all_given held_new.all) diagnostics end (carried_out planned (bare (content heap_old))))
   pub live : OnOk result (AreLive held_new.all (content heap_new))
-  pub memory : OnErr result (MayLack lacks)
+  pub memory : OnErr result lacks
   pub unchanged : OnErr result (held_new.all ≡ held_old.all)
   pub records : (content heap_new).records ≡ (content heap_old).records
   pub looked : LooksUp looks held_old held_new
-  pub bound : touches heap_new ≤ touches heap_old + most
+  pub bound : AtMost most (touches heap_old) (touches heap_new)
   pub idle : acts planned.act ≡ false → touches heap_new ≡ touches heap_old
 
 -- What a call leaves that asks the heap for a block, by the request under each slot. The block that it gives has a slot that no block
 -- had, or an old one. Where the heap refuses, it stays as it is. At most this many touches are made.
-pub record AsksBlock {H A T : Type 0} (content : H → Content ℕ) (touches : H → ℕ) (lacks : H → Type 0) (most : ℕ) (request : ℕ → Result (A × Content ℕ) Refusal)
+pub record AsksBlock {H A T : Type 0} (content : H → Content ℕ) (touches : H → ℕ) (lacks : Type 0) (most : ℕ) (request : ℕ → Result (A × Content ℕ) Refusal)
     (answer : Pointer → A) (IsOld : ℕ → Type 0) (ptr_of : T → Pointer) (result : Result T Refusal) (old new : H) : Type 0 where
   pub ok : IfOk result (λ given. request (ptr_of given).slot ≡ Ok (answer (ptr_of given), content new))
   pub slot_below : IfOk result (λ given. (ptr_of given).slot < (content old).records)
   pub slot_new : IfOk result (λ given. (IsOld (ptr_of given).slot → ⊥) → slot_times (ptr_of given).slot (blocks_of (content old).pools) ≡ 0)
   pub refused : IfErr result (λ refusal. refusal ≢ OutOfMemory → (slot : ℕ) → request slot ≡ Err refusal)
-  pub memory : IfErr result (λ refusal. refusal ≡ OutOfMemory → MayLack lacks)
+  pub memory : IfErr result (λ refusal. refusal ≡ OutOfMemory → lacks)
   pub unchanged : OnErr result (content new ≡ content old)
-  pub bound : touches new ≤ touches old + most
+  pub bound : AtMost most (touches old) (touches new)
 
 -- a call of that kind which also tells where the block ends
-pub record GivesBlock {H A : Type 0} (content : H → Content ℕ) (touches : H → ℕ) (lacks : H → Type 0) (most : ℕ) (request : ℕ → Result (A × Content ℕ) Refusal)
+pub record GivesBlock {H A : Type 0} (content : H → Content ℕ) (touches : H → ℕ) (lacks : Type 0) (most : ℕ) (request : ℕ → Result (A × Content ℕ) Refusal)
     (answer : Pointer → A) (IsOld : ℕ → Type 0) (result : Result Block Refusal) (old new : H) : Type 0 where
   pub asks : AsksBlock content touches lacks most request answer IsOld (λ given. given.ptr) result old new
   pub end : IfOk result (λ given. given.end ≡ given.ptr.place + size_at given.ptr.place (blocks_of (content new).pools))
 
 -- what a call leaves that frees the block which an address is held under, and holds the address no more
-pub record Takes {H E : Type 0} (content_of : H → Content ℕ) (touches : H → ℕ) (lacks : H → Type 0) (most address : ℕ) (ptr : Pointer)
+pub record Takes {H E : Type 0} (content_of : H → Content ℕ) (touches : H → ℕ) (lacks : Type 0) (most address : ℕ) (ptr : Pointer)
     (result : Result (Unit {0}) E) (heap_old heap_new : H) (held_old held_new : Indexed) : Type 0 where
   pub content : OnOk result (bare (content_of heap_new) ≡ without ptr.place (bare (content_of heap_old)))
   pub held : OnOk result ((other : ℕ) → held_at held_new.all other ≡ (if address == other then None else held_at held_old.all other))
   pub live : OnOk result (AreLive held_new.all (content_of heap_new))
-  pub memory : OnErr result (MayLack lacks)
+  pub memory : OnErr result lacks
   pub unchanged : OnErr result (held_new.all ≡ held_old.all)
   pub records : (content_of heap_new).records ≡ (content_of heap_old).records
   pub looked : LooksUp 0 held_old held_new
-  pub bound : touches heap_new ≤ touches heap_old + most
+  pub bound : AtMost most (touches heap_old) (touches heap_new)
 
 -- what a replay keeps. Until memory is refused what is held is live. Memory is refused only by a heap that lacks it.
 -- There is at most as much held as there are records, and room for as much. No more lines were served, or refused,

@@ -3,6 +3,7 @@ use Rattle.std.specs.Prelude.{ℕ, ◌*◌, ◌/◌, Bool, true, false, max, Lis
 use Rattle.std.specs.List.{filter}
 use Rattle.mtrace_log.specs.Address.{address_text}
 use Rattle.mtrace_log.specs.Bytes.{newline}
+use Rattle.tlsf_heap.specs.Sizing.{table_bytes}
 use Rattle.tlsf_heap.specs.declared.row.Row.{Row}
 use Rattle.tlsf_heap.specs.Content.{Pool, blocks_of, is_free}
 use Rattle.tlsf_heap.specs.Rows.{row_of}
@@ -187,21 +188,33 @@ size_text (Some size) = decimal size ++ codes " bytes"
 abbrev pub size_line : List ℕ → Option ℕ → List ℕ
 size_line word size = word ++ size_text size ++ newline ∷ []
 
--- the records, and what the sizes tell that were tried with them
-abbrev pub fitted_lines : (records : ℕ) → Fitted → List ℕ
-fitted_lines records fitted =
-    number_line (codes "records: ") records
-    ++ size_line (codes "least pool: ") fitted.least
-    ++ size_line (codes "safe pool: ") fitted.safe
+-- the records, and the bytes of their table
+abbrev pub record_lines : ℕ → List ℕ
+record_lines records = number_line (codes "records: ") records ++ size_line (codes "table: ") (Some (table_bytes records))
+
+-- the first size that serves, and the first from which on all do
+abbrev pub served_lines : Fitted → List ℕ
+served_lines fitted = size_line (codes "least pool: ") fitted.least ++ size_line (codes "safe pool: ") fitted.safe
+
+-- what the sizes tell that were tried
+abbrev pub tried_lines : Fitted → List ℕ
+tried_lines fitted =
+    served_lines fitted
     ++ pair_line (codes "sizes tried: ") fitted.tried (codes ", ") fitted.refused (codes " refused")
+
+-- the records, what the sizes tell that were tried with them, and the pool that is always enough
+abbrev pub fitted_lines : (records : ℕ) → Fitted → Option ℕ → List ℕ
+fitted_lines records fitted sure = record_lines records ++ tried_lines fitted ++ size_line (codes "sure pool: ") sure
 
 -- that no size was tried
 abbrev pub untried_lines : List ℕ
 untried_lines =
     size_line (codes "records: ") None
+    ++ size_line (codes "table: ") None
     ++ size_line (codes "least pool: ") None
     ++ size_line (codes "safe pool: ") None
     ++ number_line (codes "sizes tried: ") 0
+    ++ size_line (codes "sure pool: ") None
 
 -- the text of a report
 abbrev pub report_text : Report → List Entry → Totals → Bare → List ℕ

@@ -1,5 +1,5 @@
 -- The totals of a log's lines. Moments stand with the latest first.
-use Rattle.std.specs.Prelude.{◌≡◌, ◌⊎◌, ℕ, ◌+◌, ◌-◌, ◌<◌, ◌≤◌, Bool, true, false, List, length, drop, count_by, is_some, Option, nat_lt, unwrap_or, if◌then◌else◌}
+use Rattle.std.specs.Prelude.{◌≡◌, ◌⊎◌, ℕ, ◌+◌, ◌-◌, ◌<◌, ◌≤◌, Bool, true, false, List, [], ◌∷◌, length, drop, count_by, is_some, Option, nat_lt, unwrap_or, if◌then◌else◌}
 use Rattle.std.specs.List.{Contains, list_any}
 use Rattle.tlsf_heap.specs.Content.{Block, blocks_of, is_free}
 use Rattle.mtrace_replay.specs.declared.diagnostic.Diagnostic.{Diagnostic}
@@ -7,7 +7,7 @@ use Rattle.mtrace_replay.specs.declared.diagnostic.Kind.{Kind}
 use Rattle.mtrace_replay.specs.declared.diagnostic.Kind.TheVariants.{Refused}
 use Rattle.mtrace_replay.specs.declared.totals.Totals.{Totals}
 use Rattle.mtrace_replay.specs.Started.{Bare}
-use Rattle.mtrace_replay.specs.Moment.{Given, Moment}
+use Rattle.mtrace_replay.specs.Moment.{Given, Moment, rounded_bytes}
 use Rattle.mtrace_replay.specs.History.{AreHeld, entries_of, content_after}
 use Rattle.mtrace_replay.specs.Texts.{total_size}
 
@@ -26,17 +26,28 @@ is_refusal _ = false
 abbrev pub is_refused : Moment → Bool
 is_refused moment = list_any (λ (diagnostic : Diagnostic). is_refusal diagnostic.kind) moment.diagnostics
 
--- the sum of the sizes held
-pub record IsSum (past : List Moment) (bytes : ℕ) : Type 0 where
+-- what is held has this measure
+pub record Measures (measure : List Given → ℕ) (past : List Moment) (n : ℕ) : Type 0 where
   pub all : List Given
   pub held : AreHeld all past
-  pub sum : bytes ≡ total_size (entries_of all)
+  pub measured : n ≡ measure all
 
--- how many addresses are held
-pub record IsCount (past : List Moment) (blocks : ℕ) : Type 0 where
-  pub all : List Given
-  pub held : AreHeld all past
-  pub count : blocks ≡ length all
+-- how many addresses there are, the sum of their sizes, and the sum of the sizes of their blocks
+abbrev pub blocks_in : List Given → ℕ
+blocks_in all = length all
+
+abbrev pub bytes_in : List Given → ℕ
+bytes_in all = total_size (entries_of all)
+
+abbrev pub rounded_bytes_in : List Given → ℕ
+rounded_bytes_in [] = 0
+rounded_bytes_in (given ∷ all) = rounded_bytes given.entry.size + rounded_bytes_in all
+
+abbrev pub IsSum : List Moment → ℕ → Type 0
+IsSum = Measures bytes_in
+
+abbrev pub IsCount : List Moment → ℕ → Type 0
+IsCount = Measures blocks_in
 
 -- the greatest sum after any number of lines, and the first number that has it
 pub record IsPeak (past : List Moment) (bytes line : ℕ) : Type 0 where
@@ -45,10 +56,10 @@ pub record IsPeak (past : List Moment) (bytes line : ℕ) : Type 0 where
   pub greatest : (k sum : ℕ) → IsSum (first_moments k past) sum → sum ≤ bytes
   pub first : (k sum : ℕ) → k < line → IsSum (first_moments k past) sum → sum < bytes
 
--- the most addresses that are held after any number of lines
-pub record IsMost (past : List Moment) (blocks : ℕ) : Type 0 where
-  pub reached : (k : ℕ) × IsCount (first_moments k past) blocks
-  pub greatest : (k count : ℕ) → IsCount (first_moments k past) count → count ≤ blocks
+-- the greatest measure of what is held after any number of lines
+pub record IsMost (measure : List Given → ℕ) (past : List Moment) (most : ℕ) : Type 0 where
+  pub reached : (k : ℕ) × Measures measure (first_moments k past) most
+  pub greatest : (k n : ℕ) → Measures measure (first_moments k past) n → n ≤ most
 
 -- a block is live in the heap after the first k lines
 abbrev pub IsLiveAfter : Bare → List Moment → ℕ → Block (Unit {0}) → Type 0

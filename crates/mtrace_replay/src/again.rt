@@ -1,33 +1,34 @@
 //! A log that is read again.
 
-ghost use Rattle.std.specs.Prelude.{◌≡◌, List};
-ghost use Rattle.mtrace_replay.specs.Moment.{ReadLine};
-ghost use Rattle.mtrace_replay.specs.Run.{FailedInPiece};
-ghost use Rattle.mtrace_replay.specs.Again.{ReplaysFirst};
+ghost use Rattle.std.specs.Prelude.{◌≡◌};
+ghost use Rattle.mtrace_replay.specs.Again.{StopsEarly, ReplaysFirst};
 
 use crate::findings::Findings;
 use crate::replay::Replay;
 use mtrace_log::{Failed, Lines, Source};
 use tlsf_heap::Heap;
 
-/// Reads and replays the first lines of the log, `most` of them, or all where it has no more. What is wrong with them isn't
-/// told.
+/// Reads and replays the first lines of the log, this many. What is wrong with them isn't told.
+///
+/// # Errors
+///
+/// `Failed` where the reader fails, or has fewer lines.
 pub(crate) fn replay_first<R: Source>(
     reader: &mut R,
     replay: &mut Replay<Heap>,
-    most: u64,
+    many: u64,
 ) -> Result<(), Failed>
     requires start { replay.old.totals.lines ≡ 0 }
     ensures { ReplaysFirst R.left R.whole R.trace (R.left reader.old) (R.trace reader.old)
-        ((lines : List ReadLine) × FailedInPiece (R.left reader.old) (R.left reader.new) (R.trace reader.old) (R.trace reader.new) lines)
-        most result replay.old replay.new reader.old reader.new }
+        (StopsEarly many (R.left reader.old) (R.left reader.new) (R.trace reader.old) (R.trace reader.new))
+        many result replay.old replay.new reader.old reader.new }
 {
     let mut lines = Lines::new();
     let mut findings = Findings::none();
-    for _ in 0..most {
+    for _ in 0..many {
         let number = match lines.advance(reader) {
             Ok(Some(number)) => number,
-            Ok(None) => return Ok(()),
+            Ok(None) => return Err(Failed),
             Err(_) => return Err(Failed),
         };
         let Ok(()) = replay.feed_lent(number, lines.event(), &mut findings) else {

@@ -1,13 +1,15 @@
 //! The run that tells how large a pool a log needs.
 
-ghost use Rattle.std.specs.Prelude.{◌≡◌, ◌%◌, ◌<◌, ◌≤◌, false, List, reverse};
+ghost use Rattle.std.specs.Prelude.{◌≡◌, ◌+◌, ◌-◌, ◌*◌, ◌/◌, ◌%◌, ◌^◌, ◌<◌, ◌≤◌, ◌++◌, nat_lt, false, List, reverse, IfOk, OnOk};
+ghost use Rattle.tlsf_class.specs.Classes.{greatest_size};
+ghost use Rattle.mtrace_replay.specs.Again.{FailsAgain};
 ghost use Rattle.tlsf_heap.specs.Pools.{most_records};
 ghost use Rattle.mtrace_replay.specs.Moment.{ReadLine};
 ghost use Rattle.mtrace_replay.specs.Replay.{StandsFor};
 ghost use Rattle.mtrace_replay.specs.Saving.{PutsAndFlushes};
 ghost use Rattle.mtrace_replay.specs.Settings.{are_bad};
-ghost use Rattle.mtrace_replay.specs.Fit.{one_pool, greatest_settings, enough_records as enough_for, is_bad_step as is_bad, step_of as step_for, sizes, Verdict, fitted as fitted_by};
-ghost use Rattle.mtrace_replay.specs.RunFit.{IsTried, TriesLog, AreVerdicts, TellsFit, FailsIn, ReadsAgain, FitFollows, RunsFit};
+ghost use Rattle.mtrace_replay.specs.Fit.{one_pool, greatest_settings, enough_records as enough_for, is_bad_step as is_bad, step_of as step_for, first_number, last_number as last_of, multiples, Verdict, fitted as fitted_by};
+ghost use Rattle.mtrace_replay.specs.RunFit.{IsTried, TriesLog, AreVerdicts, TriesRanges, TellsFit, ReadsAgain, FitFollows, RunsFit};
 
 use crate::fit_text::{fitted_text, untried_text};
 use crate::fitted::Fitted;
@@ -20,7 +22,7 @@ use crate::status::{RunFault, Status};
 use crate::tried::is_served;
 use mtrace_log::{Again, Failed, Sink, put_all};
 use std::alloc::Global;
-use tlsf_heap::{Heap, MOST_RECORDS};
+use tlsf_heap::{Heap, MOST_RECORDS, sure_pool};
 
 /// The settings of the first replay: the greatest pool, and the most records.
 fn greatest() -> Settings
@@ -66,17 +68,23 @@ fn enough_records(most: u64) -> u32
     records.min(u64::from(MOST_RECORDS)) as u32
 }
 
-/// Begins the log again, and tries it on one pool of this many bytes, with this many records: whether no line is refused.
+/// Begins the log again, and tries its first lines, this many, on one pool of this many bytes, with this many records: whether
+/// no line is refused.
+///
+/// # Errors
+///
+/// `Failed` where the reader doesn't begin again, fails, or has fewer lines then.
 fn try_size<R: Again>(
     reader: &mut R,
     replay: &mut Replay<Heap>,
     size: u64,
     records: u32,
+    many: u64,
 ) -> Result<bool, Failed>
     requires good { are_bad (one_pool size records) ≡ false }
     requires few { records ≤ replay.old.content.records }
-    ensures { TriesLog (λ serves. IsTried (one_pool size records) serves (R.whole reader.old) (R.left reader.new))
-        (FailsIn (R.whole reader.old) (R.left reader.old) (R.left reader.new) (R.trace reader.old) (R.trace reader.new))
+    ensures { TriesLog (λ serves. IsTried (one_pool size records) many serves (R.whole reader.old) (R.left reader.new))
+        (FailsAgain many (R.whole reader.old) (R.left reader.old) (R.left reader.new) (R.trace reader.old) (R.trace reader.new))
         R.whole R.trace records result reader.old reader.new replay.new }
 {
     replay.restart(Settings {
@@ -85,35 +93,100 @@ fn try_size<R: Again>(
         records,
     });
     reader.begin()?;
-    is_served(reader, replay)
+    is_served(reader, replay, many)
 }
 
-/// Tries the sizes for this step and this peak, in rising order, with this many records.
-fn try_sizes<R: Again>(
+/// What all sizes are tried with: the records, and how many lines.
+#[derive(Clone, Copy)]
+struct Trial {
+    records: u32,
+    many: u64,
+}
+
+/// Tries the multiples of the step from one number to another, in rising order, and adds what they tell.
+fn try_range<R: Again>(
     reader: &mut R,
     replay: &mut Replay<Heap>,
+    trial: Trial,
     step: u64,
-    peak: u64,
-    records: u32,
+    first: u64,
+    last: u64,
+    mut fitted: Fitted,
 ) -> Result<Fitted, Failed>
     requires some { UNIT ≤ step }
     requires in_units { step % UNIT ≡ 0 }
-    requires some_records { 0 < records }
-    requires few { records ≤ MOST_RECORDS }
-    requires within { records ≤ replay.old.content.records }
-    ensures { ReadsAgain (λ fitted. (verdicts : List Verdict) × AreVerdicts records (R.whole reader.old) (sizes step peak) verdicts
-        × (fitted ≡ fitted_by verdicts)) R.left R.whole R.trace result reader.old reader.new }
+    requires some_number { 0 < first }
+    requires last_within { last ≤ greatest_size / step }
+    requires some_records { 0 < trial.records }
+    requires few { trial.records ≤ MOST_RECORDS }
+    requires within { trial.records ≤ replay.old.content.records }
+    requires tried { fitted.tried ≤ 2 ^ 61 }
+    requires refused { fitted.refused ≤ fitted.tried }
+    ensures tried { ReadsAgain trial.many (λ new. (verdicts : List Verdict) × AreVerdicts trial.records trial.many (R.whole reader.old) (multiples step first last) verdicts
+        × ((before : List Verdict) → fitted ≡ fitted_by before → new ≡ fitted_by (before ++ verdicts))) R.left R.whole R.trace result reader.old reader.new }
+    ensures whole { R.whole reader.new ≡ R.whole reader.old }
+    ensures within { OnOk result (trial.records ≤ replay.new.content.records) }
+    ensures few { IfOk result (λ new. new.tried ≤ fitted.tried + (last + 1 - first)) }
+    ensures refused { IfOk result (λ new. new.refused ≤ new.tried) }
 {
-    let first = peak.div_ceil(step).max(1);
-    let last = first.saturating_mul(2).min(GREATEST_POOL / step);
-    let mut fitted = Fitted::none();
     for number in first..last + 1 {
         let size = number * step;
-        let serves = match try_size(reader, replay, size, records) {
+        let serves = match try_size(reader, replay, size, trial.records, trial.many) {
             Ok(serves) => serves,
             Err(failed) => return Err(failed),
         };
         fitted = fitted.with(size, serves);
+    }
+    Ok(fitted)
+}
+
+/// The last number of a range that begins with the first: twice as many steps, or as many as the greatest size has.
+fn last_number(step: u64, first: u64) -> u64
+    requires { 0 < step }
+    ensures value { result ≡ last_of step first }
+    ensures within { result ≤ greatest_size / step }
+{
+    first.saturating_mul(2).min(GREATEST_POOL / step)
+}
+
+/// Whether there is a range by a step twice as large, behind twice the first number of steps.
+fn is_range_behind(step: u64, first: u64) -> bool
+    requires { 0 < step }
+    ensures { result ≡ nat_lt first (greatest_size / (2 * step)) }
+{
+    step <= GREATEST_POOL && GREATEST_POOL / (2 * step) > first
+}
+
+/// Tries the sizes for this step and this peak, in rising order. Where none of a range serves, the sizes behind it are tried by
+/// a step twice as large, up to the greatest pool.
+fn try_sizes<R: Again>(
+    reader: &mut R,
+    replay: &mut Replay<Heap>,
+    trial: Trial,
+    mut step: u64,
+    peak: u64,
+) -> Result<Fitted, Failed>
+    requires some { UNIT ≤ step }
+    requires in_units { step % UNIT ≡ 0 }
+    requires some_records { 0 < trial.records }
+    requires few { trial.records ≤ MOST_RECORDS }
+    requires within { trial.records ≤ replay.old.content.records }
+    ensures { ReadsAgain trial.many (λ fitted. (verdicts : List Verdict) × TriesRanges trial.records trial.many step (first_number step peak) (R.whole reader.old) verdicts
+        × (fitted ≡ fitted_by verdicts)) R.left R.whole R.trace result reader.old reader.new }
+{
+    let first = peak.div_ceil(step).max(1);
+    let last = last_number(step, first);
+    let mut fitted = match try_range(reader, replay, trial, step, first, last, Fitted::none()) {
+        Ok(fitted) => fitted,
+        Err(failed) => return Err(failed),
+    };
+    while fitted.least.is_none() && is_range_behind(step, first) {
+        step *= 2;
+        let last = last_number(step, first);
+        fitted = match try_range(reader, replay, trial, step, first + 1, last, fitted) {
+            Ok(fitted) => fitted,
+            Err(failed) => return Err(failed),
+        };
     }
     Ok(fitted)
 }
@@ -127,7 +200,7 @@ fn fit_text<R: Again>(
 ) -> Result<LineText, Failed>
     requires good { is_bad step ≡ false }
     requires records { replay.old.content.records ≡ most_records }
-    ensures { ReadsAgain (λ text. (lines : List ReadLine) → StandsFor replay.old greatest_settings (reverse lines)
+    ensures { ReadsAgain replay.old.totals.lines (λ text. (lines : List ReadLine) → StandsFor replay.old greatest_settings (reverse lines)
         → TellsFit step lines (R.whole reader.old) text.items) R.left R.whole R.trace result reader.old reader.new }
 {
     let totals = replay.totals();
@@ -135,14 +208,18 @@ fn fit_text<R: Again>(
     if totals.refused > 0 {
         return Ok(untried_text(totals, most));
     }
+    let sure = sure_pool(most, replay.most_rounded(), replay.class_size());
     let peak = totals.peak_bytes;
-    let records = enough_records(most);
-    let fitted = try_sizes(reader, replay, step_of(step, peak), peak, records)?;
-    Ok(fitted_text(totals, most, records, fitted))
+    let trial = Trial {
+        records: enough_records(most),
+        many: totals.lines,
+    };
+    let fitted = try_sizes(reader, replay, trial, step_of(step, peak), peak)?;
+    Ok(fitted_text(totals, most, trial.records, fitted, sure))
 }
 
 /// Puts a text, and flushes.
-fn put_and_flush<W: Sink>(writer: &mut W, text: &[u8]) -> Result<(), Failed>
+pub(crate) fn put_and_flush<W: Sink>(writer: &mut W, text: &[u8]) -> Result<(), Failed>
     ensures { PutsAndFlushes W.taken W.trace result text.now writer.old writer.new }
 {
     if put_all(writer, text).is_err() {
@@ -174,9 +251,11 @@ fn tell_fit<R: Again, W: Sink>(
 
 /// Reads a log of mtrace(3), and replays it on the greatest pool with the most records. Writes what is wrong with its
 /// lines, each as it comes, and flushes the writer. Then writes how large a pool the log needs: the peak, the most
-/// addresses held, and the records that are always enough. With these come the least and the safe size among the
-/// multiples of the step from the peak to twice the peak. For that the log is read again, once for each size, until a
-/// line is refused. The writer is flushed once more.
+/// addresses held, and the records that are always enough, with the bytes of their table. With these come the least and the
+/// safe size among the multiples of the step from the peak to twice the peak. Where none of them serves, it goes on behind, by
+/// steps twice as large. For that the log is read again, once for each size, until a line is refused. Each reading reads as many
+/// lines as the first. Last comes the size of the pool that is always enough within the log's most blocks, bytes and class. The
+/// writer is flushed once more.
 ///
 /// Without a step, that is the least multiple of the unit from a 64th of the peak on. Memory is taken at the start alone, for one
 /// replay, which is made anew for each size.
@@ -185,7 +264,7 @@ fn tell_fit<R: Again, W: Sink>(
 ///
 /// `BadSettings` exactly where the step isn't a whole number of units from one to the greatest size: then nothing is read or
 /// written. `Read`, `Write` and `OutOfMemory` come as in the runs that write a report. `Read` where the reader doesn't begin
-/// again, or fails then, too: what is wrong with the lines is written, and nothing of the sizes. `Write` where the writer fails at
+/// again, fails then, or has fewer lines then, too: what is wrong with the lines is written, and nothing of the sizes. `Write` where the writer fails at
 /// that, too: a beginning of it is written.
 pub fn run_fit<R: Again, W: Sink>(
     alloc: Global,

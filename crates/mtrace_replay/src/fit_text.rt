@@ -1,9 +1,9 @@
 //! The text that tells how large a pool a log needs.
 
-ghost use Rattle.std.specs.Prelude.{◌≡◌, ◌+◌, ◌≤◌, ◌++◌, length};
+ghost use Rattle.std.specs.Prelude.{◌≡◌, ◌+◌, ◌^◌, ◌<◌, ◌≤◌, ◌++◌, length};
 ghost use Rattle.arrayvec.specs.ArrayVec.{array_vec_len};
 ghost use Rattle.mtrace_replay.specs.Appends.{Appends};
-ghost use Rattle.mtrace_replay.specs.Texts.{size_line, count_line, greatest_line, most_line, fitted_lines, untried_lines};
+ghost use Rattle.mtrace_replay.specs.Texts.{size_line, count_line, greatest_line, most_line, record_lines, served_lines, tried_lines, fitted_lines, untried_lines};
 
 use crate::fitted::Fitted;
 use crate::line_text::{
@@ -14,7 +14,7 @@ use crate::totals::Totals;
 use arrayvec::ArrayVec;
 
 /// Appends a line of a size behind its word, or that there is none.
-fn push_size_line(text: &mut LineText, word: &[u8], size: Option<u64>)
+pub(crate) fn push_size_line(text: &mut LineText, word: &[u8], size: Option<u64>)
     requires { array_vec_len text.old + length word.now + 50 ≤ LONGEST_TEXT }
     ensures { Appends (size_line word.now size) (length word.now + 50) text.old text.new }
 {
@@ -49,14 +49,31 @@ fn push_most(text: &mut LineText, totals: Totals, most: u64)
     push_count_line(text, b"held at most: ", most, b" blocks");
 }
 
-/// Appends the records, and what the sizes tell that were tried with them.
-fn push_fitted(text: &mut LineText, records: u32, fitted: Fitted)
-    requires { array_vec_len text.old ≤ 300 }
-    ensures { text.new.items ≡ text.old.items ++ fitted_lines records fitted }
+/// Appends the records, and the bytes of their table.
+pub(crate) fn push_records(text: &mut LineText, records: u64)
+    requires few { array_vec_len text.old ≤ 300 }
+    requires fits { records < 2 ^ 40 }
+    ensures { Appends (record_lines records) 130 text.old text.new }
 {
-    push_number_line(text, b"records: ", u64::from(records));
+    push_number_line(text, b"records: ", records);
+    push_size_line(text, b"table: ", Some(16 * records + 1696));
+}
+
+/// Appends the first size that serves, and the first from which on all do.
+fn push_sizes(text: &mut LineText, fitted: Fitted)
+    requires { array_vec_len text.old ≤ 430 }
+    ensures { Appends (served_lines fitted) 130 text.old text.new }
+{
     push_size_line(text, b"least pool: ", fitted.least);
     push_size_line(text, b"safe pool: ", fitted.safe);
+}
+
+/// Appends what the sizes tell that were tried.
+fn push_tried(text: &mut LineText, fitted: Fitted)
+    requires { array_vec_len text.old ≤ 430 }
+    ensures { Appends (tried_lines fitted) 250 text.old text.new }
+{
+    push_sizes(text, fitted);
     push_pair_line(
         text,
         b"sizes tried: ",
@@ -67,25 +84,43 @@ fn push_fitted(text: &mut LineText, records: u32, fitted: Fitted)
     );
 }
 
+/// Appends the records, what the sizes tell that were tried with them, and the pool that is always enough.
+fn push_fitted(text: &mut LineText, records: u32, fitted: Fitted, sure: Option<u64>)
+    requires { array_vec_len text.old ≤ 300 }
+    ensures { text.new.items ≡ text.old.items ++ fitted_lines records fitted sure }
+{
+    push_records(text, u64::from(records));
+    push_tried(text, fitted);
+    push_size_line(text, b"sure pool: ", sure);
+}
+
 /// Appends that no size was tried.
 fn push_untried(text: &mut LineText)
     requires { array_vec_len text.old ≤ 300 }
     ensures { text.new.items ≡ text.old.items ++ untried_lines }
 {
     push_size_line(text, b"records: ", None);
+    push_size_line(text, b"table: ", None);
     push_size_line(text, b"least pool: ", None);
     push_size_line(text, b"safe pool: ", None);
     push_number_line(text, b"sizes tried: ", 0);
+    push_size_line(text, b"sure pool: ", None);
 }
 
-/// The text where the greatest pool serves the log: the peak, the most addresses held, the records, and what the
-/// sizes tried with them gave.
-pub(crate) fn fitted_text(totals: Totals, most: u64, records: u32, fitted: Fitted) -> LineText
-    ensures { result.items ≡ greatest_line totals ++ most_line most ++ fitted_lines records fitted }
+/// The text where the greatest pool serves the log: the peak, the most addresses held, the records, what the sizes tried
+/// with them gave, and the pool that is always enough.
+pub(crate) fn fitted_text(
+    totals: Totals,
+    most: u64,
+    records: u32,
+    fitted: Fitted,
+    sure: Option<u64>,
+) -> LineText
+    ensures { result.items ≡ greatest_line totals ++ most_line most ++ fitted_lines records fitted sure }
 {
     let mut text = ArrayVec::new();
     push_most(&mut text, totals, most);
-    push_fitted(&mut text, records, fitted);
+    push_fitted(&mut text, records, fitted, sure);
     text
 }
 

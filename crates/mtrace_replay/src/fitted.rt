@@ -1,6 +1,6 @@
 //! What the sizes tell that a log was tried on.
 
-ghost use Rattle.std.specs.Prelude.{◌≡◌, ◌++◌, ◌∷◌, ◌+◌, ◌<◌, ◌^◌, [], List, length};
+ghost use Rattle.std.specs.Prelude.{◌≡◌, ◌++◌, ◌∷◌, ◌+◌, ◌<◌, ◌≤◌, ◌^◌, [], List, length};
 ghost use Rattle.mtrace_replay.specs.Fit.{Verdict, fitted};
 
 /// What the sizes tell that were tried so far, in rising order.
@@ -33,7 +33,9 @@ impl Fitted {
     pub(crate) fn with(self, size: u64, serves: bool) -> Fitted
         requires tried { self.tried + 1 < 2 ^ 64 }
         requires refused { self.refused + 1 < 2 ^ 64 }
-        ensures { (verdicts : List Verdict) → self ≡ fitted verdicts → result ≡ fitted (verdicts ++ record { size = size; serves = serves } ∷ []) }
+        ensures tried { result.tried ≡ self.tried + 1 }
+        ensures refused { result.refused ≤ self.refused + 1 }
+        ensures fitted { (verdicts : List Verdict) → self ≡ fitted verdicts → result ≡ fitted (verdicts ++ record { size = size; serves = serves } ∷ []) }
     {
         if serves {
             Fitted {

@@ -3,13 +3,14 @@
 ghost use Rattle.std.specs.Prelude.{◌≡◌, ◌≢◌, ℕ, ◌+◌, ◌<◌, ◌≤◌, ◌^◌, option_map, option_to_list, [], length, map, None, Some, IfOk, if◌then◌else◌, ◌==◌, is_some, true};
 ghost use Rattle.mtrace_replay.specs.Keys.{Rows};
 ghost use Rattle.mtrace_replay.specs.Key.{holding_of, IsRow};
-ghost use Rattle.mtrace_replay.specs.Index.{held_at, held_bytes, AreInOrder, LooksUp, FindsAddress, TellsWhether, Counts, IsFound, IsNewSlot};
+ghost use Rattle.mtrace_replay.specs.Index.{held_at, held_bytes, held_rounded, AreInOrder, LooksUp, FindsAddress, TellsWhether, Counts, IsFound, IsNewSlot};
 
 use crate::arrange::{Came, arrange};
 use crate::entry::Entry;
 use crate::key::Key;
 use crate::keys::Keys;
 use crate::search::{Gap, is_last_of, make_gap, search};
+use crate::step::rounded_bytes;
 use mtrace_log::{Addr, LentLocation};
 use std::alloc::{AllocError, Global};
 use std::marker::Model;
@@ -32,6 +33,7 @@ pub(crate) struct Index {
     keys: Keys,
     blocks: u64,
     bytes: u64,
+    rounded: u64,
     came: Came,
     comparisons: GhostCount,
 }
@@ -44,7 +46,7 @@ impl Model for Index {
 
     ghost view = { λ index. record { all = all_held index.keys.rows index.keys.keys; keys = index.keys.keys; room = index.keys.rows.room; comparisons = index.comparisons.count } };
 
-    ghost invariant = { λ index. IsIndex index.keys index.blocks index.bytes };
+    ghost invariant = { λ index. IsIndex index.keys index.blocks index.bytes index.rounded };
 }
 
 /// Whether room at the end is to be made anew. It is where a new address there moved more than a 64th of the keys. It
@@ -74,6 +76,18 @@ fn size_of(keys: &Keys, key: &Key) -> u64
     }
 }
 
+/// How many bytes the block has that is held under the key.
+#[inline(always)]
+fn rounded_size_of(keys: &Keys, key: &Key) -> u64
+    requires { IsRow keys.now.rows key.now.address key.now.block }
+    ensures { result ≡ held_rounded (option_to_list (holding_of keys.now.rows key.now)) }
+{
+    match key.block() {
+        Some(ptr) => rounded_bytes(keys.row(ptr.slot()).size),
+        None => 0,
+    }
+}
+
 impl Index {
     /// Nothing, with room for this many addresses. It takes memory once, for all of them.
     ///
@@ -87,6 +101,7 @@ impl Index {
             keys: Keys::new(alloc, room)?,
             blocks: 0,
             bytes: 0,
+            rounded: 0,
             came: Came::nothing(),
             comparisons: GhostCount::new(),
         })
@@ -100,6 +115,7 @@ impl Index {
         self.keys.restart(room);
         self.blocks = 0;
         self.bytes = 0;
+        self.rounded = 0;
         self.came = Came::nothing();
     }
 
@@ -194,6 +210,7 @@ impl Index {
         let gap = make_gap(&mut self.keys, found.place);
         self.blocks += 1;
         self.bytes += entry.size;
+        self.rounded += rounded_bytes(entry.size);
         self.keys.put(gap.from, gap.to, entry, ptr);
         self.settle(found, end, &gap);
     }
@@ -230,6 +247,7 @@ impl Index {
             let key = self.keys.key(at);
             self.blocks -= blocks_of(&key);
             self.bytes -= size_of(&self.keys, &key);
+            self.rounded -= rounded_size_of(&self.keys, &key);
             self.keys.set_key(at, &key.vacated());
         }
     }
@@ -246,6 +264,13 @@ impl Index {
         ensures { result ≡ held_bytes self.now.all }
     {
         self.bytes
+    }
+
+    /// The sum of the sizes of the blocks held, in bytes.
+    pub fn rounded(&self) -> u64
+        ensures { result ≡ held_rounded self.now.all }
+    {
+        self.rounded
     }
 
     /// The entries, in order of address.

@@ -3,7 +3,6 @@
 ghost use Rattle.std.specs.Prelude.{◌≡◌, ◌==◌, ◌↔◌, ◌+◌, ◌-◌, ◌*◌, ◌<◌, ◌≤◌, ℕ, Bool, false, List, length, take, Some};
 ghost use Rattle.tlsf_class.specs.Classes.{unit};
 ghost use Rattle.tlsf_heap.specs.declared.refusal.Refusal.TheVariants.{NoFit, TableFull};
-ghost use Rattle.tlsf_heap.specs.Run.{MayLack};
 ghost use Rattle.mtrace_replay.specs.declared.settings.Settings.{Settings};
 ghost use Rattle.mtrace_replay.specs.Started.{Bare, started};
 ghost use Rattle.mtrace_replay.specs.Moment.{ReadLine, Given, Moment};
@@ -40,16 +39,17 @@ pub fn one_list_of_sites()
     ensures { (entries : List Entry) (one other : List Site) → AreSites entries one → AreSites entries other → one ≡ other }
 {}
 
-/// The first lines of a text that is told, read again from the first byte on, are the first of all its lines.
+/// The first lines of a text that is told, read again from the first byte on, are the first of all its lines. So two readings
+/// by a reader that stands at its first byte agree.
 pub fn first_lines_again()
-    ensures { (text : List ℕ) (middle after : Bytes) (most : ℕ) (lines first : List ReadLine)
-        → HasReadAll (Some text) middle lines → HasReadFirst most (Some text) after first → most ≤ length lines → first ≡ take most lines }
+    ensures { (text : List ℕ) (middle after : Bytes) (many : ℕ) (lines first : List ReadLine)
+        → HasReadAll (Some text) middle lines → HasReadFirst many (Some text) after first → first ≡ take many lines }
 {}
 
 /// A size that a text was tried on which is told serves exactly where none of all its lines is refused there.
 pub fn verdict_of_all_lines()
     ensures { (settings : Settings) (text : List ℕ) (middle left : Bytes) (lines : List ReadLine) (serves : Bool)
-        → HasReadAll (Some text) middle lines → IsTried settings serves (Some text) left → serves ≡ (refusals settings lines == 0) }
+        → HasReadAll (Some text) middle lines → IsTried settings (length lines) serves (Some text) left → serves ≡ (refusals settings lines == 0) }
 {}
 
 /// On one pool a log is never refused for want of a record where there are 2 * `most` + 3 records or more. After any
@@ -77,5 +77,5 @@ pub fn all_pools_stand()
 /// `Heap` lacks no memory. So over it each `feed` and each `finish` succeeds: what a replay needs it took when it was
 /// made.
 pub fn nothing_is_lacked()
-    ensures { MayLack ⟦<Heap as Heaped>⟧.lacks → ⊥ }
+    ensures { ⟦<Heap as Heaped>⟧.lacks → ⊥ }
 {}

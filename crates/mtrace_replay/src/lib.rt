@@ -4,6 +4,7 @@
 
 mod again;
 mod arrange;
+mod asked;
 mod diagnostic;
 mod entry;
 mod findings;
@@ -25,6 +26,7 @@ mod search;
 mod settings;
 mod site;
 mod sites;
+mod size;
 mod start;
 mod status;
 mod step;
@@ -42,5 +44,6 @@ pub use crate::run::{run_leaks, run_peak, run_walk};
 pub use crate::save::run_save;
 pub use crate::settings::Settings;
 pub use crate::sites::run_sites;
+pub use crate::size::{Bounds, run_size};
 pub use crate::status::{RunFault, Status};
 pub use crate::totals::Totals;

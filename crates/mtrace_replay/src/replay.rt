@@ -2,6 +2,7 @@ ghost use Rattle.std.specs.Prelude.{◌≡◌, ◌+◌, ◌≤◌, ◌++◌, len
 ghost use Rattle.mtrace_replay.specs.Moment.{half, is_new};
 ghost use Rattle.mtrace_replay.specs.History.{old_address as address_of_old};
 
+use crate::asked::Asked;
 use crate::diagnostic::{Diagnostic, Kind, Note};
 use crate::findings::Findings;
 use crate::free_blocks::{Free, free_in};
@@ -81,13 +82,14 @@ pub struct Replay<H: Heaped> {
     held: Index,
     totals: Totals,
     most: u64,
+    most_rounded: u64,
+    class_size: Option<u32>,
     pending: Option<Addr>,
     out_of_memory: bool,
 }
 
 impl<H: Heaped> Model for Replay<H> {
     ghost use Rattle.tlsf_heap.specs.Bare.{bare};
-    ghost use Rattle.tlsf_heap.specs.Run.{MayLack};
     ghost use Rattle.mtrace_replay.specs.Replay.{Replayed};
     ghost use Rattle.mtrace_replay.specs.Step.{all_given, Keeps};
 
@@ -100,13 +102,15 @@ impl<H: Heaped> Model for Replay<H> {
       given = all_given r.held.all;
       totals = r.totals;
       most = r.most;
+      most_rounded = r.most_rounded;
+      class_size = r.class_size;
       pending = r.pending;
       out_of_memory = r.out_of_memory;
     } };
 
     // The blocks that are held are live, and no two are one, until memory is refused. There are at most as many as
     // records, and the index has room for as many.
-    ghost invariant = { λ r. Keeps r.held (H.content r.heap) r.totals (MayLack H.lacks) r.out_of_memory };
+    ghost invariant = { λ r. Keeps r.held (H.content r.heap) r.totals H.lacks r.out_of_memory };
 }
 
 impl<H: Heaped> Replay<H> {
@@ -143,6 +147,8 @@ impl<H: Heaped> Replay<H> {
             held,
             totals: Totals::new(),
             most: 0,
+            most_rounded: 0,
+            class_size: Some(tlsf_class::UNIT),
             pending: None,
             out_of_memory: false,
         })
@@ -183,6 +189,7 @@ impl<H: Heaped> Replay<H> {
         }
         let half = half_before(self.totals.lines, self.pending, &event);
         let next = old_address(&event);
+        let asked = Asked::of(&event);
         match outcome(
             &mut self.heap,
             &mut self.held,
@@ -199,6 +206,9 @@ impl<H: Heaped> Replay<H> {
                 let (bytes, blocks) = (self.held.bytes(), self.held.len());
                 self.totals = self.totals.after(end, is_refused, bytes, blocks);
                 self.most = self.most.max(blocks);
+                let rounded = self.held.rounded();
+                self.most_rounded = self.most_rounded.max(rounded);
+                self.class_size = asked.greatest(self.class_size, end.is_some());
                 self.pending = next;
                 Ok(())
             }
@@ -265,6 +275,20 @@ impl<H: Heaped> Replay<H> {
         self.most
     }
 
+    /// The most bytes that the blocks held had after any line.
+    pub(crate) fn most_rounded(&self) -> u64
+        ensures { result ≡ self.now.most_rounded }
+    {
+        self.most_rounded
+    }
+
+    /// The greatest class size that a served line asked for, in bytes; `None` where a class is missing.
+    pub(crate) fn class_size(&self) -> Option<u32>
+        ensures { result ≡ self.now.class_size }
+    {
+        self.class_size
+    }
+
     /// What is free of the heap.
     pub(crate) fn free(&mut self) -> Free
         requires works { self.old.out_of_memory ≡ false }
@@ -304,6 +328,8 @@ impl Replay<Heap> {
         self.held.restart(settings.records);
         self.totals = Totals::new();
         self.most = 0;
+        self.most_rounded = 0;
+        self.class_size = Some(tlsf_class::UNIT);
         self.pending = None;
         self.out_of_memory = false;
     }

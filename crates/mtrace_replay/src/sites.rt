@@ -69,19 +69,23 @@ fn put_section<W: Sink>(
     put_sites(writer, sites)
 }
 
-/// Begins the log again, and replays its first lines, `most` of them, or all where it has no more.
+/// Begins the log again, and replays its first lines, this many.
+///
+/// # Errors
+///
+/// `Failed` where the reader doesn't begin again, fails, or has fewer lines then.
 fn replay_again<R: Again>(
     reader: &mut R,
     replay: &mut Replay<Heap>,
-    most: u64,
+    many: u64,
 ) -> Result<(), Failed>
     requires start { replay.old.totals.lines ≡ 0 }
     ensures { ReplaysFirst R.left R.whole R.trace (R.whole reader.old) (Call.Began ∷ R.trace reader.old)
-        (FailsAgain (R.whole reader.old) (R.left reader.old) (R.left reader.new) (R.trace reader.old) (R.trace reader.new))
-        most result replay.old replay.new reader.old reader.new }
+        (FailsAgain many (R.whole reader.old) (R.left reader.old) (R.left reader.new) (R.trace reader.old) (R.trace reader.new))
+        many result replay.old replay.new reader.old reader.new }
 {
     reader.begin()?;
-    replay_first(reader, replay, most)
+    replay_first(reader, replay, many)
 }
 
 /// Puts what is held at the peak and what is held at the end, each by its sites.
@@ -176,7 +180,8 @@ fn take_memory<'a>(
 /// # Errors
 ///
 /// `Read`, `Write`, `OutOfMemory` and `BadSettings` come as in the runs that write a report. `Read` where the reader doesn't begin
-/// again, or fails then, too: what is wrong with the lines is written, and nothing of what is held. `Write` where the writer fails
+/// again, fails then, or has fewer lines than the peak's number, too: what is wrong with the lines is written, and nothing of what
+/// is held. `Write` where the writer fails
 /// at that, too: a beginning of it is written.
 pub fn run_sites<R: Again, W: Sink>(
     alloc: Global,

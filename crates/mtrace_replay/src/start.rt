@@ -2,7 +2,6 @@
 
 ghost use Rattle.std.specs.Prelude.{◌≡◌, ◌≤◌, false, OnOk, OnErr, IfOk};
 ghost use Rattle.tlsf_heap.specs.Bare.{bare};
-ghost use Rattle.tlsf_heap.specs.Run.{MayLack};
 ghost use Rattle.tlsf_heap.specs.Pools.{created, add_pool as added};
 ghost use Rattle.mtrace_replay.specs.Settings.{are_bad};
 ghost use Rattle.mtrace_replay.specs.Started.{left_by, started};
@@ -14,7 +13,7 @@ use tlsf_heap::{Heap, Heaped, Refusal, StoreError};
 /// Adds a pool; a refusal but for want of memory changes nothing.
 fn add_pool<H: Heaped>(heap: &mut H, base: u64, bytes: u64) -> Result<(), AllocError>
     ensures left { OnOk result (bare (H.content heap.new) ≡ left_by (bare (H.content heap.old)) (added base bytes (bare (H.content heap.old)))) }
-    ensures memory { OnErr result (MayLack H.lacks) }
+    ensures memory { OnErr result H.lacks }
 {
     match heap.add_pool(base, bytes) {
         Ok(()) => Ok(()),
@@ -41,7 +40,7 @@ fn add_pools<H: Heaped>(heap: &mut H, settings: Settings) -> Result<(), AllocErr
     requires good { are_bad settings ≡ false }
     requires empty { bare (H.content heap.old) ≡ created settings.records }
     ensures started { OnOk result (bare (H.content heap.new) ≡ started settings) }
-    ensures memory { OnErr result (MayLack H.lacks) }
+    ensures memory { OnErr result H.lacks }
 {
     let mut left = settings.pools;
     while left > 0 {

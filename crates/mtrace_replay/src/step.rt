@@ -1,11 +1,13 @@
 //! What one line does to the heap and to what is held.
 
 ghost use Rattle.std.specs.Prelude.{◌≡◌, ◌≢◌, ◌+◌, ◌<◌, ◌≤◌, ◌&&◌, not, is_some, true, [], Some, None, ◌==◌};
+ghost use Rattle.tlsf_class.specs.Classes.{greatest_size};
 ghost use Rattle.tlsf_heap.specs.Content.{blocks_of, size_at};
 ghost use Rattle.tlsf_heap.specs.Free.{is_live};
+ghost use Rattle.tlsf_heap.specs.Touches.{AtMost};
 ghost use Rattle.tlsf_heap.specs.Realloc.{realloc as reallocated};
 ghost use Rattle.mtrace_replay.specs.Index.{held_at, IsFound, TellsWhether};
-ghost use Rattle.mtrace_replay.specs.Moment.{asked_size as size_asked, asked_block, allocation, release as released, doing, move, renewal, plan};
+ghost use Rattle.mtrace_replay.specs.Moment.{asked_size as size_asked, rounded_bytes as bytes_rounded, asked_block, allocation, release as released, doing, move, renewal, plan};
 ghost use Rattle.mtrace_replay.specs.Step.{found, all_given, Replays, AsksBlock, GivesBlock, Takes, IsUnder, AreLive};
 
 use crate::diagnostic::{Diagnostic, Kind};
@@ -14,13 +16,25 @@ use crate::findings::Findings;
 use crate::index::{Index, LookUp};
 use mtrace_log::{Addr, Event, LentLocation, LineFault};
 use std::alloc::AllocError;
+use tlsf_class::round;
 use tlsf_heap::{Heaped, Ptr, Refusal};
 
 /// How many bytes are asked of the heap: for a block of no byte it is asked for one byte.
-fn asked_size(size: u64) -> u64
+pub(crate) fn asked_size(size: u64) -> u64
     ensures { result ≡ size_asked size }
 {
     if size == 0 { 1 } else { size }
+}
+
+/// How many bytes the block for this many bytes has; 0 where no block has as many.
+pub(crate) fn rounded_bytes(size: u64) -> u64
+    ensures value { result ≡ bytes_rounded size }
+    ensures small { result ≤ greatest_size }
+{
+    match round(asked_size(size)) {
+        Some(bytes) => u64::from(bytes),
+        None => 0,
+    }
 }
 
 /// Where the live block ends, as a place.
@@ -29,7 +43,7 @@ fn end_of_block<H: Heaped>(heap: &mut H, ptr: Ptr) -> u64
     requires live { is_live (λ slot. slot == ptr.slot) ptr.place (blocks_of (H.content heap.old).pools) ≡ true }
     ensures end { result ≡ ptr.place + size_at ptr.place (blocks_of (H.content heap.old).pools) }
     ensures unchanged { H.content heap.new ≡ H.content heap.old }
-    ensures bound { H.touches heap.new ≤ H.touches heap.old + 4 }
+    ensures bound { AtMost 4 (H.touches heap.old) (H.touches heap.new) }
 {
     match heap.block_size(ptr) {
         Ok(bytes) => u64::from(ptr.place()) + u64::from(bytes),

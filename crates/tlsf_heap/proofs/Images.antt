@@ -22,6 +22,7 @@ pub mod ImageLemmas
 pub mod LinkLemmas
 pub mod ListLemmas
 pub mod Once
+pub mod PackedPools
 pub mod PoolLemmas
 pub mod RangeLemmas
 pub mod ReadBack

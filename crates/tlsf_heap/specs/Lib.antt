@@ -24,5 +24,6 @@ pub mod PlainHeap
 pub mod Implied
 pub mod Room
 pub mod Within
+pub mod Sizing
 pub mod Inner
 pub mod Images

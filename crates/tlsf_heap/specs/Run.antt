@@ -73,10 +73,6 @@ is_reading (Free pointer) = false
 is_reading (Realloc pointer n) = false
 is_reading (BlockSize pointer) = true
 
--- some heap may lack memory
-abbrev pub MayLack : {H : Type 0} → (H → Type 0) → Type 0
-MayLack {H} lacks = (heap : H) × lacks heap
-
 -- one request and its answer. A refusal changes nothing. Each but OutOfMemory is the one that the
 -- request has on the content. OutOfMemory comes only where memory may be lacking, and never for a
 -- reading

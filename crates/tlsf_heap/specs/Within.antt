@@ -11,19 +11,23 @@ use Rattle.tlsf_heap.specs.Content.{Content, blocks_of}
 use Rattle.tlsf_heap.specs.Memalign.{size_asked}
 use Rattle.tlsf_heap.specs.Implied.{live_blocks}
 use Rattle.tlsf_heap.specs.Room.{live_bytes, pool_bytes}
+use Rattle.tlsf_heap.specs.Sizing.{most_refusing}
 use Rattle.tlsf_heap.specs.Run.{Run}
 
--- A request for n bytes finds at most `blocks` live blocks, of at most `bytes` bytes together. Rounded up, n is m bytes, for
--- which the lists are asked for a block of `asked m` bytes: from class c on each block has them, and the lowest size of class c
--- is at most `size`.
-pub record TakesWithin (blocks bytes size : ℕ) (asked : ℕ → ℕ) (n : ℕ) (content : Content ℕ) : Type 0 where
-  pub few : live_blocks content ≤ blocks
-  pub small : live_bytes (blocks_of content.pools) ≤ bytes
+-- Rounded up, n is m bytes, for which the lists are asked for a block of `asked m` bytes: from class c on each block has them,
+-- and the lowest size of class c is at most `size`.
+pub record AsksAtMost (size : ℕ) (asked : ℕ → ℕ) (n : ℕ) : Type 0 where
   pub m : ℕ
   pub rounds : round n ≡ Some m
   pub c : ℕ
   pub needed : need (asked m) ≡ Some c
   pub sized : low c ≤ size
+
+-- a request for n bytes, which asks for at most `size`, finds at most `blocks` live blocks, of at most `bytes` bytes together
+pub record TakesWithin {A : Type 0} (blocks bytes size : ℕ) (asked : ℕ → ℕ) (n : ℕ) (content : Content A) : Type 0 where
+  pub few : live_blocks content ≤ blocks
+  pub small : live_bytes (blocks_of content.pools) ≤ bytes
+  pub asks : AsksAtMost size asked n
 
 -- A request keeps to the bounds on the content that it finds. Each does that asks for no bytes. No pool comes or goes.
 abbrev pub IsWithin : (blocks bytes size : ℕ) → Request → Content ℕ → Type 0
@@ -43,12 +47,11 @@ StaysWithin blocks bytes size lacks (request ∷ requests) [] old new before aft
 StaysWithin blocks bytes size lacks (request ∷ requests) (answer ∷ answers) old new before after run =
     IsWithin blocks bytes size request old × StaysWithin blocks bytes size lacks requests answers run.0 new run.1 after run.5
 
--- There is one pool. It has more than the `bytes`, and for each of the `blocks` and one more the most that a free block has
--- that is too small: a unit less than `size`. There are more than two records for each of the `blocks`, and two.
-pub record IsLargeEnough (blocks bytes size : ℕ) (content : Content ℕ) : Type 0 where
-  pub one_pool : length content.pools ≡ 1
-  pub pool : bytes + (blocks + 1) * (size - unit) < pool_bytes content.pools
-  pub records : 2 * blocks + 2 < content.records
+-- The pools have more bytes than may refuse. There are more records than two for each of the `blocks`, one for each pool, and
+-- one.
+pub record IsLargeEnough {A : Type 0} (blocks bytes size : ℕ) (content : Content A) : Type 0 where
+  pub pools : most_refusing (length content.pools) blocks bytes size < pool_bytes content.pools
+  pub records : 2 * blocks + length content.pools + 1 < content.records
 
 -- the answer isn't that no block fits, nor that no record is left
 abbrev pub IsNotFull : Answer → Type 0

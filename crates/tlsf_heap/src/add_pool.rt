@@ -2,7 +2,6 @@
 
 ghost use Rattle.std.specs.Prelude.{◌≡◌, ◌<◌, ◌&&◌, true, ◌∷◌, length, All, Some, Ok, Err};
 ghost use Rattle.std.specs.List.{list_all};
-ghost use Rattle.arrayvec.specs.ArrayVec.{array_vec_len};
 ghost use Rattle.tlsf_store.specs.Cells.{most_pools};
 ghost use Rattle.tlsf_heap.specs.Touches.{AtMost, add_pool_touches};
 ghost use Rattle.tlsf_heap.specs.Inner.Entries.{entries_of};
@@ -16,11 +15,10 @@ ghost use Rattle.tlsf_heap.specs.Inner.Answers.{Answers};
 ghost use Rattle.tlsf_heap.specs.Inner.Entering.{pool_laid};
 
 use crate::Refusal;
-use crate::entries::{entries, is_apart, place_for, set_entries};
+use crate::entries::{entries, entries_with, is_apart, place_for, set_entries};
 use crate::free_lists::link;
-use arrayvec::ArrayVec;
 use tlsf_class::class_of;
-use tlsf_store::{MOST_POOLS, Pool, Record, State, Store, can_be_pool};
+use tlsf_store::{Pool, Record, State, Store, can_be_pool};
 
 /// A pool of `bytes` bytes from the place `base` on enters the store, as one free block. At most 27
 /// touches.
@@ -47,7 +45,7 @@ pub(crate) fn add_pool(store: &mut Store, base: u64, bytes: u64) -> Result<(), R
         bytes: bytes as u32,
         first: slot,
     };
-    put_pool(store, entries, entry);
+    put_pool(store, entries.as_slice(), entry);
     Ok(())
 }
 
@@ -60,22 +58,21 @@ fn can_enter(entries: &[Pool], base: u64, bytes: u64) -> bool
 
 /// Makes a pool one free block, whose slot was taken, the first of its class's list, and puts its entry
 /// among the others. At most 17 touches.
-fn put_pool(store: &mut Store, mut entries: ArrayVec<Pool, MOST_POOLS>, entry: Pool)
+fn put_pool(store: &mut Store, entries: &[Pool], entry: Pool)
     requires can { can_be entry.base entry.bytes ≡ true }
-    requires room { array_vec_len entries < most_pools }
+    requires room { length entries.now < most_pools }
     requires count { length store.old.cells.pools ≡ most_pools }
-    requires entries { entries.items ≡ entries_of store.old.cells.pools }
-    requires below { All (λ e. e.first < length store.old.cells.records) entries.items }
+    requires entries { entries.now ≡ entries_of store.old.cells.pools }
+    requires below { All (λ e. e.first < length store.old.cells.records) entries.now }
     requires slot_used { IsUsed store.old.cells.records (Some entry.first) }
     requires taken { (layout : Layout) × Represents store.old.cells (record layout { taken = entry.first ∷ layout.taken }) }
     ensures leads { (layout : Layout) → Represents store.old.cells (record layout { taken = entry.first ∷ layout.taken }) → Represents store.new.cells (pool_laid entry layout) }
     ensures touches { AtMost 17 store.old.touches store.new.touches }
 {
     let Pool { base, bytes, first } = entry;
-    let place = place_for(entries.as_slice(), base);
-    entries.insert(place, entry);
+    let all = entries_with(entries, place_for(entries, base), entry);
     store.write(first, free_block(base, bytes));
-    set_entries(store, entries.as_slice());
+    set_entries(store, all.as_slice());
     link(store, class_of(bytes), first);
 }
 

@@ -41,7 +41,7 @@ impl Model for Heap {
 }
 
 impl Heap {
-    ghost use Rattle.std.specs.Prelude.{◌≡◌, ◌≢◌, true, ℕ, ◌+◌, ◌*◌, ◌%◌, ◌<◌, ◌≤◌, ◌⊎◌, ◌↔◌, map, Some, None, Ok, Err, IfOk, IfErr, OnOk, OnErr};
+    ghost use Rattle.std.specs.Prelude.{◌≡◌, true, ℕ, ◌+◌, ◌*◌, ◌%◌, ◌<◌, ◌≤◌, ◌⊎◌, ◌↔◌, map, Some, None, Ok, Err, IfOk, IfErr, IsOk, OnOk, OnErr};
     ghost use Rattle.tlsf_store.specs.declared.errors.StoreError.TheVariants.{BadCount};
     ghost use Rattle.tlsf_store.specs.Records.{most_records};
     ghost use Rattle.tlsf_heap.specs.Touches.{AtMost, add_pool_touches, remove_pool_touches, malloc_touches, memalign_touches, free_touches, realloc_touches, block_size_touches};
@@ -59,7 +59,7 @@ impl Heap {
     ghost use Rattle.tlsf_heap.specs.Counted.{range_of, IsUnchanged, Reads};
     ghost use Rattle.tlsf_heap.specs.Implied.{NoneFits, NoneFitsAligned, HasFewRecords, HasFewRecordsAndOne, IsLaidOut};
     ghost use Rattle.tlsf_heap.specs.Room.{HasRoom, HasRoomAligned};
-    ghost use Rattle.tlsf_heap.specs.declared.refusal.Refusal.TheVariants.{NoFit, TableFull};
+    ghost use Rattle.tlsf_heap.specs.declared.refusal.Refusal.TheVariants.{NoFit, TableFull, BadPointer, BadAlign};
     ghost use Rattle.tlsf_class.specs.Classes.{classes};
     ghost use Rattle.tlsf_heap.specs.declared.image.rule.Rule.{Rule};
     ghost use Rattle.tlsf_heap.specs.Images.Rules.{first_broken};
@@ -180,8 +180,7 @@ impl Heap {
         ensures refused { Refuses result (λ refusal. (slot : ℕ) → served slot n self.old.content ≡ Err refusal) (IsUnchanged self.old self.new) }
         ensures no_fit { result ≡ Err NoFit → NoneFits n self.old.content }
         ensures table_full { result ≡ Err TableFull → HasFewRecords self.old.content }
-        ensures room_fits { HasRoom n self.old.content → result ≢ Err NoFit }
-        ensures room_records { HasRoom n self.old.content → result ≢ Err TableFull }
+        ensures room { HasRoom n self.old.content → IsOk result }
         ensures bound { AtMost malloc_touches self.old.touches self.new.touches }
     {
         malloc(&mut self.store, n)
@@ -207,8 +206,7 @@ impl Heap {
         ensures refused { Refuses result (λ refusal. (slot : ℕ) → aligned slot align n self.old.content ≡ Err refusal) (IsUnchanged self.old self.new) }
         ensures no_fit { result ≡ Err NoFit → NoneFitsAligned align n self.old.content }
         ensures table_full { result ≡ Err TableFull → HasFewRecordsAndOne self.old.content }
-        ensures room_fits { HasRoomAligned align n self.old.content → result ≢ Err NoFit }
-        ensures room_records { HasRoomAligned align n self.old.content → result ≢ Err TableFull }
+        ensures room { HasRoomAligned align n self.old.content → IfErr result (λ refusal. refusal ≡ BadAlign) }
         ensures bound { AtMost memalign_touches self.old.touches self.new.touches }
     {
         memalign(&mut self.store, align, n)
@@ -243,8 +241,7 @@ impl Heap {
         ensures ok { IfOk result (λ given. IsMoved (realloc_ptr ptr n) ptr given self.old.content self.new.content) }
         ensures refused { Refuses result (λ refusal. (slot : ℕ) → realloc_ptr ptr n slot self.old.content ≡ Err refusal) (IsUnchanged self.old self.new) }
         ensures table_full { result ≡ Err TableFull → HasFewRecords self.old.content }
-        ensures room_fits { HasRoom n self.old.content → result ≢ Err NoFit }
-        ensures room_records { HasRoom n self.old.content → result ≢ Err TableFull }
+        ensures room { HasRoom n self.old.content → IfErr result (λ refusal. refusal ≡ BadPointer) }
         ensures bound { AtMost realloc_touches self.old.touches self.new.touches }
     {
         realloc(&mut self.store, ptr, n)
@@ -351,7 +348,7 @@ impl Heap {
         ensures slots { HasGoodSlots self.now.content }
         ensures laid_out { IsLaidOut self.now.content }
         ensures touches { ⟦<Heap as Heaped>⟧.touches self.now ≡ self.now.touches }
-        ensures memory { ⟦<Heap as Heaped>⟧.lacks self.now → ⊥ }
+        ensures memory { ⟦<Heap as Heaped>⟧.lacks → ⊥ }
     {
         let _store = &self.store;
     }

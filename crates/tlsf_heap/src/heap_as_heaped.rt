@@ -12,7 +12,7 @@ impl Heaped for Heap {
 
     ghost touches = { λ heap. heap.touches };
 
-    ghost lacks = { λ heap. ⊥ };
+    ghost lacks = { ⊥ };
 
     ghost stands = { λ heap cursor. is_at_row heap.rows cursor };
 

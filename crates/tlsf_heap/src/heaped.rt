@@ -27,8 +27,8 @@ use tlsf_store::{MOST_POOLS, StoreError};
 /// A heap of pools of blocks. Each call is a step on its content; a refused call leaves the content as
 /// it was. A refusal and a reading leave each cursor where it stands.
 ///
-/// A heap that may lack memory may answer `OutOfMemory` to each call that changes it, in place of any answer.
-/// Contracts alone see whether it may, its content, and how often it has touched its table of
+/// A heap of a type that may lack memory may answer `OutOfMemory` to each call that changes it, in place of any
+/// answer. Contracts alone see whether the type may, the heap's content, and how often it has touched its table of
 /// records.
 pub trait Heaped: Drop {
     // The pools, their blocks and the free lists.
@@ -37,8 +37,8 @@ pub trait Heaped: Drop {
     // How often the table of records was touched.
     ghost touches: { Self → ℕ };
 
-    // Whether it may lack memory.
-    ghost lacks: { Self → Type 0 };
+    // Whether heaps of this type may lack memory.
+    ghost lacks: { Type 0 };
 
     // Whether a cursor stands at a row of this content, or behind the last of a pool.
     ghost stands: { Self → Cursor → Type 0 };
@@ -66,7 +66,7 @@ pub trait Heaped: Drop {
     /// memory is refused, which it may lack.
     fn add_pool(&mut self, base: u64, bytes: u64) -> Result<(), Refusal>
         ensures ok { OnOk result (added base bytes (content self.old) ≡ Ok (content self.new)) }
-        ensures refused { RefusesOrLacks result (λ refusal. added base bytes (content self.old) ≡ Err refusal) (lacks self.old) (LooksUnchanged content stands rest self.old self.new) }
+        ensures refused { RefusesOrLacks result (λ refusal. added base bytes (content self.old) ≡ Err refusal) lacks (LooksUnchanged content stands rest self.old self.new) }
         ensures bound { AtMost 64 (touches self.old) (touches self.new) };
 
     /// The pool that begins at the place `base` is gone. At most 64 touches.
@@ -77,7 +77,7 @@ pub trait Heaped: Drop {
     /// memory is refused, which it may lack.
     fn remove_pool(&mut self, base: u64) -> Result<(), Refusal>
         ensures ok { OnOk result (removed base (content self.old) ≡ Ok (content self.new)) }
-        ensures refused { RefusesOrLacks result (λ refusal. removed base (content self.old) ≡ Err refusal) (lacks self.old) (LooksUnchanged content stands rest self.old self.new) }
+        ensures refused { RefusesOrLacks result (λ refusal. removed base (content self.old) ≡ Err refusal) lacks (LooksUnchanged content stands rest self.old self.new) }
         ensures bound { AtMost 64 (touches self.old) (touches self.new) };
 
     /// A live block of at least `n` bytes, with a slot that no other live block has. At most 96 touches.
@@ -89,7 +89,7 @@ pub trait Heaped: Drop {
     /// where memory is refused, which it may lack.
     fn malloc(&mut self, n: u64) -> Result<Ptr, Refusal>
         ensures ok { IfOk result (λ ptr. IsServed (λ slot. served slot n) ptr (content self.old) (content self.new)) }
-        ensures refused { RefusesOrLacks result (λ refusal. (slot : ℕ) → served slot n (content self.old) ≡ Err refusal) (lacks self.old) (LooksUnchanged content stands rest self.old self.new) }
+        ensures refused { RefusesOrLacks result (λ refusal. (slot : ℕ) → served slot n (content self.old) ≡ Err refusal) lacks (LooksUnchanged content stands rest self.old self.new) }
         ensures bound { AtMost 96 (touches self.old) (touches self.new) };
 
     /// A live block of at least `n` bytes that begins at a multiple of `align`, with a slot that no other live
@@ -103,7 +103,7 @@ pub trait Heaped: Drop {
     /// lack.
     fn memalign(&mut self, align: u64, n: u64) -> Result<Ptr, Refusal>
         ensures ok { IfOk result (λ ptr. IsServed (λ slot. aligned slot align n) ptr (content self.old) (content self.new)) }
-        ensures refused { RefusesOrLacks result (λ refusal. (slot : ℕ) → aligned slot align n (content self.old) ≡ Err refusal) (lacks self.old) (LooksUnchanged content stands rest self.old self.new) }
+        ensures refused { RefusesOrLacks result (λ refusal. (slot : ℕ) → aligned slot align n (content self.old) ≡ Err refusal) lacks (LooksUnchanged content stands rest self.old self.new) }
         ensures bound { AtMost 160 (touches self.old) (touches self.new) };
 
     /// The live block with the pointer's place and slot becomes free, and is merged with its free
@@ -115,7 +115,7 @@ pub trait Heaped: Drop {
     /// may lack.
     fn free(&mut self, ptr: Ptr) -> Result<(), Refusal>
         ensures ok { OnOk result (free_ptr ptr (content self.old) ≡ Ok (content self.new)) }
-        ensures refused { RefusesOrLacks result (λ refusal. free_ptr ptr (content self.old) ≡ Err refusal) (lacks self.old) (LooksUnchanged content stands rest self.old self.new) }
+        ensures refused { RefusesOrLacks result (λ refusal. free_ptr ptr (content self.old) ≡ Err refusal) lacks (LooksUnchanged content stands rest self.old self.new) }
         ensures bound { AtMost 96 (touches self.old) (touches self.new) };
 
     /// The block with room for `n` bytes, in its place where it can have them, else under a new pointer. For 0
@@ -128,7 +128,7 @@ pub trait Heaped: Drop {
     /// pointer, or where the block has to move; `OutOfMemory` where memory is refused, which it may lack.
     fn realloc(&mut self, ptr: Option<Ptr>, n: u64) -> Result<Option<Ptr>, Refusal>
         ensures ok { IfOk result (λ given. IsMoved (realloc_ptr ptr n) ptr given (content self.old) (content self.new)) }
-        ensures refused { RefusesOrLacks result (λ refusal. (slot : ℕ) → realloc_ptr ptr n slot (content self.old) ≡ Err refusal) (lacks self.old) (LooksUnchanged content stands rest self.old self.new) }
+        ensures refused { RefusesOrLacks result (λ refusal. (slot : ℕ) → realloc_ptr ptr n slot (content self.old) ≡ Err refusal) lacks (LooksUnchanged content stands rest self.old self.new) }
         ensures bound { AtMost 256 (touches self.old) (touches self.new) };
 
     /// The size of a live block, in bytes. At most four touches.

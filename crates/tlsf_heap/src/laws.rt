@@ -1,27 +1,28 @@
 //! Laws of the definitions, each the contract of a function that does nothing.
 
-ghost use Rattle.std.specs.Prelude.{◌≡◌, ℕ, ◌+◌, ◌-◌, ◌*◌, ◌<◌, List, Ok, All};
-ghost use Rattle.tlsf_class.specs.Classes.{unit};
+ghost use Rattle.std.specs.Prelude.{◌≡◌, ℕ, ◌<◌, ◌≤◌, List, Ok, All};
 ghost use Rattle.tlsf_heap.specs.declared.request.Request.{Request};
 ghost use Rattle.tlsf_heap.specs.declared.answer.Answer.{Answer};
 ghost use Rattle.tlsf_heap.specs.Content.{Content};
 ghost use Rattle.tlsf_heap.specs.Pools.{created, add_pool};
 ghost use Rattle.tlsf_heap.specs.Good.{IsGood};
-ghost use Rattle.tlsf_heap.specs.Run.{MayLack, Run};
+ghost use Rattle.tlsf_heap.specs.Run.{Run};
+ghost use Rattle.tlsf_heap.specs.Sizing.{most_refusing, sure_records};
 ghost use Rattle.tlsf_heap.specs.Within.{IsLargeEnough, StaysWithin, IsNotFull};
 
 use crate::Heaped;
 
 /// No request of a run is refused for want of a block or of a record, where the run stays within bounds and the heap
-/// that it starts on is large enough for these: whatever was asked before, and in whatever order.
+/// that it starts on is large enough for these: whatever was asked before, and in whatever order. The pools stay as
+/// they are, and there may be several.
 pub fn runs_within_find_room<H: Heaped>()
-    ensures { (blocks bytes size : ℕ) (requests : List Request) (answers : List Answer) (old new : Content ℕ) (before after : ℕ) (run : Run (MayLack H.lacks) requests answers old new before after)
-        → IsGood old → IsLargeEnough blocks bytes size old → StaysWithin blocks bytes size (MayLack H.lacks) requests answers old new before after run → All IsNotFull answers }
+    ensures { (blocks bytes size : ℕ) (requests : List Request) (answers : List Answer) (old new : Content ℕ) (before after : ℕ) (run : Run H.lacks requests answers old new before after)
+        → IsGood old → IsLargeEnough blocks bytes size old → StaysWithin blocks bytes size H.lacks requests answers old new before after run → All IsNotFull answers }
 {}
 
 /// A heap that was just created and given one pool is large enough for bounds where the pool's bytes and the number of
 /// records are.
 pub fn one_pool_is_large_enough()
     ensures { (blocks bytes size records base pool : ℕ) (content : Content ℕ) → add_pool base pool (created records) ≡ Ok content
-        → bytes + (blocks + 1) * (size - unit) < pool → 2 * blocks + 2 < records → IsGood content × IsLargeEnough blocks bytes size content }
+        → most_refusing 1 blocks bytes size < pool → sure_records blocks ≤ records → IsGood content × IsLargeEnough blocks bytes size content }
 {}

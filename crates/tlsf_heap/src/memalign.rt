@@ -94,8 +94,8 @@ fn records_for(bytes: u32) -> u32
     if bytes == 0 { 0 } else { 1 }
 }
 
-/// Whether it is an alignment: a power of two, up to the greatest.
-pub(crate) fn is_alignment(align: u64) -> bool
+/// Whether it is an alignment, in bytes, that `memalign` takes: a power of two from 1 to 2^29.
+pub fn is_alignment(align: u64) -> bool
     ensures { result ≡ is_one align }
 {
     align <= GREATEST_ALIGNMENT && align.is_power_of_two()

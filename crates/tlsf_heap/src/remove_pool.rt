@@ -15,7 +15,7 @@ ghost use Rattle.tlsf_heap.specs.Inner.Following.{Stands};
 ghost use Rattle.tlsf_heap.specs.Inner.Answers.{Answers};
 
 use crate::Refusal;
-use crate::entries::{entries, number_of, set_entries};
+use crate::entries::{entries, entries_without, number_of, set_entries};
 use crate::malloc::take_whole;
 use tlsf_store::{Pool, Record, Slot, Store};
 
@@ -28,17 +28,18 @@ pub(crate) fn remove_pool(store: &mut Store, base: u64) -> Result<(), Refusal>
     requires { Stands store.old.cells }
     ensures { Answers result (λ done old new. removed base old ≡ Ok new) (λ refusal old. removed base old ≡ Err refusal) remove_pool_touches store.old store.new }
 {
-    let mut entries = entries(store);
+    let entries = entries(store);
     let Some(number) = number_of(entries.as_slice(), base) else {
         return Err(Refusal::NoPool);
     };
-    let entry = entries.remove(number);
+    let entry = entries.as_slice()[number];
     let slot = entry.first;
     let block = store.read(slot);
     if !is_alone(&block) {
         return Err(Refusal::PoolInUse);
     }
-    drop_pool(store, slot, &block, entries.as_slice());
+    let rest = entries_without(entries.as_slice(), number);
+    drop_pool(store, slot, &block, rest.as_slice());
     Ok(())
 }
 

@@ -2,7 +2,7 @@
 
 ghost use Rattle.std.specs.Prelude.{◌≡◌, ◌≢◌, ◌+◌, ◌≤◌, All, IfOk, IfErr, OnErr};
 ghost use Rattle.tlsf_heap.specs.Touches.{AtMost};
-ghost use Rattle.tlsf_heap.specs.Run.{MayLack, Step, Run, most_touches};
+ghost use Rattle.tlsf_heap.specs.Run.{Step, Run, most_touches};
 
 use crate::{Answer, Heaped, Refusal, Request};
 use std::alloc::Global;
@@ -10,7 +10,7 @@ use tlsf_store::StoreError;
 
 /// The heap's answer to one request.
 fn answer<H: Heaped>(heap: &mut H, request: Request) -> Answer
-    ensures step { Step (MayLack H.lacks) request result (H.content heap.old) (H.content heap.new) }
+    ensures step { Step H.lacks request result (H.content heap.old) (H.content heap.new) }
     ensures bound { AtMost (most_touches request) (H.touches heap.old) (H.touches heap.new) }
 {
     match request {
@@ -58,8 +58,8 @@ pub fn run<H: Heaped>(
     heap: &mut H,
     requests: &[Request],
 ) -> Result<Vec<Answer>, StoreError>
-    ensures answers { IfOk result (λ answers. Run (MayLack H.lacks) requests.now answers.items (H.content heap.old) (H.content heap.new) (H.touches heap.old) (H.touches heap.new)) }
-    ensures memory { IfOk result (λ answers. (MayLack H.lacks → ⊥) → All (λ answer. answer ≢ Answer.Refused Refusal.OutOfMemory) answers.items) }
+    ensures answers { IfOk result (λ answers. Run H.lacks requests.now answers.items (H.content heap.old) (H.content heap.new) (H.touches heap.old) (H.touches heap.new)) }
+    ensures memory { IfOk result (λ answers. (H.lacks → ⊥) → All (λ answer. answer ≢ Answer.Refused Refusal.OutOfMemory) answers.items) }
     ensures untouched { OnErr result (heap.new ≡ heap.old) }
     ensures no_memory { IfErr result (λ error. error ≡ StoreError.OutOfMemory) }
 {

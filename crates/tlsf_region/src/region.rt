@@ -31,7 +31,7 @@ impl Model for Region {
 }
 
 impl Region {
-    ghost use Rattle.std.specs.Prelude.{◌≡◌, ℕ, true, false, ◌+◌, ◌%◌, ◌<◌, ◌≤◌, ◌==◌, ◌⊎◌, ◌↔◌, map, replicate, length, Ok, Err, Some, IfOk, IfErr, IfSome, IfNone, OnOk, OnErr};
+    ghost use Rattle.std.specs.Prelude.{◌≡◌, ℕ, true, false, ◌+◌, ◌%◌, ◌<◌, ◌≤◌, ◌==◌, ◌⊎◌, ◌↔◌, map, replicate, length, Ok, Err, Some, IfOk, IfErr, IfSome, IfNone, IsOk, OnOk, OnErr};
     ghost use Rattle.tlsf_heap.specs.Pools.{created, most_records, end_of_places, remove_pool as removed};
     ghost use Rattle.tlsf_heap.specs.Content.{blocks_of, size_at};
     ghost use Rattle.tlsf_heap.specs.GoodSlots.{HasGoodSlots};
@@ -46,9 +46,10 @@ impl Region {
     ghost use Rattle.tlsf_heap.specs.Cursors.{rows_behind, is_at_row};
     ghost use Rattle.tlsf_heap.specs.Counted.{range_of};
     ghost use Rattle.tlsf_heap.specs.Implied.{NoneFits, NoneFitsAligned, HasFewRecords, HasFewRecordsAndOne, IsLaidOut};
+    ghost use Rattle.tlsf_heap.specs.Room.{HasRoom, HasRoomAligned};
     ghost use Rattle.tlsf_heap.specs.Memalign.{memalign as aligned};
     ghost use Rattle.tlsf_heap.specs.Walk.{IsWalk, walk_touches};
-    ghost use Rattle.tlsf_heap.specs.declared.refusal.Refusal.TheVariants.{NoFit, TableFull};
+    ghost use Rattle.tlsf_heap.specs.declared.refusal.Refusal.TheVariants.{NoFit, TableFull, BadPointer, BadAlign};
     ghost use Rattle.tlsf_region.specs.Pools.{add_pool_within};
     ghost use Rattle.tlsf_region.specs.Realloc.{bytes_after_realloc};
     ghost use Rattle.tlsf_heap.specs.Touches.{AtMost, add_pool_touches, remove_pool_touches, malloc_touches, memalign_touches, free_touches, realloc_touches, block_size_touches};
@@ -128,12 +129,13 @@ impl Region {
     /// # Errors
     ///
     /// `ZeroSize` for 0; `NoFit` where no list that may be searched has a block, or `n` is above the greatest size;
-    /// `TableFull` where a rest would be left and each record is in use.
+    /// `TableFull` where a rest would be left and each record is in use. It is served where there is room (`HasRoom`).
     pub fn malloc(&mut self, n: u64) -> Result<Ptr, Refusal>
         ensures ok { IfOk result (λ ptr. IsServed (λ slot. served slot n) ptr self.old.content self.new.content) }
         ensures refused { Refuses result (λ refusal. (slot : ℕ) → served slot n self.old.content ≡ Err refusal) (IsUnchanged self.old self.new) }
         ensures no_fit { result ≡ Err NoFit → NoneFits n self.old.content }
         ensures table_full { result ≡ Err TableFull → HasFewRecords self.old.content }
+        ensures room { HasRoom n self.old.content → IsOk result }
         ensures kept { KeepsBytes malloc_touches self.old self.new }
     {
         self.heap.malloc(n)
@@ -153,6 +155,7 @@ impl Region {
         ensures refused { Refuses result (λ refusal. (slot : ℕ) → aligned slot align n self.old.content ≡ Err refusal) (IsUnchanged self.old self.new) }
         ensures no_fit { result ≡ Err NoFit → NoneFitsAligned align n self.old.content }
         ensures table_full { result ≡ Err TableFull → HasFewRecordsAndOne self.old.content }
+        ensures room { HasRoomAligned align n self.old.content → IfErr result (λ refusal. refusal ≡ BadAlign) }
         ensures kept { KeepsBytes memalign_touches self.old self.new }
     {
         self.heap.memalign(align, n)
@@ -182,6 +185,7 @@ impl Region {
         ensures ok { IfOk result (λ given. IsMoved (realloc_ptr ptr n) ptr given self.old.content self.new.content) }
         ensures refused { Refuses result (λ refusal. (slot : ℕ) → realloc_ptr ptr n slot self.old.content ≡ Err refusal) (IsAsBefore self.old self.new) }
         ensures table_full { result ≡ Err TableFull → HasFewRecords self.old.content }
+        ensures room { HasRoom n self.old.content → IfErr result (λ refusal. refusal ≡ BadPointer) }
         ensures bytes { IfOk result (λ given. self.new.bytes ≡ bytes_after_realloc ptr given self.old.content self.old.bytes) }
         ensures bound { AtMost (realloc_touches + block_size_touches) self.old.touches self.new.touches }
     {

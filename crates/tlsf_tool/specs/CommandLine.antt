@@ -12,8 +12,9 @@ use Rattle.clap.specs.declared.builder.value_parser.ValueParser.TheVariants as p
 use Rattle.std.specs.Prelude.{pos}
 use Rattle.tlsf_class.specs.Classes.{unit, greatest_size}
 use Rattle.mtrace_replay.specs.declared.settings.Settings.{Settings}
+use Rattle.mtrace_replay.specs.declared.size.Bounds.{Bounds}
 use Rattle.tlsf_tool.specs.declared.asked.Command.{Command}
-use Rattle.tlsf_tool.specs.declared.asked.Command.TheVariants.{Report, Sites, Fit, Save, Check}
+use Rattle.tlsf_tool.specs.declared.asked.Command.TheVariants.{Report, Sites, Fit, Size, Save, Check}
 use Rattle.tlsf_tool.specs.declared.asked.Name.{Name}
 use Rattle.tlsf_tool.specs.declared.asked.Name.TheVariants.{Leaks, Peak, Walk}
 
@@ -37,13 +38,37 @@ pools_rule = option_rule (codes "pools") (codes "1") (parser.Signed (pos 1) (pos
 abbrev pub records_rule : Rule
 records_rule = option_rule (codes "records") (codes "8192") (parser.Signed (pos 1) (pos 65535))
 
--- `--step` with one value, and no default
-abbrev pub step_rule : Rule
-step_rule = record (new_rule (codes "step")) {
-  long = Some (codes "step");
+-- `--ID` with one value, where it is given, and no default
+abbrev pub given_rule : Text → ValueParser → Rule
+given_rule id takes = record (new_rule id) {
+  long = Some id;
   value_names = 1;
-  parser = Some (parser.Unsigned unit greatest_size);
+  parser = Some takes;
 }
+
+abbrev pub step_rule : Rule
+step_rule = given_rule (codes "step") (parser.Unsigned unit greatest_size)
+
+-- `--ID` with one value, which must be there, and no default
+abbrev pub needed_rule : Text → ValueParser → Rule
+needed_rule id takes = record (new_rule id) {
+  long = Some id;
+  value_names = 1;
+  required = true;
+  parser = Some takes;
+}
+
+abbrev pub blocks_rule : Rule
+blocks_rule = needed_rule (codes "blocks") (parser.Signed (pos 1) (pos 32766))
+
+abbrev pub largest_rule : Rule
+largest_rule = needed_rule (codes "largest") (parser.Unsigned 1 1056964608)
+
+abbrev pub bytes_rule : Rule
+bytes_rule = given_rule (codes "bytes") (parser.Unsigned 1 greatest_size)
+
+abbrev pub align_rule : Rule
+align_rule = given_rule (codes "align") (parser.Unsigned 0 18446744073709551615)
 
 -- one word that must be there
 abbrev pub log_rule : Rule
@@ -59,6 +84,9 @@ report_line name = with_rule (with_rule (with_rule (with_rule (new_app name) poo
 abbrev pub fit_line : App
 fit_line = with_rule (with_rule (new_app (codes "fit")) step_rule) log_rule
 
+abbrev pub size_line : App
+size_line = with_rule (with_rule (with_rule (with_rule (new_app (codes "size")) blocks_rule) largest_rule) bytes_rule) align_rule
+
 abbrev pub save_line : App
 save_line = with_rule (report_line (codes "save")) image_rule
 
@@ -70,8 +98,8 @@ abbrev pub bare_line : App
 bare_line = on_top (λ s. record s { has_version = true; subcommand_required = true }) (new_app (codes "tlsf"))
 
 abbrev pub tlsf_line : App
-tlsf_line = with_subcommand (with_subcommand (with_subcommand (with_subcommand (with_subcommand (with_subcommand (with_subcommand bare_line (report_line (codes "leaks")).top)
-    (report_line (codes "peak")).top) (report_line (codes "walk")).top) (report_line (codes "sites")).top) fit_line.top) save_line.top) check_line.top
+tlsf_line = with_subcommand (with_subcommand (with_subcommand (with_subcommand (with_subcommand (with_subcommand (with_subcommand (with_subcommand bare_line (report_line (codes "leaks")).top)
+    (report_line (codes "peak")).top) (report_line (codes "walk")).top) (report_line (codes "sites")).top) fit_line.top) size_line.top) save_line.top) check_line.top
 
 -- an option or a word by this rule, which the subcommand has for itself
 pub record IsArgOf (rule : Rule) (arg : Arg) : Type 0 where
@@ -99,10 +127,15 @@ abbrev pub HasSettings : List Row → Settings → Type 0
 HasSettings rows settings = HasNumber rows (codes "pool") 64 settings.pool
     × HasNumber rows (codes "pools") 32 settings.pools × HasNumber rows (codes "records") 32 settings.records
 
--- the step, where there is a number of that id
-abbrev pub HasStep : List Row → Option ℕ → Type 0
-HasStep rows (Some step) = HasNumber rows (codes "step") 64 step
-HasStep rows None = (step : ℕ) → HasNumber rows (codes "step") 64 step → ⊥
+-- the value of this id, where there is a number of it
+abbrev pub HasGiven : List Row → Text → Option ℕ → Type 0
+HasGiven rows id (Some n) = HasNumber rows id 64 n
+HasGiven rows id None = (n : ℕ) → HasNumber rows id 64 n → ⊥
+
+-- the bounds of a program
+abbrev pub HasBounds : List Row → Bounds → Type 0
+HasBounds rows bounds = HasNumber rows (codes "blocks") 32 bounds.blocks × HasNumber rows (codes "largest") 64 bounds.largest
+    × HasGiven rows (codes "bytes") bounds.bytes × HasGiven rows (codes "align") bounds.align
 
 -- there are no settings, or there is no log
 abbrev pub HasNoLog : List Row → Type 0
@@ -115,7 +148,8 @@ MatchesAskFor (Some found) (Report name settings log) = (found.0 ≡ name_text n
     × HasSettings found.1 settings × (first_of (codes "LOG") found.1 ≡ Some (string_bytes log))
 MatchesAskFor (Some found) (Sites settings log) = (found.0 ≡ codes "sites")
     × HasSettings found.1 settings × (first_of (codes "LOG") found.1 ≡ Some (string_bytes log))
-MatchesAskFor (Some found) (Fit step log) = (found.0 ≡ codes "fit") × HasStep found.1 step × (first_of (codes "LOG") found.1 ≡ Some (string_bytes log))
+MatchesAskFor (Some found) (Fit step log) = (found.0 ≡ codes "fit") × HasGiven found.1 (codes "step") step × (first_of (codes "LOG") found.1 ≡ Some (string_bytes log))
+MatchesAskFor (Some found) (Size bounds) = (found.0 ≡ codes "size") × HasBounds found.1 bounds
 MatchesAskFor (Some found) (Save settings log image) = (found.0 ≡ codes "save")
     × HasSettings found.1 settings × (first_of (codes "LOG") found.1 ≡ Some (string_bytes log)) × (first_of (codes "IMAGE") found.1 ≡ Some (string_bytes image))
 MatchesAskFor (Some found) (Check image) = (found.0 ≡ codes "check") × (first_of (codes "IMAGE") found.1 ≡ Some (string_bytes image))

@@ -8,7 +8,7 @@ use Rattle.tlsf_tool.specs.declared.asked.ToolFault.TheVariants.{ReadsOnce}
 use Rattle.tlsf_tool.specs.declared.plan.Origin.{Origin}
 use Rattle.tlsf_tool.specs.declared.plan.Origin.TheVariants.{Standard, File}
 use Rattle.tlsf_tool.specs.declared.plan.Plan.{Plan}
-use Rattle.tlsf_tool.specs.declared.plan.Plan.TheVariants.{Report, Reread, Save, Check}
+use Rattle.tlsf_tool.specs.declared.plan.Plan.TheVariants.{Report, Reread, Save, Size, Check}
 use Rattle.tlsf_tool.specs.declared.plan.Rereading.{Rereading}
 use Rattle.tlsf_tool.specs.declared.plan.Rereading.TheVariants.{Sites, Fit}
 use Rattle.tlsf_tool.specs.declared.plan.Terminals.{Terminals}
@@ -38,6 +38,7 @@ plan_for terminals (command.Report name settings log) = Ok (Report (origin_of lo
 plan_for terminals (command.Sites settings log) = again_for terminals log (Sites settings)
 plan_for terminals (command.Fit step log) = again_for terminals log (Fit step)
 plan_for terminals (command.Save settings log image) = Ok (Save (origin_of log) image settings (is_told terminals (origin_of log)))
+plan_for terminals (command.Size bounds) = Ok (Size bounds)
 plan_for terminals (command.Check image) = Ok (Check image)
 
 -- The answer is the plan of a command that the words ask for. A fault is that of its plan, or that of the words.

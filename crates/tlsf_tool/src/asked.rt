@@ -3,7 +3,7 @@ ghost use Rattle.tlsf_tool.specs.Faults.{IsUsage};
 ghost use Rattle.tlsf_tool.specs.Statuses.{status_of_fault};
 
 use crate::statuses::fault_status;
-use mtrace_replay::{RunFault, Settings};
+use mtrace_replay::{Bounds, RunFault, Settings};
 use std::alloc::Global;
 use thiserror::Error;
 
@@ -43,6 +43,11 @@ pub enum Command {
         step: Option<u64>,
         /// The log's name. It is read once for each size.
         log: String,
+    },
+    /// How large a pool is always enough, without a log.
+    Size {
+        /// What the program keeps to.
+        bounds: Bounds,
     },
     /// An image of the heap at the end of a log.
     Save {

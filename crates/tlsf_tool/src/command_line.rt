@@ -2,7 +2,7 @@
 
 ghost use Rattle.std.specs.Prelude.{◌≡◌, IfOk};
 ghost use Rattle.clap.specs.Words.{App, app_of, with_subcommand};
-ghost use Rattle.tlsf_tool.specs.CommandLine.{IsArgOf, IsCommandOf, log_rule, image_rule, pool_rule, pools_rule, records_rule, step_rule, report_line, fit_line, save_line, check_line, bare_line, tlsf_line};
+ghost use Rattle.tlsf_tool.specs.CommandLine.{IsArgOf, IsCommandOf, log_rule, image_rule, pool_rule, pools_rule, records_rule, step_rule, blocks_rule, largest_rule, bytes_rule, align_rule, report_line, fit_line, size_line, save_line, check_line, bare_line, tlsf_line};
 
 use clap::{Arg, Command, value_parser};
 use std::alloc::{AllocError, Global};
@@ -25,6 +25,7 @@ const EXAMPLES: &str = "Examples:
   tlsf walk --records 65535 -               the heap at the end of the log on standard input
   tlsf sites a.log                          who holds the memory of a.log, at its peak and at its end
   tlsf fit a.log                            how large a pool a.log needs, and how many records
+  tlsf size --blocks 60 --largest 1040      how large a pool is enough for any 60 blocks of 1040 bytes
   tlsf save a.log a.image                   that heap at the end of a.log, in a file
   tlsf check a.image                        whether that file can be loaded
 
@@ -50,6 +51,10 @@ const SITES: &str =
 /// What the report of the sizes means.
 const FIT: &str =
     "Reports how large a pool the log needs, and how many records: sizes from its peak to twice its peak are tried. LOG is read once for each.";
+
+/// What the sizes without a log mean.
+const SIZE: &str =
+    "Tells how many records and how large a pool are always enough, in whatever order a program asks: for at most L live blocks of at most M bytes.";
 
 /// What saving means.
 const SAVE: &str =
@@ -111,6 +116,57 @@ fn step_option<'a>(alloc: Global) -> Arg<'a>
         )
 }
 
+/// The option of the most live blocks.
+fn blocks_option<'a>(alloc: Global) -> Arg<'a>
+    ensures { IsArgOf blocks_rule result }
+{
+    let parser = value_parser!(u32).range(1..=32_766);
+    Arg::new(alloc, "blocks")
+        .long("blocks")
+        .value_name("L")
+        .required(true)
+        .value_parser(parser)
+        .help("Most blocks that are live at once, from 1 to 32766")
+}
+
+/// The option of the largest request.
+fn largest_option<'a>(alloc: Global) -> Arg<'a>
+    ensures { IsArgOf largest_rule result }
+{
+    let parser = value_parser!(u64).range(1..=1_056_964_608);
+    Arg::new(alloc, "largest")
+        .long("largest")
+        .value_name("M")
+        .required(true)
+        .value_parser(parser)
+        .help("Bytes of the largest request, from 1 to 1056964608")
+}
+
+/// The option of the most bytes in live blocks.
+fn bytes_option<'a>(alloc: Global) -> Arg<'a>
+    ensures { IsArgOf bytes_rule result }
+{
+    let parser = value_parser!(u64).range(1..=i64::from(GREATEST_SIZE));
+    Arg::new(alloc, "bytes")
+        .long("bytes")
+        .value_name("U")
+        .value_parser(parser)
+        .help(
+            "Most bytes in live blocks together, each block in whole units of 16, from 1 to 1073741808; else L times M",
+        )
+}
+
+/// The option of the greatest alignment.
+fn align_option<'a>(alloc: Global) -> Arg<'a>
+    ensures { IsArgOf align_rule result }
+{
+    Arg::new(alloc, "align")
+        .long("align")
+        .value_name("A")
+        .value_parser(value_parser!(u64))
+        .help("Greatest alignment of a request, a power of two from 1 to 536870912")
+}
+
 /// The log's name.
 fn log_word<'a>(alloc: Global) -> Arg<'a>
     ensures { IsArgOf log_rule result }
@@ -155,6 +211,19 @@ fn fit_command<'a>(alloc: Global) -> Result<Command<'a>, AllocError>
         .after_help(EXAMPLES)
         .arg(step_option(alloc))?
         .arg(log_word(alloc))
+}
+
+/// The subcommand that tells what is enough without a log.
+fn size_command<'a>(alloc: Global) -> Result<Command<'a>, AllocError>
+    ensures { IfOk result (IsCommandOf size_line) }
+{
+    Command::new(alloc, "size")
+        .about(SIZE)
+        .after_help(EXAMPLES)
+        .arg(blocks_option(alloc))?
+        .arg(largest_option(alloc))?
+        .arg(bytes_option(alloc))?
+        .arg(align_option(alloc))
 }
 
 /// The subcommand that saves.
@@ -211,6 +280,7 @@ pub fn tlsf_command<'a>(alloc: Global) -> Result<Command<'a>, AllocError>
     let walk = with(peak, report_command(alloc, "walk", WALK))?;
     let sites = with(walk, report_command(alloc, "sites", SITES))?;
     let fit = with(sites, fit_command(alloc))?;
-    let save = with(fit, save_command(alloc))?;
+    let size = with(fit, size_command(alloc))?;
+    let save = with(size, save_command(alloc))?;
     with(save, check_command(alloc))
 }

@@ -21,9 +21,9 @@ use crate::check::check_image;
 use crate::files::{FileNumber, are_one, make_file, open_file};
 use crate::plan::{Origin, Plan, Rereading, Terminals, planned};
 use crate::progress::{Cleared, Counted, Notice};
-use crate::service::{serve, serve_again, serve_help, serve_save};
+use crate::service::{serve, serve_again, serve_help, serve_save, serve_size};
 use mtrace_log::{FromRead, ToWrite};
-use mtrace_replay::{RunFault, Settings};
+use mtrace_replay::{Bounds, RunFault, Settings};
 use std::alloc::Global;
 use std::fs::File;
 use std::io::{BufWriter, IsTerminal, Read, Seek, Stdout};
@@ -154,6 +154,13 @@ fn check_file(rt: &HostRuntime, image: String) -> Result<u8, ToolFault> {
     Ok(check_image(rt.alloc(), &mut reader, &mut writer, &mut errors))
 }
 
+/// Tells how large a pool is always enough.
+fn size(rt: &HostRuntime, bounds: Bounds) -> u8 {
+    let mut writer = ToWrite::new(rt.stdout());
+    let mut errors = ToWrite::new(rt.stderr());
+    serve_size(bounds, &mut writer, &mut errors)
+}
+
 /// Makes a report of a log, which is opened first where it is a file.
 fn report_log(
     rt: &HostRuntime,
@@ -205,6 +212,7 @@ fn act(rt: &HostRuntime, plan: Plan) -> Result<u8, ToolFault> {
             settings,
             notice,
         } => save_log(rt, notice, settings, log, image),
+        Plan::Size { bounds } => Ok(size(rt, bounds)),
         Plan::Check { image } => check_file(rt, image),
     }
 }

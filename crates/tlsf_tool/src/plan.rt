@@ -5,7 +5,7 @@ ghost use Rattle.tlsf_tool.specs.Plan.{is_dash, origin_of, is_told as is_to_tell
 
 use crate::asked::{Command, Name, ToolFault};
 use crate::words::command;
-use mtrace_replay::Settings;
+use mtrace_replay::{Bounds, Settings};
 use std::alloc::Global;
 
 /// Which of the standard streams are terminals.
@@ -68,6 +68,11 @@ pub enum Plan {
         settings: Settings,
         /// Whether it is told how far the run is.
         notice: bool,
+    },
+    /// Tells how large a pool is always enough, and opens nothing.
+    Size {
+        /// What the program keeps to.
+        bounds: Bounds,
     },
     /// Opens the file of an image, and checks it.
     Check {
@@ -162,6 +167,7 @@ fn plan_of(terminals: Terminals, command: Command) -> Result<Plan, ToolFault>
                 notice,
             })
         }
+        Command::Size { bounds } => Ok(Plan::Size { bounds }),
         Command::Check { image } => Ok(Plan::Check { image }),
     }
 }

@@ -3,6 +3,7 @@
 ghost use Rattle.mtrace_replay.specs.Run.{Runs};
 ghost use Rattle.mtrace_replay.specs.RunSites.{RunsSites};
 ghost use Rattle.mtrace_replay.specs.RunFit.{RunsFit};
+ghost use Rattle.mtrace_replay.specs.Size.{RunsSize};
 ghost use Rattle.mtrace_replay.specs.Saving.{RunsAndSaves, PutsAndFlushes};
 ghost use Rattle.tlsf_tool.specs.Statuses.{report_of, EndsAs, Rereads, PutsHelp};
 
@@ -12,7 +13,8 @@ use crate::statuses::{end_status, fault_status};
 use arrayvec::ArrayString;
 use mtrace_log::{Again, Failed, Sink, Source, put_all};
 use mtrace_replay::{
-    RunFault, Settings, Status, run_fit, run_leaks, run_peak, run_save, run_sites, run_walk,
+    Bounds, RunFault, Settings, Status, run_fit, run_leaks, run_peak, run_save, run_sites, run_size,
+    run_walk,
 };
 use std::alloc::Global;
 use std::fmt::Write;
@@ -150,6 +152,21 @@ pub fn serve_again<R: Again, W: Sink, E: Sink>(
     match what {
         Rereading::Sites(settings) => serve_sites(alloc, settings, reader, writer, errors),
         Rereading::Fit(step) => serve_fit(alloc, step, reader, writer, errors),
+    }
+}
+
+/// Tells how large a pool is always enough within the bounds, by `run_size`. Puts the line of a fault to `errors`, whose
+/// own fault doesn't matter. Answers the status that the program ends with: 0, 2 for a bad alignment, and 3 where the
+/// writer failed.
+pub fn serve_size<W: Sink, E: Sink>(bounds: Bounds, writer: &mut W, errors: &mut E) -> u8
+    ensures { EndsAs (λ outcome. RunsSize bounds W.taken W.trace outcome writer.old writer.new) result errors.old errors.new }
+{
+    match run_size(writer, bounds) {
+        Ok(status) => end_status(status),
+        Err(fault) => {
+            put_fault(errors, &ToolFault::Run(fault));
+            fault_status(fault)
+        }
     }
 }
 

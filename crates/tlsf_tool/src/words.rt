@@ -2,7 +2,7 @@
 
 ghost use Rattle.std.specs.Prelude.{◌≡◌, ◌⊎◌, codes, string_bytes, Some, None, IfSome};
 ghost use Rattle.clap.specs.Words.{first_of, found_of, kind_of, rows_of, subcommand_rows_of};
-ghost use Rattle.tlsf_tool.specs.CommandLine.{HasNumber, HasSettings, HasNoLog, name_text};
+ghost use Rattle.tlsf_tool.specs.CommandLine.{HasNumber, HasSettings, HasBounds, HasNoLog, name_text};
 ghost use Rattle.tlsf_tool.specs.Faults.{ExplainsKind, IsUsage};
 ghost use Rattle.tlsf_tool.specs.Asks.{Picks, Asks, MatchesGive, WordsGive};
 
@@ -10,7 +10,7 @@ use crate::asked::{Command, Name, ToolFault};
 use crate::command_line::tlsf_command;
 use clap::error::ErrorKind;
 use clap::{ArgMatches, Error};
-use mtrace_replay::{RunFault, Settings};
+use mtrace_replay::{Bounds, RunFault, Settings};
 use std::alloc::Global;
 
 /// Memory was refused.
@@ -103,6 +103,32 @@ fn asked_fit(alloc: Global, found: &ArgMatches<'_>) -> Result<Command, ToolFault
     Ok(Command::Fit { step, log })
 }
 
+/// The bounds that a subcommand's matches have.
+fn bounds_of(found: &ArgMatches<'_>) -> Option<Bounds>
+    ensures { Picks (HasBounds (rows_of (found_of found.now))) result }
+{
+    let bytes = size_of(found, "bytes");
+    let align = size_of(found, "align");
+    let blocks = number_of(found, "blocks")?;
+    let largest = size_of(found, "largest")?;
+    Some(Bounds {
+        blocks,
+        largest,
+        bytes,
+        align,
+    })
+}
+
+/// What the matches of the subcommand that tells what is enough without a log ask for.
+fn asked_size(alloc: Global, found: &ArgMatches<'_>) -> Result<Command, ToolFault>
+    ensures { MatchesGive (Some (codes "size", rows_of (found_of found.now))) result }
+{
+    let Some(bounds) = bounds_of(found) else {
+        return Err(ToolFault::usage(alloc, NO_COMMAND));
+    };
+    Ok(Command::Size { bounds })
+}
+
 /// What the matches of the subcommand that saves ask for.
 fn asked_save(alloc: Global, found: &ArgMatches<'_>) -> Result<Command, ToolFault>
     ensures { MatchesGive (Some (codes "save", rows_of (found_of found.now))) result }
@@ -147,6 +173,7 @@ fn asked(alloc: Global, matches: &ArgMatches<'_>) -> Result<Command, ToolFault>
         "sites" => asked_sites(alloc, found),
         "fit" => asked_fit(alloc, found),
         "save" => asked_save(alloc, found),
+        "size" => asked_size(alloc, found),
         "check" => asked_check(alloc, found),
         _ => match named(text) {
             Some(name) => asked_report(alloc, name, found),
@@ -157,7 +184,10 @@ fn asked(alloc: Global, matches: &ArgMatches<'_>) -> Result<Command, ToolFault>
 
 /// Whether the word is an option that takes a number.
 fn takes_number(word: &str) -> bool {
-    matches!(word, "--pool" | "--pools" | "--records" | "--step")
+    matches!(
+        word,
+        "--pool" | "--pools" | "--records" | "--step" | "--blocks" | "--largest" | "--bytes" | "--align"
+    )
 }
 
 /// Whether the word is a number behind a minus sign.

@@ -1,10 +1,10 @@
 -- malloc by its cases, whatever live blocks are known by.
-use Rattle.std.proofs.Common.{◌≡◌, ◌≢◌, ℕ, Bool, true, false, cond, refl, ap, ◌∙◌, Option, Some, None, Result}
+use Rattle.std.proofs.Common.{◌≡◌, ◌≢◌, ℕ, Bool, true, false, cond, refl, sym, ap, ◌∙◌, ◌⊎◌, inl, inr, Option, Some, None, Result}
 use Rattle.std.specs.Prelude.{◌&&◌, ◌==◌, nat_lt, nat_le, Ok, Err}
-use Rattle.std.proofs.lemmas.Bool.{ne_eqb}
+use Rattle.std.proofs.lemmas.Bool.{ne_eqb, cases_eq}
 use Rattle.tlsf_class.specs.Rounding.{round}
 use Rattle.tlsf_heap.specs.declared.refusal.Refusal.{Refusal}
-use Rattle.tlsf_heap.specs.declared.refusal.Refusal.TheVariants.{ZeroSize, TableFull, OutOfMemory}
+use Rattle.tlsf_heap.specs.declared.refusal.Refusal.TheVariants.{ZeroSize, NoFit, TableFull, OutOfMemory}
 use Rattle.tlsf_heap.specs.Content.{Content, blocks_of, size_at, used_records}
 use Rattle.tlsf_heap.specs.Lists.{pick}
 use Rattle.tlsf_heap.specs.Malloc.{allocated, malloc_picked, malloc_rounded, malloc}
@@ -35,3 +35,25 @@ module _ {A : Type 0} (owner : A) (n : ℕ) (content : Content A) where
 
   pub malloc_lacks_none : malloc owner n content ≢ Err OutOfMemory
   malloc_lacks_none is = cond_lacks_none (n == 0) ZeroSize (malloc_rounded owner (round n) content) (λ e. cc) (rounded_lacks_none (round n)) is
+
+  -- why it can be refused
+  picked_reasons : (m : ℕ) (place : Option ℕ) (refusal : Refusal) → malloc_picked owner m place content ≡ Err refusal → (refusal ≡ NoFit) ⊎ (refusal ≡ TableFull)
+  picked_reasons m None refusal is = inl (cc)
+  picked_reasons m (Some place) refusal is = of (nat_lt m size && nat_le content.records (used_records content)) is
+    where
+      size : ℕ
+      size = size_at place (blocks_of content.pools)
+
+      of : (full : Bool) → cond {A = Result (ℕ × Content A) Refusal} full (Err TableFull) (Ok (place, allocated owner place m size content)) ≡ Err refusal → (refusal ≡ NoFit) ⊎ (refusal ≡ TableFull)
+      of true is = inr (cc)
+      of false is = absurd (cc)
+
+  rounded_reasons : (m : Option ℕ) (refusal : Refusal) → malloc_rounded owner m content ≡ Err refusal → (refusal ≡ NoFit) ⊎ (refusal ≡ TableFull)
+  rounded_reasons None refusal is = inl (cc)
+  rounded_reasons (Some m) refusal is = picked_reasons m (pick m content.lists) refusal is
+
+  pub malloc_reasons : (refusal : Refusal) → malloc owner n content ≡ Err refusal → (n ≡ 0) ⊎ ((refusal ≡ NoFit) ⊎ (refusal ≡ TableFull))
+  malloc_reasons refusal is = elim (cases_eq n 0) [
+    | inl nothing ↦ inl nothing
+    | inr some ↦ inr (rounded_reasons (round n) refusal (sym (some_asked some) ∙ is))
+  ]

@@ -4,6 +4,7 @@ use Rattle.std.specs.Prelude.{◌==◌, ◌⊎◌, nat_lt}
 use Rattle.std.specs.Int.{next_multiple_of}
 use Rattle.std.proofs.lemmas.Bool.{ne_eqb, eq-eqb, cases_Bool, cases_eq, ltb-true, ltb-false}
 use Rattle.tlsf_class.specs.Rounding.{round}
+use Rattle.tlsf_heap.specs.declared.refusal.Refusal.{Refusal}
 use Rattle.tlsf_heap.specs.declared.refusal.Refusal.TheVariants.{ZeroSize, NoFit, TableFull, BadAlign}
 use Rattle.tlsf_heap.specs.Content.{Block, Content, blocks_of, size_at, used_records}
 use Rattle.tlsf_heap.specs.Lists.{pick}
@@ -67,11 +68,11 @@ module _ {A : Type 0} (owner : A) (align n : ℕ) (content : Content A) where
       ⊎ ((memalign owner align n content ≡ Ok (next_multiple_of p.place align, split_aligned_of p)) × (used_records (split_aligned_of p) ≤ content.records))
 
   -- each of its answers
-  pub memalign_cases : (memalign owner align n content ≡ Err BadAlign) ⊎ ((memalign owner align n content ≡ Err ZeroSize) ⊎ (((memalign owner align n content ≡ Err NoFit) × NonePicked) ⊎ ((p : IsPicked) × IsServed p)))
+  pub memalign_cases : (memalign owner align n content ≡ Err BadAlign) ⊎ (((memalign owner align n content ≡ Err ZeroSize) × (n ≡ 0)) ⊎ (((memalign owner align n content ≡ Err NoFit) × NonePicked) ⊎ ((p : IsPicked) × IsServed p)))
   memalign_cases = elim (cases_Bool (is_alignment align)) [
     | inr bad ↦ inl (rw bad refl)
     | inl is ↦ elim (cases_eq n 0) [
-      | inl nothing ↦ inr (inl (rw (is, eq-eqb n 0 nothing) refl))
+      | inl nothing ↦ inr (inl (rw (is, eq-eqb n 0 nothing) refl, nothing))
       | inr some ↦ inr (inr (of (round n) refl is some))
     ]
   ]
@@ -101,8 +102,18 @@ module _ {A : Type 0} (owner : A) (align n : ℕ) (content : Content A) where
   pub memalign_given : (new : ℕ × Content A) → memalign owner align n content ≡ Ok new → (p : IsPicked) × ((next_multiple_of p.place align, split_aligned_of p) ≡ new) × (used_records (split_aligned_of p) ≤ content.records)
   memalign_given new e = elim memalign_cases [
     | inl other ↦ absurd (cc)
-    | inr (inl other) ↦ absurd (cc)
+    | inr (inl zero_size) ↦ let other = zero_size.0 in absurd (cc)
     | inr (inr (inl none)) ↦ let other = none.0 in absurd (cc)
     | inr (inr (inr (p, inl full))) ↦ let other = full.0 in absurd (cc)
     | inr (inr (inr (p, inr given))) ↦ let same = given.0 in (p, cc, given.1)
+  ]
+
+  -- why it can be refused
+  pub memalign_reasons : (refusal : Refusal) → memalign owner align n content ≡ Err refusal → (refusal ≡ BadAlign) ⊎ ((n ≡ 0) ⊎ ((refusal ≡ NoFit) ⊎ (refusal ≡ TableFull)))
+  memalign_reasons refusal e = elim memalign_cases [
+    | inl bad ↦ inl (cc)
+    | inr (inl nothing) ↦ inr (inl nothing.1)
+    | inr (inr (inl none)) ↦ let fit = none.0 in inr (inr (inl (cc)))
+    | inr (inr (inr (p, inl full))) ↦ let is = full.0 in inr (inr (inr (cc)))
+    | inr (inr (inr (p, inr given))) ↦ let is = given.0 in absurd (cc)
   ]

@@ -62,7 +62,7 @@ module _ {A : Type 0} (owner : A) (refusal : Refusal) where
         ]
       ]
 
-  pub realloc_refused : (same : A → A → Bool) (pointer : Option (ℕ × A)) (n : ℕ) (content : Content A) → realloc same owner pointer n content ≡ Err refusal → (malloc owner n content ≡ Err refusal) ⊎ ((refusal ≡ NoFit) ⊎ (refusal ≡ BadPointer))
+  pub realloc_refused : (same : A → A → Bool) (pointer : Option (ℕ × A)) (n : ℕ) (content : Content A) → realloc same owner pointer n content ≡ Err refusal → (malloc owner n content ≡ Err refusal) ⊎ (((refusal ≡ NoFit) × (n ≢ 0) × (round n ≡ None)) ⊎ (refusal ≡ BadPointer))
   realloc_refused same None n content e = inl (of (malloc owner n content) e)
     where
       of : (answer : Result (ℕ × Content A) Refusal) → given_anew owner answer ≡ Err refusal → answer ≡ Err refusal
@@ -76,37 +76,22 @@ module _ {A : Type 0} (owner : A) (refusal : Refusal) where
     ]
   ]
     where
-      of : (m : Option ℕ) → round n ≡ m → is_live (λ other. same other known) place (blocks_of content.pools) ≡ true → n ≢ 0 → (malloc owner n content ≡ Err refusal) ⊎ ((refusal ≡ NoFit) ⊎ (refusal ≡ BadPointer))
+      of : (m : Option ℕ) → round n ≡ m → is_live (λ other. same other known) place (blocks_of content.pools) ≡ true → n ≢ 0 → (malloc owner n content ≡ Err refusal) ⊎ (((refusal ≡ NoFit) × (n ≢ 0) × (round n ≡ None)) ⊎ (refusal ≡ BadPointer))
       of None rounded live some =
           let asked : realloc same owner (Some (place, known)) n content ≡ cond (n == 0) (Ok (None, after_free place content)) (realloc_rounded owner place known (round n) content) = rw live refl in
           let other : realloc same owner (Some (place, known)) n content ≡ Err NoFit =
           asked ∙ ap (λ b. cond b (Ok (None, after_free place content)) (realloc_rounded owner place known (round n) content)) (ne_eqb n 0 some) ∙ ap (λ r. realloc_rounded owner place known r content) rounded in
-          inr (inl (cc))
+          inr (inl (cc, some, rounded))
       of (Some m) rounded live some =
           let refused = sized_refused place known m content (sym (realloc_resized same owner known place n m content live some rounded) ∙ e) in
           let asked : malloc owner n content ≡ malloc_rounded owner (round n) content = ap (λ b. cond b (Err ZeroSize) (malloc_rounded owner (round n) content)) (ne_eqb n 0 some) in
           inl (asked ∙ ap (λ r. malloc_rounded owner r content) rounded ∙ refused)
 
   -- where the bytes can be rounded up, as malloc or for the pointer
-  pub realloc_as_malloc : (same : A → A → Bool) (pointer : Option (ℕ × A)) (n : ℕ) (content : Content A) → refusal ≢ BadPointer → refusal ≢ ZeroSize → (n ≢ 0 → (m : ℕ) × (round n ≡ Some m))
-      → realloc same owner pointer n content ≡ Err refusal → (n ≢ 0) × (malloc owner n content ≡ Err refusal)
-  realloc_as_malloc same None n content known some rounds e = of (malloc owner n content) refl e
-    where
-      of : (answer : Result (ℕ × Content A) Refusal) → malloc owner n content ≡ answer → given_anew owner answer ≡ Err refusal → (n ≢ 0) × (malloc owner n content ≡ Err refusal)
-      of (Ok new) is e = absurd (cc)
-      of (Err why) is e =
-          let same_why : why ≡ refusal = cc in
-          let refused : malloc owner n content ≡ Err refusal = is ∙ ap (λ r. Err r) same_why in
-          (λ nothing. some (let zero_size : malloc owner n content ≡ Err ZeroSize = ap (λ k. malloc owner k content) nothing in cc), refused)
-  realloc_as_malloc same (Some (place, held)) n content known some rounds e =
-      elim (cases_Bool (is_live (λ other. same other held) place (blocks_of content.pools))) [
-        | inr stale ↦ let refused : realloc same owner (Some (place, held)) n content ≡ Err BadPointer = rw stale refl in absurd (known (cc))
-        | inl live ↦ elim (cases_eq n 0) [
-          | inl nothing ↦ let freed = realloc_freed same owner held place n content live nothing in absurd (cc)
-          | inr positive ↦
-              let m = rounds positive in
-              let refused : malloc_rounded owner (Some m.0) content ≡ Err refusal = sized_refused place held m.0 content (sym (realloc_resized same owner held place n m.0 content live positive m.1) ∙ e) in
-              let asked : malloc owner n content ≡ malloc_rounded owner (round n) content = rw (ne_eqb n 0 positive) refl in
-              (positive, asked ∙ ap (λ r. malloc_rounded owner r content) m.1 ∙ refused)
-        ]
-      ]
+  pub realloc_reasons : (same : A → A → Bool) (pointer : Option (ℕ × A)) (n : ℕ) (content : Content A) → (n ≢ 0 → (m : ℕ) × (round n ≡ Some m))
+      → realloc same owner pointer n content ≡ Err refusal → (malloc owner n content ≡ Err refusal) ⊎ (refusal ≡ BadPointer)
+  realloc_reasons same pointer n content rounds e = elim (realloc_refused same pointer n content e) [
+    | inl asked ↦ inl asked
+    | inr (inl (fit, some, none)) ↦ let m = rounds some in absurd (cc)
+    | inr (inr bad) ↦ inr bad
+  ]

@@ -1,6 +1,6 @@
 -- What is known of an answer implies what else is to be known of it.
-use Rattle.std.proofs.Common.{Result, Ok, Err}
-use Rattle.std.specs.Prelude.{IfOk, IfErr}
+use Rattle.std.proofs.Common.{◌≡◌, refl, rules, Result, Ok, Err}
+use Rattle.std.specs.Prelude.{IfOk, IfErr, IsOk}
 
 module _ {A E : Type 0} where
   pub if_ok : (result : Result A E) (P Q : A → Type 0) → ((a : A) → P a → Q a) → IfOk result P → IfOk result Q
@@ -10,3 +10,13 @@ module _ {A E : Type 0} where
   pub if_err : (result : Result A E) (P Q : E → Type 0) → ((e : E) → P e → Q e) → IfErr result P → IfErr result Q
   if_err (Ok a) P Q f p = tt
   if_err (Err e) P Q f p = f e p
+
+  -- what each error has
+  pub each_err : (result : Result A E) (P : E → Type 0) → ((e : E) → result ≡ Err e → P e) → IfErr result P
+  each_err (Ok a) P f = tt
+  each_err (Err e) P f = f e refl
+
+  -- where there can be none
+  pub never_err : (result : Result A E) → ((e : E) → result ≡ Err e → ⊥) → IsOk result
+  never_err (Ok a) none = search rules
+  never_err (Err e) none = absurd (none e refl)

@@ -16,7 +16,7 @@ module _ {A : Type 0} where
     pub aligned_no_fit : memalign owner align n content ≡ Err NoFit → NoneFitsAligned align n content
     aligned_no_fit refused m c rounds needed = elim (memalign_cases owner align n content) [
       | inl other ↦ absurd (cc)
-      | inr (inl other) ↦ absurd (cc)
+      | inr (inl zero_size) ↦ let other = zero_size.0 in absurd (cc)
       | inr (inr (inl none)) ↦ none_picked (size_asked align m) c content good (none.1 m rounds) needed
       | inr (inr (inr (p, inl full))) ↦ let other = full.0 in absurd (cc)
       | inr (inr (inr (p, inr given))) ↦ let other = given.0 in absurd (cc)
@@ -40,7 +40,7 @@ module _ {A : Type 0} where
     pub aligned_full : memalign owner align n content ≡ Err TableFull → HasFewRecordsAndOne content
     aligned_full refused = elim (memalign_cases owner align n content) [
       | inl other ↦ absurd (cc)
-      | inr (inl other) ↦ absurd (cc)
+      | inr (inl zero_size) ↦ let other = zero_size.0 in absurd (cc)
       | inr (inr (inl none)) ↦ let other = none.0 in absurd (cc)
       | inr (inr (inr (p, inl full))) ↦ too_many p full.1
       | inr (inr (inr (p, inr given))) ↦ let other = given.0 in absurd (cc)
@@ -50,7 +50,7 @@ module _ {A : Type 0} where
     pub aligned_lacks_none : memalign owner align n content ≢ Err OutOfMemory
     aligned_lacks_none refused = elim (memalign_cases owner align n content) [
       | inl other ↦ cc
-      | inr (inl other) ↦ cc
+      | inr (inl zero_size) ↦ let other = zero_size.0 in cc
       | inr (inr (inl none)) ↦ let other = none.0 in cc
       | inr (inr (inr (p, inl full))) ↦ let other = full.0 in cc
       | inr (inr (inr (p, inr given))) ↦ let other = given.0 in cc

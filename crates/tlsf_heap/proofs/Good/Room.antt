@@ -1,11 +1,13 @@
 -- Where there is room, a request for bytes is served.
-use Rattle.std.proofs.Common.{◌≡◌, ℕ, zero, suc, ◌+◌, ◌-◌, ◌*◌, ◌%◌, ◌<◌, ◌≤◌, Bool, true, false, not, List, [], ◌∷◌, ◌++◌, length, refl, ap, ◌∙◌, arith, count_by, Option, Err}
+use Rattle.std.proofs.Common.{◌≡◌, ◌≢◌, ℕ, zero, suc, ◌+◌, ◌-◌, ◌*◌, ◌%◌, ◌<◌, ◌≤◌, Bool, true, false, not, List, [], ◌∷◌, ◌++◌, length, refl, ap, ◌∙◌, arith, count_by, Option, Some, Err, inl, inr, subst}
 use Rattle.std.specs.Prelude.{IsTrue, if◌then◌else◌}
 use Rattle.std.specs.List.{AllByRecursion}
 use Rattle.std.proofs.lemmas.List.Elements.{recursion_from_All}
 use Rattle.tlsf_class.specs.Classes.{unit, low}
+use Rattle.tlsf_class.specs.Rounding.{round}
 use Rattle.tlsf_class.proofs.LowestSizes.{low-unit}
-use Rattle.tlsf_heap.specs.declared.refusal.Refusal.TheVariants.{NoFit, TableFull}
+use Rattle.tlsf_heap.specs.declared.refusal.Refusal.{Refusal}
+use Rattle.tlsf_heap.specs.declared.refusal.Refusal.TheVariants.{NoFit, TableFull, BadPointer, BadAlign}
 use Rattle.tlsf_heap.specs.Content.{Block, Pool, Content, blocks_of, is_free}
 use Rattle.tlsf_heap.specs.Malloc.{malloc}
 use Rattle.tlsf_heap.specs.Memalign.{size_asked, memalign}
@@ -14,7 +16,9 @@ use Rattle.tlsf_heap.specs.Good.{Covers, AreGoodPools, IsGood}
 use Rattle.tlsf_heap.specs.Implied.{AreFreeBelow, live_blocks}
 use Rattle.tlsf_heap.specs.Room.{live_bytes, pool_bytes, HasRoomFor, HasRoom, HasRoomAligned}
 use Rattle.tlsf_heap.proofs.Counts.{count-cons, one_if}
-use Rattle.tlsf_heap.proofs.Content.ReallocCases.{realloc_as_malloc}
+use Rattle.tlsf_heap.proofs.Content.MallocCases.{malloc_reasons}
+use Rattle.tlsf_heap.proofs.Content.MemalignCases.{memalign_reasons}
+use Rattle.tlsf_heap.proofs.Content.ReallocCases.{realloc_reasons}
 use Rattle.tlsf_heap.proofs.Good.Implied.{no_fit, malloc_full, few_blocks}
 use Rattle.tlsf_heap.proofs.Good.AlignedImplied.{aligned_no_fit, aligned_full}
 
@@ -121,7 +125,18 @@ module _ {A : Type 0} where
   pub room_records : (owner : A) (n : ℕ) (content : Content A) → IsGood content → HasRoom n content → malloc owner n content ≡ Err TableFull → ⊥
   room_records owner n content good room refused = omega (arith, malloc_full owner n content good refused, room.records)
 
-  -- and memalign
+  some_bytes : (asked : ℕ → ℕ) (rests n : ℕ) (content : Content A) → HasRoomFor asked rests n content → n ≢ 0
+  some_bytes asked rests n content room nothing = let none : round 0 ≡ Some room.m = subst (λ k. round k ≡ Some room.m) nothing room.rounds in absurd (cc)
+
+  -- and it has no other reason to refuse
+  pub room_serves : (owner : A) (n : ℕ) (content : Content A) (refusal : Refusal) → IsGood content → HasRoom n content → malloc owner n content ≡ Err refusal → ⊥
+  room_serves owner n content refusal good room refused = elim (malloc_reasons owner n content refusal refused) [
+    | inl nothing ↦ some_bytes (λ m. m) 1 n content room nothing
+    | inr (inl fit) ↦ room_fits owner n content good room (refused ∙ ap (λ why. Err why) fit)
+    | inr (inr full) ↦ room_records owner n content good room (refused ∙ ap (λ why. Err why) full)
+  ]
+
+  -- memalign finds both, too, and refuses a bad alignment alone
   pub aligned_room_fits : (owner : A) (align n : ℕ) (content : Content A) → IsGood content → HasRoomAligned align n content → memalign owner align n content ≡ Err NoFit → ⊥
   aligned_room_fits owner align n content good room refused =
       one_fits (size_asked align) 2 n content good room (aligned_no_fit owner align n content good refused room.m room.c room.rounds room.needed)
@@ -129,11 +144,17 @@ module _ {A : Type 0} where
   pub aligned_room_records : (owner : A) (align n : ℕ) (content : Content A) → IsGood content → HasRoomAligned align n content → memalign owner align n content ≡ Err TableFull → ⊥
   aligned_room_records owner align n content good room refused = omega (arith, aligned_full owner align n content good refused, room.records)
 
-  -- and realloc
-  pub realloc_room_fits : (owner : A) (same : A → A → Bool) (pointer : Option (ℕ × A)) (n : ℕ) (content : Content A) → IsGood content → HasRoom n content → realloc same owner pointer n content ≡ Err NoFit → ⊥
-  realloc_room_fits owner same pointer n content good room refused =
-      room_fits owner n content good room (realloc_as_malloc owner NoFit same pointer n content (λ e. cc) (λ e. cc) (λ some. (room.m, room.rounds)) refused).1
+  pub aligned_room_serves : (owner : A) (align n : ℕ) (content : Content A) (refusal : Refusal) → IsGood content → HasRoomAligned align n content → memalign owner align n content ≡ Err refusal → refusal ≡ BadAlign
+  aligned_room_serves owner align n content refusal good room refused = elim (memalign_reasons owner align n content refusal refused) [
+    | inl bad ↦ bad
+    | inr (inl nothing) ↦ absurd (some_bytes (size_asked align) 2 n content room nothing)
+    | inr (inr (inl fit)) ↦ absurd (aligned_room_fits owner align n content good room (refused ∙ ap (λ why. Err why) fit))
+    | inr (inr (inr full)) ↦ absurd (aligned_room_records owner align n content good room (refused ∙ ap (λ why. Err why) full))
+  ]
 
-  pub realloc_room_records : (owner : A) (same : A → A → Bool) (pointer : Option (ℕ × A)) (n : ℕ) (content : Content A) → IsGood content → HasRoom n content → realloc same owner pointer n content ≡ Err TableFull → ⊥
-  realloc_room_records owner same pointer n content good room refused =
-      room_records owner n content good room (realloc_as_malloc owner TableFull same pointer n content (λ e. cc) (λ e. cc) (λ some. (room.m, room.rounds)) refused).1
+  -- realloc refuses a bad pointer alone
+  pub realloc_room_serves : (owner : A) (same : A → A → Bool) (pointer : Option (ℕ × A)) (n : ℕ) (content : Content A) (refusal : Refusal) → IsGood content → HasRoom n content → realloc same owner pointer n content ≡ Err refusal → refusal ≡ BadPointer
+  realloc_room_serves owner same pointer n content refusal good room refused = elim (realloc_reasons owner refusal same pointer n content (λ some. (room.m, room.rounds)) refused) [
+    | inl asked ↦ absurd (room_serves owner n content refusal good room asked)
+    | inr bad ↦ bad
+  ]

@@ -24,11 +24,12 @@ use Rattle.tlsf_heap.specs.Pointer.{Pointer, place_and_slot, slot_of}
 use Rattle.tlsf_heap.specs.Good.{IsGood}
 use Rattle.tlsf_heap.specs.Implied.{live_blocks}
 use Rattle.tlsf_heap.specs.Room.{pool_bytes, HasRoomFor}
+use Rattle.tlsf_heap.specs.Sizing.{most_refusing, sure_records}
 use Rattle.tlsf_heap.specs.Run.{Does, Gives, Moves, Tells, IsRefused, Step, Run}
 use Rattle.tlsf_heap.specs.Within.{TakesWithin, IsWithin, StaysWithin, IsLargeEnough, IsNotFull}
 use Rattle.tlsf_heap.proofs.Content.Given.{malloc_gave, realloc_gave}
 use Rattle.tlsf_heap.proofs.Content.MemalignCases.{memalign_given}
-use Rattle.tlsf_heap.proofs.Content.ReallocCases.{realloc_as_malloc}
+use Rattle.tlsf_heap.proofs.Content.ReallocCases.{realloc_reasons}
 use Rattle.tlsf_heap.proofs.Good.Calls.{malloc_is_good, add_pool_is_good, created_is_good}
 use Rattle.tlsf_heap.proofs.Good.Realloc.{realloc_is_good}
 use Rattle.tlsf_heap.proofs.Meaning.AlignedIsGood.{memalign_is_good}
@@ -136,6 +137,22 @@ module _ {A : Type 0} where
     | inr isn't ↦ let bad : memalign owner align n content ≡ Err BadAlign = rw isn't refl in aligned (cc)
   ]
 
+-- what is within the bounds finds room
+pub room_within : {A : Type 0} (blocks bytes size : ℕ) (asked : ℕ → ℕ) (rests n : ℕ) (content : Content A) → rests ≤ 2 → IsLargeEnough blocks bytes size content → TakesWithin blocks bytes size asked n content
+    → HasRoomFor asked rests n content
+room_within blocks bytes size asked rests n content most enough within =
+    let less : live_blocks content + length content.pools ≤ blocks + length content.pools = omega (arith, within.few) in
+    let smaller : low within.asks.c - unit ≤ size - unit = omega (arith, within.asks.sized) in
+    let product : (live_blocks content + length content.pools) * (low within.asks.c - unit) ≤ (blocks + length content.pools) * (size - unit) = mul-le-mul less smaller in
+    record {
+      m = within.asks.m;
+      rounds = within.asks.rounds;
+      c = within.asks.c;
+      needed = within.asks.needed;
+      bytes = omega (arith, within.small, product, enough.pools);
+      records = omega (arith, most, within.few, enough.records);
+    }
+
 module _ (blocks bytes size : ℕ) where
   -- a good content that is large enough for the bounds
   record IsEnough (content : Content ℕ) : Type 0 where
@@ -146,55 +163,47 @@ module _ (blocks bytes size : ℕ) where
   still_enough old new enough good keeps = record {
     good = good;
     large = record {
-      one_pool = keeps.pools ∙ enough.large.one_pool;
-      pool = omega (arith, enough.large.pool, keeps.bytes);
-      records = omega (arith, enough.large.records, keeps.records);
+      pools =
+          let product : (blocks + length new.pools) * (size - unit) ≡ (blocks + length old.pools) * (size - unit) = ap (λ n. (blocks + n) * (size - unit)) keeps.pools in
+          omega (arith, enough.large.pools, keeps.bytes, product);
+      records = omega (arith, enough.large.records, keeps.records, keeps.pools);
     };
   }
-
-  -- what is within the bounds finds room
-  room : (asked : ℕ → ℕ) (rests n : ℕ) (content : Content ℕ) → rests ≤ 2 → IsEnough content → TakesWithin blocks bytes size asked n content → HasRoomFor asked rests n content
-  room asked rests n content most enough within =
-      let less : live_blocks content + length content.pools ≤ blocks + 1 = omega (arith, within.few, enough.large.one_pool) in
-      let smaller : low within.c - unit ≤ size - unit = omega (arith, within.sized) in
-      let product : (live_blocks content + length content.pools) * (low within.c - unit) ≤ (blocks + 1) * (size - unit) = mul-le-mul less smaller in
-      record {
-        m = within.m;
-        rounds = within.rounds;
-        c = within.c;
-        needed = within.needed;
-        bytes = omega (arith, within.small, product, enough.large.pool);
-        records = omega (arith, most, within.few, enough.large.one_pool, enough.large.records);
-      }
 
   abbrev AllWithin : (ℕ → ℕ) → ℕ → Content ℕ → Type 0
   AllWithin asked n content = n ≢ 0 → TakesWithin blocks bytes size asked n content
 
   malloc_fits : (owner n : ℕ) (content : Content ℕ) → IsEnough content → AllWithin (λ m. m) n content → malloc owner n content ≡ Err NoFit → ⊥
   malloc_fits owner n content enough within refused =
-      room_fits owner n content enough.good (room (λ m. m) 1 n content (omega arith) enough (within (some_bytes owner n content NoFit (λ e. cc) refused))) refused
+      room_fits owner n content enough.good (room_within blocks bytes size (λ m. m) 1 n content (omega arith) enough.large (within (some_bytes owner n content NoFit (λ e. cc) refused))) refused
 
   malloc_records : (owner n : ℕ) (content : Content ℕ) → IsEnough content → AllWithin (λ m. m) n content → malloc owner n content ≡ Err TableFull → ⊥
   malloc_records owner n content enough within refused =
-      room_records owner n content enough.good (room (λ m. m) 1 n content (omega arith) enough (within (some_bytes owner n content TableFull (λ e. cc) refused))) refused
+      room_records owner n content enough.good (room_within blocks bytes size (λ m. m) 1 n content (omega arith) enough.large (within (some_bytes owner n content TableFull (λ e. cc) refused))) refused
 
   memalign_fits : (owner align n : ℕ) (content : Content ℕ) → IsEnough content → AllWithin (size_asked align) n content → memalign owner align n content ≡ Err NoFit → ⊥
   memalign_fits owner align n content enough within refused =
       let some = some_aligned_bytes owner align n content NoFit (λ e. cc) (λ e. cc) refused in
-      aligned_room_fits owner align n content enough.good (room (size_asked align) 2 n content (omega arith) enough (within some)) refused
+      aligned_room_fits owner align n content enough.good (room_within blocks bytes size (size_asked align) 2 n content (omega arith) enough.large (within some)) refused
 
   memalign_records : (owner align n : ℕ) (content : Content ℕ) → IsEnough content → AllWithin (size_asked align) n content → memalign owner align n content ≡ Err TableFull → ⊥
   memalign_records owner align n content enough within refused =
       let some = some_aligned_bytes owner align n content TableFull (λ e. cc) (λ e. cc) refused in
-      aligned_room_records owner align n content enough.good (room (size_asked align) 2 n content (omega arith) enough (within some)) refused
+      aligned_room_records owner align n content enough.good (room_within blocks bytes size (size_asked align) 2 n content (omega arith) enough.large (within some)) refused
 
   realloc_fits : (owner : ℕ) (pointer : Option (ℕ × ℕ)) (n : ℕ) (content : Content ℕ) → IsEnough content → AllWithin (λ m. m) n content → realloc (λ a b. a == b) owner pointer n content ≡ Err NoFit → ⊥
   realloc_fits owner pointer n content enough within refused =
-      malloc_fits owner n content enough within (realloc_as_malloc owner NoFit (λ a b. a == b) pointer n content (λ e. cc) (λ e. cc) (λ some. (let w = within some in (w.m, w.rounds))) refused).1
+      elim (realloc_reasons owner NoFit (λ a b. a == b) pointer n content (λ some. (let w = within some in (w.asks.m, w.asks.rounds))) refused) [
+        | inl asked ↦ malloc_fits owner n content enough within asked
+        | inr bad ↦ absurd (cc)
+      ]
 
   realloc_records : (owner : ℕ) (pointer : Option (ℕ × ℕ)) (n : ℕ) (content : Content ℕ) → IsEnough content → AllWithin (λ m. m) n content → realloc (λ a b. a == b) owner pointer n content ≡ Err TableFull → ⊥
   realloc_records owner pointer n content enough within refused =
-      malloc_records owner n content enough within (realloc_as_malloc owner TableFull (λ a b. a == b) pointer n content (λ e. cc) (λ e. cc) (λ some. (let w = within some in (w.m, w.rounds))) refused).1
+      elim (realloc_reasons owner TableFull (λ a b. a == b) pointer n content (λ some. (let w = within some in (w.asks.m, w.asks.rounds))) refused) [
+        | inl asked ↦ malloc_records owner n content enough within asked
+        | inr bad ↦ absurd (cc)
+      ]
 
   -- no request is refused for want of a block, nor of a record
   request_fits : (request : Request) (content : Content ℕ) → IsEnough content → IsWithin blocks bytes size request content → IsRefused request NoFit content → ⊥
@@ -304,8 +313,9 @@ module _ {A : Type 0} where
 
 -- a heap with one pool is good, and large enough where the numbers are
 pub one_pool_enough : (blocks bytes size records base pool : ℕ) (content : Content ℕ) → add_pool base pool (created records) ≡ Ok content
-    → bytes + (blocks + 1) * (size - unit) < pool → 2 * blocks + 2 < records → IsGood content × IsLargeEnough blocks bytes size content
-one_pool_enough blocks bytes size records base pool content added large many =
-    (add_pool_is_good base pool (created records) content (created_is_good records) added,
-    subst (IsLargeEnough blocks bytes size) (pool_added base pool (created records) content added)
-    (record { one_pool = refl; pool = omega (arith, large); records = many }))
+    → most_refusing 1 blocks bytes size < pool → sure_records blocks ≤ records → IsGood content × IsLargeEnough blocks bytes size content
+one_pool_enough blocks bytes size records base pool content added large many = (
+  add_pool_is_good base pool (created records) content (created_is_good records) added,
+  subst (IsLargeEnough blocks bytes size) (pool_added base pool (created records) content added)
+      (record { pools = omega (arith, large); records = omega (arith, many) }),
+)

@@ -7,10 +7,11 @@ use Rattle.tlsf_heap.specs.Images.Rules.{first_of, rules_of_parts}
 use Rattle.tlsf_heap.specs.Images.Told.{told_parts}
 use Rattle.tlsf_heap.specs.Images.Whole.{IsWhole}
 use Rattle.tlsf_heap.specs.Inner.Following.{Stands}
-use Rattle.tlsf_heap.proofs.Images.Saved.{told_unbroken, told_ordered}
+use Rattle.tlsf_heap.proofs.Images.PackedPools.{stand_packed}
+use Rattle.tlsf_heap.proofs.Images.Saved.{told_unbroken}
 
 pub stand_whole : (cells : Cells) → Stands cells → IsWhole cells
 stand_whole cells stands = record {
-  rules = ap (λ (b : Bool). if b then first_of (rules_of_parts (told_parts cells)) else Some Pools) (told_ordered cells stands) ∙ told_unbroken cells stands;
+  rules = ap (λ (b : Bool). if b then first_of (rules_of_parts (told_parts cells)) else Some Pools) (stand_packed cells stands) ∙ told_unbroken cells stands;
   bitmaps = stands.represented.index.bitmaps;
 }

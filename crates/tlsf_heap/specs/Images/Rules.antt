@@ -39,6 +39,16 @@ are_pools count from (pool ∷ pools) = is_pool count from pool && are_pools cou
 abbrev pub has_ordered_pools : Parts → Bool
 has_ordered_pools parts = are_pools (length parts.records) 0 (entries_of parts.pools)
 
+-- behind an entry without a pool no entry has one
+abbrev pub are_packed : List (Option Pool) → Bool
+are_packed [] = true
+are_packed (None ∷ entries) = list_all is_none entries
+are_packed (Some pool ∷ entries) = are_packed entries
+
+-- the entries with pools come first, and their pools pass `are_pools` from place 0 on
+abbrev pub has_packed_pools : Parts → Bool
+has_packed_pools parts = are_packed parts.pools && has_ordered_pools parts
+
 -- 3: the pools pass `are_pools` from place 0 on, and their entries end with zeros
 abbrev pub has_pools : List ℕ → Bool
 has_pools bytes =
@@ -169,9 +179,9 @@ rules_of_parts parts =
     (Links, has_links parts) ∷ (Chains, has_chains parts) ∷ (Cover, has_cover parts) ∷ (OnChains, has_all_on_chains parts)
     ∷ (Merged, has_merged parts) ∷ (Lists, has_lists parts) ∷ (OnLists, has_all_on_lists parts) ∷ []
 
--- the rules of parts that stand in no bytes: their pools come first
+-- the rules of parts that stand in no bytes: that on their pools comes first
 abbrev pub rules_of_table : Parts → List (Rule × Bool)
-rules_of_table parts = (Pools, has_ordered_pools parts) ∷ rules_of_parts parts
+rules_of_table parts = (Pools, has_packed_pools parts) ∷ rules_of_parts parts
 
 abbrev pub rules : List ℕ → List (Rule × Bool)
 rules bytes =

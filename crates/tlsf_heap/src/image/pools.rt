@@ -1,7 +1,7 @@
 //! The pools of a table.
 
 ghost use Rattle.std.specs.Prelude.{◌≡◌, ◌≤◌, length};
-ghost use Rattle.tlsf_heap.specs.Images.Rules.{is_pool as can_be_pool_from, are_pools, has_ordered_pools};
+ghost use Rattle.tlsf_heap.specs.Images.Rules.{is_pool as can_be_pool_from, are_pools, has_packed_pools};
 ghost use Rattle.tlsf_heap.specs.Images.HasParts.{OnlyReads};
 
 use super::HasParts;
@@ -15,19 +15,22 @@ pub(crate) fn is_pool(count: u32, from: u64, pool: &Pool) -> bool
     can_be_pool(base, u64::from(pool.bytes)) && from <= base && u32::from(pool.first.0) < count
 }
 
-/// Whether the pools pass `is_pool`, each from the end of the one before on.
-pub(crate) fn has_ordered_pools<T: HasParts>(table: &mut T) -> bool
-    ensures value { result ≡ has_ordered_pools (T.parts table.old) }
+/// Whether the entries with pools come first, and these pass `is_pool`, each from the end of the one before on.
+pub(crate) fn has_packed_pools<T: HasParts>(table: &mut T) -> bool
+    ensures value { result ≡ has_packed_pools (T.parts table.old) }
     ensures read { OnlyReads T.parts T.cells T.touches table.old table.new }
 {
     let count = table.count();
     let mut from = 0;
+    let mut ended = false;
     for number in 0..MOST_POOLS as u32 {
         if let Some(pool) = table.pool(number) {
-            if !is_pool(count, from, &pool) {
+            if ended || !is_pool(count, from, &pool) {
                 return false;
             }
             from = u64::from(pool.base) + u64::from(pool.bytes);
+        } else {
+            ended = true;
         }
     }
     true

@@ -7,7 +7,7 @@ ghost use Rattle.tlsf_heap.specs.Images.HasParts.{OnlyReads};
 use super::chains::look_at_chains;
 use super::links::look_at_links;
 use super::lists::look_at_lists;
-use super::pools::has_ordered_pools;
+use super::pools::has_packed_pools;
 use super::{HasParts, Rule};
 
 /// The first rule, of those on pools, records, chains and lists, that a table breaks: `None` where it is that of a heap.
@@ -16,7 +16,7 @@ pub fn first_broken<T: HasParts>(table: &mut T) -> Option<Rule>
     ensures value { result ≡ first_of (rules_of_table (T.parts table.old)) }
     ensures read { OnlyReads T.parts T.cells T.touches table.old table.new }
 {
-    if has_ordered_pools(table) {
+    if has_packed_pools(table) {
         first_behind_pools(table)
     } else {
         Some(Rule::Pools)

@@ -74,7 +74,7 @@ impl Heaped for PlainHeap {
 
     ghost touches = { λ heap. 0 };
 
-    ghost lacks = { λ heap. ⊤ };
+    ghost lacks = { ⊤ };
 
     ghost stands = { λ heap cursor. ⊤ };
 

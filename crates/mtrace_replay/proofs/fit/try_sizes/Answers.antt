@@ -1,88 +1,153 @@
-use Rattle.std.proofs.Common.{◌≡◌, ◌+◌, ◌-◌, ◌*◌, ◌<◌, ℕ, [], ◌∷◌, ◌++◌, map, refl, sym, ap, ◌∙◌, subst, arith}
-use Rattle.std.specs.List.{range_with_len}
-use Rattle.std.specs.Prelude.{max}
-use Rattle.mtrace_replay.specs.Fit.{one_pool, first_number, last_number, Verdict}
+use Rattle.std.proofs.Common.{◌≡◌, ◌≤◌, ◌+◌, ◌*◌, ◌/◌, ◌++◌, ℕ, suc, List, [], Option, Some, None, refl, sym, ap, ◌∙◌, subst, arith, inl, inr, true, false, not, rules}
+use Rattle.std.specs.Prelude.{max, IsSome, is_some, ◌⊎◌}
+use Rattle.std.proofs.lemmas.Bool.{ltb-false}
+use Rattle.std.proofs.Math.Nat.{div-le_self}
+use Rattle.tlsf_class.specs.Classes.{greatest_size}
 use Rattle.mtrace_replay.specs.declared.fitted.Fitted.{Fitted}
-use Rattle.mtrace_replay.specs.RunFit.{AreVerdicts, IsTried, FailsIn}
+use Rattle.mtrace_replay.specs.Fit.{Verdict, doubled, first_number, last_number, multiples, range, ranges, least_size, fitted}
 use Rattle.mtrace_replay.specs.Run.{Bytes}
-use Rattle.mtrace_replay.proofs.FitLemmas.{few_tried, one_tried, all_tried, one_pool-good, units_times, within_greatest, some_units, few_steps}
-use Rattle.mtrace_replay.proofs.TriedLemmas.{none_failed-then}
+use Rattle.mtrace_replay.specs.Again.{FailsAgain}
+use Rattle.mtrace_replay.specs.RunFit.{AreVerdicts, TriesRanges}
+use Rattle.mtrace_replay.proofs.FitLemmas.{more_verdicts, least_behind, doubled_more, no_range}
+use Rattle.mtrace_replay.proofs.TriedLemmas.{none_failed-then, nothing_failed}
 use Rattle.mtrace_replay.proofs.fit.try_sizes.Goals as goal
 
-pub try_size-requires-clause-good : goal.try_size-requires-clause-good
-try_size-requires-clause-good g c =
-    let number = c.loop-number.number in
-    let below : number < c.min-last.result + 1 = c.loop-number-test.true in
-    let some : 0 < number = omega (arith, c.max-first.ensures, c.loop-number.auto.number) in
-    one_pool-good (number * c.args.step) c.args.records (units_times number c.args.step c.requires.in_units) (some_units number c.args.step some c.requires.some)
-    (within_greatest number c.args.step (omega (arith, below, c.min-last.ensures))) c.requires.some_records c.requires.few
+some_is : {A : Type 0} (found : Option A) → is_some found ≡ true → IsSome found
+some_is None is = absurd (cc)
+some_is (Some x) is = search rules
 
-pub with-fitted-requires-clause-tried : goal.with-fitted-requires-clause-tried
-with-fitted-requires-clause-tried g c =
-    let number = c.loop-number.number in
-    let below : number < c.min-last.result + 1 = c.loop-number-test.true in
-    let so_far = c.loop-number.invariant.so_far in
-    let few = few_tried c.args.records _ c.args.step c.max-first.result (number - c.max-first.result) so_far.0 so_far.1 in
-    omega (arith, below, c.min-last.ensures, few_steps c.args.step (omega (arith, c.requires.some)), few.0, ap (λ (f : Fitted). f.tried) so_far.2)
+none_is : {A : Type 0} (found : Option A) → is_some found ≡ false → found ≡ None
+none_is None is = refl
+none_is (Some x) is = absurd (cc)
 
-pub with-fitted-requires-clause-refused : goal.with-fitted-requires-clause-refused
-with-fitted-requires-clause-refused g c =
-    let number = c.loop-number.number in
-    let below : number < c.min-last.result + 1 = c.loop-number-test.true in
-    let so_far = c.loop-number.invariant.so_far in
-    let few = few_tried c.args.records _ c.args.step c.max-first.result (number - c.max-first.result) so_far.0 so_far.1 in
-    omega (arith, below, c.min-last.ensures, few_steps c.args.step (omega (arith, c.requires.some)), few.1, ap (λ (f : Fitted). f.refused) so_far.2)
+pub loop-trial-init : goal.loop-trial-init
+loop-trial-init g c =
+    let whole = g.R.Source.whole in
+    let tells = c.in-Ok.ensures.tried.tells in
+    let V : Bytes → ℕ → Type 0 = λ text last. AreVerdicts c.args.trial.records c.args.trial.many text (multiples c.args.step c.max-first.result last) tells.0 in
+    record {
+      so_far = (
+        0,
+        [],
+        tells.0,
+        omega arith,
+        record { sizes_are = refl; each = tt },
+        subst (V (whole c.try_range.new.reader)) c.last_number-last.ensures.value (subst (λ text. V text c.last_number-last.result) (sym c.in-Ok.ensures.whole) tells.1),
+        refl,
+        tells.2 [] c.none.ensures,
+      );
+      tried = omega (arith, c.in-Ok.ensures.few, ap (λ (f : Fitted). f.tried) c.none.ensures, c.last_number-last.ensures.within, c.requires.some);
+      refused = c.in-Ok.ensures.refused;
+      some = c.requires.some;
+      in_units = c.requires.in_units;
+      whole = refl;
+      none_failed = nothing_failed (g.R.Source.trace c.try_range.new.reader);
+      records = c.in-Ok.ensures.within;
+    }
 
-pub returns-in-Err : goal.returns-in-Err
-returns-in-Err g c =
-    let F : Bytes → Type 0 = λ whole. FailsIn whole (g.R.Source.left c.loop-number.reader) (g.R.Source.left c.try_size.new.reader) (g.R.Source.trace c.loop-number.reader) (g.R.Source.trace c.try_size.new.reader) in
+pub returns-in-Err-try_range : goal.returns-in-Err-try_range
+returns-in-Err-try_range g c =
+    let trace = g.R.Source.trace in
+    let kept = c.loop-trial.invariant in
+    let later = c.in-Err-try_range.ensures.tried.read in
+    let so_far = none_failed-then (trace c.args.reader.now) (trace c.try_range.new.reader) (trace c.loop-trial.reader) c.in-Ok.ensures.tried.not_failed kept.none_failed in
+    let F : Bytes → Type 0 = λ text. FailsAgain c.args.trial.many text later.left_middle (g.R.Source.left c.try_range-in-loop-trial.new.reader) later.calls_middle (trace c.try_range-in-loop-trial.new.reader) in
     record {
       tells = tt;
       not_failed = tt;
       read = record {
-        left_middle = g.R.Source.left c.loop-number.reader;
-        calls_middle = g.R.Source.trace c.loop-number.reader;
-        none_failed = c.loop-number.invariant.none_failed;
-        fails = subst F c.loop-number.invariant.whole c.in-Err.ensures.read;
+        left_middle = later.left_middle;
+        calls_middle = later.calls_middle;
+        none_failed = none_failed-then (trace c.args.reader.now) (trace c.loop-trial.reader) later.calls_middle so_far later.none_failed;
+        fails = subst F (kept.whole ∙ c.in-Ok.ensures.whole) later.fails;
       };
     }
 
-pub loop-number-preserved : goal.loop-number-preserved
-loop-number-preserved g c =
-    let number = c.loop-number.number in
-    let first = c.max-first.result in
-    let step = c.args.step in
-    let whole = g.R.Source.whole c.args.reader.now in
-    let so_far = c.loop-number.invariant.so_far in
-    let verdict : Verdict = record { size = number * step; serves = c.in-Ok.serves } in
-    let more : number + 1 - first ≡ number - first + 1 = omega (arith, c.loop-number.auto.number) in
-    let V : ℕ → Type 0 = λ count. AreVerdicts c.args.records whole (map (λ i. i * step) (range_with_len first count)) (so_far.0 ++ verdict ∷ []) in
-    let T : Bytes → Type 0 = λ text. IsTried (one_pool (number * step) c.args.records) c.in-Ok.serves text (g.R.Source.left c.try_size.new.reader) in
-    let are = one_tried c.args.records whole step first number (number - first) so_far.0 verdict (omega (arith, c.loop-number.auto.number)) so_far.1 refl
-    (g.R.Source.left c.try_size.new.reader, subst T c.loop-number.invariant.whole c.in-Ok.ensures.tried) in
-    let below : number < c.min-last.result + 1 = c.loop-number-test.true in
+pub loop-trial-preserved : goal.loop-trial-preserved
+loop-trial-preserved g c =
+    let trace = g.R.Source.trace in
+    let whole = g.R.Source.whole in
+    let kept = c.loop-trial.invariant in
+    let so_far = kept.so_far in
+    let first : ℕ = c.max-first.result in
+    let tells = c.in-Ok-try_range.ensures.tried.tells in
+    let records : ℕ = c.args.trial.records in
+    let many : ℕ = c.args.trial.many in
+    let start : Bytes = whole c.try_range.new.reader in
+    let twice = doubled_more c.args.step c.loop-trial.step so_far.0 so_far.3 in
+    let next : first + 1 ≡ suc first = omega arith in
+    let A : Bytes → ℕ → ℕ → ℕ → Type 0 = λ text step from last. AreVerdicts records many text (multiples step from last) tells.0 in
+    let step : ℕ = doubled c.args.step (suc so_far.0) in
+    let are : A start step (suc first) (last_number step first) =
+    subst (λ n. A start n (suc first) (last_number n first)) twice
+    (subst (λ last. A start (c.loop-trial.step * 2) (suc first) last) c.last_number-last-in-loop-trial.ensures.value
+    (subst (λ from. A start (c.loop-trial.step * 2) from c.last_number-last-in-loop-trial.result) next
+    (subst (λ text. A text (c.loop-trial.step * 2) (first + 1) c.last_number-last-in-loop-trial.result) kept.whole tells.1))) in
+    let none : c.loop-trial.fitted.least ≡ None = none_is c.loop-trial.fitted.least (c.is_none.ensures ∙ ap not c.loop-trial-test.true) in
     record {
-      so_far = (so_far.0 ++ verdict ∷ [], subst V (sym more) are, c.with-fitted.ensures so_far.0 so_far.2);
-      whole = c.try_size.ensures.whole ∙ c.loop-number.invariant.whole;
-      none_failed = none_failed-then (g.R.Source.trace c.args.reader.now) (g.R.Source.trace c.loop-number.reader) (g.R.Source.trace c.try_size.new.reader) c.loop-number.invariant.none_failed c.in-Ok.ensures.not_failed;
-      records = omega (arith, c.try_size.ensures.records);
-      within = omega (arith, below);
+      so_far = (
+        suc so_far.0,
+        so_far.1 ++ so_far.2,
+        tells.0,
+        twice,
+        more_verdicts records many start (ranges c.args.step first so_far.0) (range c.args.step first so_far.0) so_far.1 so_far.2 so_far.4 so_far.5,
+        are,
+        sym (ap (λ (f : Fitted). f.least) so_far.7) ∙ none,
+        tells.2 (so_far.1 ++ so_far.2) so_far.7,
+      );
+      tried = omega (arith, c.in-Ok-try_range.ensures.few, kept.tried, kept.some, c.last_number-last-in-loop-trial.ensures.within, div-le_self greatest_size (c.loop-trial.step * 2));
+      refused = c.in-Ok-try_range.ensures.refused;
+      some = omega (arith, kept.some);
+      in_units = omega (arith, kept.in_units);
+      whole = c.in-Ok-try_range.ensures.whole ∙ kept.whole;
+      none_failed = none_failed-then (trace c.try_range.new.reader) (trace c.loop-trial.reader) (trace c.try_range-in-loop-trial.new.reader) kept.none_failed c.in-Ok-try_range.ensures.tried.not_failed;
+      records = c.in-Ok-try_range.ensures.within;
     }
 
-pub returns : goal.returns
-returns g c =
-    let so_far = c.loop-number.invariant.so_far in
-    let first = c.max-first.result in
-    let last = c.min-last.result in
-    let fresh = few_steps c.args.step (omega (arith, c.requires.some)) in
-    let first_is : first ≡ first_number c.args.step c.args.peak = c.max-first.ensures ∙ ap (λ n. max n 1) c.div_ceil.ensures in
-    let last_is : last ≡ last_number c.args.step c.args.peak = omega (arith, c.min-last.ensures, c.saturating_mul.ensures, fresh, first_is) in record {
-      not_failed = c.loop-number.invariant.none_failed;
+-- the ranges that were tried are all where the last has a size that serves, or none is left
+ended : (records many step first peak times : ℕ) (start whole : Bytes) (before last : List Verdict) (told : Fitted) → start ≡ whole → first ≡ first_number step peak
+    → AreVerdicts records many start (ranges step first times) before → AreVerdicts records many start (range step first times) last → least_size before ≡ None
+    → told ≡ fitted (before ++ last) → IsSome told.least ⊎ (range step first (suc times) ≡ [])
+    → (verdicts : List Verdict) × TriesRanges records many step (first_number step peak) whole verdicts × (told ≡ fitted verdicts)
+ended records many step first peak times start whole before last told same from before_are last_are none fitted_is ends = (
+  before ++ last,
+  subst (λ n. TriesRanges records many step n whole (before ++ last)) from (subst (λ text. TriesRanges records many step first text (before ++ last)) same (record {
+    times = times;
+    before = before;
+    last = last;
+    all = refl;
+    before_are = before_are;
+    last_are = last_are;
+    none_before = none;
+    ended = elim ends [
+      | inl some ↦ inl (subst IsSome (ap (λ (f : Fitted). f.least) fitted_is ∙ least_behind before last none) some)
+      | inr none_left ↦ inr none_left
+    ];
+  })),
+  fitted_is,
+)
+
+pub returns-else-is_range_behind : goal.returns-else-is_range_behind
+returns-else-is_range_behind g c =
+    let trace = g.R.Source.trace in
+    let kept = c.loop-trial.invariant in
+    let so_far = kept.so_far in
+    let few : greatest_size / (2 * c.loop-trial.step) ≤ c.max-first.result = ltb-false c.max-first.result (greatest_size / (2 * c.loop-trial.step)) (sym c.is_range_behind.ensures ∙ c.if-is_range_behind.false) in
+    record {
+      tells = ended c.args.trial.records c.args.trial.many c.args.step c.max-first.result c.args.peak so_far.0 (g.R.Source.whole c.try_range.new.reader) (g.R.Source.whole c.args.reader.now) so_far.1 so_far.2 c.loop-trial.fitted
+          c.in-Ok.ensures.whole (c.max-first.ensures ∙ ap (λ n. max n 1) c.div_ceil.ensures) so_far.4 so_far.5 so_far.6 so_far.7 (inr (no_range c.args.step c.loop-trial.step c.max-first.result so_far.0 so_far.3 few));
+      not_failed = none_failed-then (trace c.args.reader.now) (trace c.try_range.new.reader) (trace c.loop-trial.reader) c.in-Ok.ensures.tried.not_failed kept.none_failed;
       read = tt;
-      tells = (
-        so_far.0,
-        all_tried c.args.records (g.R.Source.whole c.args.reader.now) c.args.step c.args.peak first last (c.loop-number.number - first) so_far.0 first_is last_is
-            (omega (arith, c.loop-number.invariant.within, c.loop-number-test.false, c.loop-number.auto.number)) so_far.1,
-        so_far.2,
-      );
+    }
+
+pub returns-after-loop-trial : goal.returns-after-loop-trial
+returns-after-loop-trial g c =
+    let trace = g.R.Source.trace in
+    let kept = c.loop-trial.invariant in
+    let so_far = kept.so_far in
+    record {
+      tells = ended c.args.trial.records c.args.trial.many c.args.step c.max-first.result c.args.peak so_far.0 (g.R.Source.whole c.try_range.new.reader) (g.R.Source.whole c.args.reader.now) so_far.1 so_far.2 c.loop-trial.fitted
+          c.in-Ok.ensures.whole (c.max-first.ensures ∙ ap (λ n. max n 1) c.div_ceil.ensures) so_far.4 so_far.5 so_far.6 so_far.7 (inl (some_is c.loop-trial.fitted.least (c.is_none.ensures ∙ ap not c.loop-trial-test.false)));
+      not_failed = none_failed-then (trace c.args.reader.now) (trace c.try_range.new.reader) (trace c.loop-trial.reader) c.in-Ok.ensures.tried.not_failed kept.none_failed;
+      read = tt;
     }

@@ -1,20 +1,28 @@
-use Rattle.std.proofs.Common.{◌≡◌, ◌≤◌, ◌+◌, ◌-◌, ◌*◌, List, map}
-use Rattle.std.specs.Prelude.{max}
-use Rattle.std.specs.List.{range_with_len}
-use Rattle.mtrace_replay.specs.Fit.{Verdict, fitted}
+use Rattle.std.proofs.Common.{◌≡◌, ◌≤◌, ◌-◌, ◌*◌, ◌%◌, ◌^◌, ◌++◌, ℕ, List}
+use Rattle.std.specs.Prelude.{None}
+use Rattle.tlsf_class.specs.Classes.{unit, greatest_size}
+use Rattle.mtrace_replay.specs.Fit.{Verdict, doubled, range, ranges, least_size, fitted}
 use Rattle.mtrace_replay.specs.RunFit.{AreVerdicts, NoneFailed}
 use Rattle.mtrace_replay.proofs.fit.try_sizes.Given as goal
 
--- the sizes so far were tried, and these are the verdicts
-abbrev pub invariant-loop-number : goal.invariant-loop-number
-invariant-loop-number g l =
+-- the ranges so far were tried; none before the last has a size that serves
+abbrev pub invariant-loop-trial : goal.invariant-loop-trial
+invariant-loop-trial g l =
     let whole = g.R.Source.whole in
     let trace = g.R.Source.trace in
+    let are : List ℕ → List Verdict → Type 0 = λ tried verdicts. AreVerdicts l.trial.records l.trial.many (whole l.initial.reader) tried verdicts in
     record {
-      so_far : (verdicts : List Verdict) × AreVerdicts l.records (whole l.initial.reader) (map (λ number. number * l.step) (range_with_len l.first (l.number - l.first))) verdicts
-          × (l.fitted ≡ fitted verdicts);
+      so_far : (times : ℕ) × (before : List Verdict) × (last : List Verdict) × (l.step ≡ doubled l.fn.step times)
+          × are (ranges l.fn.step l.first times) before × are (range l.fn.step l.first times) last × (least_size before ≡ None) × (l.fitted ≡ fitted (before ++ last));
+      tried : l.fitted.tried ≤ l.step * 2 ^ 30;
+      refused : l.fitted.refused ≤ l.fitted.tried;
+      some : unit ≤ l.step;
+      in_units : l.step % unit ≡ 0;
       whole : whole l.reader ≡ whole l.initial.reader;
       none_failed : NoneFailed (trace l.initial.reader) (trace l.reader);
-      records : l.records ≤ l.replay.content.records;
-      within : l.number ≤ max l.first (l.last + 1);
+      records : l.trial.records ≤ l.replay.content.records;
     }
+
+-- the step becomes twice as large, and no larger than the greatest size
+abbrev pub decreases-loop-trial : goal.decreases-loop-trial
+decreases-loop-trial g l = greatest_size - l.step

@@ -1,9 +1,10 @@
-use Rattle.std.proofs.Common.{◌∙◌, refl, subst, List, inl, inr}
+use Rattle.std.proofs.Common.{◌∙◌, refl, subst, List, inl}
 use Rattle.std.proofs.lemmas.Result.{err_from_is_err_and, on_ok_weaker, on_err_weaker}
 use Rattle.mtrace_log.specs.Trace.{HasNotFailed}
 use Rattle.mtrace_log.specs.declared.call.Call.{Call}
-use Rattle.mtrace_replay.specs.Run.{Bytes, FailedInPiece}
+use Rattle.mtrace_replay.specs.Run.{Bytes}
 use Rattle.mtrace_replay.specs.Again.{HasReplayedFirst}
+use Rattle.mtrace_replay.proofs.TriedLemmas.{fails_again}
 use Rattle.mtrace_replay.proofs.sites.replay_again.Goals as goal
 
 pub returns-in_err-begin : goal.returns-in_err-begin
@@ -25,16 +26,13 @@ returns g c =
     let began = c.in_ok-begin.ensures in
     record {
       done = on_ok_weaker c.replay_first.result (λ done settings stands.
-          let P : Bytes → Type 0 = λ start. HasReplayedFirst c.args.most settings c.replay_first.new.replay start (left new) in
+          let P : Bytes → Type 0 = λ start. HasReplayedFirst c.args.many settings c.replay_first.new.replay start (left new) in
           subst P began.left (done settings stands)) c.replay_first.ensures.done;
       not_failed = on_ok_weaker c.replay_first.result (λ given.
           let P : List Call → Type 0 = λ calls. HasNotFailed calls (trace new) in
           subst P began.told given) c.replay_first.ensures.not_failed;
       read = on_err_weaker c.replay_first.result (λ failed settings stands.
-          let why = failed settings stands in
-          let P : Bytes → Type 0 = λ start. FailedInPiece start (left new) (trace c.begin.new.self) (trace new) why.0 in
-          let Q : List Call → Type 0 = λ calls. FailedInPiece (g.R.Source.whole c.args.reader.now) (left new) calls (trace new) why.0 in
-          inr (why.0, subst Q began.told (subst P began.left why.1))) c.replay_first.ensures.read;
+          fails_again c.args.many (g.R.Source.whole c.args.reader.now) (left c.args.reader.now) (left c.begin.new.self) (left new) (trace c.args.reader.now) (trace c.begin.new.self) (trace new) began.left began.told (failed settings stands)) c.replay_first.ensures.read;
       whole = c.replay_first.ensures.whole ∙ began.whole;
       records = c.replay_first.ensures.records;
     }

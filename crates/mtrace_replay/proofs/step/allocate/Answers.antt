@@ -90,7 +90,7 @@ returns-in-Ok g c =
       unchanged = tt;
       records = asked_records ptr.slot c.args.align c.asked_size.result old (ptr.place, new) c.in-Ok.ensures.asks.ok;
       looked = look_on 2 0 c.args.held.now c.find_again-found.new.self c.insert.new.self c.find_again-found.ensures.looked c.insert.ensures.looked;
-      bound = omega (arith, c.new_block.ensures.asks.bound);
+      bound = record { floor = omega (arith, c.new_block.ensures.asks.bound.floor); bound = omega (arith, c.new_block.ensures.asks.bound.bound) };
       idle = λ idle. absurd (cc);
     })
 
@@ -102,7 +102,7 @@ returns-in-Err-OutOfMemory g c = replays_as (allocation_free c.args.held.now.all
   unchanged = c.find_again-found.ensures.unchanged;
   records = search rules;
   looked = c.find_again-found.ensures.looked;
-  bound = omega (arith, c.new_block.ensures.asks.bound);
+  bound = record { floor = omega (arith, c.new_block.ensures.asks.bound.floor); bound = omega (arith, c.new_block.ensures.asks.bound.bound) };
   idle = λ idle. absurd (cc);
 })
 
@@ -127,6 +127,6 @@ returns-in-Err g c =
       unchanged = tt;
       records = ap (λ (content : Content ℕ). content.records) same;
       looked = c.find_again-found.ensures.looked;
-      bound = omega (arith, c.in-Err.ensures.asks.bound);
+      bound = record { floor = omega (arith, c.in-Err.ensures.asks.bound.floor); bound = omega (arith, c.in-Err.ensures.asks.bound.bound) };
       idle = λ idle. absurd (cc);
     })

@@ -64,7 +64,7 @@ returns-in-Ok g c =
       unchanged = tt;
       records = moved_records (λ a b. a == b) given.slot ptr.slot ptr.place c.asked_size.result old (Some (given.place, given.slot), new) c.in-Ok.ensures.asks.ok;
       looked = c.replace.ensures.looked;
-      bound = omega (arith, c.realloc_block.ensures.asks.bound);
+      bound = record { floor = omega (arith, c.realloc_block.ensures.asks.bound.floor); bound = omega (arith, c.realloc_block.ensures.asks.bound.bound) };
       idle = λ idle. absurd (cc);
     }
 
@@ -93,6 +93,6 @@ returns-in_ok-take-in-Err g c =
       unchanged = tt;
       looked = looks_up_fewer 0 1 c.args.held.now c.take.new.held c.take.ensures.looked;
       records = c.take.ensures.records ∙ ap (λ (content : Content ℕ). content.records) c.in-Err.ensures.asks.unchanged;
-      bound = omega (arith, c.take.ensures.bound, c.realloc_block.ensures.asks.bound);
+      bound = record { floor = omega (arith, c.take.ensures.bound.floor, c.realloc_block.ensures.asks.bound.floor); bound = omega (arith, c.take.ensures.bound.bound, c.realloc_block.ensures.asks.bound.bound) };
       idle = λ idle. absurd (cc);
     }

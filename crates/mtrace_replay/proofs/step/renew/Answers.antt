@@ -32,7 +32,7 @@ returns-in_default-block g c =
       unchanged = tt;
       records = c.allocate.ensures.records;
       looked = look_on 1 2 c.args.held.now c.find-found.new.self c.allocate.new.held c.find-found.ensures.looked c.allocate.ensures.looked;
-      bound = omega (arith, c.allocate.ensures.bound);
+      bound = record { floor = omega (arith, c.allocate.ensures.bound.floor); bound = omega (arith, c.allocate.ensures.bound.bound) };
       idle = λ idle. c.allocate.ensures.idle (ap (λ all. acts (by all).act) c.find-found.ensures.unchanged ∙ idle);
     })
 

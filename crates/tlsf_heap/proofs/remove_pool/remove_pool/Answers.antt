@@ -23,6 +23,10 @@ record PoolFound (old : Cells) (stands : Stands old) (base number : ℕ) (entry 
   slot_is : entry.first ≡ (at old stands base number is.0 is.1).area.entry.first
   block_is : block ≡ record_at old.records entry.first
 
+-- the entry read at the number, of the list that the slice is of
+entry_is : (number : ℕ) (items now : List StoredPool) (entry : StoredPool) → now ≡ items → entry ≡ get_or now number entry → entry ≡ get_or items number entry
+entry_is number items now entry same is = is ∙ ap (λ entries. get_or entries number entry) same
+
 pool_found : (old one : Cells) (stands : Stands old) (base number : ℕ) (items now : List StoredPool) (entry : StoredPool) (block : Record)
     → one ≡ old → items ≡ entries_of old.pools → now ≡ items → IsNumber now base number → entry ≡ get_or items number entry → block ≡ record_at one.records entry.first → PoolFound old stands base number entry block
 pool_found old one stands base number items now entry block same items_are now_is is entry_is block_is =
@@ -52,9 +56,9 @@ returns-then-not-is_alone c = record {
   stands = search rules;
   ok = search rules;
   refused = let old : Cells = c.args.store.now.cells in
-      let t = pool_found old c.entries-entries.new.store.cells c.requires c.args.base c.in-Some.number c.entries-entries.result.items c.as_slice.result.now c.remove-entry.result c.read-block.result c.entries-entries.ensures.left.cells c.entries-entries.ensures.value c.as_slice.ensures.value c.in-Some.ensures.found c.remove-entry.ensures.value c.read-block.ensures.value in
-      refused_used old c.requires c.args.base c.in-Some.number t.is.0 t.is.1 c.remove-entry.result.first t.slot_is
-      (alone_by old c.requires c.args.base c.in-Some.number c.remove-entry.result c.read-block.result t c.is_alone.result false c.is_alone.ensures c.if-not-is_alone.true);
+      let t = pool_found old c.entries-entries.new.store.cells c.requires c.args.base c.in-Some.number c.entries-entries.result.items c.as_slice.result.now c.index-as_slice-number.result c.read-block.result c.entries-entries.ensures.left.cells c.entries-entries.ensures.value c.as_slice.ensures.value c.in-Some.ensures.found (entry_is c.in-Some.number c.entries-entries.result.items c.as_slice-2.result.now c.index-as_slice-number.result c.as_slice-2.ensures.value c.index-as_slice-number.is) c.read-block.ensures.value in
+      refused_used old c.requires c.args.base c.in-Some.number t.is.0 t.is.1 c.index-as_slice-number.result.first t.slot_is
+      (alone_by old c.requires c.args.base c.in-Some.number c.index-as_slice-number.result c.read-block.result t c.is_alone.result false c.is_alone.ensures c.if-not-is_alone.true);
   cells = search rules;
   touches = search rules;
 }
@@ -62,9 +66,9 @@ returns-then-not-is_alone c = record {
 pub drop_pool-requires-clause-stands : goal.drop_pool-requires-clause-stands
 drop_pool-requires-clause-stands c =
     let old : Cells = c.args.store.now.cells in
-    let t = pool_found old c.entries-entries.new.store.cells c.requires c.args.base c.in-Some.number c.entries-entries.result.items c.as_slice.result.now c.remove-entry.result c.read-block.result c.entries-entries.ensures.left.cells c.entries-entries.ensures.value c.as_slice.ensures.value c.in-Some.ensures.found c.remove-entry.ensures.value c.read-block.ensures.value in
-    let unused = alone_by old c.requires c.args.base c.in-Some.number c.remove-entry.result c.read-block.result t c.is_alone.result true c.is_alone.ensures c.if-not-is_alone.false in
-    let slot : ℕ = c.remove-entry.result.first in
+    let t = pool_found old c.entries-entries.new.store.cells c.requires c.args.base c.in-Some.number c.entries-entries.result.items c.as_slice.result.now c.index-as_slice-number.result c.read-block.result c.entries-entries.ensures.left.cells c.entries-entries.ensures.value c.as_slice.ensures.value c.in-Some.ensures.found (entry_is c.in-Some.number c.entries-entries.result.items c.as_slice-2.result.now c.index-as_slice-number.result c.as_slice-2.ensures.value c.index-as_slice-number.is) c.read-block.ensures.value in
+    let unused = alone_by old c.requires c.args.base c.in-Some.number c.index-as_slice-number.result c.read-block.result t c.is_alone.result true c.is_alone.ensures c.if-not-is_alone.false in
+    let slot : ℕ = c.index-as_slice-number.result.first in
     let here = stands_there old c.requires c.args.base c.in-Some.number t.is.0 t.is.1 slot t.slot_is unused in
     let node : At = node_there old c.requires c.args.base c.in-Some.number t.is.0 t.is.1 slot t.slot_is unused in
     let P : Cells → Type 0 = λ cells. StandsAt slot Listed cells node in
@@ -75,20 +79,20 @@ drop_pool-requires-clause-below c =
     let P : StoredPool → Type 0 = λ entry. entry.first < length c.args.store.now.cells.records in
     let items : List StoredPool = c.entries-entries.result.items in
     let n : ℕ = c.in-Some.number in
-    rw (c.as_slice-2.ensures.value, c.remove-entry.ensures.items, c.read-block.ensures.left.cells, c.entries-entries.ensures.left.cells)
+    rw (c.as_slice-4.ensures.value, c.entries_without-rest.ensures, c.as_slice-3.ensures.value, c.read-block.ensures.left.cells, c.entries-entries.ensures.left.cells)
     (All-append P (take n items) (drop (suc n) items) (All-take P n items c.entries-entries.ensures.below) (All-drop P (suc n) items c.entries-entries.ensures.below))
 
 -- what is left
 left : (c : goal.After-drop_pool) → Stands c.drop_pool.new.store.cells × (remove_pool c.args.base (content_of c.args.store.now.cells) ≡ Ok (content_of c.drop_pool.new.store.cells))
 left c =
     let old : Cells = c.args.store.now.cells in
-    let t = pool_found old c.entries-entries.new.store.cells c.requires c.args.base c.in-Some.number c.entries-entries.result.items c.as_slice.result.now c.remove-entry.result c.read-block.result c.entries-entries.ensures.left.cells c.entries-entries.ensures.value c.as_slice.ensures.value c.in-Some.ensures.found c.remove-entry.ensures.value c.read-block.ensures.value in
-    let unused = alone_by old c.requires c.args.base c.in-Some.number c.remove-entry.result c.read-block.result t c.is_alone.result true c.is_alone.ensures c.if-not-is_alone.false in
-    let slot : ℕ = c.remove-entry.result.first in
+    let t = pool_found old c.entries-entries.new.store.cells c.requires c.args.base c.in-Some.number c.entries-entries.result.items c.as_slice.result.now c.index-as_slice-number.result c.read-block.result c.entries-entries.ensures.left.cells c.entries-entries.ensures.value c.as_slice.ensures.value c.in-Some.ensures.found (entry_is c.in-Some.number c.entries-entries.result.items c.as_slice-2.result.now c.index-as_slice-number.result c.as_slice-2.ensures.value c.index-as_slice-number.is) c.read-block.ensures.value in
+    let unused = alone_by old c.requires c.args.base c.in-Some.number c.index-as_slice-number.result c.read-block.result t c.is_alone.result true c.is_alone.ensures c.if-not-is_alone.false in
+    let slot : ℕ = c.index-as_slice-number.result.first in
     let here = stands_there old c.requires c.args.base c.in-Some.number t.is.0 t.is.1 slot t.slot_is unused in
     let alone = alone_there old c.requires c.args.base c.in-Some.number t.is.0 t.is.1 slot t.slot_is unused in
     let node : At = node_there old c.requires c.args.base c.in-Some.number t.is.0 t.is.1 slot t.slot_is unused in
-    let entries = c.as_slice-2.ensures.value ∙ c.remove-entry.ensures.items ∙ ap (λ items. remove items c.in-Some.number) c.entries-entries.ensures.value ∙ alone.2 in
+    let entries = c.as_slice-4.ensures.value ∙ c.entries_without-rest.ensures ∙ ap (λ items. remove items c.in-Some.number) (c.as_slice-3.ensures.value ∙ c.entries-entries.ensures.value) ∙ alone.2 in
     let P : Cells → Type 0 = λ cells. StandsAt slot Listed cells node in
     let now : StandsAt slot Listed c.read-block.new.self.cells node = subst P (sym (c.read-block.ensures.left.cells ∙ c.entries-entries.ensures.left.cells)) here in
     removed_stands old c.requires c.args.base c.in-Some.number t.is.0 t.is.1 slot t.slot_is unused c.drop_pool.new.store.cells (c.drop_pool.ensures.leads node now alone.0 alone.1 entries)

@@ -6,8 +6,9 @@ use Rattle.tlsf_heap.specs.Inner.Following.{content_of}
 use Rattle.tlsf_heap.specs.Malloc.{malloc}
 use Rattle.tlsf_heap.proofs.Inner.Standing.{content_is_good}
 use Rattle.tlsf_heap.proofs.Good.Implied.{no_fit, malloc_full}
-use Rattle.tlsf_heap.proofs.Good.Room.{room_fits, room_records}
+use Rattle.tlsf_heap.proofs.Good.Room.{room_serves}
 use Rattle.tlsf_heap.proofs.Content.MallocCases.{malloc_lacks_none}
+use Rattle.tlsf_heap.proofs.Content.Results.{never_err}
 use Rattle.tlsf_heap.proofs.heap.Heap.malloc.Goals as goal
 
 -- where malloc is refused, so is it under slot 0
@@ -29,10 +30,6 @@ returns-clause-refused c = record {
   unchanged = search rules;
 }
 
-pub returns-clause-room_fits : goal.returns-clause-room_fits
-returns-clause-room_fits c =
-    rw (← c.self.view_is) (λ room is. room_fits 0 c.args.n (content_of c.self.inside.store.cells) (content_is_good c.self.inside.store.cells c.self.invariant) room (refused c NoFit is))
-
-pub returns-clause-room_records : goal.returns-clause-room_records
-returns-clause-room_records c =
-    rw (← c.self.view_is) (λ room is. room_records 0 c.args.n (content_of c.self.inside.store.cells) (content_is_good c.self.inside.store.cells c.self.invariant) room (refused c TableFull is))
+pub returns-clause-room : goal.returns-clause-room
+returns-clause-room c =
+    rw (← c.self.view_is) (λ room. never_err c.malloc.result (λ refusal is. room_serves 0 c.args.n (content_of c.self.inside.store.cells) refusal (content_is_good c.self.inside.store.cells c.self.invariant) room (refused c refusal is)))

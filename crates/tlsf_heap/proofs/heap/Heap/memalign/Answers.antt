@@ -1,14 +1,14 @@
 use Rattle.std.proofs.Common.{rules, ◌≡◌, ℕ, ◌%◌, Err}
 use Rattle.std.proofs.lemmas.Result.{IfErr-at_err}
 use Rattle.tlsf_heap.specs.declared.refusal.Refusal.{Refusal}
-use Rattle.tlsf_heap.specs.declared.refusal.Refusal.TheVariants.{NoFit, TableFull, OutOfMemory}
+use Rattle.tlsf_heap.specs.declared.refusal.Refusal.TheVariants.{NoFit, TableFull, BadAlign, OutOfMemory}
 use Rattle.tlsf_heap.specs.Served.{IsServed}
 use Rattle.tlsf_heap.specs.Memalign.{memalign}
 use Rattle.tlsf_heap.specs.Inner.Following.{content_of}
 use Rattle.tlsf_heap.proofs.Inner.Standing.{content_is_good}
-use Rattle.tlsf_heap.proofs.Content.Results.{if_ok}
+use Rattle.tlsf_heap.proofs.Content.Results.{if_ok, each_err}
 use Rattle.tlsf_heap.proofs.Good.AlignedImplied.{aligned_no_fit, aligned_full, aligned_lacks_none}
-use Rattle.tlsf_heap.proofs.Good.Room.{aligned_room_fits, aligned_room_records}
+use Rattle.tlsf_heap.proofs.Good.Room.{aligned_room_serves}
 use Rattle.tlsf_heap.proofs.Meaning.AlignedIsGood.{memalign_multiple}
 use Rattle.tlsf_heap.proofs.heap.Heap.memalign.Goals as goal
 
@@ -39,10 +39,7 @@ returns-clause-refused c = record {
   unchanged = search rules;
 }
 
-pub returns-clause-room_fits : goal.returns-clause-room_fits
-returns-clause-room_fits c =
-    rw (← c.self.view_is) (λ room is. aligned_room_fits 0 c.args.align c.args.n (content_of c.self.inside.store.cells) (content_is_good c.self.inside.store.cells c.self.invariant) room (refused c NoFit is))
-
-pub returns-clause-room_records : goal.returns-clause-room_records
-returns-clause-room_records c =
-    rw (← c.self.view_is) (λ room is. aligned_room_records 0 c.args.align c.args.n (content_of c.self.inside.store.cells) (content_is_good c.self.inside.store.cells c.self.invariant) room (refused c TableFull is))
+pub returns-clause-room : goal.returns-clause-room
+returns-clause-room c =
+    rw (← c.self.view_is) (λ room. each_err c.memalign.result (λ refusal. refusal ≡ BadAlign)
+    (λ refusal is. aligned_room_serves 0 c.args.align c.args.n (content_of c.self.inside.store.cells) refusal (content_is_good c.self.inside.store.cells c.self.invariant) room (refused c refusal is)))

@@ -9,9 +9,10 @@ use Rattle.tlsf_heap.specs.Malloc.{malloc}
 use Rattle.tlsf_heap.specs.Realloc.{realloc}
 use Rattle.tlsf_heap.proofs.Inner.Standing.{content_is_good}
 use Rattle.tlsf_heap.proofs.Good.Implied.{malloc_full}
-use Rattle.tlsf_heap.proofs.Good.Room.{realloc_room_fits, realloc_room_records}
+use Rattle.tlsf_heap.proofs.Good.Room.{realloc_room_serves}
 use Rattle.tlsf_heap.proofs.Content.MallocCases.{malloc_lacks_none}
 use Rattle.tlsf_heap.proofs.Content.ReallocCases.{realloc_refused}
+use Rattle.tlsf_heap.proofs.Content.Results.{each_err}
 use Rattle.tlsf_heap.proofs.heap.Heap.realloc.Goals as goal
 
 -- where realloc is refused, so is it under slot 0
@@ -20,7 +21,11 @@ refused_anew c refusal is = IfErr-at_err (λ why. (slot : ℕ) → realloc (λ a
 
 -- then malloc is refused alike, or it is for another reason
 refused : (c : goal.After-realloc) → (refusal : Refusal) → c.realloc.result ≡ Err refusal → (malloc 0 c.args.n (content_of c.self.inside.store.cells) ≡ Err refusal) ⊎ ((refusal ≡ NoFit) ⊎ (refusal ≡ BadPointer))
-refused c refusal is = realloc_refused 0 refusal (λ a b. a == b) (place_and_slot c.args.ptr) c.args.n (content_of c.self.inside.store.cells) (refused_anew c refusal is)
+refused c refusal is = elim (realloc_refused 0 refusal (λ a b. a == b) (place_and_slot c.args.ptr) c.args.n (content_of c.self.inside.store.cells) (refused_anew c refusal is)) [
+  | inl asked ↦ inl asked
+  | inr (inl fit) ↦ inr (inl fit.0)
+  | inr (inr bad) ↦ inr (inr bad)
+]
 
 pub returns-clause-table_full : goal.returns-clause-table_full
 returns-clause-table_full c = λ is.
@@ -41,10 +46,7 @@ returns-clause-refused c = record {
   unchanged = search rules;
 }
 
-pub returns-clause-room_fits : goal.returns-clause-room_fits
-returns-clause-room_fits c =
-    rw (← c.self.view_is) (λ room is. realloc_room_fits 0 (λ a b. a == b) (place_and_slot c.args.ptr) c.args.n (content_of c.self.inside.store.cells) (content_is_good c.self.inside.store.cells c.self.invariant) room (refused_anew c NoFit is))
-
-pub returns-clause-room_records : goal.returns-clause-room_records
-returns-clause-room_records c =
-    rw (← c.self.view_is) (λ room is. realloc_room_records 0 (λ a b. a == b) (place_and_slot c.args.ptr) c.args.n (content_of c.self.inside.store.cells) (content_is_good c.self.inside.store.cells c.self.invariant) room (refused_anew c TableFull is))
+pub returns-clause-room : goal.returns-clause-room
+returns-clause-room c =
+    rw (← c.self.view_is) (λ room. each_err c.realloc.result (λ refusal. refusal ≡ BadPointer)
+    (λ refusal is. realloc_room_serves 0 (λ a b. a == b) (place_and_slot c.args.ptr) c.args.n (content_of c.self.inside.store.cells) refusal (content_is_good c.self.inside.store.cells c.self.invariant) room (refused_anew c refusal is)))

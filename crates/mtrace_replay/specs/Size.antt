@@ -1,0 +1,42 @@
+-- How much memory is always enough for a program that keeps to bounds told beforehand.
+use Rattle.std.specs.Prelude.{◌≡◌, ◌≢◌, ◌⊎◌, ◌↔◌, ℕ, ◌*◌, Bool, not, List, ◌++◌, Option, Some, None, unwrap_or, Result, Err, IfOk, IfErr, IsErrOf, IsTrue, codes}
+use Rattle.mtrace_log.specs.declared.call.Call.{Call}
+use Rattle.tlsf_heap.specs.Memalign.{is_alignment}
+use Rattle.tlsf_heap.specs.Sizing.{class_size, sure_records, sure_pool}
+use Rattle.mtrace_replay.specs.declared.size.Bounds.{Bounds}
+use Rattle.mtrace_replay.specs.declared.status.Status.{Status}
+use Rattle.mtrace_replay.specs.declared.status.Status.TheVariants.{Clean}
+use Rattle.mtrace_replay.specs.declared.status.RunFault.{RunFault}
+use Rattle.mtrace_replay.specs.declared.status.RunFault.TheVariants.{Write, BadSettings}
+use Rattle.mtrace_replay.specs.Moment.{rounded_bytes}
+use Rattle.mtrace_replay.specs.Run.{Bytes}
+use Rattle.mtrace_replay.specs.Saving.{PutsAndFlushes}
+use Rattle.mtrace_replay.specs.Texts.{record_lines, size_line}
+
+-- the alignment of the requests, 1 where none is told
+abbrev pub align_of : Bounds → ℕ
+align_of bounds = unwrap_or bounds.align 1
+
+-- the alignment is none that memalign takes
+abbrev pub are_bad_bounds : Bounds → Bool
+are_bad_bounds bounds = not (is_alignment (align_of bounds))
+
+-- the bytes told, rounded up, or else as many blocks as there are, each of the largest size
+abbrev pub blocks_bytes : (blocks largest : ℕ) → Option ℕ → ℕ
+blocks_bytes blocks largest None = blocks * rounded_bytes largest
+blocks_bytes blocks largest (Some bytes) = rounded_bytes bytes
+
+-- the records with their table, and the pool that is always enough
+abbrev pub size_text : Bounds → List ℕ
+size_text bounds =
+    record_lines (sure_records bounds.blocks)
+    ++ size_line (codes "sure pool: ") (sure_pool bounds.blocks (blocks_bytes bounds.blocks bounds.largest bounds.bytes) (class_size (align_of bounds) bounds.largest))
+
+-- What a run leaves that tells so. `BadSettings` comes exactly for bad bounds, and then nothing is written. Else the text is put
+-- and flushed, or a beginning of it is put, and the writer failed.
+pub record RunsSize {W : Type 0} (bounds : Bounds) (taken : W → Bytes) (puts : W → List Call) (result : Result Status RunFault) (writer_old writer_new : W) : Type 0 where
+  pub bad_bounds : IsErrOf result BadSettings ↔ IsTrue (are_bad_bounds bounds)
+  pub nothing_done : IsErrOf result BadSettings → writer_new ≡ writer_old
+  pub faults : IfErr result (λ fault. (fault ≡ BadSettings) ⊎ (fault ≡ Write))
+  pub clean : IfOk result (λ status. status ≡ Clean)
+  pub told : result ≢ Err BadSettings → PutsAndFlushes taken puts result (size_text bounds) writer_old writer_new

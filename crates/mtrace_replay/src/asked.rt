@@ -1,0 +1,50 @@
+//! What a line asks the lists of the heap for.
+
+ghost use Rattle.std.specs.Prelude.{◌≡◌, if◌then◌else◌};
+ghost use Rattle.mtrace_replay.specs.Asked.{class_asked, greater_class};
+ghost use Rattle.mtrace_replay.specs.Moment.{asked_size as size_asked};
+
+use crate::step::asked_size;
+use mtrace_log::{Event, LentLocation, LineFault};
+use tlsf_heap::class_size;
+
+/// The alignment and the bytes that a line asks for: those of no block where it asks for none.
+#[derive(Clone, Copy)]
+pub(crate) struct Asked {
+    align: u64,
+    size: u64,
+}
+
+impl Asked {
+    ghost use Rattle.tlsf_heap.specs.Sizing.{class_size as size_of_class};
+
+    /// What the line asks for.
+    #[inline(always)]
+    pub(crate) fn of(event: &Result<Event<LentLocation<'_>>, LineFault>) -> Asked
+        ensures { size_of_class result.align (size_asked result.size) ≡ class_asked event.now }
+    {
+        match event {
+            Ok(Event::Alloc { size, .. } | Event::New { size, .. }) => Asked {
+                align: 1,
+                size: *size,
+            },
+            Ok(Event::Aligned { align, size, .. }) => Asked {
+                align: align.value(),
+                size: *size,
+            },
+            _ => Asked { align: 0, size: 0 },
+        }
+    }
+
+    /// The greater of a class size and of that which is asked for, in bytes, where the line is served; else the size.
+    /// `None` where one of them is missing.
+    pub(crate) fn greatest(self, size: Option<u32>, is_served: bool) -> Option<u32>
+        ensures { result ≡ (if is_served then greater_class size (size_of_class self.align (size_asked self.size)) else size) }
+    {
+        if !is_served {
+            return size;
+        }
+        let asked = class_size(self.align, asked_size(self.size))?;
+        Some(size?.max(asked))
+    }
+}

@@ -1,0 +1,85 @@
+//! How much memory is always enough for a program, without a log of it.
+
+ghost use Rattle.std.specs.Prelude.{◌≡◌, ◌++◌, ◌<◌, ◌^◌};
+ghost use Rattle.mtrace_replay.specs.Saving.{PutsAndFlushes};
+ghost use Rattle.mtrace_replay.specs.Size.{align_of as alignment_of, are_bad_bounds, blocks_bytes, size_text as text_of_size, RunsSize};
+
+use crate::fit::put_and_flush;
+use crate::fit_text::{push_records, push_size_line};
+use crate::line_text::LineText;
+use crate::status::{RunFault, Status};
+use crate::step::rounded_bytes;
+use arrayvec::ArrayVec;
+use mtrace_log::Sink;
+use tlsf_heap::{class_size, is_alignment, sure_pool};
+
+/// What a program keeps to, whatever it asks for and in whatever order.
+#[derive(Clone, Copy, Debug, PartialEq, Eq)]
+pub struct Bounds {
+    /// The most blocks that are live at once.
+    pub blocks: u32,
+    /// The largest size of a request, in bytes.
+    pub largest: u64,
+    /// The most bytes in live blocks together, where that is known.
+    pub bytes: Option<u64>,
+    /// The greatest alignment of a request, in bytes, where there is one.
+    pub align: Option<u64>,
+}
+
+/// The alignment of the requests: 1 where none is told.
+fn align_of(bounds: Bounds) -> u64
+    ensures { result ≡ alignment_of bounds }
+{
+    bounds.align.unwrap_or(1)
+}
+
+/// Whether the alignment is none that `memalign` takes.
+fn are_bad(bounds: Bounds) -> bool
+    ensures { result ≡ are_bad_bounds bounds }
+{
+    !is_alignment(align_of(bounds))
+}
+
+/// The bytes in live blocks, in whole units: those told, or those of as many blocks of the largest size.
+fn bytes_of(bounds: Bounds) -> u64
+    ensures { result ≡ blocks_bytes bounds.blocks bounds.largest bounds.bytes }
+{
+    match bounds.bytes {
+        Some(bytes) => rounded_bytes(bytes),
+        None => u64::from(bounds.blocks) * rounded_bytes(bounds.largest),
+    }
+}
+
+/// The records with their table, and the pool that is always enough.
+fn size_text(bounds: Bounds) -> LineText
+    ensures { result.items ≡ text_of_size bounds }
+{
+    let blocks = u64::from(bounds.blocks);
+    let sure = sure_pool(
+        blocks,
+        bytes_of(bounds),
+        class_size(align_of(bounds), bounds.largest),
+    );
+    let mut text = ArrayVec::new();
+    push_records(&mut text, 2 * blocks + 3);
+    push_size_line(&mut text, b"sure pool: ", sure);
+    text
+}
+
+/// Writes how many records, and how large a pool, are always enough for a program that keeps to these bounds, and flushes.
+///
+/// # Errors
+///
+/// `BadSettings` exactly where the alignment isn't a power of two from 1 to 2^29: then nothing is written. `Write` where the
+/// writer fails: then a beginning of the text is written.
+pub fn run_size<W: Sink>(writer: &mut W, bounds: Bounds) -> Result<Status, RunFault>
+    ensures { RunsSize bounds W.taken W.trace result writer.old writer.new }
+{
+    if are_bad(bounds) {
+        return Err(RunFault::BadSettings);
+    }
+    match put_and_flush(writer, size_text(bounds).as_slice()) {
+        Ok(()) => Ok(Status::Clean),
+        Err(_) => Err(RunFault::Write),
+    }
+}
