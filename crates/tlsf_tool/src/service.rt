@@ -13,8 +13,8 @@ use crate::statuses::{end_status, fault_status};
 use arrayvec::ArrayString;
 use mtrace_log::{Again, Failed, Sink, Source, put_all};
 use mtrace_replay::{
-    Bounds, RunFault, Settings, Status, run_fit, run_leaks, run_peak, run_save, run_sites, run_size,
-    run_walk,
+    Bounds, RunFault, Settings, Status, run_fit, run_leaks, run_peak, run_save, run_sites,
+    run_size, run_walk,
 };
 use std::alloc::Global;
 use std::fmt::Write;

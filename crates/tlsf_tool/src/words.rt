@@ -186,7 +186,14 @@ fn asked(alloc: Global, matches: &ArgMatches<'_>) -> Result<Command, ToolFault>
 fn takes_number(word: &str) -> bool {
     matches!(
         word,
-        "--pool" | "--pools" | "--records" | "--step" | "--blocks" | "--largest" | "--bytes" | "--align"
+        "--pool"
+            | "--pools"
+            | "--records"
+            | "--step"
+            | "--blocks"
+            | "--largest"
+            | "--bytes"
+            | "--align"
     )
 }
 
