@@ -14,8 +14,8 @@ from concurrent.futures import ThreadPoolExecutor
 from pathlib import Path
 
 PROGRAM, PRELOADED = sys.argv[1:3]
-NOTICE = rb"\r\x1b\[Ktlsf: (\d+) lines read(?:, \d+ sizes tried)?"
-SIZES = rb"lines read, (\d+) sizes tried"
+NOTICE = rb"\r\x1b\[Ktlsf: (\d+) lines read(?:, \d+ of \d+ sizes tried)?"
+SIZES = rb"lines read, (\d+) of (\d+) sizes tried"
 PIECE = 4096
 
 # Five pieces of lines of several lengths: with no effect, and with a diagnostic each, which are
@@ -125,7 +125,7 @@ def wrong(case):
     for what, is_so, wanted in (
         ("status", status, case["status"]),
         ("notices", told, case.get("told", [])),
-        ("sizes", [int(number) for number in re.findall(SIZES, said)], case.get("sizes", [])),
+        ("sizes", [(int(tried), int(all)) for tried, all in re.findall(SIZES, said)], case.get("sizes", [])),
         ("notices cleared", cleared, len(told)),
         ("clears without a notice", max(clears - len(told), 0), 0),
         ("on the terminal", rest, case.get("on_terminal", b"")),
@@ -158,14 +158,14 @@ def slow_cases():
     # The log is read three times: with six reads, and then twice with five, which don't come to its end. The first of the two
     # sizes is tried then.
     yield "sizes of a slow file", {
-        "word": "fit", "log": "file", "text": QUIET, "status": 0, "how": {"IO_WAIT": "2,13"}, "sizes": [1],
+        "word": "fit", "log": "file", "text": QUIET, "status": 0, "how": {"IO_WAIT": "2,13"}, "sizes": [(1, 2)],
         "told": [lines_in(QUIET, 2), 2 * QUIET.count(b"\n") + lines_in(QUIET, 2)],
         "written": b"peak: 0 bytes at line 0\nheld at most: 0 blocks\nrecords: 3\ntable: 1744 bytes\n"
         b"least pool: 16 bytes\nsafe pool: 16 bytes\nsizes tried: 2, 0 refused\nsure pool: 16 bytes\n"}
     # 201 sizes, with one read each behind two of the first reading: 150 are tried at the read of the next one.
     yield "150 sizes of a slow file", {
         "word": "fit", "options": ["--step", "16"], "log": "file", "text": b"+ 0x10 0xc80\n", "status": 1, "how": {"IO_WAIT": "153"},
-        "sizes": [150], "told": [152],
+        "sizes": [(150, 201)], "told": [152],
         "written": b"peak: 3200 bytes at line 1\nheld at most: 1 blocks\nrecords: 5\ntable: 1776 bytes\n"
         b"least pool: 3200 bytes\nsafe pool: 3200 bytes\nsizes tried: 201, 0 refused\nsure pool: 9584 bytes\n"}
     yield "a slow log with diagnostics", served("leaks", LOUD, diagnostics(LOUD), log="file")

@@ -157,14 +157,26 @@ fn is_range_behind(step: u64, first: u64) -> bool
     step <= GREATEST_POOL && GREATEST_POOL / (2 * step) > first
 }
 
+/// What learns how many sizes a run is going to try, as a notice of how far it is. No contract speaks of it.
+pub trait Watch {
+    /// So many sizes are going to be tried, beside those of which it was told before.
+    fn expect(&self, sizes: u64);
+}
+
+/// Nothing watches.
+impl Watch for () {
+    fn expect(&self, _sizes: u64) {}
+}
+
 /// Tries the sizes for this step and this peak, in rising order. Where none of a range serves, the sizes behind it are tried by
-/// a step twice as large, up to the greatest pool.
-fn try_sizes<R: Again>(
+/// a step twice as large, up to the greatest pool. How many a range has is told before.
+fn try_sizes<R: Again, T: Watch>(
     reader: &mut R,
     replay: &mut Replay<Heap>,
     trial: Trial,
     mut step: u64,
     peak: u64,
+    watch: &T,
 ) -> Result<Fitted, Failed>
     requires some { UNIT ≤ step }
     requires in_units { step % UNIT ≡ 0 }
@@ -176,6 +188,7 @@ fn try_sizes<R: Again>(
 {
     let first = peak.div_ceil(step).max(1);
     let last = last_number(step, first);
+    watch.expect((last + 1).saturating_sub(first));
     let mut fitted = match try_range(reader, replay, trial, step, first, last, Fitted::none()) {
         Ok(fitted) => fitted,
         Err(failed) => return Err(failed),
@@ -183,6 +196,7 @@ fn try_sizes<R: Again>(
     while fitted.least.is_none() && is_range_behind(step, first) {
         step *= 2;
         let last = last_number(step, first);
+        watch.expect(last.saturating_sub(first));
         fitted = match try_range(reader, replay, trial, step, first + 1, last, fitted) {
             Ok(fitted) => fitted,
             Err(failed) => return Err(failed),
@@ -193,10 +207,11 @@ fn try_sizes<R: Again>(
 
 /// The text of how large a pool the log of this first replay needs. The log is read again for each size, unless the
 /// greatest pool refuses a line.
-fn fit_text<R: Again>(
+fn fit_text<R: Again, T: Watch>(
     reader: &mut R,
     replay: &mut Replay<Heap>,
     step: Option<u64>,
+    watch: &T,
 ) -> Result<LineText, Failed>
     requires good { is_bad step ≡ false }
     requires records { replay.old.content.records ≡ most_records }
@@ -214,7 +229,7 @@ fn fit_text<R: Again>(
         records: enough_records(most),
         many: totals.lines,
     };
-    let fitted = try_sizes(reader, replay, trial, step_of(step, peak), peak)?;
+    let fitted = try_sizes(reader, replay, trial, step_of(step, peak), peak, watch)?;
     Ok(fitted_text(totals, most, trial.records, fitted, sure))
 }
 
@@ -229,18 +244,19 @@ pub(crate) fn put_and_flush<W: Sink>(writer: &mut W, text: &[u8]) -> Result<(), 
 }
 
 /// Tells how large a pool the log needs that was replayed on the greatest one.
-fn tell_fit<R: Again, W: Sink>(
+fn tell_fit<R: Again, W: Sink, T: Watch>(
     reader: &mut R,
     writer: &mut W,
     replay: &mut Replay<Heap>,
     step: Option<u64>,
+    watch: &T,
 ) -> Result<(), RunFault>
     requires good { is_bad step ≡ false }
     requires records { replay.old.content.records ≡ most_records }
     ensures { (lines : List ReadLine) → StandsFor replay.old greatest_settings (reverse lines)
         → FitFollows step lines R.left R.whole R.trace W.taken W.trace result reader.old reader.new writer.old writer.new }
 {
-    let Ok(text) = fit_text(reader, replay, step) else {
+    let Ok(text) = fit_text(reader, replay, step, watch) else {
         return Err(RunFault::Read);
     };
     match put_and_flush(writer, text.as_slice()) {
@@ -255,7 +271,7 @@ fn tell_fit<R: Again, W: Sink>(
 /// safe size among the multiples of the step from the peak to twice the peak. Where none of them serves, it goes on behind, by
 /// steps twice as large. For that the log is read again, once for each size, until a line is refused. Each reading reads as many
 /// lines as the first. Last comes the size of the pool that is always enough within the log's most blocks, bytes and class. The
-/// writer is flushed once more.
+/// writer is flushed once more. What watches the run learns how many sizes are going to be tried.
 ///
 /// Without a step, that is the least multiple of the unit from a 64th of the peak on. Memory is taken at the start alone, for one
 /// replay, which is made anew for each size.
@@ -266,11 +282,12 @@ fn tell_fit<R: Again, W: Sink>(
 /// written. `Read`, `Write` and `OutOfMemory` come as in the runs that write a report. `Read` where the reader doesn't begin
 /// again, fails then, or has fewer lines then, too: what is wrong with the lines is written, and nothing of the sizes. `Write` where the writer fails at
 /// that, too: a beginning of it is written.
-pub fn run_fit<R: Again, W: Sink>(
+pub fn run_fit<R: Again, W: Sink, T: Watch>(
     alloc: Global,
     reader: &mut R,
     writer: &mut W,
     step: Option<u64>,
+    watch: &T,
 ) -> Result<Status, RunFault>
     ensures { RunsFit step R.left R.whole R.trace W.taken W.trace result reader.old reader.new writer.old writer.new }
 {
@@ -281,7 +298,7 @@ pub fn run_fit<R: Again, W: Sink>(
         Ok(ended) => ended,
         Err(fault) => return Err(fault),
     };
-    match tell_fit(reader, writer, &mut ended.replay, step) {
+    match tell_fit(reader, writer, &mut ended.replay, step, watch) {
         Ok(()) => Ok(ended.status),
         Err(fault) => Err(fault),
     }

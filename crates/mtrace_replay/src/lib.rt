@@ -36,7 +36,7 @@ mod walk;
 
 pub use crate::diagnostic::{Diagnostic, Kind, Note};
 pub use crate::entry::Entry;
-pub use crate::fit::run_fit;
+pub use crate::fit::{Watch, run_fit};
 pub use crate::index::Entries;
 pub use crate::replay::{Replay, ReplayFault};
 pub use crate::report::Report;

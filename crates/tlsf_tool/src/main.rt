@@ -113,7 +113,14 @@ fn reread(rt: &HostRuntime, is_told: bool, what: Rereading, name: String) -> Res
     let mut reader = FromRead::new(Counted::new(&notice, log));
     let mut errors = ToWrite::new(Cleared::new(&notice, rt.stderr()));
     let mut writer = output(rt, &notice)?;
-    Ok(serve_again(rt.alloc(), what, &mut reader, &mut writer, &mut errors))
+    Ok(serve_again(
+        rt.alloc(),
+        what,
+        &mut reader,
+        &mut writer,
+        &mut errors,
+        &notice,
+    ))
 }
 
 /// Makes the file of an image, unless it is the log's, and saves to it the heap at the end of a log that is open.

@@ -4,6 +4,7 @@
 ghost use Rattle.std.specs.Prelude.{◌≡◌, ◌+◌, ◌-◌, ◌^◌, min};
 ghost use Rattle.tlsf_tool.specs.Progress.{line_ends, progress_of, CountsPiece};
 
+use mtrace_replay::Watch;
 use std::cell::Cell;
 use std::io;
 use std::io::{Read, Seek, SeekFrom, Write};
@@ -81,6 +82,7 @@ pub(crate) struct Notice<'a> {
     rt: &'a HostRuntime,
     start: Option<Instant>,
     stands: Cell<bool>,
+    sizes: Cell<u64>,
 }
 
 impl<'a> Notice<'a> {
@@ -91,6 +93,7 @@ impl<'a> Notice<'a> {
             rt,
             start,
             stands: Cell::new(false),
+            sizes: Cell::new(0),
         }
     }
 
@@ -105,12 +108,14 @@ impl<'a> Notice<'a> {
         }
     }
 
-    /// Writes the notice, over the one that stands: how many lines are read, and how many sizes are tried, where some are.
+    /// Writes the notice, over the one that stands: how many lines are read, and how many sizes are tried and of how many, where
+    /// some are.
     fn tell(&self, progress: Progress) {
         let Progress { lines, sizes } = progress;
         let _ = eprint!(self.rt; "\r\x1b[Ktlsf: {lines} lines read");
         if sizes > 0 {
-            let _ = eprint!(self.rt; ", {sizes} sizes tried");
+            let all = self.sizes.get();
+            let _ = eprint!(self.rt; ", {sizes} of {all} sizes tried");
         }
         self.stands.set(true);
     }
@@ -121,6 +126,12 @@ impl<'a> Notice<'a> {
             let _ = eprint!(self.rt; "\r\x1b[K");
             self.stands.set(false);
         }
+    }
+}
+
+impl Watch for Notice<'_> {
+    fn expect(&self, sizes: u64) {
+        self.sizes.set(self.sizes.get().saturating_add(sizes));
     }
 }
 

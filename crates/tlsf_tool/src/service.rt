@@ -13,7 +13,7 @@ use crate::statuses::{end_status, fault_status};
 use arrayvec::ArrayString;
 use mtrace_log::{Again, Failed, Sink, Source, put_all};
 use mtrace_replay::{
-    Bounds, RunFault, Settings, Status, run_fit, run_leaks, run_peak, run_save, run_sites,
+    Bounds, RunFault, Settings, Status, Watch, run_fit, run_leaks, run_peak, run_save, run_sites,
     run_size, run_walk,
 };
 use std::alloc::Global;
@@ -119,17 +119,18 @@ pub fn serve_sites<R: Again, W: Sink, E: Sink>(
 /// whose own fault doesn't matter. Answers the status that the program ends with. It is 0 where nothing was found, 1
 /// where something was, and 2 for a bad step. It is 3 where the reader or the writer failed, or the reader didn't
 /// begin again, and 4 where memory was refused.
-pub fn serve_fit<R: Again, W: Sink, E: Sink>(
+pub fn serve_fit<R: Again, W: Sink, E: Sink, T: Watch>(
     alloc: Global,
     step: Option<u64>,
     reader: &mut R,
     writer: &mut W,
     errors: &mut E,
+    watch: &T,
 ) -> u8
     ensures { EndsAs (λ outcome. RunsFit step R.left R.whole R.trace W.taken W.trace outcome reader.old reader.new writer.old writer.new)
         result errors.old errors.new }
 {
-    match run_fit(alloc, reader, writer, step) {
+    match run_fit(alloc, reader, writer, step, watch) {
         Ok(status) => end_status(status),
         Err(fault) => {
             put_fault(errors, &ToolFault::Run(fault));
@@ -139,19 +140,20 @@ pub fn serve_fit<R: Again, W: Sink, E: Sink>(
 }
 
 /// Serves a log that is read more than once, by `serve_sites` or `serve_fit`.
-pub fn serve_again<R: Again, W: Sink, E: Sink>(
+pub fn serve_again<R: Again, W: Sink, E: Sink, T: Watch>(
     alloc: Global,
     what: Rereading,
     reader: &mut R,
     writer: &mut W,
     errors: &mut E,
+    watch: &T,
 ) -> u8
     ensures { EndsAs (λ outcome. Rereads what R.left R.whole R.trace W.taken W.trace outcome reader.old reader.new writer.old writer.new)
         result errors.old errors.new }
 {
     match what {
         Rereading::Sites(settings) => serve_sites(alloc, settings, reader, writer, errors),
-        Rereading::Fit(step) => serve_fit(alloc, step, reader, writer, errors),
+        Rereading::Fit(step) => serve_fit(alloc, step, reader, writer, errors, watch),
     }
 }
 

@@ -3,10 +3,13 @@
 use super::rows::PIECES;
 use crate::service::serve_fit;
 use crate::tests::{expect_eq, expect_eq_at};
+use arrayvec::ArrayString;
 use mtrace_log::ToWrite;
 use mtrace_log::memory::{Full, MemorySink, MemorySource};
-use mtrace_replay::{RunFault, Status, run_fit};
+use mtrace_replay::{RunFault, Status, Watch, run_fit};
 use std::alloc::Global;
+use std::cell::Cell;
+use std::fmt::Write;
 use std::io;
 use std::process::Abort;
 
@@ -84,7 +87,7 @@ fn expect_row(rt: &impl Abort, alloc: Global, row: &Row, piece: usize) {
     let mut reader = MemorySource::in_pieces(row.log, piece.max(1));
     let mut writer = MemorySink::in_pieces(alloc, 4096);
     let mut errors = MemorySink::in_pieces(alloc, 4096);
-    let status = serve_fit(alloc, row.step, &mut reader, &mut writer, &mut errors);
+    let status = serve_fit(alloc, row.step, &mut reader, &mut writer, &mut errors, &());
     expect_eq_at(rt, row.name, status, row.status);
     expect_eq_at(rt, row.name, writer.bytes(), row.text);
     expect_eq_at(rt, row.name, errors.bytes(), b"".as_slice());
@@ -112,7 +115,7 @@ const NOTES: &[u8] = b"line 1: not a line\n";
 fn expect_read_fault(rt: &impl Abort, alloc: Global, calls: u64, wanted: &[u8]) {
     let mut reader = MemorySource::failing_after(SHORT, 4096, calls);
     let mut writer = MemorySink::in_pieces(alloc, 4096);
-    let answer = run_fit(alloc, &mut reader, &mut writer, None);
+    let answer = run_fit(alloc, &mut reader, &mut writer, None, &());
     expect_eq_at(rt, calls, answer, Err(RunFault::Read));
     expect_eq_at(rt, calls, writer.bytes(), wanted);
 }
@@ -127,7 +130,7 @@ fn reader_of_fit_fails(rt: HostRuntime) {
     }
     let mut reader = MemorySource::failing_after(SHORT, 4096, 6);
     let mut writer = MemorySink::in_pieces(rt.alloc(), 4096);
-    let answer = run_fit(rt.alloc(), &mut reader, &mut writer, None);
+    let answer = run_fit(rt.alloc(), &mut reader, &mut writer, None, &());
     expect_eq(&rt, answer, Ok(Status::Found));
     expect_eq(&rt, writer.bytes(), TEXT);
 }
@@ -136,7 +139,7 @@ fn reader_of_fit_fails(rt: HostRuntime) {
 fn expect_write_fault(rt: &impl Abort, alloc: Global, room: usize) {
     let mut reader = MemorySource::in_pieces(SHORT, 4096);
     let mut writer = MemorySink::with_room(alloc, 4096, room, Full::Fails);
-    let answer = run_fit(alloc, &mut reader, &mut writer, None);
+    let answer = run_fit(alloc, &mut reader, &mut writer, None, &());
     expect_eq_at(rt, room, answer, Err(RunFault::Write));
     if let Some(wanted) = TEXT.get(..room) {
         expect_eq_at(rt, room, writer.bytes(), wanted);
@@ -158,7 +161,14 @@ fn bad_steps(rt: HostRuntime) {
         let mut reader = MemorySource::in_pieces(SHORT, 4096);
         let mut writer = MemorySink::in_pieces(alloc, 4096);
         let mut errors = MemorySink::in_pieces(alloc, 4096);
-        let status = serve_fit(alloc, Some(step), &mut reader, &mut writer, &mut errors);
+        let status = serve_fit(
+            alloc,
+            Some(step),
+            &mut reader,
+            &mut writer,
+            &mut errors,
+            &(),
+        );
         expect_eq_at(&rt, step, status, 2);
         expect_eq_at(&rt, step, writer.bytes(), b"".as_slice());
         expect_eq_at(
@@ -176,7 +186,7 @@ fn bad_steps(rt: HostRuntime) {
 fn memory_of_fit(rt: HostRuntime) {
     let mut reader = MemorySource::in_pieces(LOG, 7);
     let mut writer = ToWrite::new(io::sink());
-    let answer = run_fit(rt.alloc(), &mut reader, &mut writer, Some(16));
+    let answer = run_fit(rt.alloc(), &mut reader, &mut writer, Some(16), &());
     assert!(rt; answer == Ok(Status::Found));
 }
 
@@ -185,7 +195,7 @@ fn memory_of_fit(rt: HostRuntime) {
 fn fit_with_refused_memory(rt: HostRuntime) {
     let mut reader = MemorySource::in_pieces(SHORT, 1);
     let mut writer = MemorySink::in_pieces(rt.alloc(), 4096);
-    match run_fit(rt.alloc(), &mut reader, &mut writer, None) {
+    match run_fit(rt.alloc(), &mut reader, &mut writer, None, &()) {
         Ok(status) => {
             expect_eq(&rt, status, Status::Found);
             expect_eq(&rt, writer.bytes(), TEXT);
@@ -197,4 +207,48 @@ fn fit_with_refused_memory(rt: HostRuntime) {
             assert!(rt; writer.bytes().is_empty());
         }
     }
+}
+
+/// How many sizes are going to be tried, as they are told.
+#[derive(Drop)]
+struct Expected {
+    sizes: Cell<u64>,
+}
+
+impl Watch for Expected {
+    fn expect(&self, sizes: u64) {
+        self.sizes.set(self.sizes.get().saturating_add(sizes));
+    }
+}
+
+/// As many sizes are told as are tried, also where the greatest of the first range is refused.
+#[test]
+fn sizes_are_told_before(rt: HostRuntime) {
+    for (log, text) in [
+        (
+            b"+ 0x10 0xc80\n".as_slice(),
+            "sizes tried: 201, 0 refused\n",
+        ),
+        (b"* 0x10 0x1000 0x10\n", "sizes tried: "),
+    ] {
+        let expected = Expected {
+            sizes: Cell::new(0),
+        };
+        let mut reader = MemorySource::in_pieces(log, 4096);
+        let mut writer = MemorySink::in_pieces(rt.alloc(), 4096);
+        let answer = run_fit(rt.alloc(), &mut reader, &mut writer, Some(16), &expected);
+        expect_eq_at(&rt, text, answer, Ok(Status::Found));
+        let mut tried: ArrayString<64> = ArrayString::new();
+        assert!(rt; write!(tried, "sizes tried: {},", expected.sizes.get()).is_ok());
+        assert!(rt;
+            contains(writer.bytes(), tried.as_str().as_bytes()),
+            "{text}"
+        );
+        assert!(rt; contains(writer.bytes(), text.as_bytes()), "{text}");
+    }
+}
+
+/// Whether the text has these bytes.
+fn contains(text: &[u8], bytes: &[u8]) -> bool {
+    (0..text.len()).any(|at| text[at..].starts_with(bytes))
 }
