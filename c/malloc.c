@@ -47,17 +47,16 @@ static void say(int to, const char *format, ...)
 }
 
 /* The number that a variable of the environment is, in digits, from 1 to most; else the default. */
-static size_t setting(const char *name, unsigned most, unsigned otherwise)
+static size_t setting(const char *name, unsigned most, unsigned usual)
 {
     const char *text = getenv(name);
     size_t digits = text == NULL ? 0 : strspn(text, "0123456789");
     size_t number = digits > 0 && digits <= 18 && text[digits] == 0 ? strtoul(text, NULL, 10) : 0;
     bool good = number >= 1 && number <= most;
     if (text != NULL && !good) {
-        say(STDERR_FILENO, "%s is no number from 1 to %u: it is taken as %u\n", name, most,
-            otherwise);
+        say(STDERR_FILENO, "%s is no number from 1 to %u: it is taken as %u\n", name, most, usual);
     }
-    return good ? number : otherwise;
+    return good ? number : usual;
 }
 
 /* While a thread forks it has the lock, and may still call: the program's own handlers of a fork
@@ -121,7 +120,8 @@ static void count(const void *address, size_t had, size_t asked, void *given)
         refused++;
         return;
     }
-    held_blocks += (given != NULL) - (had != 0);
+    held_blocks += given != NULL;
+    held_blocks -= had != 0;
     held_bytes += tlsf_live_size(heap, given) - had;
     most_bytes = held_bytes > most_bytes ? held_bytes : most_bytes;
 }
@@ -139,9 +139,7 @@ static void *serve(void *address, size_t align, size_t bytes)
         count(address, had, wanted, given);
     }
     finish();
-    if (wanted != 0 && given == NULL) {
-        errno = ENOMEM;
-    }
+    errno = wanted != 0 && given == NULL ? ENOMEM : errno;
     return given;
 }
 
@@ -159,8 +157,7 @@ EXPORT void free(void *address)
 /* A product above SIZE_MAX is SIZE_MAX, which is refused. */
 static size_t product(size_t count, size_t size)
 {
-    size_t bytes;
-    return __builtin_mul_overflow(count, size, &bytes) ? SIZE_MAX : bytes;
+    return size != 0 && count > SIZE_MAX / size ? SIZE_MAX : count * size;
 }
 
 EXPORT void *calloc(size_t count, size_t size)
@@ -181,11 +178,9 @@ EXPORT void *pvalloc(size_t bytes)
 
 EXPORT void *memalign(size_t align, size_t bytes)
 {
-    if (align == 0 || (align & (align - 1)) != 0) {
-        errno = EINVAL;
-        return NULL;
-    }
-    return serve(NULL, align, bytes);
+    bool good = align != 0 && (align & (align - 1)) == 0;
+    errno = good ? errno : EINVAL;
+    return good ? serve(NULL, align, bytes) : NULL;
 }
 
 EXPORT void *aligned_alloc(size_t align, size_t bytes) { return memalign(align, bytes); }

@@ -27,8 +27,8 @@ typedef void *pool_t;
 tlsf_t tlsf_create(void *mem);
 
 /* A heap and its first pool, in `bytes` bytes, or a null pointer where tlsf_add_pool would refuse
- * the pool. It has a record for each 256 bytes, at least 64 and at most 65,535. Each block takes a
- * record, live or free. */
+ * the pool. It has one record, and one more for each 112 bytes above tlsf_size_records(0), at most
+ * 65,535. Each block takes a record, live or free. */
 tlsf_t tlsf_create_with_pool(void *mem, size_t bytes);
 
 /* A heap with `records` records, from 1 to 65,535, and a pool in what is left of the bytes, where

@@ -69,7 +69,7 @@ static void exact_memory(void)
 
 static void creates(void)
 {
-    size_t least = control_bytes(64) + 32;
+    size_t least = control_bytes(1) + 32;
     expect(tlsf_create(NULL) == NULL && tlsf_create_with_pool(NULL, 1 << 20) == NULL,
            "no memory, no heap");
     expect(tlsf_create(memory + 4) == NULL && tlsf_create_with_pool(memory + 1, 1 << 15) == NULL,
@@ -102,7 +102,7 @@ static void creates(void)
     expect(tlsf_malloc(memory + 4, 1) == NULL && tlsf_check(memory + 4) == -1,
            "no heap is at a multiple of 4");
     bool refused = true;
-    for (size_t few = 1; few < control_bytes(64) + 32; few += 7) {
+    for (size_t few = 1; few < least; few += 7) {
         void *little = malloc(few);
         refused = refused && little != NULL && tlsf_create_with_pool(little, few) == NULL
                   && tlsf_create_records(little, few, 63 + (uint32_t)few) == NULL;
@@ -128,11 +128,44 @@ static void records(void)
 {
     size_t bytes = (size_t)17 << 20;
     void *large = aligned_alloc(16, bytes);
-    expect(has_records(memory, 8192, 64), "8 KiB: 64 records");
-    expect(has_records(memory, 16384 + 256, 65), "one for each 256 bytes above 16 KiB");
-    expect(has_records(memory, 65536, 256), "64 KiB: 256 records");
-    expect(has_records(large, bytes, 65535), "17 MiB: 65,535 records");
+    bool each = true;
+    for (size_t k = 1; k < 60; k++) {
+        each = each && has_records(memory, tlsf_size_records(0) + 112 * k, k + 1)
+               && has_records(memory, tlsf_size_records(0) + 112 * k - 16, k);
+    }
+    expect(each, "one record, and one more for each 112 bytes that a heap without records leaves");
+    expect(has_records(large, tlsf_size_records(0) + 112 * 65534, 65535), "65,535 records");
+    expect(has_records(large, bytes, 65535), "and no more");
     free(large);
+}
+
+/* How many blocks of this size a heap has, until one is refused. It has this number of records, or
+ * for 0 as many as tlsf_create_with_pool gives it. */
+static size_t filled(size_t bytes, size_t size, uint32_t records)
+{
+    void *area = aligned_alloc(16, bytes);
+    tlsf_t tlsf = records == 0 ? tlsf_create_with_pool(area, bytes)
+                               : tlsf_create_records(area, bytes, records);
+    size_t blocks = 0;
+    for (void *one = tlsf_malloc(tlsf, size); one != NULL; one = tlsf_malloc(tlsf, size)) {
+        memset(one, 0xff, size);
+        blocks++;
+    }
+    blocks = tlsf_check(tlsf) == 0 ? blocks : 0;
+    free(area);
+    return blocks;
+}
+
+/* Of 1,000 bytes a block takes 1,024, and a record 16. So 9,346 records leave 1 MiB room for 876,
+ * and 1,007 for 1,006. */
+static void capacities(void)
+{
+    expect(filled(65536, 64, 0) >= 560, "64 KiB: at least 560 blocks of 64 bytes");
+    expect(filled(1 << 20, 64, 0) >= 9300, "1 MiB: at least 9,300 blocks of 64 bytes");
+    expect(filled(1 << 20, 1000, 0) == 876, "1 MiB: 876 blocks of 1,000 bytes");
+    expect(filled(64 << 20, 16, 0) == 65534, "64 MiB: a block of 16 bytes for each record but one");
+    expect(filled(1 << 20, 1000, 1046656 / 1040 + 1) == 1006,
+           "1 MiB, a record for each 1,040 bytes: 1,006 blocks of 1,000 bytes");
 }
 
 static void limits(void)
@@ -570,6 +603,7 @@ int main(void)
     exact_memory();
     creates();
     records();
+    capacities();
     limits();
     unsigned char *large = (unsigned char *)mmap(
         NULL, room, PROT_READ | PROT_WRITE, MAP_PRIVATE | MAP_ANONYMOUS | MAP_NORESERVE, -1, 0);
