@@ -32,7 +32,7 @@ static __thread bool forks;
 static pthread_once_t once = PTHREAD_ONCE_INIT;
 static tlsf_t heap;
 static int report_to = -1;
-static unsigned long long held_blocks, held_bytes, most_bytes, refused;
+static unsigned long long held_blocks, held_bytes, most_held, refused;
 
 /* A line on a file descriptor. A stream of the C library would ask for memory. */
 static void say(int to, const char *format, ...)
@@ -120,10 +120,9 @@ static void count(const void *address, size_t had, size_t asked, void *given)
         refused++;
         return;
     }
-    held_blocks += given != NULL;
-    held_blocks -= had != 0;
+    held_blocks = held_blocks + (given != NULL) - (had != 0);
     held_bytes += tlsf_live_size(heap, given) - had;
-    most_bytes = held_bytes > most_bytes ? held_bytes : most_bytes;
+    most_held = held_bytes > most_held ? held_bytes : most_held;
 }
 
 /* Without an address: a new block, of one byte at least. With one: room for the bytes in its block,
@@ -188,8 +187,7 @@ EXPORT void *aligned_alloc(size_t align, size_t bytes) { return memalign(align, 
 EXPORT int posix_memalign(void **out, size_t align, size_t bytes)
 {
     int before = errno;
-    errno = EINVAL;
-    void *address = align % sizeof address == 0 ? memalign(align, bytes) : NULL;
+    void *address = memalign(align % sizeof address == 0 ? align : 0, bytes);
     int why = address == NULL ? errno : 0;
     errno = before;
     if (address != NULL) {
@@ -211,10 +209,9 @@ __attribute__((destructor)) static void report(void)
 {
     if (report_to >= 0) {
         begin();
-        const char *table = tlsf_check(heap) == 0 ? "whole" : "broken";
         say(report_to,
             "%llu blocks held, %llu bytes held, %llu bytes at most, %llu refused, table %s\n",
-            held_blocks, held_bytes, most_bytes, refused, table);
+            held_blocks, held_bytes, most_held, refused, tlsf_check(heap) == 0 ? "whole" : "broken");
         finish();
     }
 }

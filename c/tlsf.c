@@ -35,10 +35,6 @@
 #define TLSF_WALK_ROWS 64
 #endif
 
-#if TLSF_RECORDS < 1 || TLSF_RECORDS > TLSF_HEAP_RECORDS_MOST
-#error "TLSF_RECORDS is from 1 to 65535"
-#endif
-
 enum { UNIT = TLSF_HEAP_UNIT, POOLS = TLSF_HEAP_POOLS };
 /* BYTES_A_RECORD: tlsf_create_with_pool has a record for each. */
 enum { FRONT = 16, LEAST_POOL = UNIT + FRONT, HANDED_IN = 8, BYTES_A_RECORD = 112, MARK = 0x7c5f };
@@ -70,6 +66,7 @@ struct front {
 };
 
 typedef char front_has_its_bytes[sizeof(struct front) == FRONT ? 1 : -1];
+typedef char records_are_1_to_65535[TLSF_RECORDS > 0 && TLSF_RECORDS <= 65535 ? 1 : -1];
 
 /* Whether memory that is handed in may begin here. */
 static bool may_begin(const void *mem) { return mem != NULL && (uintptr_t)mem % HANDED_IN == 0; }
@@ -88,15 +85,14 @@ size_t tlsf_sure_bytes(uint32_t blocks, size_t bytes, size_t largest)
 {
     bool few = largest > 0 && largest < TLSF_HEAP_GREATEST && bytes < TLSF_HEAP_GREATEST;
     uint32_t class_size = few ? tlsf_heap_class_size(1, (uint64_t)largest + FRONT) : 0;
-    uint64_t live = (uint64_t)bytes + (uint64_t)blocks * FRONT;
-    uint32_t pool = tlsf_heap_sure_pool(blocks, live, class_size);
+    uint32_t pool = tlsf_heap_sure_pool(blocks, bytes + (uint64_t)blocks * FRONT, class_size);
     return pool == 0 ? 0 : tlsf_size_records(2 * blocks + 3) + pool;
 }
 size_t tlsf_size(void) { return tlsf_size_records(TLSF_RECORDS); }
 size_t tlsf_align_size(void) { return UNIT; }
 size_t tlsf_block_size_min(void) { return UNIT; }
 size_t tlsf_block_size_max(void) { return TLSF_HEAP_GREATEST - FRONT; }
-size_t tlsf_pool_overhead(void) { return FRONT + HANDED_IN; }
+size_t tlsf_pool_overhead(void) { return FRONT + HANDED_IN + UNIT; }
 size_t tlsf_alloc_overhead(void) { return FRONT; }
 
 /* The bytes to the next multiple of 16. */
@@ -222,7 +218,7 @@ static bool find(const struct control *control, const void *ptr, tlsf_heap_block
     return false;
 }
 
-size_t tlsf_live_size(tlsf_t tlsf, void *ptr)
+size_t tlsf_live_size(tlsf_t tlsf, const void *ptr)
 {
     struct control *control = control_of(tlsf);
     tlsf_heap_block block = {0, 0};
@@ -241,17 +237,26 @@ size_t tlsf_block_size(void *ptr)
     return tlsf_live_size(front.control, ptr);
 }
 
+/* Where no free block is of a class that surely has the bytes, the first of the class below may
+ * have them. A smaller block is begun there, and grows. */
 void *tlsf_memalign(tlsf_t tlsf, size_t align, size_t bytes)
 {
     struct control *control = control_of(tlsf);
     tlsf_heap_block block = {0, 0};
-    size_t whole = bytes + FRONT;
+    size_t whole = (bytes + FRONT + UNIT - 1) / UNIT * UNIT;
     if (control == NULL || bytes == 0 || bytes > TLSF_HEAP_GREATEST - FRONT
         || align > TLSF_MOST_ALIGN || (align & (align - 1)) != 0) {
         return NULL;
     }
     uint32_t status = align <= UNIT ? tlsf_heap_malloc(&control->heap, whole, &block)
                                     : tlsf_heap_memalign(&control->heap, align, whole, &block);
+    size_t less = status == TLSF_NO_FIT && align <= UNIT ? tlsf_heap_class_low(whole) : whole;
+    if (less < whole && tlsf_heap_malloc(&control->heap, less, &block) == TLSF_OK) {
+        status = tlsf_heap_realloc(&control->heap, block, whole, &block);
+        if (status != TLSF_OK) {
+            tlsf_heap_free(&control->heap, block);
+        }
+    }
     return status == TLSF_OK ? hand_out(control, block) : NULL;
 }
 

@@ -179,11 +179,12 @@ static void limits(void)
         fits = fits && tlsf_add_pool(tlsf, memory, n + tlsf_pool_overhead()) != NULL
                && tlsf_malloc(tlsf, n) != NULL;
         tlsf = tlsf_create(other_memory);
-        tlsf_add_pool(tlsf, memory + 8, n + tlsf_pool_overhead() - 1);
-        least = least && tlsf_malloc(tlsf, n) == NULL;
+        tlsf_add_pool(tlsf, memory + 8, n + 1 + tlsf_pool_overhead() - 8);
+        least = least && tlsf_malloc(tlsf, n + 1) == NULL;
     }
     expect(fits && least,
-           "tlsf_pool_overhead() more bytes are enough for a block, and one less isn't");
+           "tlsf_pool_overhead() more bytes are enough for a block, and eight less aren't");
+    expect(tlsf_pool_overhead() % 8 == 0, "a pool may begin so many bytes behind another address");
     tlsf_t tlsf = tlsf_create_with_pool(memory, sizeof memory);
     void *one = tlsf_malloc(tlsf, 1);
     expect(tlsf_block_size(one) == tlsf_block_size_min() && tlsf_block_size_min() == 16,
@@ -201,6 +202,56 @@ static void limits(void)
            "more bytes than there are");
     expect(tlsf_block_size(one) == 16 && tlsf_check(tlsf) == 0,
            "a refused realloc leaves its block");
+}
+
+/* Whether a pool that has tlsf_pool_overhead() more bytes serves this block, and no more bytes than
+ * it has. */
+static bool pool_serves(tlsf_t tlsf, unsigned char *at, size_t bytes)
+{
+    pool_t pool = tlsf_add_pool(tlsf, at, bytes + tlsf_pool_overhead());
+    void *one = tlsf_malloc(tlsf, bytes);
+    bool good = one != NULL && tlsf_block_size(one) >= bytes && tlsf_check(tlsf) == 0
+                && tlsf_malloc(tlsf, bytes + tlsf_pool_overhead()) == NULL;
+    tlsf_free(tlsf, one);
+    tlsf_remove_pool(tlsf, pool);
+    return good && tlsf_get_pool(tlsf) == NULL;
+}
+
+static void overheads(unsigned char *large)
+{
+    tlsf_t tlsf = tlsf_create_records(memory, control_bytes(4), 4);
+    bool each = true, units = true, doubled = true;
+    for (size_t n = 1; n <= 20000; n++) {
+        each = each && pool_serves(tlsf, large + n % 2 * 8, n);
+    }
+    expect(each, "a pool for each block of 1 to 20,000 bytes");
+    for (size_t n = 16; n <= 99984; n += 16) {
+        units = units && pool_serves(tlsf, large, n) && pool_serves(tlsf, large + 8, n);
+    }
+    expect(units, "12,498 pools, each of one block, of a multiple of 16 to 99,984 bytes");
+    for (size_t n = 1 << 16; n < GIGABYTE; n *= 2) {
+        doubled = doubled && pool_serves(tlsf, large + 8, n - 17) && pool_serves(tlsf, large, n + 1)
+                  && pool_serves(tlsf, large, n + n / 64);
+    }
+    expect(doubled, "and pools up to some 520 MiB");
+}
+
+/* The first block of the list below is tried, and no other; what was tried is whole again. */
+static void tight_fits(void)
+{
+    tlsf_t tlsf = tlsf_create_records(memory, control_bytes(2), 2);
+    tlsf_add_pool(tlsf, other_memory, 2064 + 16);
+    expect(tlsf_malloc(tlsf, 2064 + 1) == NULL && has(tlsf_get_pool(tlsf), 0, 1)
+               && tlsf_check(tlsf) == 0,
+           "one byte more than a pool has is refused, and the pool is one free block");
+    void *one = tlsf_malloc(tlsf, 2064);
+    expect(one != NULL && has(tlsf_get_pool(tlsf), 1, 0), "all that it has is served");
+    tlsf = tlsf_create_records(memory, control_bytes(1), 1);
+    tlsf_add_pool(tlsf, other_memory, 2064 + 16);
+    expect(tlsf_malloc(tlsf, 2064) == NULL && has(tlsf_get_pool(tlsf), 0, 1),
+           "with one record it isn't: the smaller block has a rest");
+    expect(tlsf_memalign(tlsf, 32, 2064) == NULL && has(tlsf_get_pool(tlsf), 0, 1),
+           "nor with an alignment above 16");
 }
 
 static void alignments(unsigned char *large)
@@ -297,9 +348,13 @@ static void greatest(unsigned char *large)
                && tlsf_malloc(tlsf, tlsf_block_size_max() + 1) == NULL,
            "a greater one");
     tlsf_free(tlsf, whole);
-    expect(tlsf_malloc(tlsf, 1056964593) == NULL, "a malloc above 1,056,964,592 bytes is refused");
-    one = tlsf_malloc(tlsf, 1056964592);
-    expect(one != NULL, "a malloc of 1,056,964,592 bytes is served");
+    for (size_t bytes = 1056964592; bytes <= tlsf_block_size_max(); bytes += 1048575) {
+        one = tlsf_malloc(tlsf, bytes);
+        expect(one != NULL, "a malloc beyond the lowest size of the last class");
+        tlsf_free(tlsf, one);
+    }
+    one = tlsf_malloc(tlsf, tlsf_block_size_max());
+    expect(one != NULL && has(pool, 1, 0), "a malloc of the greatest block");
     tlsf_free(tlsf, one);
     expect(tlsf_create_with_pool(large, 2 * GIGABYTE) == NULL,
            "a heap with a pool above the greatest");
@@ -609,6 +664,7 @@ int main(void)
         NULL, room, PROT_READ | PROT_WRITE, MAP_PRIVATE | MAP_ANONYMOUS | MAP_NORESERVE, -1, 0);
     expect((void *)large != MAP_FAILED, "4 GiB of addresses");
     if ((void *)large != MAP_FAILED) {
+        overheads(large);
         alignments(large);
         great_alignments(large);
         greatest(large);
@@ -616,6 +672,7 @@ int main(void)
         places_between(large);
         munmap(large, room);
     }
+    tight_fits();
     pools();
     side_by_side();
     pointers();
