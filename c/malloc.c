@@ -32,7 +32,7 @@ static __thread bool forks;
 static pthread_once_t once = PTHREAD_ONCE_INIT;
 static tlsf_t heap;
 static int report_to = -1;
-static unsigned long long held_blocks, held_bytes, most_bytes, refused;
+static unsigned long long held_blocks, held_bytes, most_held, refused;
 
 /* A line on a file descriptor. A stream of the C library would ask for memory. */
 static void say(int to, const char *format, ...)
@@ -47,17 +47,16 @@ static void say(int to, const char *format, ...)
 }
 
 /* The number that a variable of the environment is, in digits, from 1 to most; else the default. */
-static size_t setting(const char *name, unsigned most, unsigned otherwise)
+static size_t setting(const char *name, unsigned most, unsigned usual)
 {
     const char *text = getenv(name);
     size_t digits = text == NULL ? 0 : strspn(text, "0123456789");
     size_t number = digits > 0 && digits <= 18 && text[digits] == 0 ? strtoul(text, NULL, 10) : 0;
     bool good = number >= 1 && number <= most;
     if (text != NULL && !good) {
-        say(STDERR_FILENO, "%s is no number from 1 to %u: it is taken as %u\n", name, most,
-            otherwise);
+        say(STDERR_FILENO, "%s is no number from 1 to %u: it is taken as %u\n", name, most, usual);
     }
-    return good ? number : otherwise;
+    return good ? number : usual;
 }
 
 /* While a thread forks it has the lock, and may still call: the program's own handlers of a fork
@@ -121,9 +120,9 @@ static void count(const void *address, size_t had, size_t asked, void *given)
         refused++;
         return;
     }
-    held_blocks += (given != NULL) - (had != 0);
+    held_blocks = held_blocks + (given != NULL) - (had != 0);
     held_bytes += tlsf_live_size(heap, given) - had;
-    most_bytes = held_bytes > most_bytes ? held_bytes : most_bytes;
+    most_held = held_bytes > most_held ? held_bytes : most_held;
 }
 
 /* Without an address: a new block, of one byte at least. With one: room for the bytes in its block,
@@ -139,9 +138,7 @@ static void *serve(void *address, size_t align, size_t bytes)
         count(address, had, wanted, given);
     }
     finish();
-    if (wanted != 0 && given == NULL) {
-        errno = ENOMEM;
-    }
+    errno = wanted != 0 && given == NULL ? ENOMEM : errno;
     return given;
 }
 
@@ -159,8 +156,7 @@ EXPORT void free(void *address)
 /* A product above SIZE_MAX is SIZE_MAX, which is refused. */
 static size_t product(size_t count, size_t size)
 {
-    size_t bytes;
-    return __builtin_mul_overflow(count, size, &bytes) ? SIZE_MAX : bytes;
+    return size != 0 && count > SIZE_MAX / size ? SIZE_MAX : count * size;
 }
 
 EXPORT void *calloc(size_t count, size_t size)
@@ -181,11 +177,9 @@ EXPORT void *pvalloc(size_t bytes)
 
 EXPORT void *memalign(size_t align, size_t bytes)
 {
-    if (align == 0 || (align & (align - 1)) != 0) {
-        errno = EINVAL;
-        return NULL;
-    }
-    return serve(NULL, align, bytes);
+    bool good = align != 0 && (align & (align - 1)) == 0;
+    errno = good ? errno : EINVAL;
+    return good ? serve(NULL, align, bytes) : NULL;
 }
 
 EXPORT void *aligned_alloc(size_t align, size_t bytes) { return memalign(align, bytes); }
@@ -193,8 +187,7 @@ EXPORT void *aligned_alloc(size_t align, size_t bytes) { return memalign(align, 
 EXPORT int posix_memalign(void **out, size_t align, size_t bytes)
 {
     int before = errno;
-    errno = EINVAL;
-    void *address = align % sizeof address == 0 ? memalign(align, bytes) : NULL;
+    void *address = memalign(align % sizeof address == 0 ? align : 0, bytes);
     int why = address == NULL ? errno : 0;
     errno = before;
     if (address != NULL) {
@@ -216,10 +209,9 @@ __attribute__((destructor)) static void report(void)
 {
     if (report_to >= 0) {
         begin();
-        const char *table = tlsf_check(heap) == 0 ? "whole" : "broken";
         say(report_to,
             "%llu blocks held, %llu bytes held, %llu bytes at most, %llu refused, table %s\n",
-            held_blocks, held_bytes, most_bytes, refused, table);
+            held_blocks, held_bytes, most_held, refused, tlsf_check(heap) == 0 ? "whole" : "broken");
         finish();
     }
 }

@@ -35,12 +35,9 @@
 #define TLSF_WALK_ROWS 64
 #endif
 
-#if TLSF_RECORDS < 1 || TLSF_RECORDS > TLSF_HEAP_RECORDS_MOST
-#error "TLSF_RECORDS is from 1 to 65535"
-#endif
-
 enum { UNIT = TLSF_HEAP_UNIT, POOLS = TLSF_HEAP_POOLS };
-enum { FRONT = 16, LEAST_POOL = UNIT + FRONT, HANDED_IN = 8, MARK = 0x7c5f };
+/* BYTES_A_RECORD: tlsf_create_with_pool has a record for each. */
+enum { FRONT = 16, LEAST_POOL = UNIT + FRONT, HANDED_IN = 8, BYTES_A_RECORD = 112, MARK = 0x7c5f };
 #define MAGIC ((uintptr_t)0x544c53465f484541)
 
 /* A pool: where its bytes are, and its places. One that isn't there has no bytes. */
@@ -69,6 +66,7 @@ struct front {
 };
 
 typedef char front_has_its_bytes[sizeof(struct front) == FRONT ? 1 : -1];
+typedef char records_are_1_to_65535[TLSF_RECORDS > 0 && TLSF_RECORDS <= 65535 ? 1 : -1];
 
 /* Whether memory that is handed in may begin here. */
 static bool may_begin(const void *mem) { return mem != NULL && (uintptr_t)mem % HANDED_IN == 0; }
@@ -87,30 +85,32 @@ size_t tlsf_sure_bytes(uint32_t blocks, size_t bytes, size_t largest)
 {
     bool few = largest > 0 && largest < TLSF_HEAP_GREATEST && bytes < TLSF_HEAP_GREATEST;
     uint32_t class_size = few ? tlsf_heap_class_size(1, (uint64_t)largest + FRONT) : 0;
-    uint64_t live = (uint64_t)bytes + (uint64_t)blocks * FRONT;
-    uint32_t pool = tlsf_heap_sure_pool(blocks, live, class_size);
+    uint32_t pool = tlsf_heap_sure_pool(blocks, bytes + (uint64_t)blocks * FRONT, class_size);
     return pool == 0 ? 0 : tlsf_size_records(2 * blocks + 3) + pool;
 }
 size_t tlsf_size(void) { return tlsf_size_records(TLSF_RECORDS); }
 size_t tlsf_align_size(void) { return UNIT; }
 size_t tlsf_block_size_min(void) { return UNIT; }
 size_t tlsf_block_size_max(void) { return TLSF_HEAP_GREATEST - FRONT; }
-size_t tlsf_pool_overhead(void) { return FRONT + HANDED_IN; }
+size_t tlsf_pool_overhead(void) { return FRONT + HANDED_IN + UNIT; }
 size_t tlsf_alloc_overhead(void) { return FRONT; }
 
 /* The bytes to the next multiple of 16. */
 static size_t skipped(uintptr_t address) { return (UNIT - address % UNIT) % UNIT; }
 
-/* Whether these bytes are neither the heap's own nor a pool's. */
-static bool is_new(const struct control *control, uintptr_t address, size_t bytes)
+/* The entry that a pool of these bytes takes: none where they are the heap's own or a pool's. */
+static struct pool *entry_of(struct control *control, uintptr_t address, size_t bytes)
 {
     uintptr_t own = (uintptr_t)control;
     bool good = address + bytes <= own || own + control->taken <= address;
-    for (int k = 0; k < POOLS; k++) {
-        uintptr_t other = (uintptr_t)control->pools[k].memory;
-        good = good && (address + bytes <= other || other + control->pools[k].bytes <= address);
+    struct pool *vacant = NULL;
+    for (int k = POOLS - 1; k >= 0; k--) {
+        struct pool *pool = &control->pools[k];
+        uintptr_t other = (uintptr_t)pool->memory;
+        good = good && (address + bytes <= other || other + pool->bytes <= address);
+        vacant = pool->bytes == 0 ? pool : vacant;
     }
-    return good;
+    return good ? vacant : NULL;
 }
 
 /* The places are the first that the heap takes: from 0 on, or behind some pool. */
@@ -119,15 +119,10 @@ pool_t tlsf_add_pool(tlsf_t tlsf, void *mem, size_t bytes)
     struct control *control = control_of(tlsf);
     uintptr_t start = (uintptr_t)mem, address = start + skipped(start);
     size_t usable = (bytes - skipped(start)) / UNIT * UNIT;
-    if (control == NULL || !may_begin(mem) || bytes < LEAST_POOL || bytes > UINTPTR_MAX - start
-        || usable < LEAST_POOL || !is_new(control, address, usable)) {
-        return NULL;
-    }
-    struct pool *pool = control->pools;
-    while (pool->bytes != 0 && pool < &control->pools[POOLS - 1]) {
-        pool++;
-    }
-    for (int k = -1; k < POOLS; k++) {
+    bool good = control != NULL && may_begin(mem) && bytes >= LEAST_POOL
+                && bytes <= UINTPTR_MAX - start && usable >= LEAST_POOL;
+    struct pool *pool = good ? entry_of(control, address, usable) : NULL;
+    for (int k = -1; pool != NULL && k < POOLS; k++) {
         uint64_t from = k < 0 ? 0 : (uint64_t)control->pools[k].place + control->pools[k].bytes;
         uint64_t place = from + ((address + FRONT - from) & (TLSF_MOST_ALIGN - 1));
         if (tlsf_heap_add_pool(&control->heap, place, usable) == TLSF_OK) {
@@ -177,12 +172,12 @@ tlsf_t tlsf_create_records(void *mem, size_t bytes, uint32_t records)
 
 tlsf_t tlsf_create(void *mem) { return tlsf_create_records(mem, tlsf_size(), TLSF_RECORDS); }
 
+/* Too few bytes for a heap without records ask for the most of them, and so are refused. */
 tlsf_t tlsf_create_with_pool(void *mem, size_t bytes)
 {
-    size_t records = bytes / 256 < 64 ? 64 : bytes / 256;
+    size_t records = (bytes - tlsf_size_records(0)) / BYTES_A_RECORD + 1;
     records = records > TLSF_HEAP_RECORDS_MOST ? TLSF_HEAP_RECORDS_MOST : records;
-    tlsf_t tlsf = tlsf_create_records(mem, bytes, (uint32_t)records);
-    return tlsf_get_pool(tlsf) == NULL ? NULL : tlsf;
+    return tlsf_get_pool(tlsf_create_records(mem, bytes, (uint32_t)records)) == NULL ? NULL : mem;
 }
 
 /* All its memory was handed in: there is nothing to give back. */
@@ -223,7 +218,7 @@ static bool find(const struct control *control, const void *ptr, tlsf_heap_block
     return false;
 }
 
-size_t tlsf_live_size(tlsf_t tlsf, void *ptr)
+size_t tlsf_live_size(tlsf_t tlsf, const void *ptr)
 {
     struct control *control = control_of(tlsf);
     tlsf_heap_block block = {0, 0};
@@ -242,17 +237,26 @@ size_t tlsf_block_size(void *ptr)
     return tlsf_live_size(front.control, ptr);
 }
 
+/* Where no free block is of a class that surely has the bytes, the first of the class below may
+ * have them. A smaller block is begun there, and grows. */
 void *tlsf_memalign(tlsf_t tlsf, size_t align, size_t bytes)
 {
     struct control *control = control_of(tlsf);
     tlsf_heap_block block = {0, 0};
+    size_t whole = (bytes + FRONT + UNIT - 1) / UNIT * UNIT;
     if (control == NULL || bytes == 0 || bytes > TLSF_HEAP_GREATEST - FRONT
         || align > TLSF_MOST_ALIGN || (align & (align - 1)) != 0) {
         return NULL;
     }
-    uint32_t status = align <= UNIT
-                          ? tlsf_heap_malloc(&control->heap, bytes + FRONT, &block)
-                          : tlsf_heap_memalign(&control->heap, align, bytes + FRONT, &block);
+    uint32_t status = align <= UNIT ? tlsf_heap_malloc(&control->heap, whole, &block)
+                                    : tlsf_heap_memalign(&control->heap, align, whole, &block);
+    size_t less = status == TLSF_NO_FIT && align <= UNIT ? tlsf_heap_class_low(whole) : whole;
+    if (less < whole && tlsf_heap_malloc(&control->heap, less, &block) == TLSF_OK) {
+        status = tlsf_heap_realloc(&control->heap, block, whole, &block);
+        if (status != TLSF_OK) {
+            tlsf_heap_free(&control->heap, block);
+        }
+    }
     return status == TLSF_OK ? hand_out(control, block) : NULL;
 }
 
@@ -268,24 +272,23 @@ void tlsf_free(tlsf_t tlsf, void *ptr)
 }
 
 /* The heap gives the new block before the old one is free: so they don't overlap. No one gets the
- * old one's bytes before the next call. */
+ * old one's bytes before the next call. Only a block that grows gets another place. */
 void *tlsf_realloc(tlsf_t tlsf, void *ptr, size_t size)
 {
     struct control *control = control_of(tlsf);
     tlsf_heap_block block = {0, 0}, given = {0, 0};
-    size_t had = size == 0 ? 0 : tlsf_live_size(tlsf, ptr);
-    if (ptr == NULL) {
+    uint32_t had = FRONT;
+    if (ptr == NULL || size == 0) {
+        tlsf_free(tlsf, ptr);
         return tlsf_malloc(tlsf, size);
     }
-    if (size == 0) {
-        tlsf_free(tlsf, ptr);
-    }
-    if (size == 0 || size > TLSF_HEAP_GREATEST - FRONT || !find(control, ptr, &block)
+    if (size > TLSF_HEAP_GREATEST - FRONT || !find(control, ptr, &block)
+        || tlsf_heap_block_size(&control->heap, block, &had) != TLSF_OK
         || tlsf_heap_realloc(&control->heap, block, size + FRONT, &given) != TLSF_OK) {
         return NULL;
     }
     void *other = hand_out(control, given);
-    return other == ptr || other == NULL ? other : memcpy(other, ptr, had < size ? had : size);
+    return other == ptr || other == NULL ? other : memcpy(other, ptr, had - FRONT);
 }
 
 /* The control part of a pool's heap, or a null pointer where the pool isn't there. */

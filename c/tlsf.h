@@ -27,8 +27,8 @@ typedef void *pool_t;
 tlsf_t tlsf_create(void *mem);
 
 /* A heap and its first pool, in `bytes` bytes, or a null pointer where tlsf_add_pool would refuse
- * the pool. It has a record for each 256 bytes, at least 64 and at most 65,535. Each block takes a
- * record, live or free. */
+ * the pool. It has one record, and one more for each 112 bytes above tlsf_size_records(0), at most
+ * 65,535. Each block takes a record, live or free. */
 tlsf_t tlsf_create_with_pool(void *mem, size_t bytes);
 
 /* A heap with `records` records, from 1 to 65,535, and a pool in what is left of the bytes, where
@@ -51,8 +51,9 @@ pool_t tlsf_add_pool(tlsf_t tlsf, void *mem, size_t bytes);
 /* The pool is gone, unless a block of it is live: then it stays. */
 void tlsf_remove_pool(tlsf_t tlsf, pool_t pool);
 
-/* A block, or a null pointer; for no bytes a null pointer. At most 1,056,964,592 bytes are served:
- * a block has more only by a realloc that grows it where it is. */
+/* A block, or a null pointer; for no bytes a null pointer. Where a call would answer null for want
+ * of a block that surely has the bytes, one more list is looked at: so a pool that is one free block
+ * serves all its bytes. */
 void *tlsf_malloc(tlsf_t tlsf, size_t bytes);
 
 /* As tlsf_malloc, at a multiple of align: a power of two up to 2^21. */
@@ -72,11 +73,11 @@ size_t tlsf_block_size(void *ptr);
 
 /* The bytes of a live block of this heap, else 0. Nothing is read in front of a pointer into none
  * of its pools (this call isn't Conte's). */
-size_t tlsf_live_size(tlsf_t tlsf, void *ptr);
+size_t tlsf_live_size(tlsf_t tlsf, const void *ptr);
 
 /* The bytes that tlsf_create needs; what a block's address and size are multiples of; the least and
- * the greatest block; what to add to a pool for one block (a multiple of 16); what each block takes
- * beside its bytes. */
+ * the greatest block; how many bytes more than n a pool has to have, so that it serves a block of n
+ * (a multiple of 8, for a program that moves an address by it); what a block takes beside its bytes. */
 size_t tlsf_size(void);
 size_t tlsf_align_size(void);
 size_t tlsf_block_size_min(void);

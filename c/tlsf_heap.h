@@ -63,21 +63,36 @@ extern "C" {
  * 16 for each, 1,664 for the heap itself, and 16 in front of each of these two. */
 #define TLSF_HEAP_TABLE_BYTES(records) (1696u + 16u * (size_t)(records))
 
+/* How far apart the lowest sizes of classes lie where a block of `bytes` bytes belongs: 16 below
+ * 2,048 bytes, and from there on twice as far with each doubling of the size. */
+static inline uint64_t tlsf_heap_class_step(uint64_t bytes)
+{
+    uint64_t step = TLSF_HEAP_UNIT;
+    while (bytes / 64u >= step) {
+        step *= 2u;
+    }
+    return step;
+}
+
+/* The lowest size of the class that a free block of `bytes` bytes, a multiple of 16, is of. */
+static inline uint64_t tlsf_heap_class_low(uint64_t bytes)
+{
+    return bytes - bytes % tlsf_heap_class_step(bytes);
+}
+
 /* The lowest size of the class that a request for `bytes` bytes, at a multiple of `align`, asks the
  * free lists for: from that class on each block has the bytes. 0 where there is no such class, or no
  * such alignment. Take 1 for `align` where blocks aren't aligned. */
 static inline uint32_t tlsf_heap_class_size(uint64_t align, uint64_t bytes)
 {
     uint64_t size = (bytes + TLSF_HEAP_UNIT - 1u) / TLSF_HEAP_UNIT * TLSF_HEAP_UNIT;
-    uint64_t step = TLSF_HEAP_UNIT;
+    uint64_t step;
     if (bytes == 0 || bytes > TLSF_HEAP_GREATEST || align == 0 || align > (1u << 29)
         || (align & (align - 1u)) != 0) {
         return 0;
     }
     size += align > TLSF_HEAP_UNIT ? align - TLSF_HEAP_UNIT : 0;
-    while (size >= 64u * step) {
-        step *= 2u;
-    }
+    step = tlsf_heap_class_step(size);
     size = (size + step - 1u) / step * step;
     return size > 1056964608u ? 0 : (uint32_t)size;
 }
@@ -213,7 +228,8 @@ enum tlsf_status tlsf_heap_realloc(tlsf_heap *heap, tlsf_heap_block block, uint6
 
 /* Gives *out the bytes that a live block has, a multiple of 16. At most one touch.
  * 0, or TLSF_BAD_POINTER unless a live block has both its place and its slot. */
-enum tlsf_status tlsf_heap_block_size(tlsf_heap *heap, tlsf_heap_block block, uint32_t *out);
+enum tlsf_status tlsf_heap_block_size(const tlsf_heap *heap, tlsf_heap_block block,
+                                      uint32_t *out);
 
 /* Puts blocks of the pool that begins at the place base into rows, in order of place. They are
  * those that begin at the place `from` or behind it, as many as `room` has room for. How many there
@@ -222,15 +238,15 @@ enum tlsf_status tlsf_heap_block_size(tlsf_heap *heap, tlsf_heap_block block, ui
  * and one more for each block of the pool.
  * 0, or TLSF_NO_POOL where no pool begins there. Where room is 0, rows still points to a
  * tlsf_heap_row. */
-enum tlsf_status tlsf_heap_walk(tlsf_heap *heap, uint64_t base, uint64_t from, tlsf_heap_row *rows,
-                                size_t room, uint64_t *count);
+enum tlsf_status tlsf_heap_walk(const tlsf_heap *heap, uint64_t base, uint64_t from,
+                                tlsf_heap_row *rows, size_t room, uint64_t *count);
 
 /* Whether the table is whole: its blocks, lists, bitmaps and pools, and the chain of its vacant
  * records. It always is, as is proved; where this is false, something wrote over it, and no call
  * but tlsf_heap_destroy is to be made. Bytes that mean nothing, as those of a vacant record but for
  * its link, aren't looked at. It trusts the heap's own bytes for where the table is and how long.
  * It reads each record: no call for a path that has to be quick. */
-bool tlsf_heap_check(tlsf_heap *heap);
+bool tlsf_heap_check(const tlsf_heap *heap);
 
 /* Puts an image of the heap into the `room` bytes at bytes, as much of it as there is room for, and
  * into *count how many bytes that is. The bytes behind them stay as they were. The heap is
@@ -239,7 +255,7 @@ bool tlsf_heap_check(tlsf_heap *heap);
  * 0 where the whole image is put, or TLSF_NO_ROOM exactly where it has more bytes than `room`.
  * Where room is 0, bytes still points to a byte. TLSF_HEAP_IMAGE_BYTES tells the room that is
  * needed. */
-enum tlsf_status tlsf_heap_save(tlsf_heap *heap, unsigned char *bytes, size_t room,
+enum tlsf_status tlsf_heap_save(const tlsf_heap *heap, unsigned char *bytes, size_t room,
                                 uint64_t *count);
 
 /* Fills *out with the heap of which the `length` bytes at bytes are an image: each block that was

@@ -48,8 +48,8 @@ static _Alignas(16) unsigned char areas_of_program[AREAS / 2][AREA];
 static unsigned char *areas[AREAS];
 static bool area_taken[AREAS];
 static void *stale[STALE];
-static uint64_t calls, served, refused, table_full, no_fit, moved, grown, bad_pointers, pools_added,
-    pools_gone, pools_kept, pools_refused;
+static uint64_t calls, served, refused, table_full, no_fit, moved, grown, tight, bad_pointers,
+    pools_added, pools_gone, pools_kept, pools_refused;
 
 static uint64_t state;
 
@@ -172,6 +172,19 @@ static bool may_refuse(const struct heap *heap, size_t m, size_t align)
     return false;
 }
 
+/* A malloc gives a block though none is of a class that surely has the bytes: each of the class
+ * below has them. */
+static bool has_below(const struct heap *heap, size_t m, size_t align)
+{
+    size_t fitting = 0, others = 0;
+    for (size_t k = 0; k < heap->count; k++) {
+        bool of = m != 0 && is_of(&heap->blocks[k], class_of(m));
+        fitting += of && heap->blocks[k].size >= m;
+        others += of && heap->blocks[k].size < m;
+    }
+    return align <= 16 && fitting > 0 && others == 0 && heap->count < heap->records;
+}
+
 /* The block at `at` becomes a rest, a live block and a rest. */
 static void split(struct heap *heap, size_t at, unsigned char *start, size_t m)
 {
@@ -200,12 +213,16 @@ static void split(struct heap *heap, size_t at, unsigned char *start, size_t m)
 static bool takes(struct heap *heap, unsigned char *given, size_t m, size_t align)
 {
     uint64_t class = best_class(heap, align <= 16 ? m : m + align - 16);
+    bool below = class == CLASSES && align <= 16 && m != 0;
+    class = below ? class_of(m) : class;
+    tight += below;
     for (size_t k = 0; k < heap->count; k++) {
         struct block *block = &heap->blocks[k];
         if (given > block->start && given < block->start + block->size) {
             unsigned char *start = given - FRONT;
-            if (m == 0 || !is_of(block, class) || start != start_in(block, align)
-                || heap->count + rests(block, align, m) > heap->records) {
+            size_t more = below ? 1 : rests(block, align, m);
+            if (m == 0 || !is_of(block, class) || block->size < m
+                || start != start_in(block, align) || heap->count + more > heap->records) {
                 return false;
             }
             size_t at = k + (start > block->start);
@@ -306,9 +323,16 @@ static size_t some_bytes(void)
     }
 }
 
+/* All the bytes that some free block can serve. */
+static size_t all_bytes(const struct heap *heap)
+{
+    const struct block *block = &heap->blocks[heap->count == 0 ? 0 : below(heap->count)];
+    return heap->count == 0 || block->live ? some_bytes() : block->size - FRONT;
+}
+
 static bool ask_for_block(struct heap *heap)
 {
-    size_t bytes = some_bytes(), m = rounded(bytes),
+    size_t bytes = below(8) == 0 ? all_bytes(heap) : some_bytes(), m = rounded(bytes),
            align = below(3) == 0 ? (size_t)1 << below(13) : 16;
     bool bad = below(40) == 0;
     if (bad) {
@@ -320,7 +344,7 @@ static bool ask_for_block(struct heap *heap)
     align = align < 16 ? 16 : align;
     if (given == NULL) {
         refused++;
-        return bad || may_refuse(heap, m, align);
+        return bad || (may_refuse(heap, m, align) && !has_below(heap, m, align));
     }
     served++;
     return !bad && (uintptr_t)given % align == 0 && takes(heap, given, m, align);
@@ -381,7 +405,8 @@ static bool ask_for_realloc(struct heap *heap)
     size_t bytes = some_bytes(), m = rounded(bytes), at = some_live(heap);
     if (at == MOST_RECORDS) {
         unsigned char *given = (unsigned char *)tlsf_realloc(heap->tlsf, NULL, bytes);
-        return given == NULL ? may_refuse(heap, m, 16) : takes(heap, given, m, 16);
+        return given == NULL ? may_refuse(heap, m, 16) && !has_below(heap, m, 16)
+                             : takes(heap, given, m, 16);
     }
     if (bytes == 0) {
         return true;
@@ -597,6 +622,7 @@ int main(int argc, char **argv)
            "blocks that are given, that move and that grow");
     expect(no_fit > calls / 1000 && table_full > calls / 1000 && refused > 0,
            "calls refused: no fit, table full");
+    expect(tight > calls / 1000, "blocks of the class below");
     expect(bad_pointers > calls / 100, "pointers refused");
     expect(pools_added > calls / 1000 && pools_gone > calls / 1000 && pools_kept > calls / 1000
                && pools_refused > calls / 1000,

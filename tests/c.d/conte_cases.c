@@ -69,7 +69,7 @@ static void exact_memory(void)
 
 static void creates(void)
 {
-    size_t least = control_bytes(64) + 32;
+    size_t least = control_bytes(1) + 32;
     expect(tlsf_create(NULL) == NULL && tlsf_create_with_pool(NULL, 1 << 20) == NULL,
            "no memory, no heap");
     expect(tlsf_create(memory + 4) == NULL && tlsf_create_with_pool(memory + 1, 1 << 15) == NULL,
@@ -102,7 +102,7 @@ static void creates(void)
     expect(tlsf_malloc(memory + 4, 1) == NULL && tlsf_check(memory + 4) == -1,
            "no heap is at a multiple of 4");
     bool refused = true;
-    for (size_t few = 1; few < control_bytes(64) + 32; few += 7) {
+    for (size_t few = 1; few < least; few += 7) {
         void *little = malloc(few);
         refused = refused && little != NULL && tlsf_create_with_pool(little, few) == NULL
                   && tlsf_create_records(little, few, 63 + (uint32_t)few) == NULL;
@@ -128,11 +128,44 @@ static void records(void)
 {
     size_t bytes = (size_t)17 << 20;
     void *large = aligned_alloc(16, bytes);
-    expect(has_records(memory, 8192, 64), "8 KiB: 64 records");
-    expect(has_records(memory, 16384 + 256, 65), "one for each 256 bytes above 16 KiB");
-    expect(has_records(memory, 65536, 256), "64 KiB: 256 records");
-    expect(has_records(large, bytes, 65535), "17 MiB: 65,535 records");
+    bool each = true;
+    for (size_t k = 1; k < 60; k++) {
+        each = each && has_records(memory, tlsf_size_records(0) + 112 * k, k + 1)
+               && has_records(memory, tlsf_size_records(0) + 112 * k - 16, k);
+    }
+    expect(each, "one record, and one more for each 112 bytes that a heap without records leaves");
+    expect(has_records(large, tlsf_size_records(0) + 112 * 65534, 65535), "65,535 records");
+    expect(has_records(large, bytes, 65535), "and no more");
     free(large);
+}
+
+/* How many blocks of this size a heap has, until one is refused. It has this number of records, or
+ * for 0 as many as tlsf_create_with_pool gives it. */
+static size_t filled(size_t bytes, size_t size, uint32_t records)
+{
+    void *area = aligned_alloc(16, bytes);
+    tlsf_t tlsf = records == 0 ? tlsf_create_with_pool(area, bytes)
+                               : tlsf_create_records(area, bytes, records);
+    size_t blocks = 0;
+    for (void *one = tlsf_malloc(tlsf, size); one != NULL; one = tlsf_malloc(tlsf, size)) {
+        memset(one, 0xff, size);
+        blocks++;
+    }
+    blocks = tlsf_check(tlsf) == 0 ? blocks : 0;
+    free(area);
+    return blocks;
+}
+
+/* Of 1,000 bytes a block takes 1,024, and a record 16. So 9,346 records leave 1 MiB room for 876,
+ * and 1,007 for 1,006. */
+static void capacities(void)
+{
+    expect(filled(65536, 64, 0) >= 560, "64 KiB: at least 560 blocks of 64 bytes");
+    expect(filled(1 << 20, 64, 0) >= 9300, "1 MiB: at least 9,300 blocks of 64 bytes");
+    expect(filled(1 << 20, 1000, 0) == 876, "1 MiB: 876 blocks of 1,000 bytes");
+    expect(filled(64 << 20, 16, 0) == 65534, "64 MiB: a block of 16 bytes for each record but one");
+    expect(filled(1 << 20, 1000, 1046656 / 1040 + 1) == 1006,
+           "1 MiB, a record for each 1,040 bytes: 1,006 blocks of 1,000 bytes");
 }
 
 static void limits(void)
@@ -146,11 +179,12 @@ static void limits(void)
         fits = fits && tlsf_add_pool(tlsf, memory, n + tlsf_pool_overhead()) != NULL
                && tlsf_malloc(tlsf, n) != NULL;
         tlsf = tlsf_create(other_memory);
-        tlsf_add_pool(tlsf, memory + 8, n + tlsf_pool_overhead() - 1);
-        least = least && tlsf_malloc(tlsf, n) == NULL;
+        tlsf_add_pool(tlsf, memory + 8, n + 1 + tlsf_pool_overhead() - 8);
+        least = least && tlsf_malloc(tlsf, n + 1) == NULL;
     }
     expect(fits && least,
-           "tlsf_pool_overhead() more bytes are enough for a block, and one less isn't");
+           "tlsf_pool_overhead() more bytes are enough for a block, and eight less aren't");
+    expect(tlsf_pool_overhead() % 8 == 0, "a pool may begin so many bytes behind another address");
     tlsf_t tlsf = tlsf_create_with_pool(memory, sizeof memory);
     void *one = tlsf_malloc(tlsf, 1);
     expect(tlsf_block_size(one) == tlsf_block_size_min() && tlsf_block_size_min() == 16,
@@ -168,6 +202,56 @@ static void limits(void)
            "more bytes than there are");
     expect(tlsf_block_size(one) == 16 && tlsf_check(tlsf) == 0,
            "a refused realloc leaves its block");
+}
+
+/* Whether a pool that has tlsf_pool_overhead() more bytes serves this block, and no more bytes than
+ * it has. */
+static bool pool_serves(tlsf_t tlsf, unsigned char *at, size_t bytes)
+{
+    pool_t pool = tlsf_add_pool(tlsf, at, bytes + tlsf_pool_overhead());
+    void *one = tlsf_malloc(tlsf, bytes);
+    bool good = one != NULL && tlsf_block_size(one) >= bytes && tlsf_check(tlsf) == 0
+                && tlsf_malloc(tlsf, bytes + tlsf_pool_overhead()) == NULL;
+    tlsf_free(tlsf, one);
+    tlsf_remove_pool(tlsf, pool);
+    return good && tlsf_get_pool(tlsf) == NULL;
+}
+
+static void overheads(unsigned char *large)
+{
+    tlsf_t tlsf = tlsf_create_records(memory, control_bytes(4), 4);
+    bool each = true, units = true, doubled = true;
+    for (size_t n = 1; n <= 20000; n++) {
+        each = each && pool_serves(tlsf, large + n % 2 * 8, n);
+    }
+    expect(each, "a pool for each block of 1 to 20,000 bytes");
+    for (size_t n = 16; n <= 99984; n += 16) {
+        units = units && pool_serves(tlsf, large, n) && pool_serves(tlsf, large + 8, n);
+    }
+    expect(units, "12,498 pools, each of one block, of a multiple of 16 to 99,984 bytes");
+    for (size_t n = 1 << 16; n < GIGABYTE; n *= 2) {
+        doubled = doubled && pool_serves(tlsf, large + 8, n - 17) && pool_serves(tlsf, large, n + 1)
+                  && pool_serves(tlsf, large, n + n / 64);
+    }
+    expect(doubled, "and pools up to some 520 MiB");
+}
+
+/* The first block of the list below is tried, and no other; what was tried is whole again. */
+static void tight_fits(void)
+{
+    tlsf_t tlsf = tlsf_create_records(memory, control_bytes(2), 2);
+    tlsf_add_pool(tlsf, other_memory, 2064 + 16);
+    expect(tlsf_malloc(tlsf, 2064 + 1) == NULL && has(tlsf_get_pool(tlsf), 0, 1)
+               && tlsf_check(tlsf) == 0,
+           "one byte more than a pool has is refused, and the pool is one free block");
+    void *one = tlsf_malloc(tlsf, 2064);
+    expect(one != NULL && has(tlsf_get_pool(tlsf), 1, 0), "all that it has is served");
+    tlsf = tlsf_create_records(memory, control_bytes(1), 1);
+    tlsf_add_pool(tlsf, other_memory, 2064 + 16);
+    expect(tlsf_malloc(tlsf, 2064) == NULL && has(tlsf_get_pool(tlsf), 0, 1),
+           "with one record it isn't: the smaller block has a rest");
+    expect(tlsf_memalign(tlsf, 32, 2064) == NULL && has(tlsf_get_pool(tlsf), 0, 1),
+           "nor with an alignment above 16");
 }
 
 static void alignments(unsigned char *large)
@@ -264,9 +348,13 @@ static void greatest(unsigned char *large)
                && tlsf_malloc(tlsf, tlsf_block_size_max() + 1) == NULL,
            "a greater one");
     tlsf_free(tlsf, whole);
-    expect(tlsf_malloc(tlsf, 1056964593) == NULL, "a malloc above 1,056,964,592 bytes is refused");
-    one = tlsf_malloc(tlsf, 1056964592);
-    expect(one != NULL, "a malloc of 1,056,964,592 bytes is served");
+    for (size_t bytes = 1056964592; bytes <= tlsf_block_size_max(); bytes += 1048575) {
+        one = tlsf_malloc(tlsf, bytes);
+        expect(one != NULL, "a malloc beyond the lowest size of the last class");
+        tlsf_free(tlsf, one);
+    }
+    one = tlsf_malloc(tlsf, tlsf_block_size_max());
+    expect(one != NULL && has(pool, 1, 0), "a malloc of the greatest block");
     tlsf_free(tlsf, one);
     expect(tlsf_create_with_pool(large, 2 * GIGABYTE) == NULL,
            "a heap with a pool above the greatest");
@@ -570,11 +658,13 @@ int main(void)
     exact_memory();
     creates();
     records();
+    capacities();
     limits();
     unsigned char *large = (unsigned char *)mmap(
         NULL, room, PROT_READ | PROT_WRITE, MAP_PRIVATE | MAP_ANONYMOUS | MAP_NORESERVE, -1, 0);
     expect((void *)large != MAP_FAILED, "4 GiB of addresses");
     if ((void *)large != MAP_FAILED) {
+        overheads(large);
         alignments(large);
         great_alignments(large);
         greatest(large);
@@ -582,6 +672,7 @@ int main(void)
         places_between(large);
         munmap(large, room);
     }
+    tight_fits();
     pools();
     side_by_side();
     pointers();

@@ -35,6 +35,18 @@ static struct word *push(tlsf_t tlsf, struct word *list, const char *text)
     return word;
 }
 
+/* The types of his calls, as a program that keeps their addresses has them. */
+static const struct {
+    void *(*allocate)(tlsf_t, size_t);
+    void *(*align)(tlsf_t, size_t, size_t);
+    void *(*resize)(tlsf_t, void *, size_t);
+    void (*release)(tlsf_t, void *);
+    size_t (*size)(void *);
+    pool_t (*pool)(tlsf_t);
+    int (*check)(tlsf_t);
+} calls = {tlsf_malloc, tlsf_memalign, tlsf_realloc, tlsf_free,
+           tlsf_block_size, tlsf_get_pool, tlsf_check};
+
 int main(void)
 {
     tlsf_t tlsf = tlsf_create_with_pool(memory, sizeof(memory));
@@ -65,7 +77,9 @@ int main(void)
     tlsf_walk_pool(pool, NULL, NULL);
     printf("check: %d, pools: %d %d\n", tlsf_check(tlsf), tlsf_check_pool(tlsf_get_pool(tlsf)),
            tlsf_check_pool(pool));
-    line = (char *)tlsf_realloc(tlsf, line, 0);
+    line = (char *)calls.resize(tlsf, line, 0);
+    calls.release(tlsf, calls.align(tlsf, 64, calls.size(calls.allocate(tlsf, 40))));
+    printf("check: %d\n", calls.check(tlsf) + (calls.pool(tlsf) == NULL));
     tlsf_remove_pool(tlsf, pool);
     tlsf_destroy(tlsf);
     printf("limits: %d\n", tlsf_block_size_min() <= 64 && tlsf_block_size_max() >= 1 << 20

@@ -56,6 +56,15 @@ static void class_sizes(void)
                && tlsf_heap_class_size(1, low(class) - 15) == low(class);
     }
     expect(same, "each class's own");
+    same = true;
+    for (uint64_t class = 1; class < CLASSES; class++) {
+        uint64_t next = class + 1 < CLASSES ? low(class + 1) : TLSF_HEAP_GREATEST + 16;
+        same = same && tlsf_heap_class_step(low(class)) == next - low(class)
+               && tlsf_heap_class_step(next - 16) == next - low(class)
+               && tlsf_heap_class_low(low(class)) == low(class)
+               && tlsf_heap_class_low(next - 16) == low(class);
+    }
+    expect(same && tlsf_heap_class_step(UINT64_MAX) >> 58 == 1, "the class that a block is of");
     same = tlsf_heap_class_size(1, 0) == 0 && tlsf_heap_class_size(1, 1056964609) == 0
            && tlsf_heap_class_size(0, 16) == 0 && tlsf_heap_class_size(24, 16) == 0
            && tlsf_heap_class_size(1u << 30, 16) == 0 && tlsf_heap_class_size(1, UINT64_MAX) == 0
