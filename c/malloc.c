@@ -113,10 +113,10 @@ static void finish(void)
 }
 
 /* For the report: a call with this address, or none, whose block had some bytes and that asked for
- * others. */
+ * others. Where none is written `had` is 0, and only calls that don't matter are counted. */
 static void count(const void *address, size_t had, size_t asked, void *given)
 {
-    if ((address != NULL && had == 0) || (asked != 0 && given == NULL)) {
+    if (report_to < 0 || (address != NULL && had == 0) || (asked != 0 && given == NULL)) {
         refused++;
         return;
     }
@@ -134,11 +134,11 @@ static void *serve(void *address, size_t align, size_t bytes)
     size_t had = report_to < 0 ? 0 : tlsf_live_size(heap, address);
     void *given = address == NULL ? tlsf_memalign(heap, align, wanted)
                                   : tlsf_realloc(heap, address, wanted);
-    if (report_to >= 0) {
-        count(address, had, wanted, given);
-    }
+    count(address, had, wanted, given);
     finish();
-    errno = wanted != 0 && given == NULL ? ENOMEM : errno;
+    if (wanted != 0 && given == NULL) {
+        errno = ENOMEM;
+    }
     return given;
 }
 

@@ -280,7 +280,7 @@ void *tlsf_realloc(tlsf_t tlsf, void *ptr, size_t size)
     uint32_t had = FRONT;
     if (ptr == NULL || size == 0) {
         tlsf_free(tlsf, ptr);
-        return tlsf_malloc(tlsf, size);
+        return size == 0 ? NULL : tlsf_malloc(tlsf, size);
     }
     if (size > TLSF_HEAP_GREATEST - FRONT || !find(control, ptr, &block)
         || tlsf_heap_block_size(&control->heap, block, &had) != TLSF_OK
