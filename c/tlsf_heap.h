@@ -1,6 +1,6 @@
 /* tlsf_heap.h: a heap with bounded calls (Two-Level Segregated Fit), for C programs.
  *
- * Thirteen calls are those of a proved library: docs/C.md says what is proved, and how to link it.
+ * Fifteen calls are those of a proved library: docs/C.md says what is proved, and how to link it.
  * The two calls over memory of the program's own, tlsf_heap_create_in and tlsf_heap_load_in, and
  * what stands as C in this header, aren't proved.
  *
@@ -230,6 +230,15 @@ enum tlsf_status tlsf_heap_realloc(tlsf_heap *heap, tlsf_heap_block block, uint6
  * 0, or TLSF_BAD_POINTER unless a live block has both its place and its slot. */
 enum tlsf_status tlsf_heap_block_size(const tlsf_heap *heap, tlsf_heap_block block,
                                       uint32_t *out);
+
+/* How many records are in use: one for each block, live or free. At most one touch. */
+uint32_t tlsf_heap_records_used(const tlsf_heap *heap);
+
+/* The most bytes for which tlsf_heap_malloc finds a block now, and 0 where no block is free: it
+ * never answers TLSF_NO_FIT for as many or fewer, and does for more. At most 2 touches. The largest
+ * free block has at least as many bytes, and is below the next class: less than
+ * tlsf_heap_class_step more. */
+uint32_t tlsf_heap_largest_request(const tlsf_heap *heap);
 
 /* Puts blocks of the pool that begins at the place base into rows, in order of place. They are
  * those that begin at the place `from` or behind it, as many as `room` has room for. How many there

@@ -425,6 +425,17 @@ static bool agrees(void)
     return seen == count && tlsf_heap_check(&heap);
 }
 
+/* Each block of the model has a record, and the largest request is the lowest size of the greatest class with a free one. */
+static bool figures_agree(void)
+{
+    uint64_t largest = 0;
+    for (uint64_t k = 0; k < count; k++) {
+        uint64_t bytes = blocks[k].live ? 0 : low(class_of(blocks[k].size));
+        largest = bytes > largest ? bytes : largest;
+    }
+    return tlsf_heap_records_used(&heap) == count && tlsf_heap_largest_request(&heap) == largest;
+}
+
 static bool run(uint64_t seed, uint64_t how_many)
 {
     state = seed * 0x9e3779b97f4a7c15u + 1;
@@ -440,7 +451,7 @@ static bool run(uint64_t seed, uint64_t how_many)
         uint64_t kind = below(40);
         calls++;
         good = kind < 18 ? ask_for_block() : kind < 30 ? ask_for_free() : kind < 37 ? ask_for_realloc() : ask_for_pool();
-        good = good && agrees();
+        good = good && agrees() && figures_agree();
     }
     tlsf_heap_destroy(&heap);
     return good;

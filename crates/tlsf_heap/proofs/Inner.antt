@@ -1,4 +1,5 @@
 -- Lemmas on what the linked records of a heap stand for.
+pub mod Largest
 pub mod Plugs
 pub mod Links
 pub mod Reads

@@ -1,8 +1,11 @@
--- What readings of a pool's rows give.
-use Rattle.std.specs.Prelude.{◌≡◌, ℕ, List, [], ◌∷◌, Option, IfSome, IfNone, Result, Ok, Err, IfOk, IfErr}
+-- What readings give: of a pool's rows, and of all free lists.
+use Rattle.std.specs.Prelude.{◌≡◌, ◌≢◌, ℕ, ◌<◌, ◌≤◌, List, [], ◌∷◌, Option, IfSome, IfNone, Result, Ok, Err, IfOk, IfErr}
 use Rattle.tlsf_heap.specs.declared.row.Row.{Row}
 use Rattle.tlsf_heap.specs.declared.cursor.Cursor.{Cursor}
 use Rattle.tlsf_heap.specs.declared.refusal.Refusal.{Refusal}
+use Rattle.tlsf_heap.specs.declared.refusal.Refusal.TheVariants.{NoFit}
+use Rattle.tlsf_heap.specs.Content.{Content}
+use Rattle.tlsf_heap.specs.Malloc.{malloc}
 use Rattle.tlsf_heap.specs.Touches.{AtMost}
 
 -- the cursor at the first of these rows, or why there are none. `rest` has the rows from a cursor on, and `stands_at` says
@@ -22,3 +25,8 @@ pub record GivesRow (result : Option (Row × Cursor)) (rows : List Row) (rest : 
 pub record TouchesForRow (n : ℕ) (result : Option (Row × Cursor)) (old new : ℕ) : Type 0 where
   pub bound : IfSome result (λ given. AtMost n old new)
   pub no_touch : IfNone result (new ≡ old)
+
+-- malloc finds a block for each request of at most so many bytes, and for none of more
+pub record IsLargestRequest (bytes : ℕ) (content : Content ℕ) : Type 0 where
+  pub found : (slot n : ℕ) → n ≤ bytes → malloc slot n content ≢ Err NoFit
+  pub no_fit : (slot n : ℕ) → bytes < n → malloc slot n content ≡ Err NoFit

@@ -8,7 +8,7 @@ use crate::image::{Image, put_image};
 use crate::load::stored;
 use crate::malloc::malloc;
 use crate::memalign::memalign;
-use crate::readings::{block_size, first, row};
+use crate::readings::{block_size, first, largest_request, records_used, row};
 use crate::realloc::realloc;
 use crate::remove_pool::remove_pool;
 use crate::walk::walk;
@@ -48,7 +48,8 @@ impl Heap {
     ghost use Rattle.tlsf_heap.specs.Good.{IsGood};
     ghost use Rattle.tlsf_heap.specs.GoodSlots.{HasGoodSlots};
     ghost use Rattle.tlsf_heap.specs.Served.{IsServed, IsMoved, Refuses};
-    ghost use Rattle.tlsf_heap.specs.Readings.{FindsRows, GivesRow, TouchesForRow};
+    ghost use Rattle.tlsf_heap.specs.Readings.{FindsRows, GivesRow, TouchesForRow, IsLargestRequest};
+    ghost use Rattle.tlsf_heap.specs.Content.{used_records};
     ghost use Rattle.tlsf_heap.specs.Malloc.{malloc as served};
     ghost use Rattle.tlsf_heap.specs.Memalign.{memalign as aligned};
     ghost use Rattle.tlsf_heap.specs.Pointer.{free_ptr, realloc_ptr, block_size_ptr};
@@ -258,6 +259,23 @@ impl Heap {
         ensures read { Reads block_size_touches self.old self.new }
     {
         block_size(&mut self.store, ptr)
+    }
+
+    /// How many records are in use: one for each block, live or free. At most one touch.
+    pub fn records_used(&mut self) -> u32
+        ensures value { result ≡ used_records self.old.content }
+        ensures read { Reads 1 self.old self.new }
+    {
+        records_used(&mut self.store)
+    }
+
+    /// The most bytes for which `malloc` finds a block now, and 0 where no block is free: it never answers `NoFit` for as
+    /// many or fewer, and does for more. At most two touches.
+    pub fn largest_request(&mut self) -> u32
+        ensures largest { IsLargestRequest result self.old.content }
+        ensures read { Reads 2 self.old self.new }
+    {
+        largest_request(&mut self.store)
     }
 
     /// Where each pool begins and how many bytes it has, in order of base. At most eight touches.

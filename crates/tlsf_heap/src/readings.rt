@@ -1,19 +1,22 @@
-//! Readings: the first row of a pool, and the rows behind it.
+//! Readings: the rows of a pool, the size of a block, the records in use, and the greatest request.
 
 ghost use Rattle.std.specs.Prelude.{◌≡◌, ◌+◌, ◌-◌, ◌<◌, ◌≤◌, Ok, Err, IfOk, IfErr};
 ghost use Rattle.tlsf_store.specs.Cells.{most_pools};
 ghost use Rattle.tlsf_heap.specs.Touches.{block_size_touches};
+ghost use Rattle.tlsf_heap.specs.Content.{used_records};
 ghost use Rattle.tlsf_heap.specs.Inner.Following.{Stands, content_of};
 ghost use Rattle.tlsf_heap.specs.Inner.Entries.{entries_of};
 ghost use Rattle.tlsf_heap.specs.Rows.{rows_from};
 ghost use Rattle.tlsf_heap.specs.Pointer.{block_size_ptr};
-ghost use Rattle.tlsf_heap.specs.Readings.{FindsRows, GivesRow, TouchesForRow};
+ghost use Rattle.tlsf_heap.specs.Readings.{FindsRows, GivesRow, TouchesForRow, IsLargestRequest};
 ghost use Rattle.tlsf_heap.specs.Cursors.{rows_by, rows_behind, is_at_row, slot_for, begins_below, slot_if, AreInOrder, IsNarrowed};
 ghost use Rattle.tlsf_store.specs.CountedCells.{LeavesAfter};
 ghost use Rattle.tlsf_heap.specs.Inner.Answers.{Leaves};
 
 use crate::free::live;
+use crate::search::last_class;
 use crate::{Cursor, Ptr, Refusal, Row};
+use tlsf_class::low;
 use tlsf_store::{MOST_POOLS, Pool, Slot, Store};
 
 /// Half of the pool entries.
@@ -144,4 +147,26 @@ pub(crate) fn block_size(store: &mut Store, ptr: Ptr) -> Result<u32, Refusal>
         return Err(Refusal::BadPointer);
     };
     Ok(block.size)
+}
+
+/// How many records are in use: one a block. At most one touch.
+pub(crate) fn records_used(store: &mut Store) -> u32
+    requires { Stands store.old.cells }
+    ensures value { result ≡ used_records (content_of store.old.cells) }
+    ensures left { Leaves store.old.cells 1 store.old store.new }
+{
+    store.records() - store.vacant()
+}
+
+/// The most bytes for which the lists have a block: the lowest size of the last class whose list isn't empty, and 0 where
+/// all are. At most two touches.
+pub(crate) fn largest_request(store: &mut Store) -> u32
+    requires { Stands store.old.cells }
+    ensures value { IsLargestRequest result (content_of store.old.cells) }
+    ensures left { Leaves store.old.cells 2 store.old store.new }
+{
+    match last_class(store) {
+        Some(class) => low(class),
+        None => 0,
+    }
 }

@@ -1,7 +1,8 @@
 //! The search for a free block, by the bitmaps.
 
-ghost use Rattle.std.specs.Prelude.{◌≡◌, ◌+◌, ◌*◌, ◌≤◌, length, drop, IfSome, IfNone};
+ghost use Rattle.std.specs.Prelude.{◌≡◌, ◌≢◌, ℕ, ◌+◌, ◌*◌, ◌<◌, ◌≤◌, length, drop, None, IfSome, IfNone};
 ghost use Rattle.tlsf_class.specs.Classes.{steps, levels, classes};
+ghost use Rattle.tlsf_store.specs.Cells.{head_at};
 ghost use Rattle.tlsf_heap.specs.Images.Bitmaps.{AreBitmapsOf};
 ghost use Rattle.tlsf_heap.specs.Inner.Bitmaps.{HasNoBit, IsLowestFrom, first_head};
 ghost use Rattle.tlsf_heap.specs.Inner.Answers.{Leaves};
@@ -57,4 +58,25 @@ fn search_levels(store: &mut Store, from: u32) -> Option<Slot>
         return None;
     };
     store.head(Class::new(level * STEPS + step))
+}
+
+/// The last class whose list isn't empty. At most two touches.
+pub(crate) fn last_class(store: &mut Store) -> Option<Class>
+    requires bitmaps { AreBitmapsOf store.old.cells.heads store.old.cells.step_words store.old.cells.level_word }
+    requires count { length store.old.cells.heads ≡ classes }
+    ensures within { IfSome result (λ class. class < classes) }
+    ensures found { IfSome result (λ class. head_at store.old.cells.heads class ≢ None) }
+    ensures last { IfSome result (λ class. (later : ℕ) → class < later → later < classes → head_at store.old.cells.heads later ≡ None) }
+    ensures none { IfNone result ((class : ℕ) → class < classes → head_at store.old.cells.heads class ≡ None) }
+    ensures left { Leaves store.old.cells 2 store.old store.new }
+{
+    let word = store.level_word();
+    let Some(level) = word.checked_ilog2() else {
+        return None;
+    };
+    let word = store.step_word(level);
+    let Some(step) = word.checked_ilog2() else {
+        return None;
+    };
+    Some(Class::new(level * STEPS + step))
 }

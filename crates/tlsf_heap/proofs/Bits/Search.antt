@@ -58,14 +58,14 @@ first_is (Some slot) heads is = refl
 
 module _ (heads : List (Option ℕ)) (words : List ℕ) (level_word : ℕ) (bitmaps : AreBitmapsOf heads words level_word) (count : length heads ≡ classes) where
   -- no bit, no head
-  no_bit_no_head : (k : ℕ) → k < classes → bit_at (get_or words (k / steps) 0) (k % steps) ≡ 0 → head_at heads k ≡ None
+  pub no_bit_no_head : (k : ℕ) → k < classes → bit_at (get_or words (k / steps) 0) (k % steps) ≡ 0 → head_at heads k ≡ None
   no_bit_no_head k within none = no_head (head_at heads k) (sym (bitmaps.by_class k within) ∙ none)
 
-  no_head_of_level : (level k : ℕ) → k < classes → k / steps ≡ level → get_or words level 0 ≡ 0 → head_at heads k ≡ None
+  pub no_head_of_level : (level k : ℕ) → k < classes → k / steps ≡ level → get_or words level 0 ≡ 0 → head_at heads k ≡ None
   no_head_of_level level k within of none =
       no_bit_no_head k within (ap (λ l. bit_at (get_or words l 0) (k % steps)) of ∙ ap (λ w. bit_at w (k % steps)) none ∙ bit_at-zero (k % steps))
 
-  no_level_no_word : (level : ℕ) → level < levels → bit_at level_word level ≡ 0 → get_or words level 0 ≡ 0
+  pub no_level_no_word : (level : ℕ) → level < levels → bit_at level_word level ≡ 0 → get_or words level 0 ≡ 0
   no_level_no_word level within none = elim (cases_eq (get_or words level 0) 0) [
     | inl is ↦ is
     | inr some ↦

@@ -22,6 +22,27 @@ module _ {A : Type 0} (owner : A) (n : ℕ) (content : Content A) where
   pub picked_is_served : n ≢ 0 → (asked place : ℕ) → round n ≡ Some asked → pick asked content.lists ≡ Some place → malloc owner n content ≡ malloc_picked owner asked (Some place) content
   picked_is_served some asked place rounded is = some_asked some ∙ ap (λ m. malloc_rounded owner m content) rounded ∙ ap (λ place. malloc_picked owner asked place content) is
 
+  -- and then it isn't refused for want of a block
+  pub picked_fits : n ≢ 0 → (asked place : ℕ) → round n ≡ Some asked → pick asked content.lists ≡ Some place → malloc owner n content ≢ Err NoFit
+  picked_fits some asked place rounded is refused = never (nat_lt asked size && nat_le content.records (used_records content)) (sym (picked_is_served some asked place rounded is) ∙ refused)
+    where
+      size : ℕ
+      size = size_at place (blocks_of content.pools)
+
+      never : (full : Bool) → cond {A = Result (ℕ × Content A) Refusal} full (Err TableFull) (Ok (place, allocated owner place asked size content)) ≢ Err NoFit
+      never true e = cc
+      never false e = cc
+
+  pub nothing_fits : n ≡ 0 → malloc owner n content ≢ Err NoFit
+  nothing_fits none refused = let other : malloc owner n content ≡ Err ZeroSize = rw none refl in absurd (cc (other, refused))
+
+  -- it is refused so where none is picked, and where what is asked for is above the greatest size
+  pub none_picked : n ≢ 0 → (asked : ℕ) → round n ≡ Some asked → pick asked content.lists ≡ None → malloc owner n content ≡ Err NoFit
+  none_picked some asked rounded is = some_asked some ∙ ap (λ m. malloc_rounded owner m content) rounded ∙ ap (λ place. malloc_picked owner asked place content) is
+
+  pub none_rounded : n ≢ 0 → round n ≡ None → malloc owner n content ≡ Err NoFit
+  none_rounded some is = some_asked some ∙ ap (λ m. malloc_rounded owner m content) is
+
   -- it is never refused for want of memory
   picked_lacks_none : (m : ℕ) (place : Option ℕ) → malloc_picked owner m place content ≢ Err OutOfMemory
   picked_lacks_none m None is = cc

@@ -133,7 +133,9 @@ fn reads(heap: &mut Heap, block: Ptr) -> bool {
     let has_row = heap.row(cursor).is_some();
     let is_walked = heap.walk(0, |_row| {}) == Ok(());
     let has_size = heap.block_size(block) == Ok(16);
-    has_row && is_walked && has_size && heap.check() && has_pools(heap, &[(0, 1024)])
+    // A live block, a free one up to 128, the second live one, and a free one of 880 bytes behind it.
+    let has_figures = heap.records_used() == 4 && heap.largest_request() == 880;
+    has_row && is_walked && has_size && has_figures && heap.check() && has_pools(heap, &[(0, 1024)])
 }
 
 /// Each call of a heap once, and then another heap. A heap takes memory for its table alone, so the other's is the
