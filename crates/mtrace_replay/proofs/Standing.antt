@@ -27,7 +27,7 @@ use Rattle.mtrace_replay.specs.Texts.{total_size}
 use Rattle.mtrace_replay.specs.Totals.{is_served, bytes_in, AreTotals, blocks_in, rounded_bytes_in, IsMost, gone_on, is_refusal}
 use Rattle.mtrace_replay.proofs.StepLemmas.{found_given, given_under}
 use Rattle.mtrace_replay.proofs.Stood.{stood_outcome}
-use Rattle.mtrace_replay.proofs.TotalsLemmas.{none_measured, peak_none, most_goes_on, high_none, started_free}
+use Rattle.mtrace_replay.proofs.TotalsLemmas.{none_measured, most_none, most_goes_on, high_none, started_free}
 use Rattle.mtrace_replay.proofs.TotalsStep.{some_mapped, totals_of_line}
 use Rattle.mtrace_replay.proofs.Moments.{moments-line}
 use Rattle.mtrace_replay.proofs.SortedLemmas.{addresses}
@@ -135,9 +135,9 @@ module _ (old new : Replayed) (settings : Settings) (past : List ReadLine) (line
           totals = subst (λ past. T past new.totals) (sym whole) (subst (T (now ∷ ms)) (sym gone)
               (totals_of_line start ms now new.given old.totals end refused bytes blocks stands.totals comes_so.end_is has_diagnostics holds sum count stood given_stands));
           most = subst (λ past. IsMost blocks_in past new.most) (sym whole) (subst (IsMost blocks_in (now ∷ ms)) (sym most)
-              (most_goes_on blocks_in now ms old.most blocks stands.most (record { all = new.given; held = holds; measured = count })));
+              (most_goes_on blocks_in now ms old.most blocks (record { all = new.given; held = holds; measured = count }) stands.most));
           rounded = subst (λ past. IsMost rounded_bytes_in past new.most_rounded) (sym whole) (subst (IsMost rounded_bytes_in (now ∷ ms)) (sym most_rounded)
-              (most_goes_on rounded_bytes_in now ms old.most_rounded rounded stands.rounded (record { all = new.given; held = holds; measured = rounded_is })));
+              (most_goes_on rounded_bytes_in now ms old.most_rounded rounded (record { all = new.given; held = holds; measured = rounded_is }) stands.rounded));
           class = class_is ∙ ap (λ b. if b then greater_class old.class_size (class_asked line) else old.class_size) (ap is_some comes_so.end_is ∙ some_mapped _ now.given)
               ∙ ap (λ size. if is_served now then greater_class size (class_asked line) else size) stands.class;
         }
@@ -157,7 +157,7 @@ totals_none settings = record {
   refused = refl;
   live_bytes = none_measured bytes_in refl;
   live_blocks = none_measured blocks_in refl;
-  peak = peak_none;
+  peak = most_none bytes_in refl;
   high_place = high_none (started settings) (started_free settings);
 }
 

@@ -49,26 +49,32 @@ IsSum = Measures bytes_in
 abbrev pub IsCount : List Moment → ℕ → Type 0
 IsCount = Measures blocks_in
 
--- the greatest sum after any number of lines, and the first number that has it
-pub record IsPeak (past : List Moment) (bytes line : ℕ) : Type 0 where
+-- the greatest of the numbers that hold after any number of lines, and the first number of lines after which it holds
+pub record IsGreatestOf (Holds : List Moment → ℕ → Type 0) (past : List Moment) (greatest_number line : ℕ) : Type 0 where
   pub within : line ≤ length past
-  pub reached : IsSum (first_moments line past) bytes
-  pub greatest : (k sum : ℕ) → IsSum (first_moments k past) sum → sum ≤ bytes
-  pub first : (k sum : ℕ) → k < line → IsSum (first_moments k past) sum → sum < bytes
+  pub reached : Holds (first_moments line past) greatest_number
+  pub greatest : (k n : ℕ) → Holds (first_moments k past) n → n ≤ greatest_number
+  pub first : (k n : ℕ) → k < line → Holds (first_moments k past) n → n < greatest_number
 
--- the greatest measure of what is held after any number of lines
-pub record IsMost (measure : List Given → ℕ) (past : List Moment) (most : ℕ) : Type 0 where
-  pub reached : (k : ℕ) × Measures measure (first_moments k past) most
-  pub greatest : (k n : ℕ) → Measures measure (first_moments k past) n → n ≤ most
+-- the greatest sum, and the first line after which it is held
+abbrev pub IsPeak : List Moment → (bytes line : ℕ) → Type 0
+IsPeak past bytes line = IsGreatestOf IsSum past bytes line
 
--- a block is live in the heap after the first k lines
-abbrev pub IsLiveAfter : Bare → List Moment → ℕ → Block (Unit {0}) → Type 0
-IsLiveAfter start past k block = Contains (blocks_of (content_after start (first_moments k past)).pools) block × (is_free block ≡ false)
+-- the greatest measure of what is held
+abbrev pub IsMost : (measure : List Given → ℕ) → List Moment → ℕ → Type 0
+IsMost measure past most = (line : ℕ) × IsGreatestOf (Measures measure) past most line
 
--- the greatest end of a live block after any number of lines, 0 where none was
-pub record IsHighPlace (start : Bare) (past : List Moment) (place : ℕ) : Type 0 where
-  pub reached : (place ≡ 0) ⊎ ((k : ℕ) × (block : Block (Unit {0})) × IsLiveAfter start past k block × (place ≡ block.place + block.size))
-  pub greatest : (k : ℕ) (block : Block (Unit {0})) → IsLiveAfter start past k block → block.place + block.size ≤ place
+-- a block is live in the heap
+abbrev pub IsLiveIn : Bare → Block (Unit {0}) → Type 0
+IsLiveIn content block = Contains (blocks_of content.pools) block × (is_free block ≡ false)
+
+-- 0, or where a block ends that is live after these lines
+abbrev pub IsEnd : Bare → List Moment → ℕ → Type 0
+IsEnd start past place = (place ≡ 0) ⊎ ((block : Block (Unit {0})) × IsLiveIn (content_after start past) block × (place ≡ block.place + block.size))
+
+-- the greatest end of a live block, 0 where none was
+abbrev pub IsHighPlace : Bare → List Moment → ℕ → Type 0
+IsHighPlace start past place = (line : ℕ) × IsGreatestOf (IsEnd start) past place line
 
 pub record AreTotals (start : Bare) (past : List Moment) (totals : Totals) : Type 0 where
   pub lines : totals.lines ≡ length past

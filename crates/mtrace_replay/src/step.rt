@@ -308,41 +308,14 @@ pub(crate) fn outcome<H: Heaped>(
             findings.set_one(number, Kind::NotALine);
             Ok(None)
         }
-        Ok(Event::Start) => Ok(None),
-        Ok(Event::End) => Ok(None),
-        Ok(Event::Alloc { at, addr, size }) => match addr {
-            Some(addr) => allocate(
-                heap,
-                held,
-                None,
-                &entry_of(number, at, addr, size),
-                findings,
-            ),
-            None => Ok(None),
-        },
-        Ok(Event::Free { at: _at, addr }) => release(heap, held, number, addr, findings),
-        Ok(
-            Event::Old {
-                at: _at,
-                addr: _addr,
-            },
-        ) => Ok(None),
-        Ok(Event::New { at, addr, size }) => {
-            renew(
-                heap,
-                held,
-                pending,
-                &entry_of(number, at, addr, size),
-                findings,
-            )
+        Ok(Event::Start | Event::End | Event::Old { .. } | Event::Failed { .. }) => Ok(None),
+        Ok(Event::Alloc { at, addr, size }) => {
+            let Some(addr) = addr else {
+                return Ok(None);
+            };
+            let entry = entry_of(number, at, addr, size);
+            allocate(heap, held, None, &entry, findings)
         }
-        Ok(
-            Event::Failed {
-                at: _at,
-                addr: _addr,
-                size: _size,
-            },
-        ) => Ok(None),
         Ok(
             Event::Aligned {
                 at,
@@ -350,12 +323,14 @@ pub(crate) fn outcome<H: Heaped>(
                 align,
                 size,
             },
-        ) => allocate(
-            heap,
-            held,
-            Some(align),
-            &entry_of(number, at, addr, size),
-            findings,
-        ),
+        ) => {
+            let entry = entry_of(number, at, addr, size);
+            allocate(heap, held, Some(align), &entry, findings)
+        }
+        Ok(Event::Free { at: _at, addr }) => release(heap, held, number, addr, findings),
+        Ok(Event::New { at, addr, size }) => {
+            let entry = entry_of(number, at, addr, size);
+            renew(heap, held, pending, &entry, findings)
+        }
     }
 }

@@ -45,8 +45,8 @@ returns-clause-made c =
       content_is = c.restart_heap.ensures ∙ ap (content_after start) (sym none);
       held = subst (P (all_given c.restart.new.self.all)) (sym none) (subst (λ (all : List Holding). P (all_given all) []) (sym (ap (λ (index : Indexed). index.all) c.restart.ensures)) none_held);
       totals = subst (λ past. T past fresh.result) (sym none) (subst (T []) (sym fresh.ensures) (totals_none c.args.settings));
-      most = subst (λ past. IsMost blocks_in past 0) (sym none) (most_none blocks_in refl);
-      rounded = subst (λ past. IsMost rounded_bytes_in past 0) (sym none) (most_none rounded_bytes_in refl);
+      most = subst (λ past. IsMost blocks_in past 0) (sym none) (0, most_none blocks_in refl);
+      rounded = subst (λ past. IsMost rounded_bytes_in past 0) (sym none) (0, most_none rounded_bytes_in refl);
       class = refl;
     }
 

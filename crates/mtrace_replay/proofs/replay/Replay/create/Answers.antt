@@ -43,8 +43,8 @@ returns-clause-made g c =
       content_is = c.in-Ok.ensures ∙ ap (content_after start) (sym none);
       held = subst (P (all_given c.in-Ok-new.held.all)) (sym none) (subst (λ (index : Indexed). P (all_given index.all) []) (sym c.in-Ok-new.ensures) none_held);
       totals = subst (λ past. T past c.new-2.result) (sym none) (subst (T []) (sym c.new-2.ensures) (totals_none c.args.settings));
-      most = subst (λ past. IsMost blocks_in past 0) (sym none) (most_none blocks_in refl);
-      rounded = subst (λ past. IsMost rounded_bytes_in past 0) (sym none) (most_none rounded_bytes_in refl);
+      most = subst (λ past. IsMost blocks_in past 0) (sym none) (0, most_none blocks_in refl);
+      rounded = subst (λ past. IsMost rounded_bytes_in past 0) (sym none) (0, most_none rounded_bytes_in refl);
       class = refl;
     }
 
