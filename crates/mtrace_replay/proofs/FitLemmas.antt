@@ -3,6 +3,7 @@ use Rattle.std.proofs.Common.{◌≡◌, ℕ, zero, suc, ◌+◌, ◌-◌, ◌*�
 use Rattle.std.specs.Prelude.{◌&&◌}
 use Rattle.std.specs.List.{find, list_all}
 use Rattle.std.specs.Option.{option_or}
+use Rattle.std.proofs.lemmas.List.{append_assoc}
 use Rattle.std.proofs.lemmas.List.Folds.{find-append, list_all-append}
 use Rattle.std.proofs.lemmas.List.Sums.{sum_by-append}
 use Rattle.mtrace_replay.specs.Fit.{Verdict, least_size, safe_size, refused_sizes, fitted}
@@ -24,7 +25,7 @@ use Rattle.mtrace_replay.specs.Started.{started}
 use Rattle.mtrace_replay.specs.Asked.{greatest_class}
 use Rattle.mtrace_replay.specs.Moment.{ReadLine}
 use Rattle.mtrace_replay.specs.Replay.{Replayed, StandsFor}
-use Rattle.mtrace_replay.specs.Texts.{greatest_line, most_line, fitted_lines, untried_lines}
+use Rattle.mtrace_replay.specs.Texts.{greatest_line, most_line, fitted_lines, untried_lines, refused_line}
 
 abbrev serving : ℕ → Bool → List Verdict
 serving size serves = record { size = size; serves = serves } ∷ []
@@ -176,7 +177,7 @@ sure_is lines replay stands = ap (sure_pool replay.most replay.most_rounded) sta
 
 -- the text of a log that the greatest pool doesn't serve
 pub tells_untried : (step : Option ℕ) (lines : List ReadLine) (whole : Bytes) (replay : Replayed) → StandsFor replay greatest_settings (reverse lines) → 0 < replay.totals.refused
-    → TellsFit step lines whole (greatest_line replay.totals ++ most_line replay.most ++ untried_lines)
+    → TellsFit step lines whole (greatest_line replay.totals ++ most_line replay.most ++ untried_lines ++ refused_line replay.totals.refused)
 tells_untried step lines whole replay stands some = record {
   totals = replay.totals;
   summed = stands.totals;
@@ -184,13 +185,13 @@ tells_untried step lines whole replay stands some = record {
   is_most = stands.most;
   rounded = replay.most_rounded;
   is_rounded = stands.rounded;
-  rest = untried_lines;
+  rest = untried_lines ++ refused_line replay.totals.refused;
   tells = by_refused replay.totals.refused some;
-  text_is = refl;
+  text_is = append_assoc (greatest_line replay.totals ++ most_line replay.most) untried_lines (refused_line replay.totals.refused);
 }
   where
     by_refused : (refused : ℕ) → 0 < refused → TellsSizes refused (step_of step replay.totals.peak_bytes) replay.totals.peak_bytes replay.most replay.totals.lines
-        (sure_pool replay.most replay.most_rounded (greatest_class (started greatest_settings) (reverse lines))) whole untried_lines
+        (sure_pool replay.most replay.most_rounded (greatest_class (started greatest_settings) (reverse lines))) whole (untried_lines ++ refused_line refused)
     by_refused zero some = absurd (omega (arith, some))
     by_refused (suc more) some = refl
 

@@ -26,8 +26,8 @@ Fits number held (move old place entry) = (entry.line ≡ number) × IsAt held o
 abbrev pub IsNoRefusal : Diagnostic → Type 0
 IsNoRefusal one = (address : ℕ) (why : Refusal) → one.kind ≢ Refused address why
 
--- The act fits what is held, and what is wrong before it is no refusal. With what the act may add there
--- are at most so many diagnostics.
+-- The act fits what is held, and what is wrong before it is no refusal. These diagnostics, and one more where
+-- the heap is asked, are at most `most`.
 pub record IsPlanned (number : ℕ) (held : ℕ → Option Given) (most : ℕ) (planned : Plan) : Type 0 where
   pub fits : Fits number held planned.act
   pub none_refused : AllByRecursion IsNoRefusal planned.first

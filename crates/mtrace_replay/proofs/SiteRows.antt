@@ -4,7 +4,7 @@ use Rattle.std.specs.Fmt.{digits}
 use Rattle.std.specs.declared.cmp.Ordering.TheVariants.{Less, Equal}
 use Rattle.mtrace_log.specs.Bytes.{newline}
 use Rattle.mtrace_replay.specs.Sites.{Site, origin_cmp, site_cmp}
-use Rattle.mtrace_replay.specs.Texts.{section, peak_words, end_words}
+use Rattle.mtrace_replay.specs.Texts.{section, peak_words, end_words, refused_line}
 
 abbrev site : ℕ → ℕ → List ℕ → Site
 site bytes blocks location = record { blocks = blocks; bytes = bytes; at = Some location }
@@ -46,3 +46,11 @@ at_peak = refl
 at_end : section end_words 1 0 (nowhere 0 1 ∷ []) ≡ (codes "Held at the end: 1 blocks, 0 bytes." ++ newline ∷ []) ++ (codes "0 bytes in 1 blocks" ++ newline ∷ [])
 unfolding digits
 at_end = refl
+
+-- words.log, one pool of 4096 bytes and 48 records
+refused_there : refused_line 18 ≡ codes "refused: 18 lines" ++ newline ∷ []
+unfolding digits
+refused_there = refl
+
+none_refused : refused_line 0 ≡ []
+none_refused = refl

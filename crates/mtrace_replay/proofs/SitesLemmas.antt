@@ -1,12 +1,13 @@
 -- The run that tells who holds the memory of a log.
-use Rattle.std.proofs.Common.{◌≡◌, ℕ, List, ◌++◌, length, reverse, refl, ap, ◌∙◌}
+use Rattle.std.proofs.Common.{◌≡◌, ℕ, List, ◌++◌, length, reverse, refl, ◌∙◌}
 use Rattle.std.proofs.lemmas.List.{length-map}
 use Rattle.mtrace_replay.specs.declared.settings.Settings.{Settings}
+use Rattle.mtrace_replay.specs.declared.totals.Totals.{Totals}
 use Rattle.mtrace_replay.specs.Moment.{ReadLine, Given}
 use Rattle.mtrace_replay.specs.Replay.{Replayed, StandsFor, entries}
 use Rattle.mtrace_replay.specs.Run.{Bytes}
 use Rattle.mtrace_replay.specs.Sites.{Site, AreSites}
-use Rattle.mtrace_replay.specs.Texts.{total_size, section, peak_words, end_words}
+use Rattle.mtrace_replay.specs.Texts.{total_size, section, peak_words, end_words, refused_line}
 use Rattle.mtrace_replay.specs.Again.{HasReplayedFirst}
 use Rattle.mtrace_replay.specs.RunSites.{TellsSites}
 
@@ -15,6 +16,7 @@ abbrev pub sites_text : (at_peak : Replayed) (peak_sites : List Site) (at_end : 
 sites_text at_peak peak_sites at_end end_sites =
     section (peak_words at_end.totals.peak_line) (length at_peak.given) (total_size (entries at_peak)) peak_sites
     ++ section end_words (length at_end.given) (total_size (entries at_end)) end_sites
+    ++ refused_line at_end.totals.refused
 
 pub tells_sites : (settings : Settings) (lines : List ReadLine) (at_peak at_end : Replayed) (peak_sites end_sites : List Site) (whole left : Bytes)
     → StandsFor at_end settings (reverse lines) → HasReplayedFirst at_end.totals.peak_line settings at_peak whole left
@@ -33,14 +35,11 @@ tells_sites settings lines at_peak at_end peak_sites end_sites whole left stands
 many : (replay : Replayed) (blocks : ℕ) → blocks ≡ length (entries replay) → blocks ≡ length replay.given
 many replay blocks is = is ∙ length-map replay.given (λ (given : Given). given.entry)
 
--- the text that is put, by what was counted and summed
-pub sites_text-is : (at_peak : Replayed) (peak_sites : List Site) (at_end : Replayed) (end_sites : List Site) (line peak_blocks peak_bytes end_blocks end_bytes : ℕ)
-    → line ≡ at_end.totals.peak_line → peak_blocks ≡ length (entries at_peak) → peak_bytes ≡ total_size (entries at_peak)
+-- the text that is put, by the totals that were told and by what was counted and summed
+pub sites_text-is : (at_peak : Replayed) (peak_sites : List Site) (at_end : Replayed) (end_sites : List Site) (totals : Totals) (peak_blocks peak_bytes end_blocks end_bytes : ℕ)
+    → totals ≡ at_end.totals → peak_blocks ≡ length (entries at_peak) → peak_bytes ≡ total_size (entries at_peak)
     → end_blocks ≡ length (entries at_end) → end_bytes ≡ total_size (entries at_end)
-    → section (peak_words line) peak_blocks peak_bytes peak_sites ++ section end_words end_blocks end_bytes end_sites ≡ sites_text at_peak peak_sites at_end end_sites
-sites_text-is at_peak peak_sites at_end end_sites line peak_blocks peak_bytes end_blocks end_bytes line_is a b c d =
-    ap (λ n. section (peak_words n) peak_blocks peak_bytes peak_sites ++ section end_words end_blocks end_bytes end_sites) line_is
-    ∙ ap (λ n. section (peak_words at_end.totals.peak_line) n peak_bytes peak_sites ++ section end_words end_blocks end_bytes end_sites) (many at_peak peak_blocks a)
-    ∙ ap (λ n. section (peak_words at_end.totals.peak_line) (length at_peak.given) n peak_sites ++ section end_words end_blocks end_bytes end_sites) b
-    ∙ ap (λ n. section (peak_words at_end.totals.peak_line) (length at_peak.given) (total_size (entries at_peak)) peak_sites ++ section end_words n end_bytes end_sites) (many at_end end_blocks c)
-    ∙ ap (λ n. section (peak_words at_end.totals.peak_line) (length at_peak.given) (total_size (entries at_peak)) peak_sites ++ section end_words (length at_end.given) n end_sites) d
+    → section (peak_words totals.peak_line) peak_blocks peak_bytes peak_sites ++ section end_words end_blocks end_bytes end_sites ++ refused_line totals.refused
+    ≡ sites_text at_peak peak_sites at_end end_sites
+sites_text-is at_peak peak_sites at_end end_sites totals peak_blocks peak_bytes end_blocks end_bytes totals_are a b c d =
+    rw (totals_are, many at_peak peak_blocks a, b, many at_end end_blocks c, d) refl

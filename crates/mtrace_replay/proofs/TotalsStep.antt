@@ -83,4 +83,4 @@ totals_of_line start past moment all old end refused bytes blocks are end_is ref
     peak =
         let last : suc (length past) ≡ old.lines + 1 = omega (arith, are.lines) in
         subst (λ n. IsPeak (moment ∷ past) (if nat_lt old.peak_bytes bytes then bytes else old.peak_bytes) (if nat_lt old.peak_bytes bytes then n else old.peak_line)) last
-            (peak_goes_on bytes_in moment past old.peak_bytes bytes sum_now old.peak_line are.peak (nat_lt old.peak_bytes bytes) refl)
+        (peak_goes_on bytes_in moment past old.peak_bytes bytes sum_now old.peak_line are.peak (nat_lt old.peak_bytes bytes) refl)

@@ -15,7 +15,7 @@ use Rattle.mtrace_replay.specs.Moment.{ReadLine}
 use Rattle.mtrace_replay.specs.Asked.{greatest_class}
 use Rattle.mtrace_replay.specs.History.{history}
 use Rattle.mtrace_replay.specs.Fit.{one_pool, greatest_settings, enough_records, is_bad_step, step_of, first_number, range, ranges, Verdict, least_size, fitted}
-use Rattle.mtrace_replay.specs.Texts.{greatest_line, most_line, fitted_lines, untried_lines}
+use Rattle.mtrace_replay.specs.Texts.{greatest_line, most_line, fitted_lines, untried_lines, refused_line}
 use Rattle.mtrace_replay.specs.Run.{Bytes}
 use Rattle.mtrace_replay.specs.Replay.{Replayed}
 use Rattle.mtrace_replay.specs.Again.{HasReadFirst, FailsAgain, Follows, RunsAgain}
@@ -47,11 +47,11 @@ pub record TriesRanges (records many step first : ℕ) (whole : Bytes) (verdicts
   pub none_before : least_size before ≡ None
   pub ended : IsSome (least_size last) ⊎ (range step first (suc times) ≡ [])
 
--- what is told of the sizes: nothing where the greatest pool refuses a line; else the log was tried on ranges of them
+-- what is told of the sizes: nothing where the greatest pool refuses lines, but how many; else the log was tried on ranges of them
 abbrev pub TellsSizes : (refused : ℕ) (step peak most many : ℕ) (sure : Option ℕ) (whole : Bytes) (text : List ℕ) → Type 0
 TellsSizes zero step peak most many sure whole text =
     (verdicts : List Verdict) × TriesRanges (enough_records most) many step (first_number step peak) whole verdicts × (text ≡ fitted_lines (enough_records most) (fitted verdicts) sure)
-TellsSizes (suc more) step peak most many sure whole text = text ≡ untried_lines
+TellsSizes (suc more) step peak most many sure whole text = text ≡ untried_lines ++ refused_line (suc more)
 
 -- The text of how large a pool a log needs. It has the peak and the most addresses held, on the greatest pool, and what is told
 -- of the sizes. The pool that is always enough is told by the most addresses, the most bytes in their blocks, and the greatest

@@ -16,7 +16,7 @@ use Rattle.mtrace_replay.specs.declared.sites.Sum.{Sum}
 use Rattle.mtrace_replay.specs.Entry.{Entry}
 use Rattle.mtrace_replay.specs.Gather.{Grouped}
 use Rattle.mtrace_replay.specs.Replay.{Replayed, StandsFor}
-use Rattle.mtrace_replay.specs.Texts.{total_size, section, peak_words, end_words}
+use Rattle.mtrace_replay.specs.Texts.{total_size, section, peak_words, end_words, refused_line}
 use Rattle.mtrace_replay.specs.Run.{Bytes}
 use Rattle.mtrace_replay.specs.Again.{HasReadFirst, FailsAgain, Follows, RunsAgain}
 
@@ -46,7 +46,7 @@ abbrev pub section_of : {settings : Settings} {lines : List ReadLine} → List �
 section_of words held = section words (length held.all) (total_size (entries_of held.all)) held.sites
 
 -- The text of who holds the memory of a log. It is first of the lines up to the peak, which are read again from the
--- first byte on. Then it is of all lines.
+-- first byte on. Then it is of all lines, and of how many were refused, where some were.
 pub record TellsSites (settings : Settings) (lines : List ReadLine) (whole left : Bytes) (text : List ℕ) : Type 0 where
   pub totals : Totals
   pub summed : AreTotals (started settings) (history settings lines) totals
@@ -54,7 +54,7 @@ pub record TellsSites (settings : Settings) (lines : List ReadLine) (whole left 
   pub again : HasReadFirst totals.peak_line whole left first
   pub at_peak : HeldSites settings first
   pub at_end : HeldSites settings lines
-  pub text_is : text ≡ section_of (peak_words totals.peak_line) at_peak ++ section_of end_words at_end
+  pub text_is : text ≡ section_of (peak_words totals.peak_line) at_peak ++ section_of end_words at_end ++ refused_line totals.refused
 
 -- the reader failed in the second reading, or has fewer lines then than the peak's number
 abbrev pub FailsAgainAtPeak : (settings : Settings) (lines : List ReadLine) (whole left_old left_new : Bytes) (calls_old calls_new : List Call) → Type 0

@@ -175,6 +175,10 @@ end_words = codes "Held at the end"
 abbrev pub count_line : List ℕ → ℕ → List ℕ → List ℕ
 count_line word number last = word ++ decimal number ++ last ++ newline ∷ []
 
+-- `refused: N lines`, one line, where lines were refused
+abbrev pub refused_line : ℕ → List ℕ
+refused_line refused = if refused == 0 then [] else count_line (codes "refused: ") refused (codes " lines")
+
 -- `held at most: L blocks`, one line
 abbrev pub most_line : ℕ → List ℕ
 most_line most = count_line (codes "held at most: ") most (codes " blocks")

@@ -20,6 +20,7 @@ use crate::run::replay_log;
 use crate::settings::{GREATEST_POOL, Settings, UNIT};
 use crate::status::{RunFault, Status};
 use crate::tried::is_served;
+use crate::watch::Watch;
 use mtrace_log::{Again, Failed, Sink, put_all};
 use std::alloc::Global;
 use tlsf_heap::{Heap, MOST_RECORDS, sure_pool};
@@ -155,17 +156,6 @@ fn is_range_behind(step: u64, first: u64) -> bool
     ensures { result ≡ nat_lt first (greatest_size / (2 * step)) }
 {
     step <= GREATEST_POOL && GREATEST_POOL / (2 * step) > first
-}
-
-/// What learns how many sizes a run is going to try, as a notice of how far it is. No contract speaks of it.
-pub trait Watch {
-    /// So many sizes are going to be tried, beside those of which it was told before.
-    fn expect(&self, sizes: u64);
-}
-
-/// Nothing watches.
-impl Watch for () {
-    fn expect(&self, _sizes: u64) {}
 }
 
 /// Tries the sizes for this step and this peak, in rising order. Where none of a range serves, the sizes behind it are tried by

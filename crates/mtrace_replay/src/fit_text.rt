@@ -3,12 +3,12 @@
 ghost use Rattle.std.specs.Prelude.{◌≡◌, ◌+◌, ◌^◌, ◌<◌, ◌≤◌, ◌++◌, length};
 ghost use Rattle.arrayvec.specs.ArrayVec.{array_vec_len};
 ghost use Rattle.mtrace_replay.specs.Appends.{Appends};
-ghost use Rattle.mtrace_replay.specs.Texts.{size_line, count_line, greatest_line, most_line, record_lines, served_lines, tried_lines, fitted_lines, untried_lines};
+ghost use Rattle.mtrace_replay.specs.Texts.{size_line, greatest_line, most_line, record_lines, served_lines, tried_lines, fitted_lines, untried_lines, refused_line};
 
 use crate::fitted::Fitted;
 use crate::line_text::{
-    LONGEST_TEXT, LineText, push_bytes, push_greatest_line, push_number, push_number_line,
-    push_pair_line,
+    LONGEST_TEXT, LineText, push_bytes, push_count_line, push_greatest_line, push_number,
+    push_number_line, push_pair_line, push_refused_line,
 };
 use crate::totals::Totals;
 use arrayvec::ArrayVec;
@@ -26,17 +26,6 @@ pub(crate) fn push_size_line(text: &mut LineText, word: &[u8], size: Option<u64>
             push_bytes(text, b" bytes");
         }
     }
-    push_bytes(text, b"\n");
-}
-
-/// Appends a line of a number between its words.
-fn push_count_line(text: &mut LineText, word: &[u8], number: u64, last: &[u8])
-    requires { array_vec_len text.old + length word.now + length last.now + 41 ≤ LONGEST_TEXT }
-    ensures { Appends (count_line word.now number last.now) (length word.now + length last.now + 41) text.old text.new }
-{
-    push_bytes(text, word);
-    push_number(text, u128::from(number));
-    push_bytes(text, last);
     push_bytes(text, b"\n");
 }
 
@@ -97,7 +86,7 @@ fn push_fitted(text: &mut LineText, records: u32, fitted: Fitted, sure: Option<u
 /// Appends that no size was tried.
 fn push_untried(text: &mut LineText)
     requires { array_vec_len text.old ≤ 300 }
-    ensures { text.new.items ≡ text.old.items ++ untried_lines }
+    ensures { Appends untried_lines 400 text.old text.new }
 {
     push_size_line(text, b"records: ", None);
     push_size_line(text, b"table: ", None);
@@ -124,13 +113,14 @@ pub(crate) fn fitted_text(
     text
 }
 
-/// The text of a log that the greatest pool doesn't serve: the peak, the most addresses that were held, and that no size was
-/// tried.
+/// The text of a log that the greatest pool doesn't serve: the peak, the most addresses that were held, that no size was
+/// tried, and how many lines were refused.
 pub(crate) fn untried_text(totals: Totals, most: u64) -> LineText
-    ensures { result.items ≡ greatest_line totals ++ most_line most ++ untried_lines }
+    ensures { result.items ≡ greatest_line totals ++ most_line most ++ untried_lines ++ refused_line totals.refused }
 {
     let mut text = ArrayVec::new();
     push_most(&mut text, totals, most);
     push_untried(&mut text);
+    push_refused_line(&mut text, totals.refused);
     text
 }

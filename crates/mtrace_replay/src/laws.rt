@@ -59,10 +59,11 @@ pub fn records_are_enough()
         → HoldsAtMost most (moments (started (one_pool pool records)) past) → AllByRecursion IsNeverFull (moments (started (one_pool pool records)) past) }
 {}
 
-/// On one pool no line of a log is refused for want of a block or of a record, where after any number of its lines at most
-/// `most` addresses are held, for which at most `bytes` bytes were asked, each size rounded up, and each line that asks for a
-/// block asks for one of a class whose lowest size is at most `size`: the pool has more than the `bytes`, and for each of the
-/// `most` and one more the most that a free block has that is too small; and there are 2 * `most` + 3 records or more.
+/// On one pool no line of a log is refused for want of a block or of a record, where four things hold. After any number of
+/// its lines at most `most` addresses are held, for which at most `bytes` bytes were asked, each size rounded up. Each line
+/// that asks for a block asks for one of a class whose lowest size is at most `size`. The pool has more than the `bytes`, and
+/// for each of the `most` and one more the most that a free block has that is too small. There are 2 * `most` + 3 records or
+/// more.
 pub fn sure_pool()
     ensures { (pool records most bytes size : ℕ) (past : List ReadLine) → are_bad (one_pool pool records) ≡ false → 2 * most + 3 ≤ records → bytes + (most + 1) * (size - unit) < pool
         → HoldsAtMost most (moments (started (one_pool pool records)) past) → HoldsBytesAtMost bytes (moments (started (one_pool pool records)) past) → AllByRecursion (IsOfAtMost size) (acts_of (started (one_pool pool records)) past)

@@ -33,10 +33,11 @@ mod step;
 mod totals;
 mod tried;
 mod walk;
+mod watch;
 
 pub use crate::diagnostic::{Diagnostic, Kind, Note};
 pub use crate::entry::Entry;
-pub use crate::fit::{Watch, run_fit};
+pub use crate::fit::run_fit;
 pub use crate::index::Entries;
 pub use crate::replay::{Replay, ReplayFault};
 pub use crate::report::Report;
@@ -47,3 +48,4 @@ pub use crate::sites::run_sites;
 pub use crate::size::{Bounds, run_size};
 pub use crate::status::{RunFault, Status};
 pub use crate::totals::Totals;
+pub use crate::watch::Watch;

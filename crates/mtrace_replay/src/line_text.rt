@@ -5,7 +5,7 @@ ghost use Rattle.std.specs.Option.{option_copied};
 ghost use Rattle.arrayvec.specs.ArrayVec.{array_vec_len};
 ghost use Rattle.mtrace_log.specs.Address.{address_text};
 ghost use Rattle.mtrace_replay.specs.Appends.{Appends, IsShort};
-ghost use Rattle.mtrace_replay.specs.Texts.{refusal_text as text_of_refusal, kind_text as text_of_kind, diagnostic_text as text_of_diagnostic, at_text as text_of_location, entry_text as text_of_entry, number_line, pair_line, spread_text as text_of_spread, count_lines, greatest_line, held_lines, free_lines, spread_line, peak_lines, peak_words as words_of_peak, site_text as text_of_site, use_text as text_of_use, row_text as text_of_row};
+ghost use Rattle.mtrace_replay.specs.Texts.{count_line, refused_line, refusal_text as text_of_refusal, kind_text as text_of_kind, diagnostic_text as text_of_diagnostic, at_text as text_of_location, entry_text as text_of_entry, number_line, pair_line, spread_text as text_of_spread, count_lines, greatest_line, held_lines, free_lines, spread_line, peak_lines, peak_words as words_of_peak, site_text as text_of_site, use_text as text_of_use, row_text as text_of_row};
 
 use crate::diagnostic::{Diagnostic, Kind};
 use crate::entry::Entry;
@@ -138,6 +138,37 @@ pub(crate) fn push_number_line(text: &mut LineText, word: &[u8], number: u64)
     push_bytes(text, word);
     push_number(text, u128::from(number));
     push_bytes(text, b"\n");
+}
+
+/// Appends a line of a number between its words.
+pub(crate) fn push_count_line(text: &mut LineText, word: &[u8], number: u64, last: &[u8])
+    requires { array_vec_len text.old + length word.now + length last.now + 41 ≤ LONGEST_TEXT }
+    ensures { Appends (count_line word.now number last.now) (length word.now + length last.now + 41) text.old text.new }
+{
+    push_bytes(text, word);
+    push_number(text, u128::from(number));
+    push_bytes(text, last);
+    push_bytes(text, b"\n");
+}
+
+/// Appends how many lines were refused, where some were.
+pub(crate) fn push_refused_line(text: &mut LineText, refused: u64)
+    requires { array_vec_len text.old + 56 ≤ LONGEST_TEXT }
+    ensures { Appends (refused_line refused) 56 text.old text.new }
+{
+    if refused == 0 {
+        return;
+    }
+    push_count_line(text, b"refused: ", refused, b" lines");
+}
+
+/// How many lines were refused, where some were.
+pub(crate) fn refused_text(refused: u64) -> LineText
+    ensures { result.items ≡ refused_line refused }
+{
+    let mut text = ArrayVec::new();
+    push_refused_line(&mut text, refused);
+    text
 }
 
 /// Appends a line of two numbers, each behind its words, and the last words.

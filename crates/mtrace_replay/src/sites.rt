@@ -7,20 +7,21 @@ ghost use Rattle.mtrace_replay.specs.declared.settings.Settings.{Settings};
 ghost use Rattle.mtrace_replay.specs.Settings.{are_bad};
 ghost use Rattle.mtrace_replay.specs.Moment.{ReadLine};
 ghost use Rattle.mtrace_replay.specs.Replay.{StandsFor, entries};
-ghost use Rattle.mtrace_replay.specs.Texts.{site_text as text_of_site, section, peak_words as words_of_peak, end_words};
+ghost use Rattle.mtrace_replay.specs.Texts.{site_text as text_of_site, section, peak_words as words_of_peak, end_words, refused_line};
 ghost use Rattle.mtrace_replay.specs.Saving.{PutsAndFlushes};
 ghost use Rattle.mtrace_replay.specs.Again.{FailsAgain, ReplaysFirst};
 ghost use Rattle.mtrace_replay.specs.RunSites.{Groups, HasMemory, SitesFollow, RunsSites};
 
 use crate::again::replay_first;
 use crate::grouping::Grouping;
-use crate::line_text::{peak_words, section_text, site_text};
+use crate::line_text::{peak_words, refused_text, section_text, site_text};
 use crate::replay::{Replay, ReplayFault};
 use crate::report::Report;
 use crate::run::replay_log;
 use crate::settings::Settings;
 use crate::site::Site;
 use crate::status::{RunFault, Status};
+use crate::totals::Totals;
 use mtrace_log::{Again, Failed, Sink, put_all};
 use std::alloc::Global;
 use tlsf_heap::{Heap, Heaped};
@@ -88,35 +89,41 @@ fn replay_again<R: Again>(
     replay_first(reader, replay, many)
 }
 
-/// Puts what is held at the peak and what is held at the end, each by its sites.
+/// Puts what is held at the peak and what is held at the end, each by its sites, and how many lines were refused.
 fn put_both<W: Sink>(
     writer: &mut W,
-    line: u64,
+    totals: Totals,
     peak_sum: Sum,
     peak_sites: &[Site<'_>],
     end_sum: Sum,
     end_sites: &[Site<'_>],
 ) -> Result<(), Failed>
-    ensures { Puts W.taken W.trace result (section (words_of_peak line) peak_sum.blocks peak_sum.bytes peak_sites.now
-        ++ section end_words end_sum.blocks end_sum.bytes end_sites.now) writer.old writer.new }
+    ensures { Puts W.taken W.trace result (section (words_of_peak totals.peak_line) peak_sum.blocks peak_sum.bytes peak_sites.now
+        ++ section end_words end_sum.blocks end_sum.bytes end_sites.now ++ refused_line totals.refused) writer.old writer.new }
 {
-    put_section(writer, peak_words(line).as_slice(), peak_sum, peak_sites)?;
-    put_section(writer, b"Held at the end", end_sum, end_sites)
+    put_section(
+        writer,
+        peak_words(totals.peak_line).as_slice(),
+        peak_sum,
+        peak_sites,
+    )?;
+    put_section(writer, b"Held at the end", end_sum, end_sites)?;
+    put_all(writer, refused_text(totals.refused).as_slice())
 }
 
-/// Puts both, and flushes.
+/// Puts this, and flushes.
 fn put_and_flush<W: Sink>(
     writer: &mut W,
-    line: u64,
+    totals: Totals,
     peak_sum: Sum,
     peak_sites: &[Site<'_>],
     end_sum: Sum,
     end_sites: &[Site<'_>],
 ) -> Result<(), Failed>
-    ensures { PutsAndFlushes W.taken W.trace result (section (words_of_peak line) peak_sum.blocks peak_sum.bytes peak_sites.now
-        ++ section end_words end_sum.blocks end_sum.bytes end_sites.now) writer.old writer.new }
+    ensures { PutsAndFlushes W.taken W.trace result (section (words_of_peak totals.peak_line) peak_sum.blocks peak_sum.bytes peak_sites.now
+        ++ section end_words end_sum.blocks end_sum.bytes end_sites.now ++ refused_line totals.refused) writer.old writer.new }
 {
-    if put_both(writer, line, peak_sum, peak_sites, end_sum, end_sites).is_err() {
+    if put_both(writer, totals, peak_sum, peak_sites, end_sum, end_sites).is_err() {
         return Err(Failed);
     }
     writer.flush()
@@ -138,13 +145,13 @@ fn tell_sites<'a, R: Again, W: Sink>(
     ensures { (settings : Settings) (lines : List ReadLine) → StandsFor at_end.now settings (reverse lines) → StandsFor at_peak.old settings []
         → SitesFollow settings lines R.left R.whole R.trace W.taken W.trace result reader.old reader.new writer.old writer.new }
 {
-    let line = at_end.totals().peak_line;
+    let totals = at_end.totals();
     let end_sum = group_held(at_end, &mut end);
-    let Ok(()) = replay_again(reader, at_peak, line) else {
+    let Ok(()) = replay_again(reader, at_peak, totals.peak_line) else {
         return Err(RunFault::Read);
     };
     let peak_sum = group_held(at_peak, &mut peak);
-    match put_and_flush(writer, line, peak_sum, peak.sites(), end_sum, end.sites()) {
+    match put_and_flush(writer, totals, peak_sum, peak.sites(), end_sum, end.sites()) {
         Ok(()) => Ok(()),
         Err(_) => Err(RunFault::Write),
     }
@@ -171,18 +178,17 @@ fn take_memory<'a>(
 
 /// Reads a log of mtrace(3), replays it on a heap by the settings, and writes what is wrong with its lines, each as
 /// it comes. Then flushes the writer, reads the log again, up to the line of the peak, and writes who holds its
-/// memory. That is what is held at the peak, and what is held at the end, each by the locations that asked for it.
-/// The writer is flushed once more.
+/// memory. That is what is held at the peak, and what is held at the end, each by the locations that asked for it. Where
+/// lines were refused, their number stands in a last line. The writer is flushed once more.
 ///
 /// Memory is taken at the start alone, for two replays, and to group what they hold. All that is held at the end is
 /// grouped before the log is read again.
 ///
 /// # Errors
 ///
-/// `Read`, `Write`, `OutOfMemory` and `BadSettings` come as in the runs that write a report. `Read` where the reader doesn't begin
-/// again, fails then, or has fewer lines than the peak's number, too: what is wrong with the lines is written, and nothing of what
-/// is held. `Write` where the writer fails
-/// at that, too: a beginning of it is written.
+/// `Read`, `Write`, `OutOfMemory` and `BadSettings` come as in the runs that write a report. `Read` comes also where the reader
+/// doesn't begin again, fails then, or has fewer lines than the peak's number. Then what is wrong with the lines is written, and
+/// nothing of what is held. `Write` comes also where the writer fails at what is held: a beginning of it is written.
 pub fn run_sites<R: Again, W: Sink>(
     alloc: Global,
     reader: &mut R,

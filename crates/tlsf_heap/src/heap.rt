@@ -174,8 +174,8 @@ impl Heap {
     /// `ZeroSize` for 0. `NoFit` where none of these lists has a block, or `n` is above the greatest size. Then each
     /// free block is smaller than that class's lowest size, where the class exists. `TableFull` where a rest would be
     /// left and each record is in use. Then there are at most two records a live block and one a pool. Neither comes
-    /// where there are more records than that, and the pools have more bytes than the live blocks and, for each of these
-    /// and each pool, one free block of a unit less than that lowest size.
+    /// where there are more records than that, and the pools have more bytes than these two together: the live blocks,
+    /// and a free block of a unit less than that lowest size for each live block and each pool.
     pub fn malloc(&mut self, n: u64) -> Result<Ptr, Refusal>
         ensures ok { IfOk result (λ ptr. IsServed (λ slot. served slot n) ptr self.old.content self.new.content) }
         ensures refused { Refuses result (λ refusal. (slot : ℕ) → served slot n self.old.content ≡ Err refusal) (IsUnchanged self.old self.new) }
@@ -199,8 +199,8 @@ impl Heap {
     /// these lists has a block, or `n` is above the greatest size. Then each free block is smaller than that class's
     /// lowest size, where the class exists. `TableFull` where the blocks in front and behind need more records than
     /// are left. Then there are at most two records a live block, one a pool and one more. Neither comes where there are
-    /// more records than that, and the pools have more bytes than the live blocks and, for each of these and each pool,
-    /// one free block of a unit less than that lowest size.
+    /// more records than that, and the pools have more bytes than these two together: the live blocks, and a free block
+    /// of a unit less than that lowest size for each live block and each pool.
     pub fn memalign(&mut self, align: u64, n: u64) -> Result<Ptr, Refusal>
         ensures ok { IfOk result (λ ptr. IsServed (λ slot. aligned slot align n) ptr self.old.content self.new.content) }
         ensures multiple { IfOk result (λ ptr. ptr.place % align ≡ 0) }

@@ -21,7 +21,7 @@ use Rattle.tlsf_tool.specs.declared.asked.Name.{Name}
 use Rattle.tlsf_tool.specs.declared.asked.Name.TheVariants.{Leaks, Peak, Walk}
 use Rattle.tlsf_tool.specs.declared.asked.ToolFault.{ToolFault}
 use Rattle.tlsf_tool.specs.declared.asked.ToolFault.TheVariants.{Help, Usage, CannotOpen, ReadsOnce, ReadsFileOnce, Run}
-use Rattle.tlsf_tool.specs.CommandLine.{AskFor, HasNumber, HasSettings, HasBounds, HasNoLog, MatchesAskFor, bare_line, report_line, fit_line, size_line, save_line, check_line, name_text, texts_of, tlsf_line, wrong_with}
+use Rattle.tlsf_tool.specs.CommandLine.{AskFor, HasNumber, HasSettings, HasBounds, HasNoLog, MatchesAskFor, bare_line, report_line, sites_line, fit_line, size_line, save_line, check_line, name_text, texts_of, tlsf_line, wrong_with}
 use Rattle.tlsf_tool.specs.Faults.{ExplainsKind, ExplainsWords, IsUsage}
 use Rattle.tlsf_tool.specs.Asks.{Asks, Picks}
 
@@ -40,10 +40,10 @@ put more a b next is next_is = next_is ∙ ap (λ (x : App). with_subcommand x m
 -- the lines of the subcommands, put to the bare one one after the other
 pub line_of : (bare leaks peak walk sites fit size save last : App) → bare ≡ bare_line → leaks ≡ with_subcommand bare (report_line (codes "leaks")).top
     → peak ≡ with_subcommand leaks (report_line (codes "peak")).top → walk ≡ with_subcommand peak (report_line (codes "walk")).top
-    → sites ≡ with_subcommand walk (report_line (codes "sites")).top → fit ≡ with_subcommand sites fit_line.top
+    → sites ≡ with_subcommand walk sites_line.top → fit ≡ with_subcommand sites fit_line.top
     → size ≡ with_subcommand fit size_line.top → save ≡ with_subcommand size save_line.top → last ≡ with_subcommand save check_line.top → last ≡ tlsf_line
 line_of bare leaks peak walk sites fit size save last bare_is leaks_is peak_is walk_is sites_is fit_is size_is save_is last_is =
-    put check_line _ _ last (put save_line _ _ save (put size_line _ _ size (put fit_line _ _ fit (put (report_line (codes "sites")) _ _ sites (put (report_line (codes "walk")) _ _ walk (put (report_line (codes "peak")) _ _ peak
+    put check_line _ _ last (put save_line _ _ save (put size_line _ _ size (put fit_line _ _ fit (put sites_line _ _ sites (put (report_line (codes "walk")) _ _ walk (put (report_line (codes "peak")) _ _ peak
     (put (report_line (codes "leaks")) _ _ leaks bare_is leaks_is) peak_is) walk_is) sites_is) fit_is) size_is) save_is) last_is
 
 -- ---- numbers

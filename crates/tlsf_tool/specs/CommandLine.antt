@@ -29,14 +29,14 @@ option_rule id default takes = record (new_rule id) {
   parser = Some takes;
 }
 
-abbrev pub pool_rule : Rule
-pool_rule = option_rule (codes "pool") (codes "16777216") (parser.Unsigned unit greatest_size)
+abbrev pub pool_rule : Text → Rule
+pool_rule default = option_rule (codes "pool") default (parser.Unsigned unit greatest_size)
 
 abbrev pub pools_rule : Rule
 pools_rule = option_rule (codes "pools") (codes "1") (parser.Signed (pos 1) (pos 8))
 
-abbrev pub records_rule : Rule
-records_rule = option_rule (codes "records") (codes "8192") (parser.Signed (pos 1) (pos 65535))
+abbrev pub records_rule : Text → Rule
+records_rule default = option_rule (codes "records") default (parser.Signed (pos 1) (pos 65535))
 
 -- `--ID` with one value, where it is given, and no default
 abbrev pub given_rule : Text → ValueParser → Rule
@@ -77,9 +77,17 @@ log_rule = record (new_rule (codes "LOG")) { required = true }
 abbrev pub image_rule : Rule
 image_rule = record (new_rule (codes "IMAGE")) { required = true }
 
+-- a subcommand that takes a heap's settings and a log, with these defaults of a pool's bytes and of the records
+abbrev pub heap_line : (pool records name : Text) → App
+heap_line pool records name = with_rule (with_rule (with_rule (with_rule (new_app name) (pool_rule pool)) pools_rule) (records_rule records)) log_rule
+
 -- a report's subcommand, or one that takes the same words
 abbrev pub report_line : Text → App
-report_line name = with_rule (with_rule (with_rule (with_rule (new_app name) pool_rule) pools_rule) records_rule) log_rule
+report_line = heap_line (codes "16777216") (codes "8192")
+
+-- the default heap of this one is the greatest
+abbrev pub sites_line : App
+sites_line = heap_line (codes "1073741808") (codes "65535") (codes "sites")
 
 abbrev pub fit_line : App
 fit_line = with_rule (with_rule (new_app (codes "fit")) step_rule) log_rule
@@ -99,7 +107,7 @@ bare_line = on_top (λ s. record s { has_version = true; subcommand_required = t
 
 abbrev pub tlsf_line : App
 tlsf_line = with_subcommand (with_subcommand (with_subcommand (with_subcommand (with_subcommand (with_subcommand (with_subcommand (with_subcommand bare_line (report_line (codes "leaks")).top)
-    (report_line (codes "peak")).top) (report_line (codes "walk")).top) (report_line (codes "sites")).top) fit_line.top) size_line.top) save_line.top) check_line.top
+    (report_line (codes "peak")).top) (report_line (codes "walk")).top) sites_line.top) fit_line.top) size_line.top) save_line.top) check_line.top
 
 -- an option or a word by this rule, which the subcommand has for itself
 pub record IsArgOf (rule : Rule) (arg : Arg) : Type 0 where

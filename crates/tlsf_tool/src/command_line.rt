@@ -2,7 +2,7 @@
 
 ghost use Rattle.std.specs.Prelude.{◌≡◌, IfOk};
 ghost use Rattle.clap.specs.Words.{App, app_of, with_subcommand};
-ghost use Rattle.tlsf_tool.specs.CommandLine.{IsArgOf, IsCommandOf, log_rule, image_rule, pool_rule, pools_rule, records_rule, step_rule, blocks_rule, largest_rule, bytes_rule, align_rule, report_line, fit_line, size_line, save_line, check_line, bare_line, tlsf_line};
+ghost use Rattle.tlsf_tool.specs.CommandLine.{IsArgOf, IsCommandOf, log_rule, image_rule, pool_rule, pools_rule, records_rule, step_rule, blocks_rule, largest_rule, bytes_rule, align_rule, heap_line, report_line, sites_line, fit_line, size_line, save_line, check_line, bare_line, tlsf_line};
 
 use clap::{Arg, Command, value_parser};
 use std::alloc::{AllocError, Global};
@@ -18,12 +18,12 @@ const VERSION: &str = "0.1.0";
 const ABOUT: &str =
     "Replays a log of glibc's tracer mtrace(3) on a heap, and reports what it finds.";
 
-/// The end of each help.
+/// The end of the program's help.
 const EXAMPLES: &str = "Examples:
+  tlsf sites a.log                          who holds the memory of a.log, at its peak and at its end
   tlsf leaks a.log                          what is not freed at the end of a.log
   tlsf peak --pool 1048576 --pools 2 a.log  the peak of a.log on two pools of 1 MiB
   tlsf walk --records 65535 -               the heap at the end of the log on standard input
-  tlsf sites a.log                          who holds the memory of a.log, at its peak and at its end
   tlsf fit a.log                            how large a pool a.log needs, and how many records
   tlsf size --blocks 60 --largest 1040      how large a pool is enough for any 60 blocks of 1040 bytes
   tlsf save a.log a.image                   that heap at the end of a.log, in a file
@@ -31,6 +31,39 @@ const EXAMPLES: &str = "Examples:
 
 The status is 0 where nothing was found, 1 where something was, 2 for wrong words or bad settings,
 3 where a file can't be read or written, and 4 where memory is refused.";
+
+/// The end of each subcommand's help.
+const LEAKS_EXAMPLES: &str = "Examples:
+  tlsf leaks a.log                                   what is not freed at the end of a.log
+  tlsf leaks --records 65535 --pool 1073741808 a.log the same, where it holds more than 8192 blocks";
+
+const PEAK_EXAMPLES: &str = "Examples:
+  tlsf peak a.log                           the peak of a.log on one pool of 16 MiB
+  tlsf peak --pool 1048576 --pools 2 a.log  the same on two pools of 1 MiB";
+
+const WALK_EXAMPLES: &str = "Examples:
+  tlsf walk a.log                           the heap's blocks at the end of a.log
+  tlsf walk --records 65535 -               the same of the log on standard input";
+
+const SITES_EXAMPLES: &str = "Examples:
+  tlsf sites a.log                              who holds the memory of a.log
+  tlsf sites --pool 65536 --records 500 a.log   the same, where the heap has no more";
+
+const FIT_EXAMPLES: &str = "Examples:
+  tlsf fit a.log                            how large a pool a.log needs, and how many records
+  tlsf fit --step 4096 a.log                the same, in steps of 4096 bytes";
+
+const SIZE_EXAMPLES: &str = "Examples:
+  tlsf size --blocks 60 --largest 1040                 what is enough for any 60 blocks of 1040 bytes
+  tlsf size --blocks 60 --largest 1040 --bytes 20480   the same, where they have 20480 bytes at most";
+
+const SAVE_EXAMPLES: &str = "Examples:
+  tlsf save a.log a.image                   the heap at the end of a.log, in a file
+  tlsf save --pool 65536 - a.image          the same of the log on standard input, on 64 KiB";
+
+const CHECK_EXAMPLES: &str = "Examples:
+  tlsf check a.image                               whether a.image can be loaded
+  tlsf save a.log a.image && tlsf check a.image    whether it was written well";
 
 /// What the report of leaks means.
 const LEAKS: &str =
@@ -63,15 +96,15 @@ const SAVE: &str =
 /// What checking means.
 const CHECK: &str = "Tells whether an image can be loaded, or the first rule that it breaks.";
 
-/// The option of a pool's size.
-fn pool_option<'a>(alloc: Global) -> Arg<'a>
-    ensures { IsArgOf pool_rule result }
+/// The option of a pool's size, with this default.
+fn pool_option<'a>(alloc: Global, default: &'a str) -> Arg<'a>
+    ensures { IsArgOf (pool_rule default.entry.now) result }
 {
     let parser = value_parser!(u64).range(i64::from(UNIT)..=i64::from(GREATEST_SIZE));
     Arg::new(alloc, "pool")
         .long("pool")
         .value_name("BYTES")
-        .default_value("16777216")
+        .default_value(default)
         .value_parser(parser)
         .help("Bytes of each pool, a multiple of 16 from 16 to 1073741808")
 }
@@ -89,15 +122,15 @@ fn pools_option<'a>(alloc: Global) -> Arg<'a>
         .help("Number of pools, from 1 to 8; together they end at 4294967296 bytes at most")
 }
 
-/// The option of the number of records.
-fn records_option<'a>(alloc: Global) -> Arg<'a>
-    ensures { IsArgOf records_rule result }
+/// The option of the number of records, with this default.
+fn records_option<'a>(alloc: Global, default: &'a str) -> Arg<'a>
+    ensures { IsArgOf (records_rule default.entry.now) result }
 {
     let parser = value_parser!(u32).range(1..=65_535);
     Arg::new(alloc, "records")
         .long("records")
         .value_name("N")
-        .default_value("8192")
+        .default_value(default)
         .value_parser(parser)
         .help("Number of records, one for each block, from the number of pools to 65535")
 }
@@ -185,21 +218,43 @@ fn image_word<'a>(alloc: Global) -> Arg<'a>
         .help("File of the image")
 }
 
+/// A subcommand that takes a heap's settings and a log, with these defaults of a pool's bytes and of the records.
+fn heap_command<'a>(
+    alloc: Global,
+    name: &'a str,
+    about: &'a str,
+    examples: &'a str,
+    pool: &'a str,
+    records: &'a str,
+) -> Result<Command<'a>, AllocError>
+    ensures { IfOk result (IsCommandOf (heap_line pool.entry.now records.entry.now name.entry.now)) }
+{
+    Command::new(alloc, name)
+        .about(about)
+        .after_help(examples)
+        .arg(pool_option(alloc, pool))?
+        .arg(pools_option(alloc))?
+        .arg(records_option(alloc, records))?
+        .arg(log_word(alloc))
+}
+
 /// The subcommand of one report, or of what takes the same words.
 fn report_command<'a>(
     alloc: Global,
     name: &'a str,
     about: &'a str,
+    examples: &'a str,
 ) -> Result<Command<'a>, AllocError>
     ensures { IfOk result (IsCommandOf (report_line name.entry.now)) }
 {
-    Command::new(alloc, name)
-        .about(about)
-        .after_help(EXAMPLES)
-        .arg(pool_option(alloc))?
-        .arg(pools_option(alloc))?
-        .arg(records_option(alloc))?
-        .arg(log_word(alloc))
+    heap_command(alloc, name, about, examples, "16777216", "8192")
+}
+
+/// The subcommand that tells who holds the memory. Its default heap is the greatest.
+fn sites_command<'a>(alloc: Global) -> Result<Command<'a>, AllocError>
+    ensures { IfOk result (IsCommandOf sites_line) }
+{
+    heap_command(alloc, "sites", SITES, SITES_EXAMPLES, "1073741808", "65535")
 }
 
 /// The subcommand that tries sizes.
@@ -208,7 +263,7 @@ fn fit_command<'a>(alloc: Global) -> Result<Command<'a>, AllocError>
 {
     Command::new(alloc, "fit")
         .about(FIT)
-        .after_help(EXAMPLES)
+        .after_help(FIT_EXAMPLES)
         .arg(step_option(alloc))?
         .arg(log_word(alloc))
 }
@@ -219,7 +274,7 @@ fn size_command<'a>(alloc: Global) -> Result<Command<'a>, AllocError>
 {
     Command::new(alloc, "size")
         .about(SIZE)
-        .after_help(EXAMPLES)
+        .after_help(SIZE_EXAMPLES)
         .arg(blocks_option(alloc))?
         .arg(largest_option(alloc))?
         .arg(bytes_option(alloc))?
@@ -230,7 +285,7 @@ fn size_command<'a>(alloc: Global) -> Result<Command<'a>, AllocError>
 fn save_command<'a>(alloc: Global) -> Result<Command<'a>, AllocError>
     ensures { IfOk result (IsCommandOf save_line) }
 {
-    report_command(alloc, "save", SAVE)?.arg(image_word(alloc))
+    report_command(alloc, "save", SAVE, SAVE_EXAMPLES)?.arg(image_word(alloc))
 }
 
 /// The subcommand that checks.
@@ -239,7 +294,7 @@ fn check_command<'a>(alloc: Global) -> Result<Command<'a>, AllocError>
 {
     Command::new(alloc, "check")
         .about(CHECK)
-        .after_help(EXAMPLES)
+        .after_help(CHECK_EXAMPLES)
         .arg(image_word(alloc))
 }
 
@@ -275,10 +330,10 @@ pub fn tlsf_command<'a>(alloc: Global) -> Result<Command<'a>, AllocError>
     ensures { IfOk result (λ command. app_of command ≡ tlsf_line) }
 {
     let bare = bare_command(alloc)?;
-    let leaks = with(bare, report_command(alloc, "leaks", LEAKS))?;
-    let peak = with(leaks, report_command(alloc, "peak", PEAK))?;
-    let walk = with(peak, report_command(alloc, "walk", WALK))?;
-    let sites = with(walk, report_command(alloc, "sites", SITES))?;
+    let leaks = with(bare, report_command(alloc, "leaks", LEAKS, LEAKS_EXAMPLES))?;
+    let peak = with(leaks, report_command(alloc, "peak", PEAK, PEAK_EXAMPLES))?;
+    let walk = with(peak, report_command(alloc, "walk", WALK, WALK_EXAMPLES))?;
+    let sites = with(walk, sites_command(alloc))?;
     let fit = with(sites, fit_command(alloc))?;
     let size = with(fit, size_command(alloc))?;
     let save = with(size, save_command(alloc))?;

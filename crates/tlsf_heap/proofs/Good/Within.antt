@@ -1,5 +1,5 @@
 -- A run that stays within its bounds is refused neither for want of a block nor for want of a record.
-use Rattle.std.proofs.Common.{◌≡◌, ◌≢◌, ℕ, ◌+◌, ◌-◌, ◌*◌, ◌<◌, ◌≤◌, Bool, true, List, [], ◌∷◌, length, map, Option, Some, None, Ok, Err, inl, inr, refl, sym, ap, ◌∙◌, subst, arith, All}
+use Rattle.std.proofs.Common.{◌≡◌, ◌≢◌, ℕ, ◌+◌, ◌-◌, ◌*◌, ◌<◌, ◌≤◌, Bool, true, List, [], ◌∷◌, length, map, Option, Some, None, Ok, Err, ◌⊎◌, inl, inr, refl, sym, ap, ◌∙◌, subst, arith, All}
 use Rattle.std.specs.Prelude.{◌==◌, ◌&&◌, nat_le, Result}
 use Rattle.std.specs.List.{list_all}
 use Rattle.std.proofs.lemmas.Bool.{cases_Bool, eq-eqb}
@@ -35,6 +35,14 @@ use Rattle.tlsf_heap.proofs.Good.Realloc.{realloc_is_good}
 use Rattle.tlsf_heap.proofs.Meaning.AlignedIsGood.{memalign_is_good}
 use Rattle.tlsf_heap.proofs.Meaning.FreedIsGood.{freed_is_good}
 use Rattle.tlsf_heap.proofs.Good.Room.{room_fits, room_records, aligned_room_fits, aligned_room_records}
+
+-- a refusal for want of a block, or of a record
+abbrev IsWant : Refusal → Type 0
+IsWant why = (why ≡ NoFit) ⊎ (why ≡ TableFull)
+
+not_bad : (why : Refusal) → IsWant why → why ≡ BadPointer → ⊥
+not_bad why (inl is) bad = cc
+not_bad why (inr is) bad = cc
 
 -- what every request but those of pools leaves as it was
 record Keeps {A : Type 0} (old new : Content A) : Type 0 where
@@ -191,44 +199,34 @@ module _ (blocks bytes size : ℕ) where
       let some = some_aligned_bytes owner align n content TableFull (λ e. cc) (λ e. cc) refused in
       aligned_room_records owner align n content enough.good (room_within blocks bytes size (size_asked align) 2 n content (omega arith) enough.large (within some)) refused
 
-  realloc_fits : (owner : ℕ) (pointer : Option (ℕ × ℕ)) (n : ℕ) (content : Content ℕ) → IsEnough content → AllWithin (λ m. m) n content → realloc (λ a b. a == b) owner pointer n content ≡ Err NoFit → ⊥
-  realloc_fits owner pointer n content enough within refused =
-      elim (realloc_reasons owner NoFit (λ a b. a == b) pointer n content (λ some. (let w = within some in (w.asks.m, w.asks.rounds))) refused) [
-        | inl asked ↦ malloc_fits owner n content enough within asked
-        | inr bad ↦ absurd (cc)
-      ]
-
-  realloc_records : (owner : ℕ) (pointer : Option (ℕ × ℕ)) (n : ℕ) (content : Content ℕ) → IsEnough content → AllWithin (λ m. m) n content → realloc (λ a b. a == b) owner pointer n content ≡ Err TableFull → ⊥
-  realloc_records owner pointer n content enough within refused =
-      elim (realloc_reasons owner TableFull (λ a b. a == b) pointer n content (λ some. (let w = within some in (w.asks.m, w.asks.rounds))) refused) [
-        | inl asked ↦ malloc_records owner n content enough within asked
-        | inr bad ↦ absurd (cc)
+  -- a realloc asks for a block, or names no live block
+  realloc_served : (why : Refusal) → IsWant why → (owner : ℕ) (pointer : Option (ℕ × ℕ)) (n : ℕ) (content : Content ℕ) → IsEnough content → AllWithin (λ m. m) n content → realloc (λ a b. a == b) owner pointer n content ≡ Err why → ⊥
+  realloc_served why want owner pointer n content enough within refused =
+      elim (realloc_reasons owner why (λ a b. a == b) pointer n content (λ some. (let w = within some in (w.asks.m, w.asks.rounds))) refused) [
+        | inl asked ↦ elim want [
+          | inl is ↦ malloc_fits owner n content enough within (asked ∙ ap Err is)
+          | inr is ↦ malloc_records owner n content enough within (asked ∙ ap Err is)
+        ]
+        | inr bad ↦ not_bad why want bad
       ]
 
   -- no request is refused for want of a block, nor of a record
-  request_fits : (request : Request) (content : Content ℕ) → IsEnough content → IsWithin blocks bytes size request content → IsRefused request NoFit content → ⊥
-  request_fits (AddPool base pool) content enough within refused = within
-  request_fits (RemovePool base) content enough within refused = within
-  request_fits (Malloc n) content enough within refused = malloc_fits 0 n content enough within (refused 0)
-  request_fits (Memalign align n) content enough within refused = memalign_fits 0 align n content enough within (refused 0)
-  request_fits (Free pointer) content enough within refused = let why = free_refused (λ slot. slot == pointer.slot) pointer.place content NoFit refused in cc
-  request_fits (Realloc pointer n) content enough within refused = realloc_fits 0 (place_and_slot pointer) n content enough within (refused 0)
-  request_fits (BlockSize pointer) content enough within refused = let why = size_refused (λ slot. slot == pointer.slot) pointer.place content NoFit refused in cc
-
-  request_records : (request : Request) (content : Content ℕ) → IsEnough content → IsWithin blocks bytes size request content → IsRefused request TableFull content → ⊥
-  request_records (AddPool base pool) content enough within refused = within
-  request_records (RemovePool base) content enough within refused = within
-  request_records (Malloc n) content enough within refused = malloc_records 0 n content enough within (refused 0)
-  request_records (Memalign align n) content enough within refused = memalign_records 0 align n content enough within (refused 0)
-  request_records (Free pointer) content enough within refused = let why = free_refused (λ slot. slot == pointer.slot) pointer.place content TableFull refused in cc
-  request_records (Realloc pointer n) content enough within refused = realloc_records 0 (place_and_slot pointer) n content enough within (refused 0)
-  request_records (BlockSize pointer) content enough within refused = let why = size_refused (λ slot. slot == pointer.slot) pointer.place content TableFull refused in cc
+  request_served : (request : Request) (why : Refusal) → IsWant why → (content : Content ℕ) → IsEnough content → IsWithin blocks bytes size request content → IsRefused request why content → ⊥
+  request_served (AddPool base pool) why want content enough within refused = within
+  request_served (RemovePool base) why want content enough within refused = within
+  request_served (Malloc n) why (inl is) content enough within refused = malloc_fits 0 n content enough within (refused 0 ∙ ap Err is)
+  request_served (Malloc n) why (inr is) content enough within refused = malloc_records 0 n content enough within (refused 0 ∙ ap Err is)
+  request_served (Memalign align n) why (inl is) content enough within refused = memalign_fits 0 align n content enough within (refused 0 ∙ ap Err is)
+  request_served (Memalign align n) why (inr is) content enough within refused = memalign_records 0 align n content enough within (refused 0 ∙ ap Err is)
+  request_served (Free pointer) why want content enough within refused = not_bad why want (free_refused (λ slot. slot == pointer.slot) pointer.place content why refused)
+  request_served (Realloc pointer n) why want content enough within refused = realloc_served why want 0 (place_and_slot pointer) n content enough within (refused 0)
+  request_served (BlockSize pointer) why want content enough within refused = not_bad why want (size_refused (λ slot. slot == pointer.slot) pointer.place content why refused)
 
   step_not_full : (lacks : Type 0) (request : Request) (answer : Answer) (old new : Content ℕ) → IsEnough old → IsWithin blocks bytes size request old → Step lacks request answer old new → IsNotFull answer
   step_not_full lacks request answer old new enough within step =
       let P : Answer → Type 0 = λ a. Step lacks request a old new in (
-        λ is. request_fits request old enough within ((subst P is step).1 (λ e. cc)),
-        λ is. request_records request old enough within ((subst P is step).1 (λ e. cc)),
+        λ is. request_served request NoFit (inl refl) old enough within ((subst P is step).1 (λ e. cc)),
+        λ is. request_served request TableFull (inr refl) old enough within ((subst P is step).1 (λ e. cc)),
       )
 
   -- what a request leaves is large enough still

@@ -34,7 +34,7 @@ const ROWS: [Row; 7] = [
         name: "refused-on-the-greatest",
         step: None,
         log: b"+ 0x10 0x40000000\n",
-        text: b"line 1: 0x10 refused: no fit\npeak: 0 bytes at line 0\nheld at most: 0 blocks\nrecords: -\ntable: -\nleast pool: -\nsafe pool: -\nsizes tried: 0\nsure pool: -\n",
+        text: b"line 1: 0x10 refused: no fit\npeak: 0 bytes at line 0\nheld at most: 0 blocks\nrecords: -\ntable: -\nleast pool: -\nsafe pool: -\nsizes tried: 0\nsure pool: -\nrefused: 1 lines\n",
         status: 1,
     },
     Row {

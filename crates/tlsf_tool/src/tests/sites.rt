@@ -76,7 +76,7 @@ const ROWS: [Row; 10] = [
     Row {
         name: "refused-is-not-held",
         log: b"@ a + 0x10 0x8\nx\n@ b + 0x20 0x800",
-        text: b"line 2: not a line\nline 3: 0x20 refused: no fit\nHeld at the peak, line 1: 1 blocks, 8 bytes.\n8 bytes in 1 blocks at a\nHeld at the end: 1 blocks, 8 bytes.\n8 bytes in 1 blocks at a\n",
+        text: b"line 2: not a line\nline 3: 0x20 refused: no fit\nHeld at the peak, line 1: 1 blocks, 8 bytes.\n8 bytes in 1 blocks at a\nHeld at the end: 1 blocks, 8 bytes.\n8 bytes in 1 blocks at a\nrefused: 1 lines\n",
         status: 1,
     },
 ];

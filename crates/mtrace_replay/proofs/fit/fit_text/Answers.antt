@@ -4,7 +4,7 @@ use Rattle.tlsf_heap.specs.Sizing.{sure_pool}
 use Rattle.mtrace_replay.specs.declared.totals.Totals.{Totals}
 use Rattle.mtrace_replay.specs.declared.fitted.Fitted.{Fitted}
 use Rattle.mtrace_replay.specs.Fit.{enough_records, step_of, first_number, fitted}
-use Rattle.mtrace_replay.specs.Texts.{greatest_line, most_line, fitted_lines, untried_lines}
+use Rattle.mtrace_replay.specs.Texts.{greatest_line, most_line, fitted_lines, untried_lines, refused_line}
 use Rattle.mtrace_replay.specs.RunFit.{TriesRanges, TellsFit}
 use Rattle.mtrace_replay.proofs.FitLemmas.{sure_of, tells_untried, tells_fitted}
 use Rattle.mtrace_replay.proofs.fit.fit_text.Goals as goal
@@ -18,8 +18,8 @@ returns-then-totals-gt0 g c = record {
       let T : List ℕ → Type 0 = λ text. TellsFit c.args.step lines (g.R.Source.whole c.args.reader.now) text in
       let some : 0 < c.totals-totals.result.refused = c.if-totals-gt0.true in
       let same = c.untried_text.ensures
-      ∙ ap (λ (totals : Totals). greatest_line totals ++ most_line c.most-most.result ++ untried_lines) c.totals-totals.ensures.totals
-      ∙ ap (λ most. greatest_line replay.totals ++ most_line most ++ untried_lines) c.most-most.ensures in
+      ∙ ap (λ (totals : Totals). greatest_line totals ++ most_line c.most-most.result ++ untried_lines ++ refused_line totals.refused) c.totals-totals.ensures.totals
+      ∙ ap (λ most. greatest_line replay.totals ++ most_line most ++ untried_lines ++ refused_line replay.totals.refused) c.most-most.ensures in
       subst T (sym same)
       (tells_untried c.args.step lines (g.R.Source.whole c.args.reader.now) replay stands (omega (arith, some, ap (λ (totals : Totals). totals.refused) c.totals-totals.ensures.totals)));
 }

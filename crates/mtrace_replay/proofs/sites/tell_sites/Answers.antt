@@ -18,8 +18,8 @@ returns-in-Ok-put_and_flush g c = λ settings lines stands fresh.
     let peak = c.replay_again.new.replay in
     let peak_sites = c.sites.result.now in
     let end_sites = c.sites-2.result.now in
-    let line = ap (λ (totals : Totals). totals.peak_line) c.totals-line.ensures.totals in
-    let text = sites_text-is peak peak_sites end end_sites c.totals-line.result.peak_line _ _ _ _ line
+    let line = ap (λ (totals : Totals). totals.peak_line) c.totals-totals.ensures.totals in
+    let text = sites_text-is peak peak_sites end end_sites c.totals-totals.result _ _ _ _ c.totals-totals.ensures.totals
     c.group_held-peak_sum.ensures.blocks c.group_held-peak_sum.ensures.bytes c.group_held-end_sum.ensures.blocks c.group_held-end_sum.ensures.bytes in
     let M : ℕ → Type 0 = λ most. HasReplayedFirst most settings peak (g.R.Source.whole c.args.reader.now) (g.R.Source.left c.replay_again.new.reader) in
     let A : Replayed → List Site → Type 0 = λ replay sites. AreSites (entries replay) sites in
@@ -43,8 +43,8 @@ returns g c = λ settings lines stands fresh.
     let peak = c.replay_again.new.replay in
     let peak_sites = c.sites.result.now in
     let end_sites = c.sites-2.result.now in
-    let line = ap (λ (totals : Totals). totals.peak_line) c.totals-line.ensures.totals in
-    let text = sites_text-is peak peak_sites end end_sites c.totals-line.result.peak_line _ _ _ _ line
+    let line = ap (λ (totals : Totals). totals.peak_line) c.totals-totals.ensures.totals in
+    let text = sites_text-is peak peak_sites end end_sites c.totals-totals.result _ _ _ _ c.totals-totals.ensures.totals
     c.group_held-peak_sum.ensures.blocks c.group_held-peak_sum.ensures.bytes c.group_held-end_sum.ensures.blocks c.group_held-end_sum.ensures.bytes in
     let M : ℕ → Type 0 = λ most. HasReplayedFirst most settings peak (g.R.Source.whole c.args.reader.now) (g.R.Source.left c.replay_again.new.reader) in
     let A : Replayed → List Site → Type 0 = λ replay sites. AreSites (entries replay) sites in

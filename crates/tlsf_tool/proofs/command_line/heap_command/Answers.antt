@@ -5,7 +5,7 @@ use Rattle.clap.specs.Simple.{app_of_fields}
 use Rattle.clap.specs.declared.builder.command.Command.{Command}
 use Rattle.clap.specs.declared.builder.command.Command.TheOpen.{Command-F}
 use Rattle.clap.specs.declared.builder.command.Command.TheViews.{out-Command}
-use Rattle.tlsf_tool.proofs.command_line.report_command.Goals as goal
+use Rattle.tlsf_tool.proofs.command_line.heap_command.Goals as goal
 
 pub returns : goal.returns
 returns c =
