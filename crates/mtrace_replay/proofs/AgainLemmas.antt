@@ -12,7 +12,8 @@ use Rattle.mtrace_replay.specs.declared.settings.Settings.{Settings}
 use Rattle.mtrace_replay.specs.Replay.{Replayed}
 use Rattle.mtrace_replay.specs.Run.{Bytes, FailedInPiece, IsPastLastNumber}
 use Rattle.mtrace_replay.specs.Again.{HasReadFirst, HasReplayedFirst, StopsEarly}
-use Rattle.mtrace_replay.proofs.ReplayingLemmas.{IsReplaying, used_to_end}
+use Rattle.mtrace_replay.specs.Replaying.{IsReplaying}
+use Rattle.mtrace_replay.proofs.ReplayingLemmas.{used_to_end}
 
 -- what was read so far
 pub read_first : (settings : Settings) (progress : Progress) (replay : Replayed) (start left : Bytes) → (so_far : IsReplaying settings progress replay start left)

@@ -15,14 +15,7 @@ use Rattle.mtrace_log.proofs.ReadLemmas.{HasRead-none, HasReadSo-line, HasReadSo
 use Rattle.mtrace_replay.specs.declared.settings.Settings.{Settings}
 use Rattle.mtrace_replay.specs.Replay.{Replayed, StandsFor}
 use Rattle.mtrace_replay.specs.Run.{Bytes, FailedInPiece, IsPastLastNumber}
-
--- the lines so far were read and replayed
-pub record IsReplaying (settings : Settings) (progress : Progress) (replay : Replayed) (left_start left_now : Bytes) : Type 0 where
-  pub lines : List (Result Event LineFault)
-  pub count : progress.count ≡ length lines
-  pub no_fault : (fault : ReadFault) → progress.stage ≢ Faulted fault
-  pub read : HasReadSo progress.stage left_start (to_come progress left_now) lines
-  pub stands : StandsFor replay settings (reverse lines)
+use Rattle.mtrace_replay.specs.Replaying.{IsReplaying}
 
 pub prepend_nothing : (known : Bytes) → prepend_known [] known ≡ known
 prepend_nothing None = refl

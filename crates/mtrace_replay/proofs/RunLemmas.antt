@@ -28,7 +28,8 @@ use Rattle.mtrace_replay.specs.declared.report.Report.TheVariants.{Nothing}
 use Rattle.mtrace_replay.specs.declared.totals.Totals.{Totals}
 use Rattle.mtrace_replay.specs.Run.{Bytes, text_of_notes, whole_text, end_text, StopsAtRead, StopsAtWrite, Reports, Replays, EndsAt, is_some_diagnostic, is_some_entry, LineGives, LineBegins, HasReplayed}
 use Rattle.mtrace_replay.proofs.Moments.{moments-none, moments-line}
-use Rattle.mtrace_replay.proofs.ReplayingLemmas.{IsReplaying, prepend_nothing, replaying_start, replaying_line, replaying_end, replaying_fault, line_read, reverse-more}
+use Rattle.mtrace_replay.specs.Replaying.{IsReplaying}
+use Rattle.mtrace_replay.proofs.ReplayingLemmas.{prepend_nothing, replaying_start, replaying_line, replaying_end, replaying_fault, line_read, reverse-more}
 use Rattle.mtrace_log.proofs.Writing.{Wrote-nothing, Wrote-append, Begins-after, Begins-longer}
 
 -- the lines so far were read and replayed, and their diagnostics written

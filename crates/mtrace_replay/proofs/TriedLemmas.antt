@@ -11,7 +11,7 @@ use Rattle.mtrace_replay.specs.Replay.{Replayed}
 use Rattle.mtrace_replay.specs.Run.{Bytes}
 use Rattle.mtrace_replay.specs.Again.{HasReadFirst, StopsEarly, FailsAgain}
 use Rattle.mtrace_replay.specs.RunFit.{IsTried, NoneFailed}
-use Rattle.mtrace_replay.proofs.ReplayingLemmas.{IsReplaying}
+use Rattle.mtrace_replay.specs.Replaying.{IsReplaying}
 use Rattle.mtrace_replay.proofs.AgainLemmas.{read_first}
 
 -- no line is refused

@@ -15,6 +15,7 @@ pub mod Key
 pub mod Keys
 pub mod Moment
 pub mod Replay
+pub mod Replaying
 pub mod Rows
 pub mod Run
 pub mod RunFit

@@ -1,12 +1,42 @@
 //! A log that is read again.
 
-ghost use Rattle.std.specs.Prelude.{◌≡◌};
+ghost use Rattle.std.specs.Prelude.{◌≡◌, [], OnOk};
 ghost use Rattle.mtrace_replay.specs.Again.{StopsEarly, ReplaysFirst};
+ghost use Rattle.mtrace_replay.specs.Replaying.{ReplaysNext};
 
 use crate::findings::Findings;
 use crate::replay::Replay;
 use mtrace_log::{Failed, Lines, Source};
 use tlsf_heap::Heap;
+
+/// Reads and replays the next line. What is wrong with it isn't told.
+///
+/// # Errors
+///
+/// `Failed` where the reader fails, or has no more lines.
+#[inline(always)]
+pub(crate) fn replay_next<R: Source>(
+    lines: &mut Lines,
+    reader: &mut R,
+    replay: &mut Replay<Heap>,
+    findings: &mut Findings,
+) -> Result<(), Failed>
+    requires counted { replay.old.totals.lines ≡ lines.old.count }
+    requires none { findings.old ≡ [] }
+    ensures next { ReplaysNext R.left R.whole R.trace result lines.old lines.new replay.old replay.new reader.old reader.new }
+    ensures none { OnOk result (findings.new ≡ []) }
+{
+    let number = match lines.advance(reader) {
+        Ok(Some(number)) => number,
+        Ok(None) => return Err(Failed),
+        Err(_) => return Err(Failed),
+    };
+    let Ok(()) = replay.feed_lent(number, lines.event(), findings) else {
+        unreachable!();
+    };
+    findings.clear();
+    Ok(())
+}
 
 /// Reads and replays the first lines of the log, this many. What is wrong with them isn't told.
 ///
@@ -26,15 +56,9 @@ pub(crate) fn replay_first<R: Source>(
     let mut lines = Lines::new();
     let mut findings = Findings::none();
     for _ in 0..many {
-        let number = match lines.advance(reader) {
-            Ok(Some(number)) => number,
-            Ok(None) => return Err(Failed),
-            Err(_) => return Err(Failed),
+        let Ok(()) = replay_next(&mut lines, reader, replay, &mut findings) else {
+            return Err(Failed);
         };
-        let Ok(()) = replay.feed_lent(number, lines.event(), &mut findings) else {
-            unreachable!();
-        };
-        findings.clear();
     }
     Ok(())
 }

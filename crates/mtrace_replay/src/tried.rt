@@ -6,6 +6,7 @@ ghost use Rattle.mtrace_replay.specs.Again.{StopsEarly};
 ghost use Rattle.mtrace_replay.specs.RunFit.{IsTried, TriesLog};
 ghost use Rattle.mtrace_replay.specs.declared.settings.Settings.{Settings};
 
+use crate::again::replay_next;
 use crate::findings::Findings;
 use crate::replay::Replay;
 use mtrace_log::{Failed, Lines, Source};
@@ -31,18 +32,12 @@ pub(crate) fn is_served<R: Source>(
     let mut lines = Lines::new();
     let mut findings = Findings::none();
     for _ in 0..many {
-        let number = match lines.advance(reader) {
-            Ok(Some(number)) => number,
-            Ok(None) => return Err(Failed),
-            Err(_) => return Err(Failed),
-        };
-        let Ok(()) = replay.feed_lent(number, lines.event(), &mut findings) else {
-            unreachable!();
+        let Ok(()) = replay_next(&mut lines, reader, replay, &mut findings) else {
+            return Err(Failed);
         };
         if replay.totals().refused > 0 {
             return Ok(false);
         }
-        findings.clear();
     }
     Ok(true)
 }

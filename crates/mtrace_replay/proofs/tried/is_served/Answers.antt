@@ -1,94 +1,54 @@
-use Rattle.std.proofs.Common.{◌<◌, arith, sym, ap, subst, ◌∙◌, reverse, inl}
+use Rattle.std.proofs.Common.{◌<◌, arith, ap, subst, ◌∙◌}
 use Rattle.mtrace_replay.specs.declared.totals.Totals.{Totals}
-use Rattle.mtrace_log.proofs.CallLemmas.{calls_more, calls_of_line, calls_to_end, calls_to_fault}
-use Rattle.mtrace_replay.proofs.ReplayingLemmas.{replaying_line, replaying_end, replaying_fault}
-use Rattle.mtrace_replay.proofs.AgainLemmas.{ends_early, failed_in_piece}
 use Rattle.mtrace_replay.proofs.TriedLemmas.{tried_served, tried_refused, none_failed}
 use Rattle.mtrace_replay.proofs.tried.is_served.Goals as goal
 
-pub returns-in-Ok-None : goal.returns-in-Ok-None
-returns-in-Ok-None g c =
-    let left = g.R.Source.left in
+pub loop-preserved : goal.loop-preserved
+loop-preserved g c =
     let kept = c.loop.invariant in
-    let found = rw c.in-Ok-None.field-0-is at c.in-Ok-None.ensures.end in
+    let next = c.in-Ok.ensures.next in
+    let gave = next.gave _ kept.gave in
     record {
-      tried = tt;
-      not_failed = tt;
-      read = λ settings stands.
-          let so_far = kept.so_far settings stands in
-          ends_early c.args.many settings c.loop.lines c.loop.replay (left c.args.reader.now) (left c.loop.reader) (left c.advance.new.reader) (g.R.Source.trace c.args.reader.now) (g.R.Source.trace c.advance.new.reader)
-          so_far (omega (arith, kept.many, c.loop-test.true))
-          (replaying_end left settings c.loop.lines c.advance.new.self c.loop.replay (left c.args.reader.now) c.loop.reader c.advance.new.reader so_far found.1)
-          (calls_to_end g.R.Source.trace (g.R.Source.trace c.args.reader.now) c.loop.lines c.advance.new.self c.loop.reader c.advance.new.reader _ _
-          kept.gave c.in-Ok-None.ensures.calls found.0 found.1);
-      whole = c.advance.ensures.whole ∙ kept.whole;
-      records = kept.records;
+      so_far = λ settings stands. next.replaying settings _ (kept.so_far settings stands);
+      counted = next.counted;
+      many = omega (arith, next.one_more, kept.many);
+      served = omega (arith, ap (λ (totals : Totals). totals.refused) c.totals.ensures.totals, c.if-totals-gt0.false);
+      none = c.in-Ok.ensures.none;
+      whole = next.whole ∙ kept.whole;
+      gave = gave.0;
+      not_failed = gave.1;
+      records = next.records ∙ kept.records;
     }
 
-pub returns-in-Err : goal.returns-in-Err
-returns-in-Err g c =
+pub returns-in_default : goal.returns-in_default
+returns-in_default g c =
     let kept = c.loop.invariant in
+    let next = c.in_default.ensures.next in
     record {
       tried = tt;
       not_failed = tt;
-      read = λ settings stands.
-          let left = g.R.Source.left in
-          let so_far = kept.so_far settings stands in
-          let came = calls_to_fault g.R.Source.trace (g.R.Source.trace c.args.reader.now) c.loop.lines c.advance.new.self c.loop.reader c.advance.new.reader _ _ c.in-Err.field-0
-          kept.gave c.in-Err.ensures.calls c.in-Err.ensures.fault in
-          let why = replaying_fault left settings c.loop.lines c.advance.new.self c.loop.replay (left c.args.reader.now) c.loop.reader c.advance.new.reader _ _ c.in-Err.field-0
-          so_far c.in-Err.ensures.fault c.in-Err.ensures.nothing_held came in inl (
-            so_far.lines,
-            failed_in_piece (left c.args.reader.now) (left c.advance.new.reader) _ _ so_far.lines
-                (omega (arith, so_far.count, kept.many, c.loop-test.true, c.ranges.many.fits)) why,
-          );
-      whole = c.advance.ensures.whole ∙ kept.whole;
-      records = kept.records;
+      read = λ settings stands. next.stops settings _ _ c.args.many (kept.so_far settings stands) kept.gave (omega (arith, kept.many, c.loop-test.true)) (omega (arith, c.ranges.many.fits));
+      whole = next.whole ∙ kept.whole;
+      records = next.records ∙ kept.records;
     }
 
 pub returns-then-totals-gt0 : goal.returns-then-totals-gt0
 returns-then-totals-gt0 g c =
     let left = g.R.Source.left in
+    let trace = g.R.Source.trace in
     let kept = c.loop.invariant in
-    let passed = rw c.in-Ok-Some.field-0-is at c.in-Ok-Some.ensures.line in
-    let given = passed c.event.result c.event.ensures in
-    let gave = calls_more c.loop.lines.stage c.advance.new.self.stage _ _ _ given.was_reading kept.gave c.in-Ok-Some.ensures.calls in
+    let next = c.in-Ok.ensures.next in
     record {
       tried = λ settings stands.
-          let so_far = kept.so_far settings stands in
-          let now = replaying_line settings c.loop.lines c.advance.new.self c.loop.replay c.feed_lent.new.self
-          (left c.args.reader.now) (left c.loop.reader) (left c.advance.new.reader) (record { number = c.in-Ok-Some.number; event = c.event.result })
-          so_far given (c.in-Ok.ensures.stands settings (reverse so_far.lines) so_far.stands) in
           let some : 0 < c.totals.result.refused = c.if-totals-gt0.true in
-          tried_refused c.args.many settings c.advance.new.self c.feed_lent.new.self (left c.args.reader.now) (left c.advance.new.reader) now
-          (omega (arith, given.count, given.number, kept.many, c.loop-test.true))
+          tried_refused c.args.many settings c.replay_next.new.lines c.replay_next.new.replay (left c.args.reader.now) (left c.replay_next.new.reader)
+          (next.replaying settings _ (kept.so_far settings stands))
+          (omega (arith, next.one_more, kept.many, c.loop-test.true))
           (subst (λ n. 0 < n) (ap (λ (totals : Totals). totals.refused) c.totals.ensures.totals) some);
-      not_failed = none_failed (g.R.Source.trace c.args.reader.now) (g.R.Source.trace c.advance.new.reader) (calls_of_line c.advance.new.self.stage _ _ _ _ _ given.taken gave);
+      not_failed = none_failed (trace c.args.reader.now) (trace c.replay_next.new.reader) (next.gave _ kept.gave).1;
       read = tt;
-      whole = c.advance.ensures.whole ∙ kept.whole;
-      records = c.feed_lent.ensures.records ∙ kept.records;
-    }
-
-pub loop-preserved : goal.loop-preserved
-loop-preserved g c =
-    let left = g.R.Source.left in
-    let passed = rw c.in-Ok-Some.field-0-is at c.in-Ok-Some.ensures.line in
-    let given = passed c.event.result c.event.ensures in
-    let gave = calls_more c.loop.lines.stage c.advance.new.self.stage _ _ _ given.was_reading c.loop.invariant.gave c.in-Ok-Some.ensures.calls in
-    let fed = c.in-Ok.ensures in
-    record {
-      so_far = (λ settings stands. let so_far = c.loop.invariant.so_far settings stands in
-          replaying_line settings c.loop.lines c.advance.new.self c.loop.replay c.feed_lent.new.self
-          (left c.args.reader.now) (left c.loop.reader) (left c.advance.new.reader) (record { number = c.in-Ok-Some.number; event = c.event.result })
-          so_far given (fed.stands settings (reverse so_far.lines) so_far.stands));
-      counted = fed.counted ∙ sym given.count;
-      many = omega (arith, given.count, given.number, c.loop.invariant.many);
-      served = omega (arith, ap (λ (totals : Totals). totals.refused) c.totals.ensures.totals, c.if-totals-gt0.false);
-      none = c.clear.ensures;
-      whole = c.in-Ok-Some.ensures.whole ∙ c.loop.invariant.whole;
-      gave = gave;
-      not_failed = calls_of_line c.advance.new.self.stage _ _ _ _ _ given.taken gave;
-      records = c.feed_lent.ensures.records ∙ c.loop.invariant.records;
+      whole = next.whole ∙ kept.whole;
+      records = next.records ∙ kept.records;
     }
 
 pub returns : goal.returns

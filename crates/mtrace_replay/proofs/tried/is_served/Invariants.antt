@@ -3,7 +3,7 @@ use Rattle.mtrace_log.specs.Progress.{CallsFor}
 use Rattle.mtrace_log.specs.Trace.{HasNotFailed}
 use Rattle.mtrace_replay.specs.declared.settings.Settings.{Settings}
 use Rattle.mtrace_replay.specs.Replay.{StandsFor}
-use Rattle.mtrace_replay.proofs.ReplayingLemmas.{IsReplaying}
+use Rattle.mtrace_replay.specs.Replaying.{IsReplaying}
 use Rattle.mtrace_replay.proofs.tried.is_served.Given as goal
 
 -- as many lines were replayed as the counter says, and none is refused; the reader gave pieces, and perhaps told its end
