@@ -41,7 +41,7 @@ pub use crate::fit::run_fit;
 pub use crate::index::Entries;
 pub use crate::replay::{Replay, ReplayFault};
 pub use crate::report::Report;
-pub use crate::run::{run_leaks, run_peak, run_walk};
+pub use crate::run::{run_leaks, run_peak, run_report, run_walk};
 pub use crate::save::run_save;
 pub use crate::settings::Settings;
 pub use crate::sites::run_sites;

@@ -196,8 +196,19 @@ pub(crate) fn replay_log<R: Source, W: Sink>(
     }
 }
 
-/// Reads and replays a log on a heap by the settings, and writes what is wrong with its lines, and then the report.
-fn run_report<R: Source, W: Sink>(
+/// Reads a log of mtrace(3), replays it on a heap by the settings, and writes what is wrong with its lines, each as
+/// it comes. Then writes the report.
+///
+/// The writer is flushed once at the end, but not after `Write`, `BadSettings` or `OutOfMemory`; after `Read` it doesn't
+/// matter whether that succeeds. Memory is taken at the start alone, for the heap's records and for what is held.
+///
+/// # Errors
+///
+/// `Read` where the reader failed, or line 2^64 would come: then what is wrong with the lines before is
+/// written. `Write` where the writer answered an error, took no byte of some, or failed its flush: then a
+/// beginning of the text is written. `OutOfMemory` where memory is refused, and then nothing is read or
+/// written. `BadSettings` exactly where the settings are bad: then nothing is read or written.
+pub fn run_report<R: Source, W: Sink>(
     alloc: Global,
     reader: &mut R,
     writer: &mut W,
@@ -212,18 +223,7 @@ fn run_report<R: Source, W: Sink>(
     }
 }
 
-/// Reads a log of mtrace(3), replays it on a heap by the settings, and writes what is wrong with its lines, each as
-/// it comes. Then writes the report of leaks: what is held at the end of the log.
-///
-/// The writer is flushed once at the end, but not after `Write`, `BadSettings` or `OutOfMemory`; after `Read` it doesn't
-/// matter whether that succeeds. Memory is taken at the start alone, for the heap's records and for what is held.
-///
-/// # Errors
-///
-/// `Read` where the reader failed, or line 2^64 would come: then what is wrong with the lines before is
-/// written. `Write` where the writer answered an error, took no byte of some, or failed its flush: then a
-/// beginning of the text is written. `OutOfMemory` where memory is refused, and then nothing is read or
-/// written. `BadSettings` exactly where the settings are bad: then nothing is read or written.
+/// [`run_report`] of `Report::Leaks`, the report of leaks: what is held at the end of the log.
 pub fn run_leaks<R: Source, W: Sink>(
     alloc: Global,
     reader: &mut R,
@@ -235,18 +235,7 @@ pub fn run_leaks<R: Source, W: Sink>(
     run_report(alloc, reader, writer, settings, Report::Leaks)
 }
 
-/// Reads a log of mtrace(3), replays it on a heap by the settings, and writes what is wrong with its lines, each as
-/// it comes. Then writes the report of the peak: the sums over the lines, and what is free at the end of the log.
-///
-/// The writer is flushed once at the end, but not after `Write`, `BadSettings` or `OutOfMemory`; after `Read` it doesn't
-/// matter whether that succeeds. Memory is taken at the start alone, for the heap's records and for what is held.
-///
-/// # Errors
-///
-/// `Read` where the reader failed, or line 2^64 would come: then what is wrong with the lines before is
-/// written. `Write` where the writer answered an error, took no byte of some, or failed its flush: then a
-/// beginning of the text is written. `OutOfMemory` where memory is refused, and then nothing is read or
-/// written. `BadSettings` exactly where the settings are bad: then nothing is read or written.
+/// [`run_report`] of `Report::Peak`, the report of the peak: the sums over the lines, and what is free at the end of the log.
 pub fn run_peak<R: Source, W: Sink>(
     alloc: Global,
     reader: &mut R,
@@ -258,18 +247,7 @@ pub fn run_peak<R: Source, W: Sink>(
     run_report(alloc, reader, writer, settings, Report::Peak)
 }
 
-/// Reads a log of mtrace(3), replays it on a heap by the settings, and writes what is wrong with its lines, each as
-/// it comes. Then writes the report of the walk: the pools at the end of the log, each with its blocks.
-///
-/// The writer is flushed once at the end, but not after `Write`, `BadSettings` or `OutOfMemory`; after `Read` it doesn't
-/// matter whether that succeeds. Memory is taken at the start alone, for the heap's records and for what is held.
-///
-/// # Errors
-///
-/// `Read` where the reader failed, or line 2^64 would come: then what is wrong with the lines before is
-/// written. `Write` where the writer answered an error, took no byte of some, or failed its flush: then a
-/// beginning of the text is written. `OutOfMemory` where memory is refused, and then nothing is read or
-/// written. `BadSettings` exactly where the settings are bad: then nothing is read or written.
+/// [`run_report`] of `Report::Walk`, the report of the walk: the pools at the end of the log, each with its blocks.
 pub fn run_walk<R: Source, W: Sink>(
     alloc: Global,
     reader: &mut R,
