@@ -9,6 +9,7 @@
 #include <stdarg.h>
 #include <stdlib.h>
 #include <string.h>
+#include <sys/stat.h>
 #include <sys/syscall.h>
 #include <unistd.h>
 
@@ -81,9 +82,35 @@ static bool end(void)
     return true;
 }
 
+/* Whether this thread is the only one, by the links of the folder that has one for each. */
+static bool is_alone(void)
+{
+    struct stat told;
+    return stat("/proc/self/task", &told) == 0 && told.st_nlink == 3;
+}
+
+/* The C library gives back what it keeps for itself, as it does for mtrace(3), and so does that of
+ * C++. Another thread might still use it. */
+static void release_libraries(void)
+{
+    static const char *const names[] = {"_ZN9__gnu_cxx9__freeresEv", "__libc_freeres"};
+    for (size_t k = 0; k < sizeof names / sizeof *names; k++) {
+        void (*release)(void);
+        inside = true;
+        find(names[k], &release);
+        inside = false;
+        if (release != NULL) {
+            release();
+        }
+    }
+}
+
 static void at_exit(void *unused)
 {
     (void)unused;
+    if (!inside && log_is_on() && is_alone()) {
+        release_libraries();
+    }
     end();
 }
 

@@ -7,7 +7,7 @@
 #include <sys/wait.h>
 #include <unistd.h>
 
-enum { CHILDREN = 50, CALLS = 100000 };
+enum { CHILDREN = 50, CALLS = 60000 };
 
 static void take(int count)
 {
