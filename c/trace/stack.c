@@ -20,18 +20,50 @@
 #include <unistd.h>
 
 /* A module's text has at most MODULE_MOST bytes: that leaves room for one frame. */
-enum { MODULE_MOST = 230, MODULES_MOST = 2048, OPERATORS_MOST = 20, OWN_FRAMES = 8 };
+enum { MODULE_MOST = 230, MODULES_MOST = 2048, OWN_FRAMES = 8 };
 
-/* Code of `operator new` or `delete`: what returns there was called by it. */
+/* Frames that aren't told: of `operator new` or `delete`, and those from the C library's start of
+ * `main` on. */
+enum kind { PROGRAM, OPERATOR, START };
+
+/* The functions of these kinds. */
+static const struct {
+    const char *name;
+    enum kind kind;
+} known[] = {
+    {"_Znwm", OPERATOR},
+    {"_Znam", OPERATOR},
+    {"_ZnwmRKSt9nothrow_t", OPERATOR},
+    {"_ZnamRKSt9nothrow_t", OPERATOR},
+    {"_ZnwmSt11align_val_t", OPERATOR},
+    {"_ZnamSt11align_val_t", OPERATOR},
+    {"_ZnwmSt11align_val_tRKSt9nothrow_t", OPERATOR},
+    {"_ZnamSt11align_val_tRKSt9nothrow_t", OPERATOR},
+    {"_ZdlPv", OPERATOR},
+    {"_ZdaPv", OPERATOR},
+    {"_ZdlPvm", OPERATOR},
+    {"_ZdaPvm", OPERATOR},
+    {"_ZdlPvRKSt9nothrow_t", OPERATOR},
+    {"_ZdaPvRKSt9nothrow_t", OPERATOR},
+    {"_ZdlPvSt11align_val_t", OPERATOR},
+    {"_ZdaPvSt11align_val_t", OPERATOR},
+    {"_ZdlPvmSt11align_val_t", OPERATOR},
+    {"_ZdaPvmSt11align_val_t", OPERATOR},
+    {"__libc_start_main", START},
+};
+enum { KNOWN = sizeof known / sizeof *known };
+
+/* Code of one kind: what returns there was called by it. */
 struct range {
     uintptr_t after, last;
+    enum kind kind;
 };
 
 struct module {
     uintptr_t base;
-    unsigned length, operators;
+    unsigned length, ranges;
     char text[MODULE_MOST];
-    struct range operator_code[OPERATORS_MOST];
+    struct range range[KNOWN];
 };
 
 /* What a return address reads as. */
@@ -40,7 +72,7 @@ struct frame {
     uint32_t generation;
     uint16_t module;
     uint8_t length;
-    uint8_t is_operator;
+    uint8_t kind;
     char text[16];
 };
 
@@ -92,15 +124,7 @@ static unsigned put_path(char *to, const char *path)
     return (unsigned)(length - left_out);
 }
 
-/* ---- the code of operators, by the table of names that the dynamic linker uses */
-
-static const char *const operators[] = {
-    "_Znwm", "_Znam", "_ZnwmRKSt9nothrow_t", "_ZnamRKSt9nothrow_t", "_ZnwmSt11align_val_t",
-    "_ZnamSt11align_val_t", "_ZnwmSt11align_val_tRKSt9nothrow_t",
-    "_ZnamSt11align_val_tRKSt9nothrow_t", "_ZdlPv", "_ZdaPv", "_ZdlPvm", "_ZdaPvm",
-    "_ZdlPvRKSt9nothrow_t", "_ZdaPvRKSt9nothrow_t", "_ZdlPvSt11align_val_t",
-    "_ZdaPvSt11align_val_t", "_ZdlPvmSt11align_val_t", "_ZdaPvmSt11align_val_t",
-};
+/* ---- the code of known functions, by the table of names that the dynamic linker uses */
 
 struct names {
     const ElfW(Sym) *symbols;
@@ -159,18 +183,18 @@ static const ElfW(Sym) *find_symbol(const struct names *names, const char *name)
     return NULL;
 }
 
-static void find_operators(struct module *module, const struct dl_phdr_info *info)
+static void find_known(struct module *module, const struct dl_phdr_info *info)
 {
     struct names names = names_of(info);
     if (names.hash == NULL || names.symbols == NULL || names.strings == NULL) {
         return;
     }
-    for (size_t k = 0; k < sizeof operators / sizeof *operators; k++) {
-        const ElfW(Sym) *symbol = find_symbol(&names, operators[k]);
+    for (size_t k = 0; k < KNOWN; k++) {
+        const ElfW(Sym) *symbol = find_symbol(&names, known[k].name);
         if (symbol != NULL && symbol->st_shndx != SHN_UNDEF) {
             uintptr_t start = info->dlpi_addr + symbol->st_value;
-            struct range code = {start, start + symbol->st_size};
-            module->operator_code[module->operators++] = code;
+            struct range code = {start, start + symbol->st_size, known[k].kind};
+            module->range[module->ranges++] = code;
         }
     }
 }
@@ -201,8 +225,8 @@ static int look_at_module(struct dl_phdr_info *info, size_t size, void *data)
         const char *path = info->dlpi_name[0] == 0 ? program : info->dlpi_name;
         search->module.base = lowest & ~(uintptr_t)4095;
         search->module.length = put_path(search->module.text, path);
-        search->module.operators = 0;
-        find_operators(&search->module, info);
+        search->module.ranges = 0;
+        find_known(&search->module, info);
     }
     return search->found;
 }
@@ -224,14 +248,14 @@ static unsigned number_of(const struct module *module)
     return module_count++;
 }
 
-static bool is_in_operator(const struct module *module, uintptr_t address)
+static enum kind kind_of(const struct module *module, uintptr_t address)
 {
-    bool found = false;
-    for (unsigned k = 0; k < module->operators; k++) {
-        const struct range *code = &module->operator_code[k];
-        found |= code->after < address && address <= code->last;
+    enum kind kind = PROGRAM;
+    for (unsigned k = 0; k < module->ranges; k++) {
+        const struct range *code = &module->range[k];
+        kind = code->after < address && address <= code->last ? code->kind : kind;
     }
-    return found;
+    return kind;
 }
 
 /* A place of the table for an address: with it, else one that may take it, else null. */
@@ -266,7 +290,7 @@ static void read_frame(uintptr_t address, struct frame *frame)
     frame->text[0] = '[';
     *end++ = ']';
     frame->length = (uint8_t)(end - frame->text);
-    frame->is_operator = search.found && is_in_operator(&search.module, address);
+    frame->kind = (uint8_t)(search.found ? kind_of(&search.module, address) : PROGRAM);
     frame->address = address;
     pthread_mutex_lock(&lock);
     frame->generation = generation;
@@ -278,7 +302,7 @@ static void read_frame(uintptr_t address, struct frame *frame)
         place->generation = frame->generation;
         place->module = frame->module;
         place->length = frame->length;
-        place->is_operator = frame->is_operator;
+        place->kind = frame->kind;
         memcpy(place->text, frame->text, sizeof frame->text);
         __atomic_store_n(&place->address, address, __ATOMIC_RELEASE);
     }
@@ -299,9 +323,9 @@ static const struct frame *frame_of(void *address, struct frame *frame)
 /* ---- locations */
 
 /* The stack from the frame that a call returns to on: the number of addresses. */
-static int stack_of(void *caller, void **stack, int most)
+static int stack_of(void *caller, void **stack)
 {
-    int count = unwind == NULL ? 0 : unwind(stack, most + OWN_FRAMES);
+    int count = unwind == NULL ? 0 : unwind(stack, frames_most + 2 * OWN_FRAMES);
     int first = 0;
     while (first < count && stack[first] != caller) {
         first++;
@@ -332,23 +356,33 @@ static size_t bytes_of(const struct frame *frame, bool with_module)
     return frame->length + (with_module ? modules[frame->module].length + 2u : 1u);
 }
 
+/* Whether a frame is of the C library's start of `main`. From glibc 2.34 on the first of these is a
+ * function that has no name, in the module of the next. */
+static bool is_of_start(const struct frame *frame, const struct frame *next)
+{
+    return frame->kind == START ||
+        (next != NULL && next->kind == START && next->module == frame->module);
+}
+
 char *put_location(char *to, void *caller)
 {
     void *stack[FRAMES_MOST + 2 * OWN_FRAMES];
-    struct frame spare;
-    const struct frame *frame = frame_of(caller, &spare);
+    struct frame spare[2];
+    const struct frame *next = frame_of(caller, &spare[0]);
     stack[0] = caller;
-    int count = frames_most == 1 && !frame->is_operator
-        ? 1 : stack_of(caller, stack, frames_most + OWN_FRAMES);
+    int count = frames_most == 1 && next->kind != OPERATOR ? 1 : stack_of(caller, stack);
     const char *start = to;
     int module = -1, told = 0;
-    for (int k = 0; k < count && told < frames_most && stack[k] != NULL; k++) {
-        frame = k == 0 ? frame : frame_of(stack[k], &spare);
-        if (told == 0 && frame->is_operator && k + 1 < count) {
+    for (int k = 0; next != NULL && told < frames_most; k++) {
+        const struct frame *frame = next;
+        bool is_last = k + 1 >= count || stack[k + 1] == NULL;
+        next = is_last ? NULL : frame_of(stack[k + 1], &spare[(k + 1) % 2]);
+        if (told == 0 && frame->kind == OPERATOR && next != NULL) {
             continue;
         }
         bool with_module = frame->module != module;
-        if ((size_t)(to - start) + bytes_of(frame, with_module) > LOCATION_MOST) {
+        if ((told > 0 && is_of_start(frame, next)) ||
+            (size_t)(to - start) + bytes_of(frame, with_module) > LOCATION_MOST) {
             break;
         }
         if (told++ > 0) {

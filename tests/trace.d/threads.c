@@ -1,8 +1,9 @@
 /* Sixteen threads that ask for blocks, move and free them, and hand some to each other. Of each
- * thread 3 blocks of 24 bytes stay. With a word it goes on for ever. */
+ * thread 3 blocks of 24 bytes stay. With a word it goes on, for ten seconds at most. */
 #define _GNU_SOURCE
 #include <pthread.h>
 #include <stdlib.h>
+#include <unistd.h>
 
 enum { THREADS = 16, CALLS = 20000, HELD = 64, SHARED = 32 };
 
@@ -43,6 +44,7 @@ int main(int count, char **words)
     pthread_t threads[THREADS];
     (void)words;
     calls = count > 1 ? 0 : CALLS;
+    alarm(count > 1 ? 10 : 0);
     for (size_t k = 0; k < THREADS; k++) {
         pthread_create(&threads[k], NULL, work, (void *)(k + 1));
     }
