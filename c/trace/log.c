@@ -1,0 +1,244 @@
+/* log.c: the log of a process.
+ *
+ * Its file is mapped piece by piece, shared, so that each line is the kernel's once it is written:
+ * whatever ends the process, no line is lost. Behind the last line the piece has zeros, which
+ * log_end cuts off, or tools/trace where the process was killed. No descriptor stays open, since
+ * programs close those that they don't know. System calls are made by syscall(): the C library's
+ * open and write are cancellation points, and may be those of another preloaded library.
+ */
+#define _GNU_SOURCE
+#include "trace.h"
+
+#include <errno.h>
+#include <fcntl.h>
+#include <pthread.h>
+#include <stdio.h>
+#include <stdlib.h>
+#include <string.h>
+#include <sys/mman.h>
+#include <sys/syscall.h>
+#include <unistd.h>
+
+enum { PIECE = 1 << 20, PAGE = 4096, NAMES_MOST = 1000 };
+
+static const char end_line[] = "= End\n";
+enum { END_BYTES = sizeof end_line - 1 };
+
+static pthread_mutex_t lock = PTHREAD_MUTEX_INITIALIZER;
+
+/* Written: the bytes of whole lines. The piece is mapped from a byte of the file on, and is null
+ * where the file has ended. */
+static char path[PATH_MOST];
+static pid_t process;
+static char *piece;
+static size_t piece_from;
+static size_t written;
+
+/* 1 where this process has a log. It stands in a page that a child of a fork gets as zeros, so
+ * that a child knows itself. */
+static volatile int nothing;
+static volatile int *alive = &nothing;
+
+void log_lock(void) { pthread_mutex_lock(&lock); }
+void log_unlock(void) { pthread_mutex_unlock(&lock); }
+bool log_is_on(void) { return *alive != 0; }
+pid_t log_process(void) { return process; }
+
+static int open_file(const char *name, int flags)
+{
+    return (int)syscall(SYS_openat, AT_FDCWD, name, flags | O_CLOEXEC, 0666);
+}
+
+static void close_file(int file) { syscall(SYS_close, file); }
+
+/* The log can't go on: it stays as far as it is, without an end. */
+static void fail(const char *why)
+{
+    say(path, why);
+    *alive = 0;
+    process = -1;
+    if (piece != NULL) {
+        munmap(piece, PIECE);
+        piece = NULL;
+        (void)!truncate(path, (off_t)written);
+    }
+}
+
+/* Room on the disk for a piece from a byte on, and the file as long. Where a file system can't
+ * promise room the file is made longer alone. */
+static bool make_room(int file, size_t from)
+{
+    if (syscall(SYS_fallocate, file, 0, (long)from, (long)PIECE) == 0) {
+        return true;
+    }
+    return errno == EOPNOTSUPP && ftruncate(file, (off_t)from + PIECE) == 0;
+}
+
+/* Maps the piece that begins with the page of the last byte written. */
+static bool map_piece(void)
+{
+    size_t from = written / PAGE * PAGE;
+    int file = open_file(path, O_RDWR);
+    if (file < 0) {
+        fail("can't be opened again, so the log is cut");
+        return false;
+    }
+    bool room = make_room(file, from);
+    void *memory = room ? mmap(NULL, PIECE, PROT_READ | PROT_WRITE, MAP_SHARED, file, (off_t)from)
+                        : MAP_FAILED;
+    close_file(file);
+    if (memory == MAP_FAILED) {
+        fail("has no room, so the log is cut");
+        return false;
+    }
+    if (piece != NULL) {
+        munmap(piece, PIECE);
+    }
+    piece = memory;
+    piece_from = from;
+    return true;
+}
+
+/* After the end: a line takes the place of the last, which is written again behind it. */
+static void write_before_end(const char *lines, size_t length)
+{
+    char text[LINES_MOST + END_BYTES];
+    memcpy(text, lines, length);
+    memcpy(text + length, end_line, END_BYTES);
+    int file = open_file(path, O_WRONLY);
+    if (file >= 0) {
+        syscall(SYS_pwrite64, file, text, length + END_BYTES, (long)written);
+        close_file(file);
+        written += length;
+    }
+}
+
+void log_write(const char *lines, size_t length)
+{
+    if (!log_is_on()) {
+        return;
+    }
+    if (piece == NULL) {
+        write_before_end(lines, length);
+        return;
+    }
+    if (written - piece_from + LINES_MOST > PIECE && !map_piece()) {
+        return;
+    }
+    memcpy(piece + (written - piece_from), lines, length);
+    written += length;
+}
+
+void log_end(void)
+{
+    if (log_is_on() && piece != NULL) {
+        memcpy(piece + (written - piece_from), end_line, END_BYTES);
+        munmap(piece, PIECE);
+        piece = NULL;
+        (void)!truncate(path, (off_t)(written + END_BYTES));
+    }
+}
+
+void log_resume(void)
+{
+    if (log_is_on() && piece == NULL && map_piece()) {
+        memset(piece + (written - piece_from), 0, END_BYTES);
+    }
+}
+
+void log_forget(void)
+{
+    if (piece != NULL) {
+        munmap(piece, PIECE);
+        piece = NULL;
+    }
+    *alive = 0;
+    process = 0;
+    written = 0;
+    pthread_mutex_t fresh = PTHREAD_MUTEX_INITIALIZER;
+    lock = fresh;
+}
+
+/* The name with the process's number for %p; or behind it where it has none and a file has that
+ * name already. Where that is there, too, the number of the try stands behind. */
+static bool name_file(const char *name, int tries)
+{
+    const char *place = strstr(name, "%p");
+    int before = (int)(place == NULL ? strlen(name) : (size_t)(place - name));
+    int again = place == NULL ? tries : tries + 1;
+    char number[32] = "";
+    if (again == 1) {
+        snprintf(number, sizeof number, "%d", (int)getpid());
+    } else if (again > 1) {
+        snprintf(number, sizeof number, "%d.%d", (int)getpid(), again);
+    }
+    int length = snprintf(path, sizeof path, "%.*s%s%s%s", before, name,
+                          place == NULL && again > 0 ? "." : "", number,
+                          place == NULL ? "" : place + 2);
+    return length > 0 && (size_t)length < sizeof path;
+}
+
+/* Makes a new file: none that exists is written over. */
+static bool make_file(const char *name)
+{
+    for (int tries = 0; tries < NAMES_MOST && name_file(name, tries); tries++) {
+        int file = open_file(path, O_RDWR | O_CREAT | O_EXCL);
+        if (file >= 0) {
+            close_file(file);
+            return true;
+        }
+        if (errno != EEXIST) {
+            return false;
+        }
+    }
+    return false;
+}
+
+/* Adds process, log and program to the index, each ended by a zero. */
+static void add_to_index(void)
+{
+    const char *index = getenv("TLSF_TRACE_INDEX");
+    int file = index == NULL ? -1 : open_file(index, O_WRONLY | O_APPEND);
+    if (file < 0) {
+        return;
+    }
+    char entry[2 * PATH_MOST + 32], program[PATH_MOST];
+    ssize_t length = readlink("/proc/self/exe", program, sizeof program - 1);
+    program[length < 0 ? 0 : length] = 0;
+    int bytes = snprintf(entry, sizeof entry, "%d%c%s%c%s%c", (int)process, 0, path, 0, program, 0);
+    if (bytes > 0) {
+        syscall(SYS_write, file, entry, (size_t)bytes);
+    }
+    close_file(file);
+}
+
+/* The page with `alive`. */
+static void make_alive(void)
+{
+    if (alive == &nothing) {
+        void *page = mmap(NULL, PAGE, PROT_READ | PROT_WRITE, MAP_PRIVATE | MAP_ANONYMOUS, -1, 0);
+        if (page != MAP_FAILED) {
+            madvise(page, PAGE, MADV_WIPEONFORK);
+            alive = page;
+        }
+    }
+}
+
+bool log_begin(const char *name)
+{
+    static const char start_line[] = "= Start\n";
+    make_alive();
+    process = getpid();
+    written = 0;
+    if (!make_file(name)) {
+        fail("can't be made, so nothing is traced");
+        return false;
+    }
+    if (!map_piece()) {
+        return false;
+    }
+    *alive = 1;
+    log_write(start_line, sizeof start_line - 1);
+    add_to_index();
+    return true;
+}

@@ -1,0 +1,318 @@
+/* process.c: where a log begins and ends. */
+#define _GNU_SOURCE
+#include "trace.h"
+
+#include <dlfcn.h>
+#include <errno.h>
+#include <link.h>
+#include <pthread.h>
+#include <stdarg.h>
+#include <stdlib.h>
+#include <string.h>
+#include <sys/stat.h>
+#include <sys/syscall.h>
+#include <unistd.h>
+
+enum { FRAMES_USUAL = 8 };
+
+__thread bool inside __attribute__((tls_model("initial-exec")));
+struct real real;
+static char name[PATH_MOST];
+/* Whether settings were read, and whether nothing is to be traced. */
+static bool is_set;
+static bool is_off;
+
+extern int __cxa_atexit(void (*)(void *), void *, void *);
+
+void say(const char *what, const char *why)
+{
+    const char *parts[] = {"tlsf-trace: ", what, " ", why, "\n"};
+    for (size_t k = 0; k < sizeof parts / sizeof *parts; k++) {
+        syscall(SYS_write, STDERR_FILENO, parts[k], strlen(parts[k]));
+    }
+}
+
+/* Looks a name up behind this library. A pointer to code is no pointer to data, so it is copied. */
+static void find(const char *symbol, void *place)
+{
+    void *found = dlsym(RTLD_NEXT, symbol);
+    memcpy(place, &found, sizeof found);
+}
+
+void find_real(void)
+{
+    if (real.malloc != NULL) {
+        return;
+    }
+    bool before = inside;
+    inside = true;
+    find("free", &real.free);
+    find("calloc", &real.calloc);
+    find("realloc", &real.realloc);
+    find("memalign", &real.memalign);
+    find("aligned_alloc", &real.aligned_alloc);
+    find("posix_memalign", &real.posix_memalign);
+    find("valloc", &real.valloc);
+    find("pvalloc", &real.pvalloc);
+    find("dlclose", &real.dlclose);
+    find("execve", &real.execve);
+    find("execv", &real.execv);
+    find("execvp", &real.execvp);
+    find("execvpe", &real.execvpe);
+    find("fexecve", &real.fexecve);
+    find("execveat", &real.execveat);
+    find("malloc", &real.malloc);
+    inside = before;
+}
+
+/* ---- the end */
+
+/* Ends the log where it is this process's: a child of vfork shares the memory of its parent. A
+ * signal's handler that came while its thread was in the tracer may not wait for the lock. */
+static bool end(void)
+{
+    if (inside || !log_is_on() || getpid() != log_process()) {
+        return false;
+    }
+    inside = true;
+    log_lock();
+    log_end();
+    log_unlock();
+    inside = false;
+    return true;
+}
+
+/* Whether this thread is the only one, by the links of the folder that has one for each. */
+static bool is_alone(void)
+{
+    struct stat told;
+    return stat("/proc/self/task", &told) == 0 && told.st_nlink == 3;
+}
+
+/* The C library gives back what it keeps for itself, as it does for mtrace(3), and so does that of
+ * C++. Another thread might still use it. */
+static void release_libraries(void)
+{
+    static const char *const names[] = {"_ZN9__gnu_cxx9__freeresEv", "__libc_freeres"};
+    for (size_t k = 0; k < sizeof names / sizeof *names; k++) {
+        void (*release)(void);
+        inside = true;
+        find(names[k], &release);
+        inside = false;
+        if (release != NULL) {
+            release();
+        }
+    }
+}
+
+static void at_exit(void *unused)
+{
+    (void)unused;
+    if (!inside && log_is_on() && is_alone()) {
+        release_libraries();
+    }
+    end();
+}
+
+static void at_quick(void) { end(); }
+
+EXPORT void _exit(int status)
+{
+    end();
+    for (;;) {
+        syscall(SYS_exit_group, status);
+    }
+}
+
+EXPORT void _Exit(int status) { _exit(status); }
+
+/* ---- the start */
+
+static void forget_parent(void)
+{
+    log_forget();
+    stack_after_fork();
+}
+
+/* Reads the environment, once. */
+static void set(void)
+{
+    const char *given = getenv("TLSF_TRACE_LOG");
+    const char *frames = getenv("TLSF_TRACE_FRAMES");
+    int most = frames == NULL ? FRAMES_USUAL : atoi(frames);
+    is_set = true;
+    is_off = given == NULL || given[0] == 0 || strlen(given) >= sizeof name;
+    if (!is_off) {
+        strcpy(name, given);
+        stack_begin(most < 1 ? 1 : most > FRAMES_MOST ? FRAMES_MOST : most);
+        pthread_atfork(NULL, NULL, forget_parent);
+        /* Tied to no library, so that it runs behind the destructors of all. */
+        __cxa_atexit(at_exit, NULL, NULL);
+        at_quick_exit(at_quick);
+    }
+}
+
+/* Begins a log where this process has none. Too early is a call before there is an environment, or
+ * amid the work of the dynamic linker. */
+static bool begin(void)
+{
+    if (is_off || log_process() == getpid()) {
+        return false;
+    }
+    if (!is_set && (environ == NULL || _r_debug.r_state != RT_CONSISTENT)) {
+        return false;
+    }
+    int code = errno;
+    if (log_process() != 0) {
+        forget_parent();
+    }
+    if (!is_set) {
+        set();
+    }
+    if (!is_off) {
+        log_lock();
+        is_off = !log_is_on() && !log_begin(name);
+        log_unlock();
+    }
+    errno = code;
+    return !is_off;
+}
+
+bool enter(void)
+{
+    if (inside) {
+        return false;
+    }
+    find_real();
+    inside = true;
+    if (!log_is_on() && !begin()) {
+        inside = false;
+        return false;
+    }
+    return true;
+}
+
+void leave(void) { inside = false; }
+
+__attribute__((constructor)) static void start(void)
+{
+    if (enter()) {
+        leave();
+    }
+}
+
+/* ---- exec: the log ends, and goes on where the call returns */
+
+static int back(bool ended, int result)
+{
+    if (ended) {
+        int code = errno;
+        inside = true;
+        log_lock();
+        log_resume();
+        log_unlock();
+        inside = false;
+        errno = code;
+    }
+    return result;
+}
+
+EXPORT int execve(const char *path, char *const words[], char *const variables[])
+{
+    find_real();
+    bool ended = end();
+    return back(ended, real.execve(path, words, variables));
+}
+
+EXPORT int execv(const char *path, char *const words[])
+{
+    find_real();
+    bool ended = end();
+    return back(ended, real.execv(path, words));
+}
+
+EXPORT int execvp(const char *file, char *const words[])
+{
+    find_real();
+    bool ended = end();
+    return back(ended, real.execvp(file, words));
+}
+
+EXPORT int execvpe(const char *file, char *const words[], char *const variables[])
+{
+    find_real();
+    bool ended = end();
+    return back(ended, real.execvpe(file, words, variables));
+}
+
+EXPORT int fexecve(int file, char *const words[], char *const variables[])
+{
+    find_real();
+    bool ended = end();
+    return back(ended, real.fexecve(file, words, variables));
+}
+
+EXPORT int execveat(int folder, const char *path, char *const words[], char *const variables[],
+                    int flags)
+{
+    find_real();
+    bool ended = end();
+    return back(ended, real.execveat(folder, path, words, variables, flags));
+}
+
+/* The number of words of a list that ends with a null pointer. */
+static size_t count_words(const char *word, va_list list)
+{
+    size_t count = 0;
+    for (; word != NULL; word = va_arg(list, const char *)) {
+        count++;
+    }
+    return count;
+}
+
+/* Copies the words of a list, and behind its end what execle has there. */
+static char *const *take_words(char **words, const char *word, va_list list, bool with_variables)
+{
+    size_t count = 0;
+    for (; word != NULL; word = va_arg(list, const char *)) {
+        memcpy(&words[count++], &word, sizeof word);
+    }
+    words[count] = NULL;
+    return with_variables ? va_arg(list, char *const *) : NULL;
+}
+
+#define TAKE_WORDS(word, with_variables)                                                        \
+    va_list list;                                                                               \
+    va_start(list, word);                                                                       \
+    char *words[count_words(word, list) + 1];                                                   \
+    va_end(list);                                                                               \
+    va_start(list, word);                                                                       \
+    char *const *variables = take_words(words, word, list, with_variables);                     \
+    va_end(list);                                                                               \
+    (void)variables
+
+EXPORT int execl(const char *path, const char *word, ...)
+{
+    TAKE_WORDS(word, false);
+    return execv(path, words);
+}
+
+EXPORT int execlp(const char *file, const char *word, ...)
+{
+    TAKE_WORDS(word, false);
+    return execvp(file, words);
+}
+
+EXPORT int execle(const char *path, const char *word, ...)
+{
+    TAKE_WORDS(word, true);
+    return execve(path, words, variables);
+}
+
+EXPORT int dlclose(void *library)
+{
+    find_real();
+    int result = real.dlclose(library);
+    stack_forget();
+    return result;
+}

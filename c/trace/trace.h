@@ -1,0 +1,112 @@
+/* trace.h: the parts of libtlsf_trace.so, a tracer of malloc's calls. It is preloaded by
+ * tools/trace, and writes the log that docs/FORMATS.md describes. Not proved.
+ *
+ *     calls.c    the calls of malloc that stand in for those of the C library
+ *     stack.c    the location of a call: its stack as text
+ *     log.c      the log: a file that is mapped piece by piece
+ *     process.c  where a log begins and ends: start, fork, exec, exit
+ *
+ * The environment has TLSF_TRACE_LOG, the log's name; TLSF_TRACE_FRAMES, the most frames of a
+ * location; and TLSF_TRACE_INDEX, a file to which each process adds its log's name.
+ */
+#ifndef TLSF_TRACE_H
+#define TLSF_TRACE_H
+
+#include <stdbool.h>
+#include <stddef.h>
+#include <stdint.h>
+#include <sys/types.h>
+
+#define EXPORT __attribute__((visibility("default")))
+#define CALLER __builtin_extract_return_addr(__builtin_return_address(0))
+
+/* Bytes of the grammar: a location, the longest line with its newline, and of the last two lines
+ * of a realloc. A path has at most PATH_MOST bytes with its end. */
+enum { LOCATION_MOST = 255, LINE_MOST = 317, LINES_MOST = 2 * LINE_MOST, PATH_MOST = 4096 };
+
+/* The most frames that a location can be asked to have. */
+enum { FRAMES_MOST = 64 };
+
+/* Whether this thread is in the tracer: what it asks for then isn't written. */
+extern __thread bool inside __attribute__((tls_model("initial-exec")));
+
+/* process.c */
+
+/* The names of the C library, or of an allocator behind this library, by dlsym. */
+struct real {
+    void *(*malloc)(size_t);
+    void (*free)(void *);
+    void *(*calloc)(size_t, size_t);
+    void *(*realloc)(void *, size_t);
+    void *(*memalign)(size_t, size_t);
+    void *(*aligned_alloc)(size_t, size_t);
+    int (*posix_memalign)(void **, size_t, size_t);
+    void *(*valloc)(size_t);
+    void *(*pvalloc)(size_t);
+    int (*dlclose)(void *);
+    int (*execve)(const char *, char *const[], char *const[]);
+    int (*execv)(const char *, char *const[]);
+    int (*execvp)(const char *, char *const[]);
+    int (*execvpe)(const char *, char *const[], char *const[]);
+    int (*fexecve)(int, char *const[], char *const[]);
+    int (*execveat)(int, const char *, char *const[], char *const[], int);
+};
+extern struct real real;
+
+/* Fills `real`, where that wasn't done. */
+void find_real(void);
+
+/* Whether this call is to be written: then the thread is inside until leave(). A process begins
+ * its log with its first call. */
+bool enter(void);
+void leave(void);
+
+/* A line on standard error, behind the tracer's name. */
+void say(const char *what, const char *why);
+
+/* log.c: but for log_forget, with the lock held. */
+
+void log_lock(void);
+void log_unlock(void);
+
+/* Makes the log of this process by its name, in which %p is the process's number, and writes
+ * `= Start`. Returns whether it could. */
+bool log_begin(const char *name);
+
+/* Writes whole lines, at most LINES_MOST bytes. */
+void log_write(const char *lines, size_t length);
+
+/* Writes `= End` and cuts the file to its length. Later lines stand in front of it. */
+void log_end(void);
+
+/* Takes back the end: the program goes on. */
+void log_resume(void);
+
+/* Whether this process has a log: not so in a child of a fork that hasn't begun its own. */
+bool log_is_on(void);
+
+/* The process that began the log, or 0. */
+pid_t log_process(void);
+
+/* In a child of a fork: the log is the parent's. */
+void log_forget(void);
+
+/* stack.c */
+
+/* Looks for the unwinder, and takes the most frames of a location. */
+void stack_begin(int frames);
+
+/* Writes the location of a call that returns to an address, of at most LOCATION_MOST bytes, and
+ * returns where it ends. */
+char *put_location(char *to, void *caller);
+
+/* Modules were unloaded: their addresses may be those of others. */
+void stack_forget(void);
+
+/* In a child of a fork: no other thread is there. */
+void stack_after_fork(void);
+
+/* Writes a number as `0x` and hexadecimal digits, and returns where it ends. */
+char *put_hex(char *to, uintptr_t number);
+
+#endif

@@ -1,0 +1,19 @@
+/* A wrapper that is inlined, in a library's function and in main. */
+#include <stdlib.h>
+
+static inline __attribute__((always_inline)) void *inner(void)
+{
+    return malloc(10);
+}
+
+__attribute__((noinline)) void *outer(void)
+{
+    void *block = inner();
+    __asm__ volatile("" : : "r"(block) : "memory");
+    return block;
+}
+
+int main(void)
+{
+    return outer() == NULL;
+}
