@@ -20,7 +20,10 @@
 #include <unistd.h>
 
 /* A module's text has at most MODULE_MOST bytes: that leaves room for one frame. */
-enum { MODULE_MOST = 230, MODULES_MOST = 2048, OWN_FRAMES = 8 };
+enum { MODULE_MOST = 230, MODULES_MOST = 2048 };
+
+/* Frames of the tracer and of `operator new`, which stand in front of those that are told. */
+enum { OTHER_FRAMES = 8 };
 
 /* Frames that aren't told: of `operator new` or `delete`, and those from the C library's start of
  * `main` on. */
@@ -325,7 +328,7 @@ static const struct frame *frame_of(void *address, struct frame *frame)
 /* The stack from the frame that a call returns to on: the number of addresses. */
 static int stack_of(void *caller, void **stack)
 {
-    int count = unwind == NULL ? 0 : unwind(stack, frames_most + 2 * OWN_FRAMES);
+    int count = unwind == NULL ? 0 : unwind(stack, frames_most + OTHER_FRAMES);
     int first = 0;
     while (first < count && stack[first] != caller) {
         first++;
@@ -366,7 +369,7 @@ static bool is_of_start(const struct frame *frame, const struct frame *next)
 
 char *put_location(char *to, void *caller)
 {
-    void *stack[FRAMES_MOST + 2 * OWN_FRAMES];
+    void *stack[FRAMES_MOST + OTHER_FRAMES];
     struct frame spare[2];
     const struct frame *next = frame_of(caller, &spare[0]);
     stack[0] = caller;
