@@ -261,25 +261,40 @@ static enum kind kind_of(const struct module *module, uintptr_t address)
     return kind;
 }
 
-/* A place of the table for an address: with it, else one that may take it, else null. */
-static struct frame *place_of(uintptr_t address)
+/* The places of the table for an address: from this one on, PLACES of them. */
+static size_t first_place(uintptr_t address)
 {
-    uint64_t hash = (uint64_t)address * 0x9E3779B97F4A7C15u;
-    struct frame *place = NULL;
-    for (unsigned k = 0; k < PLACES; k++) {
-        struct frame *at = &frames[(hash + k * (1ull << (64 - TABLE_BITS))) >> (64 - TABLE_BITS)];
+    return (size_t)((uint64_t)address * 0x9E3779B97F4A7C15u >> (64 - TABLE_BITS));
+}
+
+/* The frame of an address in the table, or null. */
+static const struct frame *kept_frame(uintptr_t address)
+{
+    size_t first = first_place(address);
+    for (size_t k = 0; k < PLACES; k++) {
+        const struct frame *at = &frames[(first + k) % TABLE];
         uintptr_t there = __atomic_load_n(&at->address, __ATOMIC_ACQUIRE);
+        if (there == 0) {
+            return NULL;
+        }
         if (there == address && at->generation == generation) {
             return at;
         }
-        if (place == NULL && (there == 0 || at->generation != generation)) {
-            place = at;
-        }
-        if (there == 0) {
-            break;
+    }
+    return NULL;
+}
+
+/* A place of the table that may take the frame of an address, or null. */
+static struct frame *free_place(uintptr_t address)
+{
+    size_t first = first_place(address);
+    for (size_t k = 0; k < PLACES; k++) {
+        struct frame *at = &frames[(first + k) % TABLE];
+        if (at->address == 0 || at->generation != generation) {
+            return at;
         }
     }
-    return place;
+    return NULL;
 }
 
 /* What an address reads as, where it isn't in the table: it is put there if there is a place. The
@@ -298,7 +313,7 @@ static void read_frame(uintptr_t address, struct frame *frame)
     pthread_mutex_lock(&lock);
     frame->generation = generation;
     frame->module = (uint16_t)(search.found ? number_of(&search.module) : 0);
-    struct frame *place = place_of(address);
+    struct frame *place = kept_frame(address) == NULL ? free_place(address) : NULL;
     if (place != NULL) {
         __atomic_store_n(&place->address, 1, __ATOMIC_RELAXED);
         __atomic_thread_fence(__ATOMIC_RELEASE);
@@ -315,12 +330,12 @@ static void read_frame(uintptr_t address, struct frame *frame)
 /* What an address reads as: from the table, else put into `frame`. */
 static const struct frame *frame_of(void *address, struct frame *frame)
 {
-    const struct frame *kept = place_of((uintptr_t)address);
-    if (kept != NULL && kept->address == (uintptr_t)address) {
-        return kept;
+    const struct frame *kept = kept_frame((uintptr_t)address);
+    if (kept == NULL) {
+        read_frame((uintptr_t)address, frame);
+        return frame;
     }
-    read_frame((uintptr_t)address, frame);
-    return frame;
+    return kept;
 }
 
 /* ---- locations */
