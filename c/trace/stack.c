@@ -15,6 +15,7 @@
 #include <dlfcn.h>
 #include <link.h>
 #include <pthread.h>
+#include <sched.h>
 #include <stdlib.h>
 #include <string.h>
 #include <unistd.h>
@@ -87,6 +88,11 @@ static unsigned module_count = 1;
 static struct frame frames[TABLE];
 static uint32_t generation = 1;
 static pthread_mutex_t lock = PTHREAD_MUTEX_INITIALIZER;
+
+/* Threads that write a location, and those that fork. A child may not find another thread amid the
+ * modules, whose lock nobody would give back: so a fork waits for the first, and they for it. */
+static int writers, forks;
+static __thread bool forking;
 
 static int frames_most = 1;
 static int (*unwind)(void **, int);
@@ -382,7 +388,45 @@ static bool is_of_start(const struct frame *frame, const struct frame *next)
         (next != NULL && next->kind == START && next->module == frame->module);
 }
 
-char *put_location(char *to, void *caller)
+static void begin_location(void)
+{
+    __atomic_add_fetch(&writers, 1, __ATOMIC_SEQ_CST);
+    while (!forking && __atomic_load_n(&forks, __ATOMIC_SEQ_CST) > 0) {
+        __atomic_sub_fetch(&writers, 1, __ATOMIC_SEQ_CST);
+        sched_yield();
+        __atomic_add_fetch(&writers, 1, __ATOMIC_SEQ_CST);
+    }
+}
+
+static void end_location(void) { __atomic_sub_fetch(&writers, 1, __ATOMIC_SEQ_CST); }
+
+void stack_before_fork(void)
+{
+    __atomic_add_fetch(&forks, 1, __ATOMIC_SEQ_CST);
+    forking = true;
+    /* The handler of a signal may fork while its thread is a writer. */
+    while (!inside && __atomic_load_n(&writers, __ATOMIC_SEQ_CST) > 0) {
+        sched_yield();
+    }
+}
+
+void stack_in_parent(void)
+{
+    forking = false;
+    __atomic_sub_fetch(&forks, 1, __ATOMIC_SEQ_CST);
+}
+
+void stack_in_child(void)
+{
+    pthread_mutex_t fresh = PTHREAD_MUTEX_INITIALIZER;
+    lock = fresh;
+    forking = false;
+    forks = 0;
+    writers = 0;
+}
+
+/* The frames of a stack as text; see put_location. */
+static char *put_frames(char *to, void *caller)
 {
     void *stack[FRAMES_MOST + OTHER_FRAMES];
     struct frame spare[2];
@@ -412,6 +456,14 @@ char *put_location(char *to, void *caller)
     return to;
 }
 
+char *put_location(char *to, void *caller)
+{
+    begin_location();
+    to = put_frames(to, caller);
+    end_location();
+    return to;
+}
+
 void stack_begin(int most)
 {
     ssize_t length = readlink("/proc/self/exe", program, sizeof program - 1);
@@ -429,9 +481,3 @@ void stack_begin(int most)
 }
 
 void stack_forget(void) { __atomic_add_fetch(&generation, 1, __ATOMIC_RELAXED); }
-
-void stack_after_fork(void)
-{
-    pthread_mutex_t fresh = PTHREAD_MUTEX_INITIALIZER;
-    lock = fresh;
-}

@@ -103,8 +103,11 @@ char *put_location(char *to, void *caller);
 /* Modules were unloaded: their addresses may be those of others. */
 void stack_forget(void);
 
-/* In a child of a fork: no other thread is there. */
-void stack_after_fork(void);
+/* Before a fork, until no other thread writes a location; behind it in the parent; and in the
+ * child, where there is no other thread. */
+void stack_before_fork(void);
+void stack_in_parent(void);
+void stack_in_child(void);
 
 /* Writes a number as `0x` and hexadecimal digits, and returns where it ends. */
 char *put_hex(char *to, uintptr_t number);
