@@ -204,15 +204,15 @@ static bool make_file(const char *name)
     return false;
 }
 
-/* Adds process, log and program to the index, each ended by a zero. */
+/* Adds process, log and program to the index, each ended by a zero. With the lock held. */
 static void add_to_index(void)
 {
+    static char entry[2 * PATH_MOST + 32], program[PATH_MOST];
     const char *index = getenv("TLSF_TRACE_INDEX");
     int file = index == NULL ? -1 : open_file(index, O_WRONLY | O_APPEND);
     if (file < 0) {
         return;
     }
-    char entry[2 * PATH_MOST + 32], program[PATH_MOST];
     ssize_t length = readlink("/proc/self/exe", program, sizeof program - 1);
     program[length < 0 ? 0 : length] = 0;
     int bytes = snprintf(entry, sizeof entry, "%d%c%s%c%s%c", (int)process, 0, path, 0, program, 0);
