@@ -12,11 +12,13 @@
 #include <errno.h>
 #include <fcntl.h>
 #include <pthread.h>
+#include <signal.h>
 #include <stdio.h>
 #include <stdlib.h>
 #include <string.h>
 #include <sys/mman.h>
 #include <sys/syscall.h>
+#include <time.h>
 #include <unistd.h>
 
 enum { PIECE = 1 << 20, PAGE = 4096, NAMES_MOST = 1000 };
@@ -51,12 +53,11 @@ static int open_file(const char *name, int flags)
 
 static void close_file(int file) { syscall(SYS_close, file); }
 
-/* The log can't go on: it stays as far as it is, without an end. */
+/* The log can't go on: it stays as far as it is, without an end. This process has no other. */
 static void fail(const char *why)
 {
     say(path, why);
     *alive = 0;
-    process = -1;
     if (piece != NULL) {
         munmap(piece, PIECE);
         piece = NULL;
@@ -65,13 +66,22 @@ static void fail(const char *why)
 }
 
 /* Room on the disk for a piece from a byte on, and the file as long. Where a file system can't
- * promise room the file is made longer alone. */
+ * promise room the file is made longer alone. The signal of a file that may not be as long isn't for
+ * the program. */
 static bool make_room(int file, size_t from)
 {
-    if (syscall(SYS_fallocate, file, 0, (long)from, (long)PIECE) == 0) {
-        return true;
+    sigset_t limit, before;
+    sigemptyset(&limit);
+    sigaddset(&limit, SIGXFSZ);
+    pthread_sigmask(SIG_BLOCK, &limit, &before);
+    bool made = syscall(SYS_fallocate, file, 0, (long)from, (long)PIECE) == 0 ||
+        (errno == EOPNOTSUPP && ftruncate(file, (off_t)from + PIECE) == 0);
+    if (!made) {
+        struct timespec none = {0, 0};
+        syscall(SYS_rt_sigtimedwait, &limit, NULL, &none, 8);
     }
-    return errno == EOPNOTSUPP && ftruncate(file, (off_t)from + PIECE) == 0;
+    pthread_sigmask(SIG_SETMASK, &before, NULL);
+    return made;
 }
 
 /* Maps the piece that begins with the page of the last byte written. */
@@ -194,15 +204,15 @@ static bool make_file(const char *name)
     return false;
 }
 
-/* Adds process, log and program to the index, each ended by a zero. */
+/* Adds process, log and program to the index, each ended by a zero. With the lock held. */
 static void add_to_index(void)
 {
+    static char entry[2 * PATH_MOST + 32], program[PATH_MOST];
     const char *index = getenv("TLSF_TRACE_INDEX");
     int file = index == NULL ? -1 : open_file(index, O_WRONLY | O_APPEND);
     if (file < 0) {
         return;
     }
-    char entry[2 * PATH_MOST + 32], program[PATH_MOST];
     ssize_t length = readlink("/proc/self/exe", program, sizeof program - 1);
     program[length < 0 ? 0 : length] = 0;
     int bytes = snprintf(entry, sizeof entry, "%d%c%s%c%s%c", (int)process, 0, path, 0, program, 0);

@@ -131,7 +131,7 @@ EXPORT void _Exit(int status) { _exit(status); }
 static void forget_parent(void)
 {
     log_forget();
-    stack_after_fork();
+    stack_in_child();
 }
 
 /* Reads the environment, once. */
@@ -145,7 +145,7 @@ static void set(void)
     if (!is_off) {
         strcpy(name, given);
         stack_begin(most < 1 ? 1 : most > FRAMES_MOST ? FRAMES_MOST : most);
-        pthread_atfork(NULL, NULL, forget_parent);
+        pthread_atfork(stack_before_fork, stack_in_parent, forget_parent);
         /* Tied to no library, so that it runs behind the destructors of all. */
         __cxa_atexit(at_exit, NULL, NULL);
         at_quick_exit(at_quick);

@@ -3,6 +3,7 @@
  *
  *     calls.c    the calls of malloc that stand in for those of the C library
  *     stack.c    the location of a call: its stack as text
+ *     module.c   the program or library that an address is in
  *     log.c      the log: a file that is mapped piece by piece
  *     process.c  where a log begins and ends: start, fork, exec, exit
  *
@@ -91,6 +92,39 @@ pid_t log_process(void);
 /* In a child of a fork: the log is the parent's. */
 void log_forget(void);
 
+/* module.c */
+
+/* Frames that aren't told: of `operator new` or `delete`, and those from the C library's start of
+ * `main` on. */
+enum kind { PROGRAM, OPERATOR, START };
+
+/* A module's text has at most MODULE_MOST bytes: that leaves room for one frame. KNOWN is the number
+ * of known functions. */
+enum { MODULE_MOST = 230, KNOWN = 19 };
+
+/* Code of one kind: what returns there was called by it. */
+struct range {
+    uintptr_t after, last;
+    enum kind kind;
+};
+
+/* A module: where it begins in memory, its path as text, and its known functions. */
+struct module {
+    uintptr_t base;
+    unsigned length, ranges;
+    char text[MODULE_MOST];
+    struct range range[KNOWN];
+};
+
+/* Finds the module of an address. Returns whether there is one. */
+bool find_module(struct module *module, uintptr_t address);
+
+/* The kind of the code that an address returns to, in its module. */
+enum kind kind_of(const struct module *module, uintptr_t address);
+
+/* Looks for the program's own path. */
+void module_begin(void);
+
 /* stack.c */
 
 /* Looks for the unwinder, and takes the most frames of a location. */
@@ -103,8 +137,11 @@ char *put_location(char *to, void *caller);
 /* Modules were unloaded: their addresses may be those of others. */
 void stack_forget(void);
 
-/* In a child of a fork: no other thread is there. */
-void stack_after_fork(void);
+/* Before a fork, until no other thread writes a location; behind it in the parent; and in the
+ * child, where there is no other thread. */
+void stack_before_fork(void);
+void stack_in_parent(void);
+void stack_in_child(void);
 
 /* Writes a number as `0x` and hexadecimal digits, and returns where it ends. */
 char *put_hex(char *to, uintptr_t number);

@@ -4,6 +4,7 @@
 #include <stdio.h>
 #include <stdlib.h>
 #include <string.h>
+#include <sys/syscall.h>
 #include <sys/wait.h>
 #include <unistd.h>
 
@@ -33,6 +34,16 @@ static void fork_many(void)
     free(before);
 }
 
+/* A child of which the C library doesn't know. */
+static void clone_one(void)
+{
+    if (syscall(SYS_clone, SIGCHLD, 0, 0, 0, 0) == 0) {
+        malloc(7);
+        _exit(0);
+    }
+    wait(NULL);
+}
+
 /* A child that shares the memory until it is another program, or none. */
 static void vfork_two(void)
 {
@@ -59,6 +70,8 @@ int main(int count, char **words)
     malloc(123);
     if (strcmp(word, "fork") == 0) {
         fork_many();
+    } else if (strcmp(word, "clone") == 0) {
+        clone_one();
     } else if (strcmp(word, "vfork") == 0) {
         vfork_two();
     } else if (strcmp(word, "exec") == 0) {

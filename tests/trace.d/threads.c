@@ -1,11 +1,14 @@
 /* Sixteen threads that ask for blocks, move and free them, and hand some to each other. Of each
- * thread 3 blocks of 24 bytes stay. With a word it goes on, for ten seconds at most. */
+ * thread 3 blocks of 24 bytes stay. With the word `on` they go on, for ten seconds at most; with the
+ * word `fork` the process has children meanwhile. */
 #define _GNU_SOURCE
 #include <pthread.h>
 #include <stdlib.h>
+#include <string.h>
+#include <sys/wait.h>
 #include <unistd.h>
 
-enum { THREADS = 16, CALLS = 20000, HELD = 64, SHARED = 32 };
+enum { THREADS = 16, CALLS = 20000, HELD = 64, SHARED = 32, CHILDREN = 20 };
 
 static void *shared[SHARED];
 static int calls = CALLS;
@@ -39,14 +42,31 @@ static void *work(void *seed)
     return NULL;
 }
 
+/* Each child keeps seven bytes. */
+static void fork_children(void)
+{
+    for (int k = 0; k < CHILDREN; k++) {
+        if (fork() == 0) {
+            free(malloc(1000));
+            malloc(7);
+            _exit(0);
+        }
+    }
+    while (wait(NULL) > 0) {
+    }
+}
+
 int main(int count, char **words)
 {
     pthread_t threads[THREADS];
-    (void)words;
-    calls = count > 1 ? 0 : CALLS;
-    alarm(count > 1 ? 10 : 0);
+    const char *word = count > 1 ? words[1] : "";
+    calls = strcmp(word, "on") == 0 ? 0 : CALLS;
+    alarm(*word == 0 ? 0 : 10);
     for (size_t k = 0; k < THREADS; k++) {
         pthread_create(&threads[k], NULL, work, (void *)(k + 1));
+    }
+    if (strcmp(word, "fork") == 0) {
+        fork_children();
     }
     for (int k = 0; k < THREADS; k++) {
         pthread_join(threads[k], NULL);
