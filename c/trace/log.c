@@ -66,8 +66,8 @@ static void fail(const char *why)
 }
 
 /* Room on the disk for a piece from a byte on, and the file as long. Where a file system can't
- * promise room the file is made longer alone. The signal of a file that may not be as long isn't for
- * the program. */
+ * promise room the file is made longer alone. The signal of a file that may not be as long isn't
+ * for the program. */
 static bool make_room(int file, size_t from)
 {
     sigset_t limit, before;

@@ -98,8 +98,8 @@ void log_forget(void);
  * `main` on. */
 enum kind { PROGRAM, OPERATOR, START };
 
-/* A module's text has at most MODULE_MOST bytes: that leaves room for one frame. KNOWN is the number
- * of known functions. */
+/* A module's text has at most MODULE_MOST bytes: that leaves room for one frame. KNOWN is the
+ * number of known functions. */
 enum { MODULE_MOST = 230, KNOWN = 19 };
 
 /* Code of one kind: what returns there was called by it. */
