@@ -21,7 +21,7 @@
 #include <time.h>
 #include <unistd.h>
 
-enum { PIECE = 1 << 20, PAGE = 4096, NAMES_MOST = 1000 };
+enum { PIECE = 1 << 20, NAMES_MOST = 1000 };
 
 static const char end_line[] = "= End\n";
 enum { END_BYTES = sizeof end_line - 1 };

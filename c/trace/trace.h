@@ -16,9 +16,11 @@
 #include <stdbool.h>
 #include <stddef.h>
 #include <stdint.h>
+#include <sys/auxv.h>
 #include <sys/types.h>
 
 #define EXPORT __attribute__((visibility("default")))
+#define PAGE ((size_t)getauxval(AT_PAGESZ))
 #define CALLER __builtin_extract_return_addr(__builtin_return_address(0))
 
 /* Bytes of the grammar: a location, the longest line with its newline, and of the last two lines
