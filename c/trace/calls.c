@@ -11,7 +11,7 @@
 
 /* What the tracer's own calls ask for, as dlsym and dlopen do. It is never given back, and no line
  * tells of it. In front of each block stand its bytes. */
-enum { UNIT = 16, OWN_BYTES = 1 << 20, USUAL_ALIGN = 16, PAGE = 4096 };
+enum { UNIT = 16, OWN_BYTES = 1 << 20, USUAL_ALIGN = 16 };
 static _Alignas(UNIT) char own[OWN_BYTES];
 static size_t own_used;
 

@@ -21,7 +21,7 @@
 #include <time.h>
 #include <unistd.h>
 
-enum { PIECE = 1 << 20, PAGE = 4096, NAMES_MOST = 1000 };
+enum { PIECE = 1 << 20, NAMES_MOST = 1000 };
 
 static const char end_line[] = "= End\n";
 enum { END_BYTES = sizeof end_line - 1 };
@@ -66,8 +66,8 @@ static void fail(const char *why)
 }
 
 /* Room on the disk for a piece from a byte on, and the file as long. Where a file system can't
- * promise room the file is made longer alone. The signal of a file that may not be as long isn't for
- * the program. */
+ * promise room the file is made longer alone. The signal of a file that may not be as long isn't
+ * for the program. */
 static bool make_room(int file, size_t from)
 {
     sigset_t limit, before;

@@ -52,7 +52,7 @@ static unsigned encode(char *to, unsigned char byte)
     return 3;
 }
 
-/* A path as text: what fits of its end. Threads may have small stacks, so there is no room for all. */
+/* A path as text: what fits of its end. Threads may have small stacks, so no more is kept. */
 static unsigned put_path(char *to, const char *path)
 {
     char text[3];

@@ -160,19 +160,30 @@ static const struct frame *frame_of(void *address, struct frame *frame)
 
 /* ---- locations */
 
-/* The stack from the frame that a call returns to on: the number of addresses. */
-static int stack_of(void *caller, void **stack)
+/* Where a stack has the frame that a call returns to, or its end. On 64-bit ARM libunwind tells the
+ * address one byte before. */
+static int find_caller(void *caller, void *const *stack, int count)
 {
-    int count = unwind == NULL ? 0 : unwind(stack, frames_most + OTHER_FRAMES);
     int first = 0;
-    while (first < count && stack[first] != caller) {
+    while (first < count && (uintptr_t)caller - (uintptr_t)stack[first] > 1) {
         first++;
     }
+    return first;
+}
+
+/* The stack from the frame that a call returns to on: the number of addresses. */
+static int stack_of(char *caller, void **stack)
+{
+    int count = unwind == NULL ? 0 : unwind(stack, frames_most + OTHER_FRAMES);
+    int first = find_caller(caller, stack, count);
     if (first >= count) {
         stack[0] = caller;
         return 1;
     }
-    memmove(stack, stack + first, (size_t)(count - first) * sizeof *stack);
+    ptrdiff_t before = caller - (char *)stack[first];
+    for (int k = first; k < count; k++) {
+        stack[k - first] = stack[k] == NULL ? NULL : (char *)stack[k] + before;
+    }
     return count - first;
 }
 

@@ -16,9 +16,11 @@
 #include <stdbool.h>
 #include <stddef.h>
 #include <stdint.h>
+#include <sys/auxv.h>
 #include <sys/types.h>
 
 #define EXPORT __attribute__((visibility("default")))
+#define PAGE ((size_t)getauxval(AT_PAGESZ))
 #define CALLER __builtin_extract_return_addr(__builtin_return_address(0))
 
 /* Bytes of the grammar: a location, the longest line with its newline, and of the last two lines
@@ -98,8 +100,8 @@ void log_forget(void);
  * `main` on. */
 enum kind { PROGRAM, OPERATOR, START };
 
-/* A module's text has at most MODULE_MOST bytes: that leaves room for one frame. KNOWN is the number
- * of known functions. */
+/* A module's text has at most MODULE_MOST bytes: that leaves room for one frame. KNOWN is the
+ * number of known functions. */
 enum { MODULE_MOST = 230, KNOWN = 19 };
 
 /* Code of one kind: what returns there was called by it. */

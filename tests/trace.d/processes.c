@@ -78,6 +78,10 @@ int main(int count, char **words)
         execlp(words[0], words[0], "end", NULL);
     } else if (strcmp(word, "failed exec") == 0) {
         execl("/nothing", "nothing", NULL);
+    } else if (strcmp(word, "failed exec, kill") == 0) {
+        execl("/nothing", "nothing", NULL);
+        malloc(5);
+        raise(SIGKILL);
     } else if (strcmp(word, "abort") == 0) {
         abort();
     } else if (strcmp(word, "term") == 0) {

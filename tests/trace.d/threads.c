@@ -1,6 +1,6 @@
 /* Sixteen threads that ask for blocks, move and free them, and hand some to each other. Of each
- * thread 3 blocks of 24 bytes stay. With the word `on` they go on, for ten seconds at most; with the
- * word `fork` the process has children meanwhile. */
+ * thread 3 blocks of 24 bytes stay. With the word `on` they go on, for ten seconds at most. With
+ * the word `fork` the process has children meanwhile. */
 #define _GNU_SOURCE
 #include <pthread.h>
 #include <stdlib.h>
