@@ -25,7 +25,8 @@
 
 #define EXPORT __attribute__((visibility("default")))
 
-enum { UNIT = TLSF_HEAP_UNIT, PAGE = 4096, POOL = 1 << 29 };
+/* A pool has its head beside its bytes, rounded up to a unit. */
+enum { UNIT = TLSF_HEAP_UNIT, HEAD = UNIT, PAGE = 4096, POOL = 1 << 29 };
 
 static pthread_mutex_t lock = PTHREAD_MUTEX_INITIALIZER;
 static __thread bool forks;
@@ -80,7 +81,7 @@ static void make(void)
     bool reports = report != NULL && strcmp(report, "1") == 0;
     size_t records = setting("TLSF_RECORDS", TLSF_HEAP_RECORDS_MOST, TLSF_HEAP_RECORDS_MOST);
     size_t pool = (setting("TLSF_POOL", TLSF_HEAP_GREATEST, POOL) + UNIT - 1) / UNIT * UNIT;
-    size_t bytes = tlsf_size_records((uint32_t)records) + pool;
+    size_t bytes = tlsf_size_records((uint32_t)records) + HEAD + pool;
     void *memory = mmap(NULL, bytes, PROT_READ | PROT_WRITE,
                         MAP_PRIVATE | MAP_ANONYMOUS | MAP_NORESERVE, -1, 0);
     if (memory == MAP_FAILED) {

@@ -4,15 +4,18 @@
  * and a slot are a live block's: that is proved. This file turns places into addresses and back:
  *
  * - The control part, at the start of the memory handed in, keeps each pool's address and places.
- * - A pool's first place is its address and 16, modulo TLSF_MOST_ALIGN. A block begins 16 bytes in
- *   front of its pointer. So where its place is a multiple of an alignment, the pointer is one too.
- * - These 16 bytes keep the control part, the place, the slot and a mark.
- * - A pointer is taken where it lies in a pool of the heap, the 16 bytes in front of it agree, and
- *   the heap has a live block there. So a null, stale or interior pointer is refused, and one of
- *   another heap. A pointer into no pool is refused unread.
- * - Not seen: a stale pointer where a later block begins, and 16 bytes that the program forges.
- *   tlsf_block_size has no heap: it reads the 16 bytes in front of any pointer, and the control
- *   part that they name. A pool_t is read by its calls, but not by tlsf_remove_pool.
+ * - A pool begins with its head, eight bytes: the control part's address. Its first block follows.
+ * - A block begins eight bytes in front of its pointer. Its place is as far behind the pool's first
+ *   place as the pointer behind the first pointer, and equals the pointer modulo TLSF_MOST_ALIGN. So
+ *   where the place is a multiple of an alignment, the pointer is one too.
+ * - The eight bytes in front of a pointer, its front, keep its distance from the pool's first and its
+ *   slot, scrambled with the pointer: so a byte that is changed there shows, and a copy elsewhere.
+ * - A pointer is taken where it lies in a pool of the heap, its front agrees, and the heap has a
+ *   live block there. So a null, stale or interior pointer is refused, and one of another heap. A
+ *   pointer into no pool is refused unread.
+ * - Not seen: a stale pointer where a later block begins. tlsf_block_size has no heap: it reads the
+ *   front of any pointer, and where that may be one the head and the control part that it leads to.
+ *   A pool_t is read by its calls, but not by tlsf_remove_pool.
  */
 #include "tlsf.h"
 
@@ -37,62 +40,68 @@
 
 enum { UNIT = TLSF_HEAP_UNIT, POOLS = TLSF_HEAP_POOLS };
 /* BYTES_A_RECORD: tlsf_create_with_pool has a record for each. */
-enum { FRONT = 16, LEAST_POOL = UNIT + FRONT, HANDED_IN = 8, BYTES_A_RECORD = 112, MARK = 0x7c5f };
-#define MAGIC ((uintptr_t)0x544c53465f484541)
+enum { FRONT = 8, HEAD = 8, LEAST_POOL = HEAD + UNIT, HANDED_IN = 8, BYTES_A_RECORD = 112 };
+/* The least block that is refused for its bytes. */
+#define TOO_GREAT ((size_t)TLSF_HEAP_GREATEST - FRONT + 1)
+/* What the control part begins with, less its own address: so a copy is no heap. */
+#define MAGIC ((uintptr_t)0x544c5346)
 
-/* A pool: where its bytes are, and its places. One that isn't there has no bytes. */
+/* A pool: its first pointer, how far behind it another may be, and the first place. One that isn't
+ * there has no reach. */
 struct pool {
     struct control *control;
-    unsigned char *memory;
+    unsigned char *first;
+    size_t reach;
     uint32_t place;
-    uint32_t bytes;
 };
 
 /* What stands at the start of the memory handed in, in front of the table. */
 struct control {
-    uintptr_t magic; /* with its own address in it: a copy is no heap */
-    uint32_t taken;  /* its bytes, with the table's behind it */
-    int faults;      /* what a check counts */
+    uintptr_t magic;
     tlsf_heap heap;
     struct pool pools[POOLS];
+    uint32_t taken; /* its bytes, with the table's behind it */
+    int faults;     /* what a check counts */
 };
 
-/* What stands in front of a pointer. */
-struct front {
-    struct control *control;
-    uint32_t place;
-    uint16_t slot;
-    uint16_t mark;
-};
+/* A front is a distance in units and a slot, times an odd number, and the pointer added. The other
+ * number undoes it. With a changed byte that gives no distance and slot of the pointer. */
+#define SCRAMBLE 0x9e3779b97f4a7c15u
+#define UNSCRAMBLE 0xf1de83e19937733du
+enum { SLOT_BITS = 16, DISTANCE_BITS = 26, OF_BYTES = SLOT_BITS - 4 };
 
-typedef char front_has_its_bytes[sizeof(struct front) == FRONT ? 1 : -1];
+typedef char scrambling_is_undone[SCRAMBLE * UNSCRAMBLE == 1 ? 1 : -1];
 typedef char records_are_1_to_65535[TLSF_RECORDS > 0 && TLSF_RECORDS <= 65535 ? 1 : -1];
 
 /* Whether memory that is handed in may begin here. */
 static bool may_begin(const void *mem) { return mem != NULL && (uintptr_t)mem % HANDED_IN == 0; }
 
-static struct control *control_of(void *tlsf)
+static inline struct control *control_of(void *tlsf)
 {
-    struct control *control = (struct control *)tlsf;
-    return may_begin(tlsf) && control->magic == (MAGIC ^ (uintptr_t)tlsf) ? control : NULL;
+    uintptr_t magic = 0;
+    if (tlsf != NULL) {
+        memcpy(&magic, tlsf, sizeof magic);
+    }
+    return magic == (uintptr_t)tlsf + MAGIC ? (struct control *)tlsf : NULL;
 }
 
 size_t tlsf_size_records(uint32_t records)
 {
     return sizeof(struct control) + HANDED_IN + TLSF_HEAP_TABLE_BYTES(records);
 }
+/* A front takes a block to the next unit at most, and a head the pool. */
 size_t tlsf_sure_bytes(uint32_t blocks, size_t bytes, size_t largest)
 {
     bool few = largest > 0 && largest < TLSF_HEAP_GREATEST && bytes < TLSF_HEAP_GREATEST;
     uint32_t class_size = few ? tlsf_heap_class_size(1, (uint64_t)largest + FRONT) : 0;
-    uint32_t pool = tlsf_heap_sure_pool(blocks, bytes + (uint64_t)blocks * FRONT, class_size);
-    return pool == 0 ? 0 : tlsf_size_records(2 * blocks + 3) + pool;
+    uint32_t pool = tlsf_heap_sure_pool(blocks, bytes + (uint64_t)blocks * UNIT, class_size);
+    return pool == 0 ? 0 : tlsf_size_records(2 * blocks + 3) + UNIT + pool;
 }
 size_t tlsf_size(void) { return tlsf_size_records(TLSF_RECORDS); }
 size_t tlsf_align_size(void) { return UNIT; }
-size_t tlsf_block_size_min(void) { return UNIT; }
-size_t tlsf_block_size_max(void) { return TLSF_HEAP_GREATEST - FRONT; }
-size_t tlsf_pool_overhead(void) { return FRONT + HANDED_IN + UNIT; }
+size_t tlsf_block_size_min(void) { return UNIT - FRONT; }
+size_t tlsf_block_size_max(void) { return TOO_GREAT - 1; }
+size_t tlsf_pool_overhead(void) { return HANDED_IN + HEAD + FRONT + UNIT; }
 size_t tlsf_alloc_overhead(void) { return FRONT; }
 
 /* The bytes to the next multiple of 16. */
@@ -106,9 +115,9 @@ static struct pool *entry_of(struct control *control, uintptr_t address, size_t 
     struct pool *vacant = NULL;
     for (int k = POOLS - 1; k >= 0; k--) {
         struct pool *pool = &control->pools[k];
-        uintptr_t other = (uintptr_t)pool->memory;
-        good = good && (address + bytes <= other || other + pool->bytes <= address);
-        vacant = pool->bytes == 0 ? pool : vacant;
+        uintptr_t first = (uintptr_t)pool->first;
+        good = good && (address + bytes <= first - UNIT || first + pool->reach <= address);
+        vacant = pool->reach == 0 ? pool : vacant;
     }
     return good ? vacant : NULL;
 }
@@ -117,17 +126,19 @@ static struct pool *entry_of(struct control *control, uintptr_t address, size_t 
 pool_t tlsf_add_pool(tlsf_t tlsf, void *mem, size_t bytes)
 {
     struct control *control = control_of(tlsf);
-    uintptr_t start = (uintptr_t)mem, address = start + skipped(start);
-    size_t usable = (bytes - skipped(start)) / UNIT * UNIT;
-    bool good = control != NULL && may_begin(mem) && bytes >= LEAST_POOL
-                && bytes <= UINTPTR_MAX - start && usable >= LEAST_POOL;
-    struct pool *pool = good ? entry_of(control, address, usable) : NULL;
+    size_t skip = skipped((uintptr_t)mem), usable = (bytes - skip - HEAD) / UNIT * UNIT;
+    uintptr_t address = (uintptr_t)mem + skip;
+    bool good = control != NULL && may_begin(mem) && bytes >= skip + LEAST_POOL
+                && bytes <= UINTPTR_MAX - (uintptr_t)mem;
+    struct pool *pool = good ? entry_of(control, address, HEAD + usable) : NULL;
     for (int k = -1; pool != NULL && k < POOLS; k++) {
-        uint64_t from = k < 0 ? 0 : (uint64_t)control->pools[k].place + control->pools[k].bytes;
-        uint64_t place = from + ((address + FRONT - from) & (TLSF_MOST_ALIGN - 1));
+        const struct pool *last = &control->pools[k < 0 ? 0 : k];
+        uint64_t from = k < 0 ? 0 : (uint64_t)last->place + last->reach + FRONT;
+        uint64_t place = from + ((address + UNIT - from) & (TLSF_MOST_ALIGN - 1));
         if (tlsf_heap_add_pool(&control->heap, place, usable) == TLSF_OK) {
-            unsigned char *memory = (unsigned char *)mem + skipped(start);
-            *pool = (struct pool){control, memory, (uint32_t)place, (uint32_t)usable};
+            unsigned char *head = (unsigned char *)mem + skip;
+            memcpy(head, &control, HEAD);
+            *pool = (struct pool){control, head + UNIT, usable - FRONT, (uint32_t)place};
             return pool;
         }
     }
@@ -139,7 +150,7 @@ void tlsf_remove_pool(tlsf_t tlsf, pool_t pool)
     struct control *control = control_of(tlsf);
     for (int k = 0; control != NULL && k < POOLS; k++) {
         struct pool *own = &control->pools[k];
-        if (own == pool && own->bytes != 0
+        if (own == pool && own->reach != 0
             && tlsf_heap_remove_pool(&control->heap, own->place) == TLSF_OK) {
             memset(own, 0, sizeof *own);
         }
@@ -149,7 +160,7 @@ void tlsf_remove_pool(tlsf_t tlsf, pool_t pool)
 pool_t tlsf_get_pool(tlsf_t tlsf)
 {
     struct control *control = control_of(tlsf);
-    return control != NULL && control->pools[0].bytes != 0 ? &control->pools[0] : NULL;
+    return control != NULL && control->pools[0].reach != 0 ? &control->pools[0] : NULL;
 }
 
 tlsf_t tlsf_create_records(void *mem, size_t bytes, uint32_t records)
@@ -161,7 +172,7 @@ tlsf_t tlsf_create_records(void *mem, size_t bytes, uint32_t records)
         return NULL;
     }
     unsigned char *end = (unsigned char *)mem + taken;
-    *control = (struct control){.magic = MAGIC ^ (uintptr_t)mem, .taken = (uint32_t)taken};
+    *control = (struct control){.magic = (uintptr_t)mem + MAGIC, .taken = (uint32_t)taken};
     if (tlsf_heap_create_in(end - table, table, records, &control->heap) == TLSF_OK
         && (bytes - taken < LEAST_POOL || tlsf_add_pool(control, end, bytes - taken) != NULL)) {
         return control;
@@ -188,34 +199,77 @@ void tlsf_destroy(tlsf_t tlsf)
     }
 }
 
-/* The pointer to a live block, whose front is written. Only where the control part or the table is
- * spoiled does the block lie in no pool, and then the pointer is null. */
-static void *hand_out(struct control *control, tlsf_heap_block block)
+/* What the front of a pointer says, if it is one: a distance and a slot. */
+static inline uint64_t unscrambled(const void *ptr)
 {
-    struct front front = {control, block.place, block.slot, MARK};
-    unsigned char *start = NULL;
-    for (int k = 0; k < POOLS && start == NULL; k++) {
-        uint32_t from = block.place - control->pools[k].place;
-        start = from < control->pools[k].bytes ? control->pools[k].memory + from : NULL;
-    }
-    return start == NULL ? NULL : (unsigned char *)memcpy(start, &front, FRONT) + FRONT;
+    uint64_t front;
+    memcpy(&front, (const unsigned char *)ptr - FRONT, FRONT);
+    return (front - (uintptr_t)ptr) * UNSCRAMBLE;
 }
 
-/* Whether a pointer lies in a pool of the heap, and the bytes in front of it say that it was handed
- * out. Whether the block is live is then the heap's to say. */
-static bool find(const struct control *control, const void *ptr, tlsf_heap_block *block)
+static inline bool has_place(const struct pool *pool, uint32_t place)
 {
-    for (int k = 0; control != NULL && k < POOLS; k++) {
-        const struct pool *pool = &control->pools[k];
-        uintptr_t from = (uintptr_t)ptr - (uintptr_t)pool->memory;
-        if (from < pool->bytes && from >= FRONT) {
-            struct front front;
-            memcpy(&front, (const unsigned char *)ptr - FRONT, FRONT);
-            *block = (tlsf_heap_block){pool->place + (uint32_t)from - FRONT, front.slot};
-            return front.control == control && front.place == block->place && front.mark == MARK;
+    return (uint32_t)(place - pool->place) < pool->reach;
+}
+static inline bool has_pointer(const struct pool *pool, const void *ptr)
+{
+    return (uintptr_t)ptr - (uintptr_t)pool->first < pool->reach;
+}
+
+/* The pool of a place, or of a pointer, behind the first; null where there is none. */
+static const struct pool *later_pool_of_place(const struct control *control, uint32_t place)
+{
+    int k = 1;
+    while (k < POOLS && !has_place(&control->pools[k], place)) {
+        k++;
+    }
+    return k < POOLS ? &control->pools[k] : NULL;
+}
+static const struct pool *later_pool_of(const struct control *control, const void *ptr)
+{
+    int k = 1;
+    while (k < POOLS && !has_pointer(&control->pools[k], ptr)) {
+        k++;
+    }
+    return k < POOLS ? &control->pools[k] : NULL;
+}
+
+/* The pointer to a live block, whose front is written. Only where the control part or the table is
+ * spoiled does the block lie in no pool, and then the pointer is null. */
+static inline void *hand_out(const struct control *control, tlsf_heap_block block)
+{
+    const struct pool *pool = control->pools;
+    if (!has_place(pool, block.place)) {
+        pool = later_pool_of_place(control, block.place);
+        if (pool == NULL) {
+            return NULL;
         }
     }
-    return false;
+    uint64_t from = (uint32_t)(block.place - pool->place);
+    unsigned char *ptr = pool->first + from;
+    uint64_t front = ((from << OF_BYTES) + block.slot) * SCRAMBLE + (uintptr_t)ptr;
+    memcpy(ptr - FRONT, &front, FRONT);
+    return ptr;
+}
+
+/* Whether a pointer lies in a pool of the heap, and its front says that it was handed out. Whether
+ * the block is live is then the heap's to say. */
+static inline bool find(const struct control *control, const void *ptr, tlsf_heap_block *block)
+{
+    const struct pool *pool = control->pools;
+    if (!has_pointer(pool, ptr)) {
+        pool = later_pool_of(control, ptr);
+        if (pool == NULL) {
+            return false;
+        }
+    }
+    uintptr_t from = (uintptr_t)ptr - (uintptr_t)pool->first;
+    uint64_t slot = unscrambled(ptr) - ((uint64_t)from << OF_BYTES);
+    if (slot > UINT16_MAX) {
+        return false;
+    }
+    *block = (tlsf_heap_block){pool->place + (uint32_t)from, (uint16_t)slot};
+    return true;
 }
 
 size_t tlsf_live_size(tlsf_t tlsf, const void *ptr)
@@ -223,50 +277,80 @@ size_t tlsf_live_size(tlsf_t tlsf, const void *ptr)
     struct control *control = control_of(tlsf);
     tlsf_heap_block block = {0, 0};
     uint32_t size = FRONT;
-    bool live = find(control, ptr, &block)
+    bool live = control != NULL && find(control, ptr, &block)
                 && tlsf_heap_block_size(&control->heap, block, &size) == TLSF_OK;
     return live ? size - FRONT : 0;
 }
 
-size_t tlsf_block_size(void *ptr)
+/* What a pool's head names. */
+static void *head_at(const unsigned char *head)
 {
-    struct front front = {NULL, 0, 0, 0};
-    if (ptr != NULL && (uintptr_t)ptr % UNIT == 0) {
-        memcpy(&front, (unsigned char *)ptr - FRONT, FRONT);
-    }
-    return tlsf_live_size(front.control, ptr);
+    void *control;
+    memcpy(&control, head, HEAD);
+    return control;
+}
+
+/* The control part that a pointer's front leads to, by the head of its pool; null where the bytes
+ * are no front. */
+static void *named_by(const void *ptr)
+{
+    uint64_t units = unscrambled(ptr) >> SLOT_BITS;
+    bool may_be = units >> DISTANCE_BITS == 0;
+    return may_be ? head_at((const unsigned char *)ptr - UNIT * (units + 1)) : NULL;
+}
+
+size_t tlsf_block_size(const void *ptr)
+{
+    bool may_be = ptr != NULL && (uintptr_t)ptr % UNIT == 0;
+    return may_be ? tlsf_live_size(named_by(ptr), ptr) : 0;
 }
 
 /* Where no free block is of a class that surely has the bytes, the first of the class below may
  * have them. A smaller block is begun there, and grows. */
-void *tlsf_memalign(tlsf_t tlsf, size_t align, size_t bytes)
+static void *allocate_below(struct control *control, size_t whole)
 {
-    struct control *control = control_of(tlsf);
+    size_t less = tlsf_heap_class_low(whole);
     tlsf_heap_block block = {0, 0};
-    size_t whole = (bytes + FRONT + UNIT - 1) / UNIT * UNIT;
-    if (control == NULL || bytes == 0 || bytes > TLSF_HEAP_GREATEST - FRONT
-        || align > TLSF_MOST_ALIGN || (align & (align - 1)) != 0) {
+    if (less == whole || tlsf_heap_malloc(&control->heap, less, &block) != TLSF_OK) {
         return NULL;
     }
-    uint32_t status = align <= UNIT ? tlsf_heap_malloc(&control->heap, whole, &block)
-                                    : tlsf_heap_memalign(&control->heap, align, whole, &block);
-    size_t less = status == TLSF_NO_FIT && align <= UNIT ? tlsf_heap_class_low(whole) : whole;
-    if (less < whole && tlsf_heap_malloc(&control->heap, less, &block) == TLSF_OK) {
-        status = tlsf_heap_realloc(&control->heap, block, whole, &block);
-        if (status != TLSF_OK) {
-            tlsf_heap_free(&control->heap, block);
-        }
+    if (tlsf_heap_realloc(&control->heap, block, whole, &block) != TLSF_OK) {
+        tlsf_heap_free(&control->heap, block);
+        return NULL;
     }
-    return status == TLSF_OK ? hand_out(control, block) : NULL;
+    return hand_out(control, block);
 }
 
-void *tlsf_malloc(tlsf_t tlsf, size_t bytes) { return tlsf_memalign(tlsf, UNIT, bytes); }
+/* A block at a multiple of 16, or of align where that is more. */
+static inline void *allocate(struct control *control, size_t align, size_t bytes)
+{
+    tlsf_heap_block block;
+    size_t whole = (bytes + FRONT + UNIT - 1) / UNIT * UNIT;
+    if (control == NULL || bytes - 1 >= TOO_GREAT - 1) {
+        return NULL;
+    }
+    memset(&block, 0, sizeof block);
+    uint32_t status = align > UNIT ? tlsf_heap_memalign(&control->heap, align, whole, &block)
+                                   : tlsf_heap_malloc(&control->heap, whole, &block);
+    if (status == TLSF_OK) {
+        return hand_out(control, block);
+    }
+    return status == TLSF_NO_FIT && align <= UNIT ? allocate_below(control, whole) : NULL;
+}
+
+void *tlsf_malloc(tlsf_t tlsf, size_t bytes) { return allocate(control_of(tlsf), UNIT, bytes); }
+
+void *tlsf_memalign(tlsf_t tlsf, size_t align, size_t bytes)
+{
+    bool good = align <= TLSF_MOST_ALIGN && (align & (align - 1)) == 0;
+    return good ? allocate(control_of(tlsf), align, bytes) : NULL;
+}
 
 void tlsf_free(tlsf_t tlsf, void *ptr)
 {
     struct control *control = control_of(tlsf);
     tlsf_heap_block block = {0, 0};
-    if (find(control, ptr, &block)) {
+    if (control != NULL && find(control, ptr, &block)) {
         tlsf_heap_free(&control->heap, block);
     }
 }
@@ -282,7 +366,7 @@ void *tlsf_realloc(tlsf_t tlsf, void *ptr, size_t size)
         tlsf_free(tlsf, ptr);
         return size == 0 ? NULL : tlsf_malloc(tlsf, size);
     }
-    if (size > TLSF_HEAP_GREATEST - FRONT || !find(control, ptr, &block)
+    if (control == NULL || size >= TOO_GREAT || !find(control, ptr, &block)
         || tlsf_heap_block_size(&control->heap, block, &had) != TLSF_OK
         || tlsf_heap_realloc(&control->heap, block, size + FRONT, &given) != TLSF_OK) {
         return NULL;
@@ -314,9 +398,9 @@ void tlsf_walk_pool(pool_t pool, tlsf_walker walker, void *user)
     while (left > 0 && control_of_pool(pool) != NULL
            && tlsf_heap_walk(&own->control->heap, base, from, rows, TLSF_WALK_ROWS, &left)
                   == TLSF_OK) {
-        unsigned char *memory = own->memory;
+        unsigned char *first = own->first;
         for (int k = 0; k < TLSF_WALK_ROWS && left > 0; k++, left--) {
-            void *ptr = memory + (rows[k].place - base) + FRONT;
+            void *ptr = first + (rows[k].place - base);
             from = (uint64_t)rows[k].place + rows[k].size;
             (walker == NULL ? print : walker)(ptr, rows[k].size - FRONT, rows[k].used, user);
         }
@@ -330,7 +414,8 @@ static void count_fault(void *ptr, size_t size, int used, void *user)
     control->faults += used && tlsf_live_size(control, ptr) != size;
 }
 
-/* Of one pool, or of all for none. Where the table isn't whole nothing else of the heap is read. */
+/* Of one pool, or of all for none: its head and its fronts. Where the table isn't whole nothing else
+ * of the heap is read. */
 static int check(struct control *control, pool_t pool)
 {
     if (control == NULL || !tlsf_heap_check(&control->heap)) {
@@ -338,8 +423,10 @@ static int check(struct control *control, pool_t pool)
     }
     control->faults = 0;
     for (int k = 0; k < POOLS; k++) {
-        if (pool == NULL || pool == &control->pools[k]) {
-            tlsf_walk_pool(&control->pools[k], count_fault, control);
+        struct pool *own = &control->pools[k];
+        if (own->reach != 0 && (pool == NULL || pool == own)) {
+            control->faults += head_at(own->first - UNIT) != control;
+            tlsf_walk_pool(own, count_fault, control);
         }
     }
     return -control->faults;

@@ -2,7 +2,7 @@
  *
  * A program written for his library compiles against this header as it is. docs/C.md has a table of
  * what differs. The heap behind it is proved; these calls, in tlsf.c, aren't: its head says what
- * they rely on. In short: a pointer is a multiple of 16; a block has at most 1,073,741,792 bytes; a
+ * they rely on. In short: a pointer is a multiple of 16; a block has at most 1,073,741,800 bytes; a
  * heap has at most eight pools. A call that can't be served answers a null pointer. A pointer that
  * is no live block's is refused and changes nothing.
  *
@@ -32,7 +32,7 @@ tlsf_t tlsf_create(void *mem);
 tlsf_t tlsf_create_with_pool(void *mem, size_t bytes);
 
 /* A heap with `records` records, from 1 to 65,535, and a pool in what is left of the bytes, where
- * that is 32 or more; or a null pointer (this call isn't Conte's). tlsf_size() is for 1,024
+ * that is 24 or more; or a null pointer (this call isn't Conte's). tlsf_size() is for 1,024
  * records, or as many as the library was built with. A record takes 16 bytes. */
 tlsf_t tlsf_create_records(void *mem, size_t bytes, uint32_t records);
 
@@ -44,8 +44,9 @@ void tlsf_destroy(tlsf_t tlsf);
  * answer is a null pointer. */
 pool_t tlsf_get_pool(tlsf_t tlsf);
 
-/* One more pool, or a null pointer: for fewer than 32 bytes, more than 1,073,741,808, a ninth pool,
- * memory that the heap has already, no vacant record, or pools of some 4 GiB together. */
+/* One more pool, or a null pointer: for fewer than 24 bytes from a multiple of 16 on, for more than
+ * 1,073,741,831, a ninth pool, memory that the heap has already, no vacant record, or pools of some
+ * 4 GiB together. */
 pool_t tlsf_add_pool(tlsf_t tlsf, void *mem, size_t bytes);
 
 /* The pool is gone, unless a block of it is live: then it stays. */
@@ -67,16 +68,17 @@ void *tlsf_realloc(tlsf_t tlsf, void *ptr, size_t size);
 /* The block is free. Nothing is done where the pointer is null or no live block's. */
 void tlsf_free(tlsf_t tlsf, void *ptr);
 
-/* The bytes of a live block; 0 for a null pointer. Of any other pointer the 16 bytes in front are
- * read. */
-size_t tlsf_block_size(void *ptr);
+/* The bytes of a live block; 0 for a null pointer. Of any other pointer the 8 bytes in front are
+ * read. Where these could be a block's, so are 8 more, at most 1 GiB in front, and the heap that
+ * they name. */
+size_t tlsf_block_size(const void *ptr);
 
 /* The bytes of a live block of this heap, else 0. Nothing is read in front of a pointer into none
  * of its pools (this call isn't Conte's). */
 size_t tlsf_live_size(tlsf_t tlsf, const void *ptr);
 
-/* The bytes that tlsf_create needs; what a block's address and size are multiples of; the least and
- * the greatest block; how many bytes more than n a pool has to have, so that it serves a block of n
+/* The bytes that tlsf_create needs; what a block's address is a multiple of; the least and the
+ * greatest block; how many bytes more than n a pool has to have, so that it serves a block of n
  * (a multiple of 8, for a program that moves an address by it); what a block takes beside its bytes. */
 size_t tlsf_size(void);
 size_t tlsf_align_size(void);
@@ -102,8 +104,8 @@ size_t tlsf_sure_bytes(uint32_t blocks, size_t bytes, size_t largest);
 typedef void (*tlsf_walker)(void *ptr, size_t size, int used, void *user);
 void tlsf_walk_pool(pool_t pool, tlsf_walker walker, void *user);
 
-/* 0 where all is whole, else less than 0: the table, and the 16 bytes in front of each live block,
- * of all pools or of one. */
+/* 0 where all is whole, else less than 0: the table, the first 8 bytes of all pools or of one, and
+ * the 8 in front of each live block there. */
 int tlsf_check(tlsf_t tlsf);
 int tlsf_check_pool(pool_t pool);
 

@@ -64,7 +64,7 @@ extern "C" {
 #define TLSF_HEAP_TABLE_BYTES(records) (1696u + 16u * (size_t)(records))
 
 /* How far apart the lowest sizes of classes lie where a block of `bytes` bytes belongs: 16 below
- * 2,048 bytes, and from there on twice as far with each doubling of the size. */
+ * 1,024 bytes, and from there on twice as far with each doubling of the size. */
 static inline uint64_t tlsf_heap_class_step(uint64_t bytes)
 {
     uint64_t step = TLSF_HEAP_UNIT;

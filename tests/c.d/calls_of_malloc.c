@@ -311,7 +311,7 @@ static void refused(void)
     free(third);
 }
 
-/* Two blocks are left, of 80 and 16 bytes. The most were two of 112 and 64. */
+/* Two blocks are left, of 72 and 8 bytes. The most were two of 104 and 56. */
 static void hold(void)
 {
     void *volatile one = malloc(100), *volatile other = malloc(50), *volatile third;
@@ -321,12 +321,16 @@ static void hold(void)
     (void)third;
 }
 
-/* Ends with a byte spoiled in front of a block, or with bytes of the table, which stands behind the
- * control part that the 16 bytes in front of a block name. */
+/* Ends with a byte spoiled in front of a block, or with bytes of the table. That stands behind the
+ * control part, which the pool's head names, 16 bytes in front of the first pointer. A front,
+ * unscrambled, has the distance from that in units of 16, and the slot in its last 16 bits. */
 static void spoil(bool table)
 {
     unsigned char *volatile block = malloc(100), *control;
-    memcpy(&control, block - 16, sizeof control);
+    uint64_t front;
+    memcpy(&front, block - 8, sizeof front);
+    front = (front - (uintptr_t)block) * 0xf1de83e19937733du;
+    memcpy(&control, block - 16 * (front >> 16) - 16, sizeof control);
     if (table) {
         memset(control + 512, 0xff, 256);
     } else {

@@ -14,12 +14,13 @@ enum {
     AREAS = 24,
     AREA = 6144,
     STALE = 32,
-    FRONT = 16,
+    FRONT = 8,
+    HEAD = 8,
     CLASSES = 704
 };
 #define GREATEST 1073741808u
 
-/* A block: its first byte is that in front of its pointer's sixteen. */
+/* A block: its first byte is that in front of its pointer's eight. */
 struct block {
     unsigned char *start;
     size_t size;
@@ -459,7 +460,7 @@ static bool ask_with_bad_pointer(struct heap *heap)
            && tlsf_realloc(heap->tlsf, pointer, 0) == NULL;
 }
 
-/* The sixteen bytes in front of a pointer, copied to elsewhere in its block, make no pointer. */
+/* The eight bytes in front of a pointer, copied to elsewhere in its block, make no pointer. */
 static bool ask_with_copied_front(struct heap *heap)
 {
     size_t at = some_live(heap);
@@ -467,10 +468,10 @@ static bool ask_with_copied_front(struct heap *heap)
         return true;
     }
     unsigned char *pointer = pointer_of(&heap->blocks[at]);
-    memcpy(pointer, pointer - FRONT, FRONT);
-    tlsf_free(heap->tlsf, pointer + FRONT);
-    bool good = tlsf_realloc(heap->tlsf, pointer + FRONT, 20) == NULL
-                && tlsf_block_size(pointer + FRONT) == 0;
+    memcpy(pointer + 8, pointer - FRONT, FRONT);
+    tlsf_free(heap->tlsf, pointer + 16);
+    bool good = tlsf_realloc(heap->tlsf, pointer + 16, 20) == NULL
+                && tlsf_block_size(pointer + 16) == 0;
     fill(&heap->blocks[at]);
     bad_pointers++;
     return good;
@@ -480,8 +481,8 @@ static bool overlaps(const struct heap *heap, unsigned char *start, size_t bytes
 {
     for (int k = 0; k < POOLS; k++) {
         const struct pool *pool = &heap->pools[k];
-        if (pool->handle != NULL && start < pool->start + pool->bytes
-            && pool->start < start + bytes) {
+        if (pool->handle != NULL && start - HEAD < pool->start + pool->bytes
+            && pool->start - HEAD < start + bytes) {
             return true;
         }
     }
@@ -504,7 +505,7 @@ static bool add_pool(struct heap *heap)
     int area = (int)below(AREAS), k = 0;
     size_t skip = 8 * below(40), bytes = below(8) == 0 ? below(60) : below(AREA - skip);
     skip += below(30) == 0 ? 1 + below(7) : 0;
-    unsigned char *memory = areas[area] + skip, *start = areas[area] + (skip + 15) / 16 * 16;
+    unsigned char *memory = areas[area] + skip, *start = areas[area] + (skip + 15) / 16 * 16 + HEAD;
     size_t usable = bytes < (size_t)(start - memory) ? 0
                                                      : (bytes - (size_t)(start - memory)) / 16 * 16;
     bool own = overlaps(heap, start, usable);
@@ -514,7 +515,7 @@ static bool add_pool(struct heap *heap)
     while (k < POOLS && heap->pools[k].handle != NULL) {
         k++;
     }
-    bool right = skip % 8 == 0 && usable >= 32 && k < POOLS && !own && heap->count < heap->records;
+    bool right = skip % 8 == 0 && usable >= 16 && k < POOLS && !own && heap->count < heap->records;
     pool_t handle = tlsf_add_pool(heap->tlsf, memory, bytes);
     if (!right) {
         pools_refused++;
