@@ -4,18 +4,17 @@
  * and a slot are a live block's: that is proved. This file turns places into addresses and back:
  *
  * - The control part, at the start of the memory handed in, keeps each pool's address and places.
- * - A pool begins with its head, eight bytes: the control part's address. Its first block follows.
  * - A block begins eight bytes in front of its pointer. Its place is as far behind the pool's first
  *   place as the pointer behind the first pointer, and equals the pointer modulo TLSF_MOST_ALIGN. So
  *   where the place is a multiple of an alignment, the pointer is one too.
- * - The eight bytes in front of a pointer, its front, keep its distance from the pool's first and its
- *   slot, scrambled with the pointer: so a byte that is changed there shows, and a copy elsewhere.
- * - A pointer is taken where it lies in a pool of the heap, its front agrees, and the heap has a
- *   live block there. So a null, stale or interior pointer is refused, and one of another heap. A
- *   pointer into no pool is refused unread.
- * - Not seen: a stale pointer where a later block begins. tlsf_block_size has no heap: it reads the
- *   front of any pointer, and where that may be one the head and the control part that it leads to.
- *   A pool_t is read by its calls, but not by tlsf_remove_pool.
+ * - The eight bytes in front of a pointer, its front, keep the block's slot and size, scrambled with
+ *   the pointer: so a byte that is changed there shows, and a copy elsewhere.
+ * - A pointer is taken where it lies in a pool of the heap, its front is whole, and the heap has a
+ *   live block there with that slot. So a null, stale or interior pointer is refused, and one of
+ *   another heap. A pointer into no pool is refused unread.
+ * - Not seen: a stale pointer where a later block begins. tlsf_block_size has no heap: it tells what
+ *   a whole front does, which a freed block has no more, but one of a heap that is gone. A pool_t is
+ *   read by its calls, but not by tlsf_remove_pool.
  */
 #include "tlsf.h"
 
@@ -29,22 +28,34 @@
 /* What a build may choose: the records of tlsf_create, the greatest alignment (a power of two), and
  * how many blocks a walk reads at once, at 12 bytes of stack each. */
 #ifndef TLSF_RECORDS
-#define TLSF_RECORDS 1024
+#define TLSF_RECORDS 1024u
 #endif
 #ifndef TLSF_MOST_ALIGN
-#define TLSF_MOST_ALIGN (1u << 21)
+#define TLSF_MOST_ALIGN 2097152u
 #endif
 #ifndef TLSF_WALK_ROWS
-#define TLSF_WALK_ROWS 64
+#define TLSF_WALK_ROWS 64u
 #endif
 
-enum { UNIT = TLSF_HEAP_UNIT, POOLS = TLSF_HEAP_POOLS };
-/* BYTES_A_RECORD: tlsf_create_with_pool has a record for each. */
-enum { FRONT = 8, HEAD = 8, LEAST_POOL = HEAD + UNIT, HANDED_IN = 8, BYTES_A_RECORD = 112 };
+/* A function that few calls come to: the others don't save registers for it. */
+#ifdef __GNUC__
+#define RARE __attribute__((noinline, cold))
+#else
+#define RARE
+#endif
+
+#define UNIT TLSF_HEAP_UNIT
+#define POOLS TLSF_HEAP_POOLS
+#define FRONT 8u
+#define LEAST_POOL (FRONT + UNIT)
+/* What memory that is handed in begins at a multiple of. */
+#define HANDED_IN 8u
+/* tlsf_create_with_pool has a record for each. */
+#define BYTES_A_RECORD 112u
 /* The least block that is refused for its bytes. */
-#define TOO_GREAT ((size_t)TLSF_HEAP_GREATEST - FRONT + 1)
+#define TOO_GREAT (TLSF_HEAP_GREATEST - FRONT + 1u)
 /* What the control part begins with, less its own address: so a copy is no heap. */
-#define MAGIC ((uintptr_t)0x544c5346)
+#define MAGIC 0x544c5346u
 
 /* A pool: its first pointer, how far behind it another may be, and the first place. One that isn't
  * there has no reach. */
@@ -60,27 +71,31 @@ struct control {
     uintptr_t magic;
     tlsf_heap heap;
     struct pool pools[POOLS];
+    tlsf_figures figures; /* those that the heap can't tell */
+    tlsf_refusal_hook hook;
+    void *user;
     uint32_t taken; /* its bytes, with the table's behind it */
     int faults;     /* what a check counts */
 };
 
-/* A front is a distance in units and a slot, times an odd number, and the pointer added. The other
- * number undoes it. With a changed byte that gives no distance and slot of the pointer. */
+/* A front is a size in units and a slot, 42 bits, times an odd number, and the pointer added. The
+ * other number undoes it. With a changed byte that gives more bits. */
 #define SCRAMBLE 0x9e3779b97f4a7c15u
 #define UNSCRAMBLE 0xf1de83e19937733du
-enum { SLOT_BITS = 16, DISTANCE_BITS = 26, OF_BYTES = SLOT_BITS - 4 };
+#define SLOT_BITS 16u
+#define FRONT_BITS 42u
 
-typedef char scrambling_is_undone[SCRAMBLE * UNSCRAMBLE == 1 ? 1 : -1];
-typedef char records_are_1_to_65535[TLSF_RECORDS > 0 && TLSF_RECORDS <= 65535 ? 1 : -1];
+typedef char scrambling_is_undone[SCRAMBLE * UNSCRAMBLE == 1u ? 1 : -1];
+typedef char records_fit[TLSF_RECORDS > 0 && TLSF_RECORDS <= TLSF_HEAP_RECORDS_MOST ? 1 : -1];
 
 /* Whether memory that is handed in may begin here. */
-static bool may_begin(const void *mem) { return mem != NULL && (uintptr_t)mem % HANDED_IN == 0; }
+static bool may_begin(const void *mem) { return mem != NULL && (uintptr_t)mem % HANDED_IN == 0u; }
 
 static inline struct control *control_of(void *tlsf)
 {
     uintptr_t magic = 0;
     if (tlsf != NULL) {
-        memcpy(&magic, tlsf, sizeof magic);
+        (void)memcpy(&magic, tlsf, sizeof magic);
     }
     return magic == (uintptr_t)tlsf + MAGIC ? (struct control *)tlsf : NULL;
 }
@@ -89,20 +104,23 @@ size_t tlsf_size_records(uint32_t records)
 {
     return sizeof(struct control) + HANDED_IN + TLSF_HEAP_TABLE_BYTES(records);
 }
-/* A front takes a block to the next unit at most, and a head the pool. */
+/* A front takes a block to the next unit at most, and the first one the pool. */
 size_t tlsf_sure_bytes(uint32_t blocks, size_t bytes, size_t largest)
 {
-    bool few = largest > 0 && largest < TLSF_HEAP_GREATEST && bytes < TLSF_HEAP_GREATEST;
-    uint32_t class_size = few ? tlsf_heap_class_size(1, (uint64_t)largest + FRONT) : 0;
+    bool few = largest > 0u && largest < TLSF_HEAP_GREATEST && bytes < TLSF_HEAP_GREATEST;
+    uint32_t class_size = few ? tlsf_heap_class_size(1, (uint64_t)largest + FRONT) : 0u;
     uint32_t pool = tlsf_heap_sure_pool(blocks, bytes + (uint64_t)blocks * UNIT, class_size);
-    return pool == 0 ? 0 : tlsf_size_records(2 * blocks + 3) + UNIT + pool;
+    return pool == 0u ? 0u : tlsf_size_records(2u * blocks + 3u) + UNIT + pool;
 }
 size_t tlsf_size(void) { return tlsf_size_records(TLSF_RECORDS); }
 size_t tlsf_align_size(void) { return UNIT; }
 size_t tlsf_block_size_min(void) { return UNIT - FRONT; }
-size_t tlsf_block_size_max(void) { return TOO_GREAT - 1; }
-size_t tlsf_pool_overhead(void) { return HANDED_IN + HEAD + FRONT + UNIT; }
+size_t tlsf_block_size_max(void) { return TOO_GREAT - 1u; }
+size_t tlsf_pool_overhead(void) { return HANDED_IN + FRONT + UNIT; }
 size_t tlsf_alloc_overhead(void) { return FRONT; }
+
+/* The bytes of a block that serves so many, with its front. */
+static inline size_t in_units(size_t bytes) { return (bytes + FRONT + UNIT - 1u) / UNIT * UNIT; }
 
 /* The bytes to the next multiple of 16. */
 static size_t skipped(uintptr_t address) { return (UNIT - address % UNIT) % UNIT; }
@@ -113,11 +131,11 @@ static struct pool *entry_of(struct control *control, uintptr_t address, size_t 
     uintptr_t own = (uintptr_t)control;
     bool good = address + bytes <= own || own + control->taken <= address;
     struct pool *vacant = NULL;
-    for (int k = POOLS - 1; k >= 0; k--) {
-        struct pool *pool = &control->pools[k];
+    for (uint32_t k = POOLS; k > 0u; k--) {
+        struct pool *pool = &control->pools[k - 1u];
         uintptr_t first = (uintptr_t)pool->first;
-        good = good && (address + bytes <= first - UNIT || first + pool->reach <= address);
-        vacant = pool->reach == 0 ? pool : vacant;
+        good = good && (address + bytes <= first - FRONT || first + pool->reach <= address);
+        vacant = pool->reach == 0u ? pool : vacant;
     }
     return good ? vacant : NULL;
 }
@@ -126,19 +144,18 @@ static struct pool *entry_of(struct control *control, uintptr_t address, size_t 
 pool_t tlsf_add_pool(tlsf_t tlsf, void *mem, size_t bytes)
 {
     struct control *control = control_of(tlsf);
-    size_t skip = skipped((uintptr_t)mem), usable = (bytes - skip - HEAD) / UNIT * UNIT;
+    size_t skip = skipped((uintptr_t)mem + FRONT), usable = (bytes - skip) / UNIT * UNIT;
     uintptr_t address = (uintptr_t)mem + skip;
-    bool good = control != NULL && may_begin(mem) && bytes >= skip + LEAST_POOL
+    bool good = control != NULL && may_begin(mem) && bytes >= skip + UNIT
                 && bytes <= UINTPTR_MAX - (uintptr_t)mem;
-    struct pool *pool = good ? entry_of(control, address, HEAD + usable) : NULL;
-    for (int k = -1; pool != NULL && k < POOLS; k++) {
-        const struct pool *last = &control->pools[k < 0 ? 0 : k];
-        uint64_t from = k < 0 ? 0 : (uint64_t)last->place + last->reach + FRONT;
-        uint64_t place = from + ((address + UNIT - from) & (TLSF_MOST_ALIGN - 1));
+    struct pool *pool = good ? entry_of(control, address, usable) : NULL;
+    for (uint32_t k = 0; pool != NULL && k <= POOLS; k++) {
+        const struct pool *last = &control->pools[k == 0u ? 0u : k - 1u];
+        uint64_t from = k == 0u ? 0u : (uint64_t)last->place + last->reach + FRONT;
+        uint64_t place = from + ((address + FRONT - from) & (TLSF_MOST_ALIGN - 1u));
         if (tlsf_heap_add_pool(&control->heap, place, usable) == TLSF_OK) {
-            unsigned char *head = (unsigned char *)mem + skip;
-            memcpy(head, &control, HEAD);
-            *pool = (struct pool){control, head + UNIT, usable - FRONT, (uint32_t)place};
+            unsigned char *first = (unsigned char *)mem + skip + FRONT;
+            *pool = (struct pool){control, first, usable - FRONT, (uint32_t)place};
             return pool;
         }
     }
@@ -148,11 +165,11 @@ pool_t tlsf_add_pool(tlsf_t tlsf, void *mem, size_t bytes)
 void tlsf_remove_pool(tlsf_t tlsf, pool_t pool)
 {
     struct control *control = control_of(tlsf);
-    for (int k = 0; control != NULL && k < POOLS; k++) {
+    for (uint32_t k = 0; control != NULL && k < POOLS; k++) {
         struct pool *own = &control->pools[k];
-        if (own == pool && own->reach != 0
+        if (own == pool && own->reach != 0u
             && tlsf_heap_remove_pool(&control->heap, own->place) == TLSF_OK) {
-            memset(own, 0, sizeof *own);
+            (void)memset(own, 0, sizeof *own);
         }
     }
 }
@@ -160,7 +177,7 @@ void tlsf_remove_pool(tlsf_t tlsf, pool_t pool)
 pool_t tlsf_get_pool(tlsf_t tlsf)
 {
     struct control *control = control_of(tlsf);
-    return control != NULL && control->pools[0].reach != 0 ? &control->pools[0] : NULL;
+    return control != NULL && control->pools[0].reach != 0u ? &control->pools[0] : NULL;
 }
 
 tlsf_t tlsf_create_records(void *mem, size_t bytes, uint32_t records)
@@ -173,6 +190,7 @@ tlsf_t tlsf_create_records(void *mem, size_t bytes, uint32_t records)
     }
     unsigned char *end = (unsigned char *)mem + taken;
     *control = (struct control){.magic = (uintptr_t)mem + MAGIC, .taken = (uint32_t)taken};
+    control->figures.records = records;
     if (tlsf_heap_create_in(end - table, table, records, &control->heap) == TLSF_OK
         && (bytes - taken < LEAST_POOL || tlsf_add_pool(control, end, bytes - taken) != NULL)) {
         return control;
@@ -186,7 +204,7 @@ tlsf_t tlsf_create(void *mem) { return tlsf_create_records(mem, tlsf_size(), TLS
 /* Too few bytes for a heap without records ask for the most of them, and so are refused. */
 tlsf_t tlsf_create_with_pool(void *mem, size_t bytes)
 {
-    size_t records = (bytes - tlsf_size_records(0)) / BYTES_A_RECORD + 1;
+    size_t records = (bytes - tlsf_size_records(0)) / BYTES_A_RECORD + 1u;
     records = records > TLSF_HEAP_RECORDS_MOST ? TLSF_HEAP_RECORDS_MOST : records;
     return tlsf_get_pool(tlsf_create_records(mem, bytes, (uint32_t)records)) == NULL ? NULL : mem;
 }
@@ -195,16 +213,22 @@ tlsf_t tlsf_create_with_pool(void *mem, size_t bytes)
 void tlsf_destroy(tlsf_t tlsf)
 {
     if (control_of(tlsf) != NULL) {
-        memset(tlsf, 0, sizeof(struct control));
+        (void)memset(tlsf, 0, sizeof(struct control));
     }
 }
 
-/* What the front of a pointer says, if it is one: a distance and a slot. */
+/* The size and slot that the front of a pointer keeps: more than 42 bits where it isn't whole. */
 static inline uint64_t unscrambled(const void *ptr)
 {
     uint64_t front;
-    memcpy(&front, (const unsigned char *)ptr - FRONT, FRONT);
+    (void)memcpy(&front, (const unsigned char *)ptr - FRONT, FRONT);
     return (front - (uintptr_t)ptr) * UNSCRAMBLE;
+}
+
+static inline void write_front(void *ptr, size_t size, uint64_t slot)
+{
+    uint64_t front = (((uint64_t)(size / UNIT) << SLOT_BITS) + slot) * SCRAMBLE + (uintptr_t)ptr;
+    (void)memcpy((unsigned char *)ptr - FRONT, &front, FRONT);
 }
 
 static inline bool has_place(const struct pool *pool, uint32_t place)
@@ -216,163 +240,280 @@ static inline bool has_pointer(const struct pool *pool, const void *ptr)
     return (uintptr_t)ptr - (uintptr_t)pool->first < pool->reach;
 }
 
-/* The pool of a place, or of a pointer, behind the first; null where there is none. */
-static const struct pool *later_pool_of_place(const struct control *control, uint32_t place)
+/* The pool that has a place, or where that is null a pointer, behind the first; or none. */
+RARE static const struct pool *later_pool(const struct control *control, const uint32_t *place,
+                                          const void *ptr)
 {
-    int k = 1;
-    while (k < POOLS && !has_place(&control->pools[k], place)) {
-        k++;
+    const struct pool *pool = NULL;
+    for (uint32_t k = 1; k < POOLS && pool == NULL; k++) {
+        const struct pool *own = &control->pools[k];
+        bool has = place == NULL ? has_pointer(own, ptr) : has_place(own, *place);
+        pool = has ? own : NULL;
     }
-    return k < POOLS ? &control->pools[k] : NULL;
+    return pool;
 }
-static const struct pool *later_pool_of(const struct control *control, const void *ptr)
+static inline const struct pool *pool_of(const struct control *control, const void *ptr)
 {
-    int k = 1;
-    while (k < POOLS && !has_pointer(&control->pools[k], ptr)) {
-        k++;
-    }
-    return k < POOLS ? &control->pools[k] : NULL;
+    const struct pool *first = control->pools;
+    return has_pointer(first, ptr) ? first : later_pool(control, NULL, ptr);
 }
 
 /* The pointer to a live block, whose front is written. Only where the control part or the table is
  * spoiled does the block lie in no pool, and then the pointer is null. */
-static inline void *hand_out(const struct control *control, tlsf_heap_block block)
+static inline void *hand_out(const struct control *control, tlsf_heap_block block, size_t size)
 {
-    const struct pool *pool = control->pools;
-    if (!has_place(pool, block.place)) {
-        pool = later_pool_of_place(control, block.place);
-        if (pool == NULL) {
-            return NULL;
-        }
+    const struct pool *first = control->pools;
+    const struct pool *pool
+        = has_place(first, block.place) ? first : later_pool(control, &block.place, NULL);
+    if (pool == NULL) {
+        return NULL;
     }
-    uint64_t from = (uint32_t)(block.place - pool->place);
-    unsigned char *ptr = pool->first + from;
-    uint64_t front = ((from << OF_BYTES) + block.slot) * SCRAMBLE + (uintptr_t)ptr;
-    memcpy(ptr - FRONT, &front, FRONT);
+    void *ptr = pool->first + (uint32_t)(block.place - pool->place);
+    write_front(ptr, size, block.slot);
     return ptr;
 }
 
-/* Whether a pointer lies in a pool of the heap, and its front says that it was handed out. Whether
- * the block is live is then the heap's to say. */
-static inline bool find(const struct control *control, const void *ptr, tlsf_heap_block *block)
+/* What a pointer and its front tell: a block, and its size. */
+struct found {
+    tlsf_heap_block block;
+    size_t size;
+};
+
+/* Whether a pointer lies in a pool of the heap, with a whole front. Whether the block is live is the
+ * heap's to say. */
+static inline bool find(const struct control *control, const void *ptr, struct found *found)
 {
-    const struct pool *pool = control->pools;
-    if (!has_pointer(pool, ptr)) {
-        pool = later_pool_of(control, ptr);
-        if (pool == NULL) {
-            return false;
-        }
-    }
-    uintptr_t from = (uintptr_t)ptr - (uintptr_t)pool->first;
-    uint64_t slot = unscrambled(ptr) - ((uint64_t)from << OF_BYTES);
-    if (slot > UINT16_MAX) {
+    const struct pool *pool = pool_of(control, ptr);
+    if (pool == NULL) {
         return false;
     }
-    *block = (tlsf_heap_block){pool->place + (uint32_t)from, (uint16_t)slot};
+    uint64_t kept = unscrambled(ptr);
+    if (kept >> FRONT_BITS != 0u) {
+        return false;
+    }
+    found->block.place = pool->place + (uint32_t)((uintptr_t)ptr - (uintptr_t)pool->first);
+    found->block.slot = (uint16_t)kept;
+    found->size = (size_t)(kept >> SLOT_BITS) * UNIT;
     return true;
 }
 
 size_t tlsf_live_size(tlsf_t tlsf, const void *ptr)
 {
-    struct control *control = control_of(tlsf);
-    tlsf_heap_block block = {0, 0};
+    const struct control *control = control_of(tlsf);
+    struct found found;
     uint32_t size = FRONT;
-    bool live = control != NULL && find(control, ptr, &block)
-                && tlsf_heap_block_size(&control->heap, block, &size) == TLSF_OK;
-    return live ? size - FRONT : 0;
+    if (control != NULL && find(control, ptr, &found)) {
+        (void)tlsf_heap_block_size(&control->heap, found.block, &size);
+    }
+    return size - FRONT;
 }
 
-/* What a pool's head names. */
-static void *head_at(const unsigned char *head)
+/* A freed block's front has no size. */
+size_t tlsf_block_size(void *ptr)
 {
-    void *control;
-    memcpy(&control, head, HEAD);
-    return control;
+    bool may_be = ptr != NULL && (uintptr_t)ptr % UNIT == 0u;
+    uint64_t kept = may_be ? unscrambled(ptr) : 0u;
+    size_t size = kept >> FRONT_BITS == 0u ? (size_t)(kept >> SLOT_BITS) * UNIT : 0u;
+    return size == 0u ? 0u : size - FRONT;
 }
 
-/* The control part that a pointer's front leads to, by the head of its pool; null where the bytes
- * are no front. */
-static void *named_by(const void *ptr)
+/* Counts what is refused, and tells it. */
+static void *refuse(struct control *control, enum tlsf_refusal what, const void *ptr, size_t bytes)
 {
-    uint64_t units = unscrambled(ptr) >> SLOT_BITS;
-    bool may_be = units >> DISTANCE_BITS == 0;
-    return may_be ? head_at((const unsigned char *)ptr - UNIT * (units + 1)) : NULL;
+    control->figures.refusals[what]++;
+    if (control->hook != NULL) {
+        control->hook(what, ptr, bytes, control->user);
+    }
+    return NULL;
 }
 
-size_t tlsf_block_size(const void *ptr)
+/* A pointer; a null pointer is none. Where its front isn't whole the pool's chain is read, for a
+ * live block may begin there. */
+RARE static void *refuse_pointer(struct control *control, const void *ptr, size_t bytes)
 {
-    bool may_be = ptr != NULL && (uintptr_t)ptr % UNIT == 0;
-    return may_be ? tlsf_live_size(named_by(ptr), ptr) : 0;
+    tlsf_heap_row row = {0, 0, false};
+    uint64_t count = 0;
+    enum tlsf_refusal what = TLSF_REFUSED_POINTER;
+    const struct pool *pool = pool_of(control, ptr);
+    if (ptr == NULL) {
+        return NULL;
+    }
+    if (pool != NULL && unscrambled(ptr) >> FRONT_BITS != 0u) {
+        uint64_t place = pool->place + ((uintptr_t)ptr - (uintptr_t)pool->first);
+        enum tlsf_status status
+            = tlsf_heap_walk(&control->heap, pool->place, place, &row, 1, &count);
+        bool live = status == TLSF_OK && row.used && row.place == place;
+        what = live ? TLSF_REFUSED_FRONT : TLSF_REFUSED_POINTER;
+    }
+    return refuse(control, what, ptr, bytes);
 }
 
-/* Where no free block is of a class that surely has the bytes, the first of the class below may
- * have them. A smaller block is begun there, and grows. */
-static void *allocate_below(struct control *control, size_t whole)
+/* A request, by the status of the heap's call. */
+static void *refuse_bytes(struct control *control, enum tlsf_status status, const void *ptr,
+                          size_t bytes)
 {
-    size_t less = tlsf_heap_class_low(whole);
+    bool full = status == TLSF_TABLE_FULL;
+    return refuse(control, full ? TLSF_REFUSED_TABLE_FULL : TLSF_REFUSED_NO_FIT, ptr, bytes);
+}
+
+/* A block that had some bytes, or was none, now has others. */
+static inline void count_bytes(struct control *control, size_t had, size_t has)
+{
+    tlsf_figures *figures = &control->figures;
+    figures->bytes_live += has - had;
+    if (figures->most_bytes_live < figures->bytes_live) {
+        figures->most_bytes_live = figures->bytes_live;
+    }
+}
+
+/* A new block, and its pointer. */
+static inline void *begin(struct control *control, tlsf_heap_block block, size_t whole)
+{
+    control->figures.blocks_live++;
+    count_bytes(control, 0, whole - FRONT);
+    return hand_out(control, block, whole);
+}
+
+/* A request that the heap's first call refused with this status. Where no free block is of a class
+ * that surely has the bytes, the first of the class below may have them. A smaller block is begun
+ * there, and grows. */
+RARE static void *allocate_below(struct control *control, enum tlsf_status first, size_t bytes)
+{
     tlsf_heap_block block = {0, 0};
-    if (less == whole || tlsf_heap_malloc(&control->heap, less, &block) != TLSF_OK) {
-        return NULL;
+    size_t whole = in_units(bytes);
+    size_t less = tlsf_heap_class_low(whole);
+    enum tlsf_status status = first;
+    if (first == TLSF_NO_FIT && bytes < TOO_GREAT && less < whole) {
+        status = tlsf_heap_malloc(&control->heap, less, &block);
+        if (status == TLSF_OK) {
+            status = tlsf_heap_realloc(&control->heap, block, whole, &block);
+            if (status == TLSF_OK) {
+                return begin(control, block, whole);
+            }
+            (void)tlsf_heap_free(&control->heap, block);
+        }
     }
-    if (tlsf_heap_realloc(&control->heap, block, whole, &block) != TLSF_OK) {
-        tlsf_heap_free(&control->heap, block);
-        return NULL;
-    }
-    return hand_out(control, block);
+    return refuse_bytes(control, status, NULL, bytes);
 }
 
-/* A block at a multiple of 16, or of align where that is more. */
-static inline void *allocate(struct control *control, size_t align, size_t bytes)
+void *tlsf_malloc(tlsf_t tlsf, size_t bytes)
 {
+    struct control *control = control_of(tlsf);
     tlsf_heap_block block;
-    size_t whole = (bytes + FRONT + UNIT - 1) / UNIT * UNIT;
-    if (control == NULL || bytes - 1 >= TOO_GREAT - 1) {
+    enum tlsf_status status = TLSF_NO_FIT;
+    if (control == NULL || bytes == 0u) {
         return NULL;
     }
-    memset(&block, 0, sizeof block);
-    uint32_t status = align > UNIT ? tlsf_heap_memalign(&control->heap, align, whole, &block)
-                                   : tlsf_heap_malloc(&control->heap, whole, &block);
-    if (status == TLSF_OK) {
-        return hand_out(control, block);
+    (void)memset(&block, 0, sizeof block);
+    if (bytes < TOO_GREAT) {
+        status = tlsf_heap_malloc(&control->heap, in_units(bytes), &block);
     }
-    return status == TLSF_NO_FIT && align <= UNIT ? allocate_below(control, whole) : NULL;
+    return status == TLSF_OK ? begin(control, block, in_units(bytes))
+                             : allocate_below(control, status, bytes);
 }
-
-void *tlsf_malloc(tlsf_t tlsf, size_t bytes) { return allocate(control_of(tlsf), UNIT, bytes); }
 
 void *tlsf_memalign(tlsf_t tlsf, size_t align, size_t bytes)
 {
-    bool good = align <= TLSF_MOST_ALIGN && (align & (align - 1)) == 0;
-    return good ? allocate(control_of(tlsf), align, bytes) : NULL;
+    struct control *control = control_of(tlsf);
+    tlsf_heap_block block = {0, 0};
+    enum tlsf_status status = TLSF_NO_FIT;
+    bool good = align <= TLSF_MOST_ALIGN && (align & (align - 1u)) == 0u;
+    if (control == NULL || bytes == 0u || (good && align <= UNIT)) {
+        return tlsf_malloc(control, bytes);
+    }
+    if (!good) {
+        return refuse(control, TLSF_REFUSED_ALIGNMENT, NULL, bytes);
+    }
+    if (bytes < TOO_GREAT) {
+        status = tlsf_heap_memalign(&control->heap, align, in_units(bytes), &block);
+    }
+    return status == TLSF_OK ? begin(control, block, in_units(bytes))
+                             : refuse_bytes(control, status, NULL, bytes);
 }
 
 void tlsf_free(tlsf_t tlsf, void *ptr)
 {
     struct control *control = control_of(tlsf);
-    tlsf_heap_block block = {0, 0};
-    if (control != NULL && find(control, ptr, &block)) {
-        tlsf_heap_free(&control->heap, block);
+    struct found found;
+    if (control == NULL) {
+        return;
+    }
+    if (find(control, ptr, &found) && tlsf_heap_free(&control->heap, found.block) == TLSF_OK) {
+        write_front(ptr, 0, 0);
+        control->figures.blocks_live--;
+        control->figures.bytes_live -= found.size - FRONT;
+    } else {
+        (void)refuse_pointer(control, ptr, 0);
     }
 }
 
 /* The heap gives the new block before the old one is free: so they don't overlap. No one gets the
  * old one's bytes before the next call. Only a block that grows gets another place. */
+static void *resize(struct control *control, void *ptr, size_t size)
+{
+    struct found found = {{0, 0}, 0};
+    tlsf_heap_block given = {0, 0};
+    uint32_t had = 0;
+    uint32_t has = 0;
+    if (!find(control, ptr, &found)
+        || tlsf_heap_block_size(&control->heap, found.block, &had) != TLSF_OK) {
+        return refuse_pointer(control, ptr, size);
+    }
+    enum tlsf_status status = size >= TOO_GREAT ? TLSF_NO_FIT
+                                        : tlsf_heap_realloc(&control->heap, found.block,
+                                                            in_units(size), &given);
+    if (status != TLSF_OK) {
+        return refuse_bytes(control, status, ptr, size);
+    }
+    (void)tlsf_heap_block_size(&control->heap, given, &has);
+    count_bytes(control, found.size, has);
+    write_front(ptr, 0, 0);
+    void *other = hand_out(control, given, has);
+    return other == ptr || other == NULL ? other : memcpy(other, ptr, had - FRONT);
+}
+
 void *tlsf_realloc(tlsf_t tlsf, void *ptr, size_t size)
 {
     struct control *control = control_of(tlsf);
-    tlsf_heap_block block = {0, 0}, given = {0, 0};
-    uint32_t had = FRONT;
-    if (ptr == NULL || size == 0) {
-        tlsf_free(tlsf, ptr);
-        return size == 0 ? NULL : tlsf_malloc(tlsf, size);
+    if (control == NULL || ptr == NULL) {
+        return tlsf_malloc(tlsf, size);
     }
-    if (control == NULL || size >= TOO_GREAT || !find(control, ptr, &block)
-        || tlsf_heap_block_size(&control->heap, block, &had) != TLSF_OK
-        || tlsf_heap_realloc(&control->heap, block, size + FRONT, &given) != TLSF_OK) {
+    if (size == 0u) {
+        tlsf_free(tlsf, ptr);
         return NULL;
     }
-    void *other = hand_out(control, given);
-    return other == ptr || other == NULL ? other : memcpy(other, ptr, had - FRONT);
+    return resize(control, ptr, size);
+}
+
+void tlsf_set_refusal_hook(tlsf_t tlsf, tlsf_refusal_hook hook, void *user)
+{
+    struct control *control = control_of(tlsf);
+    if (control != NULL) {
+        control->hook = hook;
+        control->user = user;
+    }
+}
+
+/* The heap's own readings tell what the control part doesn't keep. */
+int tlsf_stats(tlsf_t tlsf, tlsf_figures *out)
+{
+    const struct control *control = control_of(tlsf);
+    if (control == NULL) {
+        return -1;
+    }
+    size_t largest = tlsf_heap_largest_request(&control->heap);
+    *out = control->figures;
+    out->records_used = tlsf_heap_records_used(&control->heap);
+    if (largest != 0u) {
+        out->largest_request = largest - FRONT;
+        out->largest_free = largest - FRONT + tlsf_heap_class_step(largest) - UNIT;
+    }
+    for (uint32_t k = 0; k < POOLS; k++) {
+        const struct pool *pool = &control->pools[k];
+        out->bytes_free += pool->reach == 0u ? 0u : pool->reach + FRONT;
+    }
+    out->bytes_free -= out->bytes_live + FRONT * out->blocks_live;
+    return 0;
 }
 
 /* The control part of a pool's heap, or a null pointer where the pool isn't there. */
@@ -385,7 +526,7 @@ static void print(void *ptr, size_t size, int used, void *user)
 {
     (void)ptr, (void)size, (void)used, (void)user;
 #if __STDC_HOSTED__
-    printf("\t%p %s size: %zx\n", ptr, used ? "used" : "free", size);
+    (void)printf("\t%p %s size: %zx\n", ptr, used ? "used" : "free", size);
 #endif
 }
 
@@ -394,15 +535,18 @@ void tlsf_walk_pool(pool_t pool, tlsf_walker walker, void *user)
 {
     struct pool *own = (struct pool *)pool;
     tlsf_heap_row rows[TLSF_WALK_ROWS];
-    uint64_t base = control_of_pool(pool) == NULL ? 0 : own->place, from = 0, left = 1;
-    while (left > 0 && control_of_pool(pool) != NULL
+    uint64_t base = control_of_pool(pool) == NULL ? 0u : own->place;
+    uint64_t from = 0;
+    uint64_t left = 1;
+    while (left > 0u && control_of_pool(pool) != NULL
            && tlsf_heap_walk(&own->control->heap, base, from, rows, TLSF_WALK_ROWS, &left)
                   == TLSF_OK) {
         unsigned char *first = own->first;
-        for (int k = 0; k < TLSF_WALK_ROWS && left > 0; k++, left--) {
+        for (uint32_t k = 0; k < TLSF_WALK_ROWS && left > 0u; k++) {
             void *ptr = first + (rows[k].place - base);
             from = (uint64_t)rows[k].place + rows[k].size;
             (walker == NULL ? print : walker)(ptr, rows[k].size - FRONT, rows[k].used, user);
+            left--;
         }
     }
 }
@@ -411,22 +555,21 @@ void tlsf_walk_pool(pool_t pool, tlsf_walker walker, void *user)
 static void count_fault(void *ptr, size_t size, int used, void *user)
 {
     struct control *control = (struct control *)user;
-    control->faults += used && tlsf_live_size(control, ptr) != size;
+    if (used != 0 && (tlsf_live_size(control, ptr) != size || tlsf_block_size(ptr) != size)) {
+        control->faults++;
+    }
 }
 
-/* Of one pool, or of all for none: its head and its fronts. Where the table isn't whole nothing else
- * of the heap is read. */
+/* Of one pool, or of all for none. Where the table isn't whole nothing else of the heap is read. */
 static int check(struct control *control, pool_t pool)
 {
     if (control == NULL || !tlsf_heap_check(&control->heap)) {
         return -1;
     }
     control->faults = 0;
-    for (int k = 0; k < POOLS; k++) {
-        struct pool *own = &control->pools[k];
-        if (own->reach != 0 && (pool == NULL || pool == own)) {
-            control->faults += head_at(own->first - UNIT) != control;
-            tlsf_walk_pool(own, count_fault, control);
+    for (uint32_t k = 0; k < POOLS; k++) {
+        if (pool == NULL || pool == &control->pools[k]) {
+            tlsf_walk_pool(&control->pools[k], count_fault, control);
         }
     }
     return -control->faults;

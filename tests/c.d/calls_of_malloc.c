@@ -322,17 +322,16 @@ static void hold(void)
 }
 
 /* Ends with a byte spoiled in front of a block, or with bytes of the table. That stands behind the
- * control part, which the pool's head names, 16 bytes in front of the first pointer. A front,
- * unscrambled, has the distance from that in units of 16, and the slot in its last 16 bits. */
+ * control part, which begins with its own address and 0x544c5346. The pages are one mapping. */
 static void spoil(bool table)
 {
-    unsigned char *volatile block = malloc(100), *control;
-    uint64_t front;
-    memcpy(&front, block - 8, sizeof front);
-    front = (front - (uintptr_t)block) * 0xf1de83e19937733du;
-    memcpy(&control, block - 16 * (front >> 16) - 16, sizeof control);
+    unsigned char *volatile block = malloc(100);
+    uintptr_t *at = (uintptr_t *)((uintptr_t)block / 4096 * 4096);
+    while (table && *at != (uintptr_t)at + 0x544c5346) {
+        at -= 4096 / sizeof *at;
+    }
     if (table) {
-        memset(control + 512, 0xff, 256);
+        memset((unsigned char *)at + 512, 0xff, 256);
     } else {
         block[-1] ^= 1;
     }

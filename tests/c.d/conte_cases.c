@@ -55,8 +55,8 @@ static void exact_memory(void)
         void *one = tlsf_malloc(tlsf, 100);
         expect(tlsf == control + skip && pool != NULL && one != NULL,
                "a heap in tlsf_size() bytes, and a pool elsewhere");
-        expect(count(pool).bytes == 4000 - 16 && tlsf_check(tlsf) == 0,
-               "the pool has its bytes, less a head of 8 and those to a multiple of 16");
+        expect(count(pool).bytes == (skip == 0 ? 4000 - 16 : 4000) && tlsf_check(tlsf) == 0,
+               "the pool has its bytes, less those beside fronts and multiples of 16");
         size_t blocks = 1;
         while (tlsf_malloc(tlsf, 1) != NULL) {
             blocks++;
@@ -156,8 +156,8 @@ static size_t filled(size_t bytes, size_t size, uint32_t records)
     return blocks;
 }
 
-/* Of 1,000 bytes a block takes 1,008, and a record 16. So 9,345 records leave 1 MiB room for 889,
- * and 1,023 for 1,022. */
+/* Of 1,000 bytes a block takes 1,008, and a record 16. So 9,344 records leave 1 MiB room for 889,
+ * and 1,022 for 1,021. */
 static void capacities(void)
 {
     uint32_t few = (uint32_t)(((1 << 20) - tlsf_size_records(0)) / 1024 + 1);
@@ -165,8 +165,8 @@ static void capacities(void)
     expect(filled(1 << 20, 64, 0) >= 9300, "1 MiB: at least 9,300 blocks of 64 bytes");
     expect(filled(1 << 20, 1000, 0) == 889, "1 MiB: 889 blocks of 1,000 bytes");
     expect(filled(64 << 20, 16, 0) == 65534, "64 MiB: a block of 16 bytes for each record but one");
-    expect(filled(1 << 20, 1000, few) == 1022,
-           "1 MiB, a record for each 1,024 bytes: 1,022 blocks of 1,000 bytes");
+    expect(filled(1 << 20, 1000, few) == 1021,
+           "1 MiB, a record for each 1,024 bytes: 1,021 blocks of 1,000 bytes");
 }
 
 static void limits(void)
@@ -180,7 +180,7 @@ static void limits(void)
         fits = fits && tlsf_add_pool(tlsf, memory, n + tlsf_pool_overhead()) != NULL
                && tlsf_malloc(tlsf, n) != NULL;
         tlsf = tlsf_create(other_memory);
-        tlsf_add_pool(tlsf, memory + 8, n + 9 + tlsf_pool_overhead() - 8);
+        tlsf_add_pool(tlsf, memory, n + 9 + tlsf_pool_overhead() - 8);
         least = least && tlsf_malloc(tlsf, n + 9) == NULL;
     }
     expect(fits && least,
@@ -302,7 +302,25 @@ static void great_alignments(unsigned char *large)
     expect(aligned, "alignments of 2^20 and 2^21 in pools that aren't so aligned");
 }
 
-/* Pools and the heap's own memory that touch, in each order; and those that share 16 bytes. */
+/* A pool whose first pointer is a multiple of 2^21: so the heap has its first block at the place 0. A
+ * request that is refused leaves it. */
+static void first_place(unsigned char *large)
+{
+    size_t two = (size_t)2 << 20;
+    unsigned char *even = large + (two - (uintptr_t)large % two);
+    tlsf_t tlsf = tlsf_create(memory);
+    tlsf_add_pool(tlsf, even - 8, 4096);
+    void *one = tlsf_malloc(tlsf, 100);
+    bool refused = one == even;
+    for (size_t bytes = 3000; bytes < 9000; bytes += 997) {
+        void *other = tlsf_malloc(tlsf, bytes);
+        tlsf_free(tlsf, other);
+        refused = refused && (bytes < 3984 || other == NULL);
+    }
+    expect(refused && tlsf_live_size(tlsf, one) == 104, "a block at the place 0 stays");
+}
+
+/* Pools and the heap's own memory that touch, in each order; and those that share 32 bytes. */
 static void side_by_side(void)
 {
     unsigned char *area = other_memory;
@@ -310,15 +328,15 @@ static void side_by_side(void)
     tlsf_t tlsf = tlsf_create_records(area + 8192, own - own % 16, 64);
     expect(tlsf_get_pool(tlsf) == NULL && tlsf_add_pool(tlsf, area + 4096, 1024) != NULL,
            "a pool of 1,024 bytes");
-    expect(tlsf_add_pool(tlsf, area + 4096 - 1024 + 16, 1024) == NULL
-               && tlsf_add_pool(tlsf, area + 4096 + 1024 - 16, 1024) == NULL,
-           "one that shares 16 bytes with it is refused");
+    expect(tlsf_add_pool(tlsf, area + 4096 - 1024 + 32, 1024) == NULL
+               && tlsf_add_pool(tlsf, area + 4096 + 1024 - 32, 1024) == NULL,
+           "one that shares 32 bytes with it is refused");
     pool_t before = tlsf_add_pool(tlsf, area + 4096 - 1024, 1024),
            behind = tlsf_add_pool(tlsf, area + 4096 + 1024, 1024);
     expect(before != NULL && behind != NULL, "one directly in front of it, and one directly behind");
-    expect(tlsf_add_pool(tlsf, area + 8192 - 1024 + 16, 1024) == NULL
+    expect(tlsf_add_pool(tlsf, area + 8192 - 1024 + 32, 1024) == NULL
                && tlsf_add_pool(tlsf, area + 8192 + own / 16 * 16 - 32, 1024) == NULL,
-           "one that shares 16 bytes with the heap itself is refused");
+           "one that shares 32 bytes with the heap itself is refused");
     expect(tlsf_add_pool(tlsf, area + 8192 - 1024, 1024) != NULL
                && tlsf_add_pool(tlsf, area + 8192 + own / 16 * 16, 1024) != NULL,
            "one directly in front of the heap, and one directly behind");
@@ -514,25 +532,21 @@ static void old_pointers(void)
     expect(tlsf_check(tlsf) == 0 && tlsf_block_size(moved) == 3000, "whole again");
 }
 
-/* Each byte of a front, in each way, and each of the pool's head: the check tells it, no call takes
- * the pointer for its block, and with the byte as it was all is whole. */
+/* Each byte of a front, in each way: the check tells it, no call takes the pointer for its block, and
+ * with the byte as it was all is whole. */
 static void each_byte_in_front(void)
 {
     tlsf_t tlsf = tlsf_create_with_pool(memory, sizeof memory);
-    unsigned char *first = (unsigned char *)tlsf_malloc(tlsf, 40);
     unsigned char *one = (unsigned char *)tlsf_malloc(tlsf, 40);
     bool told = true, kept = true;
-    for (int k = 1; k <= 8; k++) {
-        for (unsigned change = 1; change < 256; change++) {
-            one[-k] ^= (unsigned char)change;
-            told = told && tlsf_check(tlsf) == -1 && tlsf_live_size(tlsf, one) == 0;
-            tlsf_free(tlsf, one);
-            kept = kept && tlsf_realloc(tlsf, one, 80) == NULL && has(tlsf_get_pool(tlsf), 2, 1);
-            one[-k] ^= (unsigned char)change;
-        }
-        first[-8 - k] ^= 1;
-        told = told && tlsf_check(tlsf) == -1 && tlsf_live_size(tlsf, one) == 40;
-        first[-8 - k] ^= 1;
+    for (unsigned k = 0; k < 8 * 255; k++) {
+        unsigned char *at = one - 1 - k % 8, change = (unsigned char)(1 + k / 8);
+        *at ^= change;
+        told = told && tlsf_check(tlsf) == -1 && tlsf_live_size(tlsf, one) == 0
+               && tlsf_block_size(one) == 0;
+        tlsf_free(tlsf, one);
+        kept = kept && tlsf_realloc(tlsf, one, 80) == NULL && has(tlsf_get_pool(tlsf), 1, 1);
+        *at ^= change;
     }
     expect(told && tlsf_check(tlsf) == 0, "each changed byte in front of a block is told");
     expect(kept && tlsf_block_size(one) == 40, "and the block is kept");
@@ -566,6 +580,152 @@ static void overruns(void)
     expect(tlsf_check(tlsf) == -1 && tlsf_malloc(tlsf, 1) == NULL && tlsf_check_pool(pool) == -1
                && has(pool, 0, 0),
            "a spoiled heap is none");
+}
+
+/* What a hook was told last, and how often. */
+struct told {
+    enum tlsf_refusal what;
+    const void *ptr;
+    size_t bytes, calls;
+};
+
+static void tell(enum tlsf_refusal what, const void *ptr, size_t bytes, void *user)
+{
+    struct told *told = (struct told *)user;
+    *told = (struct told){what, ptr, bytes, told->calls + 1};
+}
+
+/* Whether so many calls told it since the last time that this was asked, the last of them this. */
+static bool was_told(struct told *told, size_t calls, enum tlsf_refusal what, const void *ptr,
+                     size_t bytes)
+{
+    bool good = told->calls == calls && told->what == what && told->ptr == ptr
+                && told->bytes == bytes;
+    told->calls = 0;
+    return good;
+}
+
+static size_t refused(tlsf_t tlsf, enum tlsf_refusal what)
+{
+    tlsf_figures figures;
+    return tlsf_stats(tlsf, &figures) == 0 ? figures.refusals[what] : SIZE_MAX;
+}
+
+static void refused_requests(void)
+{
+    struct told told = {TLSF_REFUSALS, NULL, 0, 0};
+    tlsf_t tlsf = tlsf_create_records(memory, 32768, 2);
+    tlsf_set_refusal_hook(tlsf, tell, &told);
+    bool good = tlsf_malloc(tlsf, 40000) == NULL
+                && was_told(&told, 1, TLSF_REFUSED_NO_FIT, NULL, 40000)
+                && tlsf_malloc(tlsf, SIZE_MAX) == NULL
+                && was_told(&told, 1, TLSF_REFUSED_NO_FIT, NULL, SIZE_MAX)
+                && tlsf_memalign(tlsf, 64, 40000) == NULL
+                && was_told(&told, 1, TLSF_REFUSED_NO_FIT, NULL, 40000);
+    void *one = tlsf_malloc(tlsf, 100);
+    good = good && tlsf_realloc(tlsf, one, 40000) == NULL
+           && was_told(&told, 1, TLSF_REFUSED_NO_FIT, one, 40000)
+           && tlsf_realloc(tlsf, one, SIZE_MAX) == NULL
+           && was_told(&told, 1, TLSF_REFUSED_NO_FIT, one, SIZE_MAX);
+    expect(good && refused(tlsf, TLSF_REFUSED_NO_FIT) == 5, "requests without room are told: no fit");
+    good = tlsf_malloc(tlsf, 100) == NULL && was_told(&told, 1, TLSF_REFUSED_TABLE_FULL, NULL, 100)
+           && tlsf_memalign(tlsf, 64, 100) == NULL
+           && was_told(&told, 1, TLSF_REFUSED_TABLE_FULL, NULL, 100)
+           && tlsf_realloc(tlsf, NULL, 100) == NULL
+           && was_told(&told, 1, TLSF_REFUSED_TABLE_FULL, NULL, 100);
+    expect(good && refused(tlsf, TLSF_REFUSED_TABLE_FULL) == 3,
+           "requests without a record are told: table full");
+    good = tlsf_memalign(tlsf, 48, 1) == NULL && was_told(&told, 1, TLSF_REFUSED_ALIGNMENT, NULL, 1)
+           && tlsf_memalign(tlsf, 3, 2) == NULL && was_told(&told, 1, TLSF_REFUSED_ALIGNMENT, NULL, 2)
+           && tlsf_memalign(tlsf, 1 << 22, 1) == NULL
+           && was_told(&told, 1, TLSF_REFUSED_ALIGNMENT, NULL, 1);
+    expect(good && refused(tlsf, TLSF_REFUSED_ALIGNMENT) == 3, "alignments are told");
+    tlsf_free(tlsf, NULL);
+    good = tlsf_malloc(tlsf, 0) == NULL && tlsf_memalign(tlsf, 48, 0) == NULL
+           && tlsf_realloc(tlsf, NULL, 0) == NULL && tlsf_realloc(tlsf, one, 0) == NULL;
+    expect(good && told.calls == 0, "no bytes and no pointer are no refusal");
+    tlsf_set_refusal_hook(tlsf, NULL, NULL);
+    good = tlsf_malloc(tlsf, 40000) == NULL && told.calls == 0;
+    expect(good && refused(tlsf, TLSF_REFUSED_NO_FIT) == 6, "without a hook it is counted");
+    tlsf_set_refusal_hook(NULL, tell, &told);
+    expect(tlsf_malloc(NULL, 1) == NULL && told.calls == 0, "no heap tells nothing");
+}
+
+/* A free and a realloc of a pointer, each refused as this. */
+static bool both_tell(tlsf_t tlsf, struct told *told, enum tlsf_refusal what, void *ptr)
+{
+    size_t before = refused(tlsf, what);
+    tlsf_free(tlsf, ptr);
+    bool good = was_told(told, 1, what, ptr, 0) && tlsf_realloc(tlsf, ptr, 7) == NULL;
+    return was_told(told, 1, what, ptr, 7) && good && refused(tlsf, what) == before + 2;
+}
+
+static void refused_pointers(void)
+{
+    struct told told = {TLSF_REFUSALS, NULL, 0, 0};
+    tlsf_t tlsf = tlsf_create_with_pool(memory, sizeof memory);
+    tlsf_set_refusal_hook(tlsf, tell, &told);
+    unsigned char *one = (unsigned char *)tlsf_malloc(tlsf, 100),
+                  *two = (unsigned char *)tlsf_malloc(tlsf, 100);
+    _Alignas(16) unsigned char on_stack[64] = {0};
+    memset(two, 0x5a, 100);
+    tlsf_free(tlsf, one);
+    expect(both_tell(tlsf, &told, TLSF_REFUSED_POINTER, one)
+               && both_tell(tlsf, &told, TLSF_REFUSED_POINTER, two + 16)
+               && both_tell(tlsf, &told, TLSF_REFUSED_POINTER, two + 1)
+               && both_tell(tlsf, &told, TLSF_REFUSED_POINTER, on_stack + 16)
+               && both_tell(tlsf, &told, TLSF_REFUSED_POINTER, tlsf),
+           "a stale, an interior and a foreign pointer are told");
+    tlsf_add_pool(tlsf, other_memory, 4096);
+    unsigned char *blocks[2] = {two, NULL}, kept[8];
+    while (blocks[1] < other_memory || blocks[1] >= other_memory + 4096) {
+        blocks[1] = (unsigned char *)tlsf_malloc(tlsf, 3000);
+    }
+    bool spoiled = true;
+    for (int k = 0; k < 2; k++) {
+        memcpy(kept, blocks[k] - 8, 8);
+        for (size_t bytes = 1; bytes <= 8; bytes++) {
+            memset(blocks[k] - bytes, 0xee, bytes);
+            spoiled = spoiled && both_tell(tlsf, &told, TLSF_REFUSED_FRONT, blocks[k]);
+            memcpy(blocks[k] - 8, kept, 8);
+            memset(blocks[k] - 8, 0xee, bytes);
+            spoiled = spoiled && both_tell(tlsf, &told, TLSF_REFUSED_FRONT, blocks[k]);
+            memcpy(blocks[k] - 8, kept, 8);
+        }
+        tlsf_free(tlsf, blocks[k]);
+    }
+    expect(spoiled, "a live block's pointer whose front was written over is told as that");
+    expect(told.calls == 0 && tlsf_check(tlsf) == 0, "and freed where the front is as it was");
+}
+
+static void figures(void)
+{
+    tlsf_figures figures = {.blocks_live = 4711}, before;
+    expect(tlsf_stats(NULL, &figures) == -1 && figures.blocks_live == 4711,
+           "no figures of no heap");
+    tlsf_t tlsf = tlsf_create_records(memory, tlsf_size_records(9), 9);
+    bool good = tlsf_stats(tlsf, &before) == 0 && before.bytes_live == 0 && before.bytes_free == 0
+                && before.blocks_live == 0 && before.largest_request == 0
+                && before.largest_free == 0 && before.records == 9 && before.records_used == 0;
+    expect(good, "of a heap without a pool");
+    tlsf_add_pool(tlsf, other_memory + 8, 4096);
+    void *one = tlsf_malloc(tlsf, 100), *two = tlsf_malloc(tlsf, 1000);
+    good = tlsf_stats(tlsf, &figures) == 0 && figures.bytes_live == 104 + 1000
+           && figures.blocks_live == 2 && figures.records_used == 3
+           && figures.bytes_free == 4096 - 112 - 1008 && figures.most_bytes_live == 1104;
+    /* 2,976 bytes are of the class from 2,944 to 3,008. */
+    expect(good && figures.largest_request == 2944 - 8 && figures.largest_free == 3008 - 16 - 8,
+           "of two blocks and a free one");
+    tlsf_free(tlsf, one);
+    two = tlsf_realloc(tlsf, two, 500);
+    good = tlsf_stats(tlsf, &figures) == 0 && figures.bytes_live == 504
+           && figures.blocks_live == 1 && figures.records_used == 3
+           && figures.bytes_free == 4096 - 512 && figures.most_bytes_live == 1104;
+    expect(good && two != NULL, "a block that is free, and one that shrinks");
+    two = tlsf_realloc(tlsf, two, 3000);
+    good = tlsf_stats(tlsf, &figures) == 0 && figures.bytes_live == 3000
+           && figures.most_bytes_live == 3000;
+    expect(good && two != NULL, "and one that grows");
 }
 
 /* A control part that has forgotten its pools: no call looks for a block's pool behind the eight. */
@@ -665,7 +825,7 @@ static void ends(void)
     one = tlsf_malloc(tlsf, 10);
     tlsf_destroy(tlsf);
     tlsf_free(tlsf, one);
-    expect(tlsf_block_size(one) == 0 && tlsf_malloc(tlsf, 1) == NULL
+    expect(tlsf_live_size(tlsf, one) == 0 && tlsf_malloc(tlsf, 1) == NULL
                && tlsf_realloc(tlsf, one, 20) == NULL && tlsf_get_pool(tlsf) == NULL,
            "a heap that is gone has no block");
     expect(tlsf_add_pool(tlsf, other_memory, 1000) == NULL && tlsf_check(tlsf) == -1
@@ -692,6 +852,7 @@ int main(void)
         overheads(large);
         alignments(large);
         great_alignments(large);
+        first_place(large);
         greatest(large);
         places(large);
         places_between(large);
@@ -704,6 +865,9 @@ int main(void)
     old_pointers();
     each_byte_in_front();
     overruns();
+    refused_requests();
+    refused_pointers();
+    figures();
     forgotten_pools();
     ends();
     walks_that_end();
