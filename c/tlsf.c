@@ -23,6 +23,7 @@
 #include <stdio.h>
 #endif
 
+#include "tlsf_front.h"
 #include "tlsf_heap.h"
 
 /* What a build may choose: the records of tlsf_create, the greatest alignment (a power of two), and
@@ -37,68 +38,28 @@
 #define TLSF_WALK_ROWS 64u
 #endif
 
-/* A function that few calls come to: the others don't save registers for it. */
-#ifdef __GNUC__
-#define RARE __attribute__((noinline, cold))
+/* What a build for several threads sets, both: each call has the lock of its heap to its end. They
+ * are given what the call was: a heap, a null pointer, or what the program takes for a heap. */
+#ifdef TLSF_LOCK
+static void unlock(const tlsf_t *tlsf) { TLSF_UNLOCK(*tlsf); }
+#define LOCKED(tlsf) \
+    TLSF_LOCK(tlsf); \
+    __attribute__((cleanup(unlock))) const tlsf_t locked = (tlsf)
 #else
-#define RARE
+#define LOCKED(tlsf) (void)(tlsf)
 #endif
 
-#define UNIT TLSF_HEAP_UNIT
-#define POOLS TLSF_HEAP_POOLS
-#define FRONT 8u
 #define LEAST_POOL (FRONT + UNIT)
+/* The least block that is refused for its bytes. */
+#define TOO_GREAT (TLSF_HEAP_GREATEST - FRONT + 1u)
 /* What memory that is handed in begins at a multiple of. */
 #define HANDED_IN 8u
 /* tlsf_create_with_pool has a record for each. */
 #define BYTES_A_RECORD 112u
-/* The least block that is refused for its bytes. */
-#define TOO_GREAT (TLSF_HEAP_GREATEST - FRONT + 1u)
-/* What the control part begins with, less its own address: so a copy is no heap. */
-#define MAGIC 0x544c5346u
-
-/* A pool: its first pointer, how far behind it another may be, and the first place. One that isn't
- * there has no reach. */
-struct pool {
-    struct control *control;
-    unsigned char *first;
-    size_t reach;
-    uint32_t place;
-};
-
-/* What stands at the start of the memory handed in, in front of the table. */
-struct control {
-    uintptr_t magic;
-    tlsf_heap heap;
-    struct pool pools[POOLS];
-    tlsf_figures figures; /* those that the heap can't tell */
-    tlsf_refusal_hook hook;
-    void *user;
-    uint32_t taken; /* its bytes, with the table's behind it */
-    int faults;     /* what a check counts */
-};
-
-/* A front is a size in units and a slot, 42 bits, times an odd number, and the pointer added. The
- * other number undoes it. With a changed byte that gives more bits. */
-#define SCRAMBLE 0x9e3779b97f4a7c15u
-#define UNSCRAMBLE 0xf1de83e19937733du
-#define SLOT_BITS 16u
-#define FRONT_BITS 42u
-
-typedef char scrambling_is_undone[SCRAMBLE * UNSCRAMBLE == 1u ? 1 : -1];
 typedef char records_fit[TLSF_RECORDS > 0 && TLSF_RECORDS <= TLSF_HEAP_RECORDS_MOST ? 1 : -1];
 
 /* Whether memory that is handed in may begin here. */
 static bool may_begin(const void *mem) { return mem != NULL && (uintptr_t)mem % HANDED_IN == 0u; }
-
-static inline struct control *control_of(void *tlsf)
-{
-    uintptr_t magic = 0;
-    if (tlsf != NULL) {
-        (void)memcpy(&magic, tlsf, sizeof magic);
-    }
-    return magic == (uintptr_t)tlsf + MAGIC ? (struct control *)tlsf : NULL;
-}
 
 size_t tlsf_size_records(uint32_t records)
 {
@@ -143,6 +104,7 @@ static struct pool *entry_of(struct control *control, uintptr_t address, size_t 
 /* The places are the first that the heap takes: from 0 on, or behind some pool. */
 pool_t tlsf_add_pool(tlsf_t tlsf, void *mem, size_t bytes)
 {
+    LOCKED(tlsf);
     struct control *control = control_of(tlsf);
     size_t skip = skipped((uintptr_t)mem + FRONT), usable = (bytes - skip) / UNIT * UNIT;
     uintptr_t address = (uintptr_t)mem + skip;
@@ -164,6 +126,7 @@ pool_t tlsf_add_pool(tlsf_t tlsf, void *mem, size_t bytes)
 
 void tlsf_remove_pool(tlsf_t tlsf, pool_t pool)
 {
+    LOCKED(tlsf);
     struct control *control = control_of(tlsf);
     for (uint32_t k = 0; control != NULL && k < POOLS; k++) {
         struct pool *own = &control->pools[k];
@@ -176,6 +139,7 @@ void tlsf_remove_pool(tlsf_t tlsf, pool_t pool)
 
 pool_t tlsf_get_pool(tlsf_t tlsf)
 {
+    LOCKED(tlsf);
     struct control *control = control_of(tlsf);
     return control != NULL && control->pools[0].reach != 0u ? &control->pools[0] : NULL;
 }
@@ -212,100 +176,26 @@ tlsf_t tlsf_create_with_pool(void *mem, size_t bytes)
 /* All its memory was handed in: there is nothing to give back. */
 void tlsf_destroy(tlsf_t tlsf)
 {
+    LOCKED(tlsf);
     if (control_of(tlsf) != NULL) {
         (void)memset(tlsf, 0, sizeof(struct control));
     }
 }
 
-/* The size and slot that the front of a pointer keeps: more than 42 bits where it isn't whole. */
-static inline uint64_t unscrambled(const void *ptr)
+static size_t live_size(const struct control *control, const void *ptr)
 {
-    uint64_t front;
-    (void)memcpy(&front, (const unsigned char *)ptr - FRONT, FRONT);
-    return (front - (uintptr_t)ptr) * UNSCRAMBLE;
-}
-
-static inline void write_front(void *ptr, size_t size, uint64_t slot)
-{
-    uint64_t front = (((uint64_t)(size / UNIT) << SLOT_BITS) + slot) * SCRAMBLE + (uintptr_t)ptr;
-    (void)memcpy((unsigned char *)ptr - FRONT, &front, FRONT);
-}
-
-static inline bool has_place(const struct pool *pool, uint32_t place)
-{
-    return (uint32_t)(place - pool->place) < pool->reach;
-}
-static inline bool has_pointer(const struct pool *pool, const void *ptr)
-{
-    return (uintptr_t)ptr - (uintptr_t)pool->first < pool->reach;
-}
-
-/* The pool that has a place, or where that is null a pointer, behind the first; or none. */
-RARE static const struct pool *later_pool(const struct control *control, const uint32_t *place,
-                                          const void *ptr)
-{
-    const struct pool *pool = NULL;
-    for (uint32_t k = 1; k < POOLS && pool == NULL; k++) {
-        const struct pool *own = &control->pools[k];
-        bool has = place == NULL ? has_pointer(own, ptr) : has_place(own, *place);
-        pool = has ? own : NULL;
-    }
-    return pool;
-}
-static inline const struct pool *pool_of(const struct control *control, const void *ptr)
-{
-    const struct pool *first = control->pools;
-    return has_pointer(first, ptr) ? first : later_pool(control, NULL, ptr);
-}
-
-/* The pointer to a live block, whose front is written. Only where the control part or the table is
- * spoiled does the block lie in no pool, and then the pointer is null. */
-static inline void *hand_out(const struct control *control, tlsf_heap_block block, size_t size)
-{
-    const struct pool *first = control->pools;
-    const struct pool *pool
-        = has_place(first, block.place) ? first : later_pool(control, &block.place, NULL);
-    if (pool == NULL) {
-        return NULL;
-    }
-    void *ptr = pool->first + (uint32_t)(block.place - pool->place);
-    write_front(ptr, size, block.slot);
-    return ptr;
-}
-
-/* What a pointer and its front tell: a block, and its size. */
-struct found {
     tlsf_heap_block block;
-    size_t size;
-};
-
-/* Whether a pointer lies in a pool of the heap, with a whole front. Whether the block is live is the
- * heap's to say. */
-static inline bool find(const struct control *control, const void *ptr, struct found *found)
-{
-    const struct pool *pool = pool_of(control, ptr);
-    if (pool == NULL) {
-        return false;
-    }
-    uint64_t kept = unscrambled(ptr);
-    if (kept >> FRONT_BITS != 0u) {
-        return false;
-    }
-    found->block.place = pool->place + (uint32_t)((uintptr_t)ptr - (uintptr_t)pool->first);
-    found->block.slot = (uint16_t)kept;
-    found->size = (size_t)(kept >> SLOT_BITS) * UNIT;
-    return true;
-}
-
-size_t tlsf_live_size(tlsf_t tlsf, const void *ptr)
-{
-    const struct control *control = control_of(tlsf);
-    struct found found;
+    size_t told = 0;
     uint32_t size = FRONT;
-    if (control != NULL && find(control, ptr, &found)) {
-        (void)tlsf_heap_block_size(&control->heap, found.block, &size);
+    if (control != NULL && find(control, ptr, &block, &told)) {
+        (void)tlsf_heap_block_size(&control->heap, block, &size);
     }
     return size - FRONT;
+}
+size_t tlsf_live_size(tlsf_t tlsf, const void *ptr)
+{
+    LOCKED(tlsf);
+    return live_size(control_of(tlsf), ptr);
 }
 
 /* A freed block's front has no size. */
@@ -398,6 +288,7 @@ RARE static void *allocate_below(struct control *control, enum tlsf_status first
 
 void *tlsf_malloc(tlsf_t tlsf, size_t bytes)
 {
+    LOCKED(tlsf);
     struct control *control = control_of(tlsf);
     tlsf_heap_block block;
     enum tlsf_status status = TLSF_NO_FIT;
@@ -414,12 +305,16 @@ void *tlsf_malloc(tlsf_t tlsf, size_t bytes)
 
 void *tlsf_memalign(tlsf_t tlsf, size_t align, size_t bytes)
 {
-    struct control *control = control_of(tlsf);
     tlsf_heap_block block = {0, 0};
     enum tlsf_status status = TLSF_NO_FIT;
     bool good = align <= TLSF_MOST_ALIGN && (align & (align - 1u)) == 0u;
-    if (control == NULL || bytes == 0u || (good && align <= UNIT)) {
-        return tlsf_malloc(control, bytes);
+    if (bytes == 0u || (good && align <= UNIT)) {
+        return tlsf_malloc(tlsf, bytes);
+    }
+    LOCKED(tlsf);
+    struct control *control = control_of(tlsf);
+    if (control == NULL) {
+        return NULL;
     }
     if (!good) {
         return refuse(control, TLSF_REFUSED_ALIGNMENT, NULL, bytes);
@@ -433,15 +328,17 @@ void *tlsf_memalign(tlsf_t tlsf, size_t align, size_t bytes)
 
 void tlsf_free(tlsf_t tlsf, void *ptr)
 {
+    LOCKED(tlsf);
     struct control *control = control_of(tlsf);
-    struct found found;
+    tlsf_heap_block block;
+    size_t size = 0;
     if (control == NULL) {
         return;
     }
-    if (find(control, ptr, &found) && tlsf_heap_free(&control->heap, found.block) == TLSF_OK) {
+    if (find(control, ptr, &block, &size) && tlsf_heap_free(&control->heap, block) == TLSF_OK) {
         write_front(ptr, 0, 0);
         control->figures.blocks_live--;
-        control->figures.bytes_live -= found.size - FRONT;
+        control->figures.bytes_live -= size - FRONT;
     } else {
         (void)refuse_pointer(control, ptr, 0);
     }
@@ -451,22 +348,24 @@ void tlsf_free(tlsf_t tlsf, void *ptr)
  * old one's bytes before the next call. Only a block that grows gets another place. */
 static void *resize(struct control *control, void *ptr, size_t size)
 {
-    struct found found = {{0, 0}, 0};
+    tlsf_heap_block block = {0, 0};
     tlsf_heap_block given = {0, 0};
+    enum tlsf_status status = TLSF_NO_FIT;
+    size_t told = 0;
     uint32_t had = 0;
     uint32_t has = 0;
-    if (!find(control, ptr, &found)
-        || tlsf_heap_block_size(&control->heap, found.block, &had) != TLSF_OK) {
+    if (!find(control, ptr, &block, &told)
+        || tlsf_heap_block_size(&control->heap, block, &had) != TLSF_OK) {
         return refuse_pointer(control, ptr, size);
     }
-    enum tlsf_status status = size >= TOO_GREAT ? TLSF_NO_FIT
-                                        : tlsf_heap_realloc(&control->heap, found.block,
-                                                            in_units(size), &given);
+    if (size < TOO_GREAT) {
+        status = tlsf_heap_realloc(&control->heap, block, in_units(size), &given);
+    }
     if (status != TLSF_OK) {
         return refuse_bytes(control, status, ptr, size);
     }
     (void)tlsf_heap_block_size(&control->heap, given, &has);
-    count_bytes(control, found.size, has);
+    count_bytes(control, told, has);
     write_front(ptr, 0, 0);
     void *other = hand_out(control, given, has);
     return other == ptr || other == NULL ? other : memcpy(other, ptr, had - FRONT);
@@ -474,19 +373,21 @@ static void *resize(struct control *control, void *ptr, size_t size)
 
 void *tlsf_realloc(tlsf_t tlsf, void *ptr, size_t size)
 {
-    struct control *control = control_of(tlsf);
-    if (control == NULL || ptr == NULL) {
+    if (ptr == NULL) {
         return tlsf_malloc(tlsf, size);
     }
     if (size == 0u) {
         tlsf_free(tlsf, ptr);
         return NULL;
     }
-    return resize(control, ptr, size);
+    LOCKED(tlsf);
+    struct control *control = control_of(tlsf);
+    return control == NULL ? NULL : resize(control, ptr, size);
 }
 
 void tlsf_set_refusal_hook(tlsf_t tlsf, tlsf_refusal_hook hook, void *user)
 {
+    LOCKED(tlsf);
     struct control *control = control_of(tlsf);
     if (control != NULL) {
         control->hook = hook;
@@ -497,6 +398,7 @@ void tlsf_set_refusal_hook(tlsf_t tlsf, tlsf_refusal_hook hook, void *user)
 /* The heap's own readings tell what the control part doesn't keep. */
 int tlsf_stats(tlsf_t tlsf, tlsf_figures *out)
 {
+    LOCKED(tlsf);
     const struct control *control = control_of(tlsf);
     if (control == NULL) {
         return -1;
@@ -530,24 +432,45 @@ static void print(void *ptr, size_t size, int used, void *user)
 #endif
 }
 
-/* The walker may free blocks, and so end the pool: each piece is read from where the last ended. */
-void tlsf_walk_pool(pool_t pool, tlsf_walker walker, void *user)
+/* How many rows of a pool there are from a place on; none where it or its heap is gone. */
+static uint64_t read_rows(struct pool *own, uint64_t base, uint64_t from, tlsf_heap_row *rows)
 {
-    struct pool *own = (struct pool *)pool;
+    const struct control *control = control_of(own->control);
+    uint64_t count = 0;
+    bool is = control != NULL
+              && tlsf_heap_walk(&control->heap, base, from, rows, TLSF_WALK_ROWS, &count) == TLSF_OK;
+    return is ? count : 0u;
+}
+static uint64_t read_locked(struct pool *own, uint64_t base, uint64_t from,
+                            tlsf_heap_row *rows)
+{
+    LOCKED(own->control);
+    return read_rows(own, base, from, rows);
+}
+
+/* The walker may free blocks, and so end the pool: each piece is read from where the last ended. It
+ * runs without the lock, unless the caller has it. */
+static void walk(struct pool *own, tlsf_walker walker, void *user, bool locks)
+{
     tlsf_heap_row rows[TLSF_WALK_ROWS];
-    uint64_t base = control_of_pool(pool) == NULL ? 0u : own->place;
+    uint64_t base = own->place;
     uint64_t from = 0;
     uint64_t left = 1;
-    while (left > 0u && control_of_pool(pool) != NULL
-           && tlsf_heap_walk(&own->control->heap, base, from, rows, TLSF_WALK_ROWS, &left)
-                  == TLSF_OK) {
+    while (left > 0u) {
+        left = (locks ? read_locked : read_rows)(own, base, from, rows);
         unsigned char *first = own->first;
         for (uint32_t k = 0; k < TLSF_WALK_ROWS && left > 0u; k++) {
-            void *ptr = first + (rows[k].place - base);
             from = (uint64_t)rows[k].place + rows[k].size;
-            (walker == NULL ? print : walker)(ptr, rows[k].size - FRONT, rows[k].used, user);
+            walker(first + (rows[k].place - base), rows[k].size - FRONT, rows[k].used, user);
             left--;
         }
+    }
+}
+
+void tlsf_walk_pool(pool_t pool, tlsf_walker walker, void *user)
+{
+    if (control_of_pool(pool) != NULL) {
+        walk((struct pool *)pool, walker == NULL ? print : walker, user, true);
     }
 }
 
@@ -555,7 +478,7 @@ void tlsf_walk_pool(pool_t pool, tlsf_walker walker, void *user)
 static void count_fault(void *ptr, size_t size, int used, void *user)
 {
     struct control *control = (struct control *)user;
-    if (used != 0 && (tlsf_live_size(control, ptr) != size || tlsf_block_size(ptr) != size)) {
+    if (used != 0 && (live_size(control, ptr) != size || tlsf_block_size(ptr) != size)) {
         control->faults++;
     }
 }
@@ -569,11 +492,20 @@ static int check(struct control *control, pool_t pool)
     control->faults = 0;
     for (uint32_t k = 0; k < POOLS; k++) {
         if (pool == NULL || pool == &control->pools[k]) {
-            tlsf_walk_pool(&control->pools[k], count_fault, control);
+            walk(&control->pools[k], count_fault, control, false);
         }
     }
     return -control->faults;
 }
 
-int tlsf_check(tlsf_t tlsf) { return check(control_of(tlsf), NULL); }
-int tlsf_check_pool(pool_t pool) { return check(control_of_pool(pool), pool); }
+int tlsf_check(tlsf_t tlsf)
+{
+    LOCKED(tlsf);
+    return check(control_of(tlsf), NULL);
+}
+int tlsf_check_pool(pool_t pool)
+{
+    struct control *control = control_of_pool(pool);
+    LOCKED(control);
+    return check(control, pool);
+}

@@ -302,22 +302,20 @@ static void great_alignments(unsigned char *large)
     expect(aligned, "alignments of 2^20 and 2^21 in pools that aren't so aligned");
 }
 
-/* A pool whose first pointer is a multiple of 2^21: so the heap has its first block at the place 0. A
- * request that is refused leaves it. */
+/* A pool whose first pointer is a multiple of 2^21, and one record: so the heap has its one block at
+ * the place 0, in the slot 0. A request that is refused leaves it. */
 static void first_place(unsigned char *large)
 {
     size_t two = (size_t)2 << 20;
     unsigned char *even = large + (two - (uintptr_t)large % two);
-    tlsf_t tlsf = tlsf_create(memory);
+    tlsf_t tlsf = tlsf_create_records(memory, control_bytes(1), 1);
     tlsf_add_pool(tlsf, even - 8, 4096);
-    void *one = tlsf_malloc(tlsf, 100);
+    void *one = tlsf_malloc(tlsf, 4088);
     bool refused = one == even;
-    for (size_t bytes = 3000; bytes < 9000; bytes += 997) {
-        void *other = tlsf_malloc(tlsf, bytes);
-        tlsf_free(tlsf, other);
-        refused = refused && (bytes < 3984 || other == NULL);
+    for (size_t bytes = 1; bytes < 9000; bytes += 97) {
+        refused = refused && tlsf_malloc(tlsf, bytes) == NULL;
     }
-    expect(refused && tlsf_live_size(tlsf, one) == 104, "a block at the place 0 stays");
+    expect(refused && tlsf_live_size(tlsf, one) == 4088, "a block at the place 0 stays");
 }
 
 /* Pools and the heap's own memory that touch, in each order; and those that share 32 bytes. */
