@@ -32,7 +32,6 @@ static __thread bool forks;
 static pthread_once_t once = PTHREAD_ONCE_INIT;
 static tlsf_t heap;
 static int report_to = -1;
-static unsigned long long held_blocks, held_bytes, most_held, refused;
 
 /* A line on a file descriptor. A stream of the C library would ask for memory. */
 static void say(int to, const char *format, ...)
@@ -73,14 +72,15 @@ static void after_fork(void)
     pthread_mutex_unlock(&lock);
 }
 
-/* The control part and the pool behind it. Where there is no memory each call is refused. */
+/* The control part and the pool behind it, whose first block begins within its first unit. Where
+ * there is no memory each call is refused. */
 static void make(void)
 {
     const char *report = getenv("TLSF_REPORT");
     bool reports = report != NULL && strcmp(report, "1") == 0;
     size_t records = setting("TLSF_RECORDS", TLSF_HEAP_RECORDS_MOST, TLSF_HEAP_RECORDS_MOST);
     size_t pool = (setting("TLSF_POOL", TLSF_HEAP_GREATEST, POOL) + UNIT - 1) / UNIT * UNIT;
-    size_t bytes = tlsf_size_records((uint32_t)records) + pool;
+    size_t bytes = tlsf_size_records((uint32_t)records) + pool + UNIT;
     void *memory = mmap(NULL, bytes, PROT_READ | PROT_WRITE,
                         MAP_PRIVATE | MAP_ANONYMOUS | MAP_NORESERVE, -1, 0);
     if (memory == MAP_FAILED) {
@@ -112,29 +112,14 @@ static void finish(void)
     }
 }
 
-/* For the report: a call with this address, or none, whose block had some bytes and that asked for
- * others. Where none is written `had` is 0, and only calls that don't matter are counted. */
-static void count(const void *address, size_t had, size_t asked, void *given)
-{
-    if (report_to < 0 || (address != NULL && had == 0) || (asked != 0 && given == NULL)) {
-        refused++;
-        return;
-    }
-    held_blocks = held_blocks + (given != NULL) - (had != 0);
-    held_bytes += tlsf_live_size(heap, given) - had;
-    most_held = held_bytes > most_held ? held_bytes : most_held;
-}
-
 /* Without an address: a new block, of one byte at least. With one: room for the bytes in its block,
  * which is given back for no bytes. */
 static void *serve(void *address, size_t align, size_t bytes)
 {
     size_t wanted = address == NULL && bytes == 0 ? 1 : bytes;
     begin();
-    size_t had = report_to < 0 ? 0 : tlsf_live_size(heap, address);
     void *given = address == NULL ? tlsf_memalign(heap, align, wanted)
                                   : tlsf_realloc(heap, address, wanted);
-    count(address, had, wanted, given);
     finish();
     if (wanted != 0 && given == NULL) {
         errno = ENOMEM;
@@ -207,11 +192,19 @@ EXPORT size_t malloc_usable_size(void *address)
 /* At the end of the program. */
 __attribute__((destructor)) static void report(void)
 {
-    if (report_to >= 0) {
-        begin();
-        say(report_to,
-            "%llu blocks held, %llu bytes held, %llu bytes at most, %llu refused, table %s\n",
-            held_blocks, held_bytes, most_held, refused, tlsf_check(heap) == 0 ? "whole" : "broken");
-        finish();
+    tlsf_figures told;
+    size_t refused = 0;
+    if (report_to < 0) {
+        return;
     }
+    begin();
+    if (tlsf_stats(heap, &told) == 0) {
+        for (int what = 0; what < TLSF_REFUSALS; what++) {
+            refused += told.refusals[what];
+        }
+        say(report_to, "%zu blocks held, %zu bytes held, %zu bytes at most, %zu refused, table %s\n",
+            told.blocks_live, told.bytes_live, told.most_bytes_live, refused,
+            tlsf_check(heap) == 0 ? "whole" : "broken");
+    }
+    finish();
 }

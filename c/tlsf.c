@@ -4,15 +4,17 @@
  * and a slot are a live block's: that is proved. This file turns places into addresses and back:
  *
  * - The control part, at the start of the memory handed in, keeps each pool's address and places.
- * - A pool's first place is its address and 16, modulo TLSF_MOST_ALIGN. A block begins 16 bytes in
- *   front of its pointer. So where its place is a multiple of an alignment, the pointer is one too.
- * - These 16 bytes keep the control part, the place, the slot and a mark.
- * - A pointer is taken where it lies in a pool of the heap, the 16 bytes in front of it agree, and
- *   the heap has a live block there. So a null, stale or interior pointer is refused, and one of
+ * - A block begins eight bytes in front of its pointer. Its place is as far behind the pool's first
+ *   place as the pointer behind the first pointer, and equals the pointer modulo TLSF_MOST_ALIGN. So
+ *   where the place is a multiple of an alignment, the pointer is one too.
+ * - The eight bytes in front of a pointer, its front, keep the block's slot and size, scrambled with
+ *   the pointer: so a byte that is changed there shows, and a copy elsewhere.
+ * - A pointer is taken where it lies in a pool of the heap, its front is whole, and the heap has a
+ *   live block there with that slot. So a null, stale or interior pointer is refused, and one of
  *   another heap. A pointer into no pool is refused unread.
- * - Not seen: a stale pointer where a later block begins, and 16 bytes that the program forges.
- *   tlsf_block_size has no heap: it reads the 16 bytes in front of any pointer, and the control
- *   part that they name. A pool_t is read by its calls, but not by tlsf_remove_pool.
+ * - Not seen: a stale pointer where a later block begins. tlsf_block_size has no heap: it tells what
+ *   a whole front does, which a freed block has no more, but one of a heap that is gone. A pool_t is
+ *   read by its calls, but not by tlsf_remove_pool.
  */
 #include "tlsf.h"
 
@@ -21,79 +23,65 @@
 #include <stdio.h>
 #endif
 
+#include "tlsf_front.h"
 #include "tlsf_heap.h"
 
 /* What a build may choose: the records of tlsf_create, the greatest alignment (a power of two), and
  * how many blocks a walk reads at once, at 12 bytes of stack each. */
 #ifndef TLSF_RECORDS
-#define TLSF_RECORDS 1024
+#define TLSF_RECORDS 1024u
 #endif
 #ifndef TLSF_MOST_ALIGN
-#define TLSF_MOST_ALIGN (1u << 21)
+#define TLSF_MOST_ALIGN 2097152u
 #endif
 #ifndef TLSF_WALK_ROWS
-#define TLSF_WALK_ROWS 64
+#define TLSF_WALK_ROWS 64u
 #endif
 
-enum { UNIT = TLSF_HEAP_UNIT, POOLS = TLSF_HEAP_POOLS };
-/* BYTES_A_RECORD: tlsf_create_with_pool has a record for each. */
-enum { FRONT = 16, LEAST_POOL = UNIT + FRONT, HANDED_IN = 8, BYTES_A_RECORD = 112, MARK = 0x7c5f };
-#define MAGIC ((uintptr_t)0x544c53465f484541)
+/* What a build for several threads sets, both: each call has the lock of its heap to its end. They
+ * are given what the call was: a heap, a null pointer, or what the program takes for a heap. */
+#ifdef TLSF_LOCK
+static void unlock(const tlsf_t *tlsf) { TLSF_UNLOCK(*tlsf); }
+#define LOCKED(tlsf) \
+    TLSF_LOCK(tlsf); \
+    __attribute__((cleanup(unlock))) const tlsf_t locked = (tlsf)
+#else
+#define LOCKED(tlsf) (void)(tlsf)
+#endif
 
-/* A pool: where its bytes are, and its places. One that isn't there has no bytes. */
-struct pool {
-    struct control *control;
-    unsigned char *memory;
-    uint32_t place;
-    uint32_t bytes;
-};
-
-/* What stands at the start of the memory handed in, in front of the table. */
-struct control {
-    uintptr_t magic; /* with its own address in it: a copy is no heap */
-    uint32_t taken;  /* its bytes, with the table's behind it */
-    int faults;      /* what a check counts */
-    tlsf_heap heap;
-    struct pool pools[POOLS];
-};
-
-/* What stands in front of a pointer. */
-struct front {
-    struct control *control;
-    uint32_t place;
-    uint16_t slot;
-    uint16_t mark;
-};
-
-typedef char front_has_its_bytes[sizeof(struct front) == FRONT ? 1 : -1];
-typedef char records_are_1_to_65535[TLSF_RECORDS > 0 && TLSF_RECORDS <= 65535 ? 1 : -1];
+#define LEAST_POOL (FRONT + UNIT)
+/* The least block that is refused for its bytes. */
+#define TOO_GREAT (TLSF_HEAP_GREATEST - FRONT + 1u)
+/* What memory that is handed in begins at a multiple of. */
+#define HANDED_IN 8u
+/* tlsf_create_with_pool has a record for each. */
+#define BYTES_A_RECORD 112u
+typedef char records_fit[TLSF_RECORDS > 0 && TLSF_RECORDS <= TLSF_HEAP_RECORDS_MOST ? 1 : -1];
 
 /* Whether memory that is handed in may begin here. */
-static bool may_begin(const void *mem) { return mem != NULL && (uintptr_t)mem % HANDED_IN == 0; }
-
-static struct control *control_of(void *tlsf)
-{
-    struct control *control = (struct control *)tlsf;
-    return may_begin(tlsf) && control->magic == (MAGIC ^ (uintptr_t)tlsf) ? control : NULL;
-}
+static bool may_begin(const void *mem) { return mem != NULL && (uintptr_t)mem % HANDED_IN == 0u; }
 
 size_t tlsf_size_records(uint32_t records)
 {
     return sizeof(struct control) + HANDED_IN + TLSF_HEAP_TABLE_BYTES(records);
 }
+/* A front takes a block to the next unit at most, and the first one the pool. */
 size_t tlsf_sure_bytes(uint32_t blocks, size_t bytes, size_t largest)
 {
-    bool few = largest > 0 && largest < TLSF_HEAP_GREATEST && bytes < TLSF_HEAP_GREATEST;
-    uint32_t class_size = few ? tlsf_heap_class_size(1, (uint64_t)largest + FRONT) : 0;
-    uint32_t pool = tlsf_heap_sure_pool(blocks, bytes + (uint64_t)blocks * FRONT, class_size);
-    return pool == 0 ? 0 : tlsf_size_records(2 * blocks + 3) + pool;
+    bool few = largest > 0u && largest < TLSF_HEAP_GREATEST && bytes < TLSF_HEAP_GREATEST;
+    uint32_t class_size = few ? tlsf_heap_class_size(1, (uint64_t)largest + FRONT) : 0u;
+    uint32_t pool = tlsf_heap_sure_pool(blocks, bytes + (uint64_t)blocks * UNIT, class_size);
+    return pool == 0u ? 0u : tlsf_size_records(2u * blocks + 3u) + UNIT + pool;
 }
 size_t tlsf_size(void) { return tlsf_size_records(TLSF_RECORDS); }
 size_t tlsf_align_size(void) { return UNIT; }
-size_t tlsf_block_size_min(void) { return UNIT; }
-size_t tlsf_block_size_max(void) { return TLSF_HEAP_GREATEST - FRONT; }
-size_t tlsf_pool_overhead(void) { return FRONT + HANDED_IN + UNIT; }
+size_t tlsf_block_size_min(void) { return UNIT - FRONT; }
+size_t tlsf_block_size_max(void) { return TOO_GREAT - 1u; }
+size_t tlsf_pool_overhead(void) { return HANDED_IN + FRONT + UNIT; }
 size_t tlsf_alloc_overhead(void) { return FRONT; }
+
+/* The bytes of a block that serves so many, with its front. */
+static inline size_t in_units(size_t bytes) { return (bytes + FRONT + UNIT - 1u) / UNIT * UNIT; }
 
 /* The bytes to the next multiple of 16. */
 static size_t skipped(uintptr_t address) { return (UNIT - address % UNIT) % UNIT; }
@@ -104,11 +92,11 @@ static struct pool *entry_of(struct control *control, uintptr_t address, size_t 
     uintptr_t own = (uintptr_t)control;
     bool good = address + bytes <= own || own + control->taken <= address;
     struct pool *vacant = NULL;
-    for (int k = POOLS - 1; k >= 0; k--) {
-        struct pool *pool = &control->pools[k];
-        uintptr_t other = (uintptr_t)pool->memory;
-        good = good && (address + bytes <= other || other + pool->bytes <= address);
-        vacant = pool->bytes == 0 ? pool : vacant;
+    for (uint32_t k = POOLS; k > 0u; k--) {
+        struct pool *pool = &control->pools[k - 1u];
+        uintptr_t first = (uintptr_t)pool->first;
+        good = good && (address + bytes <= first - FRONT || first + pool->reach <= address);
+        vacant = pool->reach == 0u ? pool : vacant;
     }
     return good ? vacant : NULL;
 }
@@ -116,18 +104,20 @@ static struct pool *entry_of(struct control *control, uintptr_t address, size_t 
 /* The places are the first that the heap takes: from 0 on, or behind some pool. */
 pool_t tlsf_add_pool(tlsf_t tlsf, void *mem, size_t bytes)
 {
+    LOCKED(tlsf);
     struct control *control = control_of(tlsf);
-    uintptr_t start = (uintptr_t)mem, address = start + skipped(start);
-    size_t usable = (bytes - skipped(start)) / UNIT * UNIT;
-    bool good = control != NULL && may_begin(mem) && bytes >= LEAST_POOL
-                && bytes <= UINTPTR_MAX - start && usable >= LEAST_POOL;
+    size_t skip = skipped((uintptr_t)mem + FRONT), usable = (bytes - skip) / UNIT * UNIT;
+    uintptr_t address = (uintptr_t)mem + skip;
+    bool good = control != NULL && may_begin(mem) && bytes >= skip + UNIT
+                && bytes <= UINTPTR_MAX - (uintptr_t)mem;
     struct pool *pool = good ? entry_of(control, address, usable) : NULL;
-    for (int k = -1; pool != NULL && k < POOLS; k++) {
-        uint64_t from = k < 0 ? 0 : (uint64_t)control->pools[k].place + control->pools[k].bytes;
-        uint64_t place = from + ((address + FRONT - from) & (TLSF_MOST_ALIGN - 1));
+    for (uint32_t k = 0; pool != NULL && k <= POOLS; k++) {
+        const struct pool *last = &control->pools[k == 0u ? 0u : k - 1u];
+        uint64_t from = k == 0u ? 0u : (uint64_t)last->place + last->reach + FRONT;
+        uint64_t place = from + ((address + FRONT - from) & (TLSF_MOST_ALIGN - 1u));
         if (tlsf_heap_add_pool(&control->heap, place, usable) == TLSF_OK) {
-            unsigned char *memory = (unsigned char *)mem + skipped(start);
-            *pool = (struct pool){control, memory, (uint32_t)place, (uint32_t)usable};
+            unsigned char *first = (unsigned char *)mem + skip + FRONT;
+            *pool = (struct pool){control, first, usable - FRONT, (uint32_t)place};
             return pool;
         }
     }
@@ -136,20 +126,22 @@ pool_t tlsf_add_pool(tlsf_t tlsf, void *mem, size_t bytes)
 
 void tlsf_remove_pool(tlsf_t tlsf, pool_t pool)
 {
+    LOCKED(tlsf);
     struct control *control = control_of(tlsf);
-    for (int k = 0; control != NULL && k < POOLS; k++) {
+    for (uint32_t k = 0; control != NULL && k < POOLS; k++) {
         struct pool *own = &control->pools[k];
-        if (own == pool && own->bytes != 0
+        if (own == pool && own->reach != 0u
             && tlsf_heap_remove_pool(&control->heap, own->place) == TLSF_OK) {
-            memset(own, 0, sizeof *own);
+            (void)memset(own, 0, sizeof *own);
         }
     }
 }
 
 pool_t tlsf_get_pool(tlsf_t tlsf)
 {
+    LOCKED(tlsf);
     struct control *control = control_of(tlsf);
-    return control != NULL && control->pools[0].bytes != 0 ? &control->pools[0] : NULL;
+    return control != NULL && control->pools[0].reach != 0u ? &control->pools[0] : NULL;
 }
 
 tlsf_t tlsf_create_records(void *mem, size_t bytes, uint32_t records)
@@ -161,7 +153,8 @@ tlsf_t tlsf_create_records(void *mem, size_t bytes, uint32_t records)
         return NULL;
     }
     unsigned char *end = (unsigned char *)mem + taken;
-    *control = (struct control){.magic = MAGIC ^ (uintptr_t)mem, .taken = (uint32_t)taken};
+    *control = (struct control){.magic = (uintptr_t)mem + MAGIC, .taken = (uint32_t)taken};
+    control->figures.records = records;
     if (tlsf_heap_create_in(end - table, table, records, &control->heap) == TLSF_OK
         && (bytes - taken < LEAST_POOL || tlsf_add_pool(control, end, bytes - taken) != NULL)) {
         return control;
@@ -175,7 +168,7 @@ tlsf_t tlsf_create(void *mem) { return tlsf_create_records(mem, tlsf_size(), TLS
 /* Too few bytes for a heap without records ask for the most of them, and so are refused. */
 tlsf_t tlsf_create_with_pool(void *mem, size_t bytes)
 {
-    size_t records = (bytes - tlsf_size_records(0)) / BYTES_A_RECORD + 1;
+    size_t records = (bytes - tlsf_size_records(0)) / BYTES_A_RECORD + 1u;
     records = records > TLSF_HEAP_RECORDS_MOST ? TLSF_HEAP_RECORDS_MOST : records;
     return tlsf_get_pool(tlsf_create_records(mem, bytes, (uint32_t)records)) == NULL ? NULL : mem;
 }
@@ -183,112 +176,246 @@ tlsf_t tlsf_create_with_pool(void *mem, size_t bytes)
 /* All its memory was handed in: there is nothing to give back. */
 void tlsf_destroy(tlsf_t tlsf)
 {
+    LOCKED(tlsf);
     if (control_of(tlsf) != NULL) {
-        memset(tlsf, 0, sizeof(struct control));
+        (void)memset(tlsf, 0, sizeof(struct control));
     }
 }
 
-/* The pointer to a live block, whose front is written. Only where the control part or the table is
- * spoiled does the block lie in no pool, and then the pointer is null. */
-static void *hand_out(struct control *control, tlsf_heap_block block)
+static size_t live_size(const struct control *control, const void *ptr)
 {
-    struct front front = {control, block.place, block.slot, MARK};
-    unsigned char *start = NULL;
-    for (int k = 0; k < POOLS && start == NULL; k++) {
-        uint32_t from = block.place - control->pools[k].place;
-        start = from < control->pools[k].bytes ? control->pools[k].memory + from : NULL;
+    tlsf_heap_block block;
+    size_t told = 0;
+    uint32_t size = FRONT;
+    if (control != NULL && find(control, ptr, &block, &told)) {
+        (void)tlsf_heap_block_size(&control->heap, block, &size);
     }
-    return start == NULL ? NULL : (unsigned char *)memcpy(start, &front, FRONT) + FRONT;
+    return size - FRONT;
 }
-
-/* Whether a pointer lies in a pool of the heap, and the bytes in front of it say that it was handed
- * out. Whether the block is live is then the heap's to say. */
-static bool find(const struct control *control, const void *ptr, tlsf_heap_block *block)
-{
-    for (int k = 0; control != NULL && k < POOLS; k++) {
-        const struct pool *pool = &control->pools[k];
-        uintptr_t from = (uintptr_t)ptr - (uintptr_t)pool->memory;
-        if (from < pool->bytes && from >= FRONT) {
-            struct front front;
-            memcpy(&front, (const unsigned char *)ptr - FRONT, FRONT);
-            *block = (tlsf_heap_block){pool->place + (uint32_t)from - FRONT, front.slot};
-            return front.control == control && front.place == block->place && front.mark == MARK;
-        }
-    }
-    return false;
-}
-
 size_t tlsf_live_size(tlsf_t tlsf, const void *ptr)
 {
-    struct control *control = control_of(tlsf);
-    tlsf_heap_block block = {0, 0};
-    uint32_t size = FRONT;
-    bool live = find(control, ptr, &block)
-                && tlsf_heap_block_size(&control->heap, block, &size) == TLSF_OK;
-    return live ? size - FRONT : 0;
+    LOCKED(tlsf);
+    return live_size(control_of(tlsf), ptr);
 }
 
+/* A freed block's front has no size. */
 size_t tlsf_block_size(void *ptr)
 {
-    struct front front = {NULL, 0, 0, 0};
-    if (ptr != NULL && (uintptr_t)ptr % UNIT == 0) {
-        memcpy(&front, (unsigned char *)ptr - FRONT, FRONT);
-    }
-    return tlsf_live_size(front.control, ptr);
+    bool may_be = ptr != NULL && (uintptr_t)ptr % UNIT == 0u;
+    uint64_t kept = may_be ? unscrambled(ptr) : 0u;
+    size_t size = kept >> FRONT_BITS == 0u ? (size_t)(kept >> SLOT_BITS) * UNIT : 0u;
+    return size == 0u ? 0u : size - FRONT;
 }
 
-/* Where no free block is of a class that surely has the bytes, the first of the class below may
- * have them. A smaller block is begun there, and grows. */
-void *tlsf_memalign(tlsf_t tlsf, size_t align, size_t bytes)
+/* Counts what is refused, and tells it. */
+static void *refuse(struct control *control, enum tlsf_refusal what, const void *ptr, size_t bytes)
 {
-    struct control *control = control_of(tlsf);
-    tlsf_heap_block block = {0, 0};
-    size_t whole = (bytes + FRONT + UNIT - 1) / UNIT * UNIT;
-    if (control == NULL || bytes == 0 || bytes > TLSF_HEAP_GREATEST - FRONT
-        || align > TLSF_MOST_ALIGN || (align & (align - 1)) != 0) {
+    control->figures.refusals[what]++;
+    if (control->hook != NULL) {
+        control->hook(what, ptr, bytes, control->user);
+    }
+    return NULL;
+}
+
+/* A pointer; a null pointer is none. Where its front isn't whole the pool's chain is read, for a
+ * live block may begin there. */
+RARE static void *refuse_pointer(struct control *control, const void *ptr, size_t bytes)
+{
+    tlsf_heap_row row = {0, 0, false};
+    uint64_t count = 0;
+    enum tlsf_refusal what = TLSF_REFUSED_POINTER;
+    const struct pool *pool = pool_of(control, ptr);
+    if (ptr == NULL) {
         return NULL;
     }
-    uint32_t status = align <= UNIT ? tlsf_heap_malloc(&control->heap, whole, &block)
-                                    : tlsf_heap_memalign(&control->heap, align, whole, &block);
-    size_t less = status == TLSF_NO_FIT && align <= UNIT ? tlsf_heap_class_low(whole) : whole;
-    if (less < whole && tlsf_heap_malloc(&control->heap, less, &block) == TLSF_OK) {
-        status = tlsf_heap_realloc(&control->heap, block, whole, &block);
-        if (status != TLSF_OK) {
-            tlsf_heap_free(&control->heap, block);
-        }
+    if (pool != NULL && unscrambled(ptr) >> FRONT_BITS != 0u) {
+        uint64_t place = pool->place + ((uintptr_t)ptr - (uintptr_t)pool->first);
+        enum tlsf_status status
+            = tlsf_heap_walk(&control->heap, pool->place, place, &row, 1, &count);
+        bool live = status == TLSF_OK && row.used && row.place == place;
+        what = live ? TLSF_REFUSED_FRONT : TLSF_REFUSED_POINTER;
     }
-    return status == TLSF_OK ? hand_out(control, block) : NULL;
+    return refuse(control, what, ptr, bytes);
 }
 
-void *tlsf_malloc(tlsf_t tlsf, size_t bytes) { return tlsf_memalign(tlsf, UNIT, bytes); }
+/* A request, by the status of the heap's call. */
+static void *refuse_bytes(struct control *control, enum tlsf_status status, const void *ptr,
+                          size_t bytes)
+{
+    bool full = status == TLSF_TABLE_FULL;
+    return refuse(control, full ? TLSF_REFUSED_TABLE_FULL : TLSF_REFUSED_NO_FIT, ptr, bytes);
+}
+
+/* A block that had some bytes, or was none, now has others. */
+static inline void count_bytes(struct control *control, size_t had, size_t has)
+{
+    tlsf_figures *figures = &control->figures;
+    figures->bytes_live += has - had;
+    if (figures->most_bytes_live < figures->bytes_live) {
+        figures->most_bytes_live = figures->bytes_live;
+    }
+}
+
+/* A new block, and its pointer. */
+static inline void *begin(struct control *control, tlsf_heap_block block, size_t whole)
+{
+    control->figures.blocks_live++;
+    count_bytes(control, 0, whole - FRONT);
+    return hand_out(control, block, whole);
+}
+
+/* A request that the heap's first call refused with this status. Where no free block is of a class
+ * that surely has the bytes, the first of the class below may have them. A smaller block is begun
+ * there, and grows. */
+RARE static void *allocate_below(struct control *control, enum tlsf_status first, size_t bytes)
+{
+    tlsf_heap_block block = {0, 0};
+    size_t whole = in_units(bytes);
+    size_t less = tlsf_heap_class_low(whole);
+    enum tlsf_status status = first;
+    if (first == TLSF_NO_FIT && bytes < TOO_GREAT && less < whole) {
+        status = tlsf_heap_malloc(&control->heap, less, &block);
+        if (status == TLSF_OK) {
+            status = tlsf_heap_realloc(&control->heap, block, whole, &block);
+            if (status == TLSF_OK) {
+                return begin(control, block, whole);
+            }
+            (void)tlsf_heap_free(&control->heap, block);
+        }
+    }
+    return refuse_bytes(control, status, NULL, bytes);
+}
+
+void *tlsf_malloc(tlsf_t tlsf, size_t bytes)
+{
+    LOCKED(tlsf);
+    struct control *control = control_of(tlsf);
+    tlsf_heap_block block;
+    enum tlsf_status status = TLSF_NO_FIT;
+    if (control == NULL || bytes == 0u) {
+        return NULL;
+    }
+    (void)memset(&block, 0, sizeof block);
+    if (bytes < TOO_GREAT) {
+        status = tlsf_heap_malloc(&control->heap, in_units(bytes), &block);
+    }
+    return status == TLSF_OK ? begin(control, block, in_units(bytes))
+                             : allocate_below(control, status, bytes);
+}
+
+void *tlsf_memalign(tlsf_t tlsf, size_t align, size_t bytes)
+{
+    tlsf_heap_block block = {0, 0};
+    enum tlsf_status status = TLSF_NO_FIT;
+    bool good = align <= TLSF_MOST_ALIGN && (align & (align - 1u)) == 0u;
+    if (bytes == 0u || (good && align <= UNIT)) {
+        return tlsf_malloc(tlsf, bytes);
+    }
+    LOCKED(tlsf);
+    struct control *control = control_of(tlsf);
+    if (control == NULL) {
+        return NULL;
+    }
+    if (!good) {
+        return refuse(control, TLSF_REFUSED_ALIGNMENT, NULL, bytes);
+    }
+    if (bytes < TOO_GREAT) {
+        status = tlsf_heap_memalign(&control->heap, align, in_units(bytes), &block);
+    }
+    return status == TLSF_OK ? begin(control, block, in_units(bytes))
+                             : refuse_bytes(control, status, NULL, bytes);
+}
 
 void tlsf_free(tlsf_t tlsf, void *ptr)
 {
+    LOCKED(tlsf);
     struct control *control = control_of(tlsf);
-    tlsf_heap_block block = {0, 0};
-    if (find(control, ptr, &block)) {
-        tlsf_heap_free(&control->heap, block);
+    tlsf_heap_block block;
+    size_t size = 0;
+    if (control == NULL) {
+        return;
+    }
+    if (find(control, ptr, &block, &size) && tlsf_heap_free(&control->heap, block) == TLSF_OK) {
+        write_front(ptr, 0, 0);
+        control->figures.blocks_live--;
+        control->figures.bytes_live -= size - FRONT;
+    } else {
+        (void)refuse_pointer(control, ptr, 0);
     }
 }
 
 /* The heap gives the new block before the old one is free: so they don't overlap. No one gets the
  * old one's bytes before the next call. Only a block that grows gets another place. */
+static void *resize(struct control *control, void *ptr, size_t size)
+{
+    tlsf_heap_block block = {0, 0};
+    tlsf_heap_block given = {0, 0};
+    enum tlsf_status status = TLSF_NO_FIT;
+    size_t told = 0;
+    uint32_t had = 0;
+    uint32_t has = 0;
+    if (!find(control, ptr, &block, &told)
+        || tlsf_heap_block_size(&control->heap, block, &had) != TLSF_OK) {
+        return refuse_pointer(control, ptr, size);
+    }
+    if (size < TOO_GREAT) {
+        status = tlsf_heap_realloc(&control->heap, block, in_units(size), &given);
+    }
+    if (status != TLSF_OK) {
+        return refuse_bytes(control, status, ptr, size);
+    }
+    (void)tlsf_heap_block_size(&control->heap, given, &has);
+    count_bytes(control, told, has);
+    write_front(ptr, 0, 0);
+    void *other = hand_out(control, given, has);
+    return other == ptr || other == NULL ? other : memcpy(other, ptr, had - FRONT);
+}
+
 void *tlsf_realloc(tlsf_t tlsf, void *ptr, size_t size)
 {
-    struct control *control = control_of(tlsf);
-    tlsf_heap_block block = {0, 0}, given = {0, 0};
-    uint32_t had = FRONT;
-    if (ptr == NULL || size == 0) {
-        tlsf_free(tlsf, ptr);
-        return size == 0 ? NULL : tlsf_malloc(tlsf, size);
+    if (ptr == NULL) {
+        return tlsf_malloc(tlsf, size);
     }
-    if (size > TLSF_HEAP_GREATEST - FRONT || !find(control, ptr, &block)
-        || tlsf_heap_block_size(&control->heap, block, &had) != TLSF_OK
-        || tlsf_heap_realloc(&control->heap, block, size + FRONT, &given) != TLSF_OK) {
+    if (size == 0u) {
+        tlsf_free(tlsf, ptr);
         return NULL;
     }
-    void *other = hand_out(control, given);
-    return other == ptr || other == NULL ? other : memcpy(other, ptr, had - FRONT);
+    LOCKED(tlsf);
+    struct control *control = control_of(tlsf);
+    return control == NULL ? NULL : resize(control, ptr, size);
+}
+
+void tlsf_set_refusal_hook(tlsf_t tlsf, tlsf_refusal_hook hook, void *user)
+{
+    LOCKED(tlsf);
+    struct control *control = control_of(tlsf);
+    if (control != NULL) {
+        control->hook = hook;
+        control->user = user;
+    }
+}
+
+/* The heap's own readings tell what the control part doesn't keep. */
+int tlsf_stats(tlsf_t tlsf, tlsf_figures *out)
+{
+    LOCKED(tlsf);
+    const struct control *control = control_of(tlsf);
+    if (control == NULL) {
+        return -1;
+    }
+    size_t largest = tlsf_heap_largest_request(&control->heap);
+    *out = control->figures;
+    out->records_used = tlsf_heap_records_used(&control->heap);
+    if (largest != 0u) {
+        out->largest_request = largest - FRONT;
+        out->largest_free = largest - FRONT + tlsf_heap_class_step(largest) - UNIT;
+    }
+    for (uint32_t k = 0; k < POOLS; k++) {
+        const struct pool *pool = &control->pools[k];
+        out->bytes_free += pool->reach == 0u ? 0u : pool->reach + FRONT;
+    }
+    out->bytes_free -= out->bytes_live + FRONT * out->blocks_live;
+    return 0;
 }
 
 /* The control part of a pool's heap, or a null pointer where the pool isn't there. */
@@ -301,25 +428,49 @@ static void print(void *ptr, size_t size, int used, void *user)
 {
     (void)ptr, (void)size, (void)used, (void)user;
 #if __STDC_HOSTED__
-    printf("\t%p %s size: %zx\n", ptr, used ? "used" : "free", size);
+    (void)printf("\t%p %s size: %zx\n", ptr, used ? "used" : "free", size);
 #endif
 }
 
-/* The walker may free blocks, and so end the pool: each piece is read from where the last ended. */
+/* How many rows of a pool there are from a place on; none where it or its heap is gone. */
+static uint64_t read_rows(struct pool *own, uint64_t base, uint64_t from, tlsf_heap_row *rows)
+{
+    const struct control *control = control_of(own->control);
+    uint64_t count = 0;
+    bool is = control != NULL
+              && tlsf_heap_walk(&control->heap, base, from, rows, TLSF_WALK_ROWS, &count) == TLSF_OK;
+    return is ? count : 0u;
+}
+static uint64_t read_locked(struct pool *own, uint64_t base, uint64_t from,
+                            tlsf_heap_row *rows)
+{
+    LOCKED(own->control);
+    return read_rows(own, base, from, rows);
+}
+
+/* The walker may free blocks, and so end the pool: each piece is read from where the last ended. It
+ * runs without the lock, unless the caller has it. */
+static void walk(struct pool *own, tlsf_walker walker, void *user, bool locks)
+{
+    tlsf_heap_row rows[TLSF_WALK_ROWS];
+    uint64_t base = own->place;
+    uint64_t from = 0;
+    uint64_t left = 1;
+    while (left > 0u) {
+        left = (locks ? read_locked : read_rows)(own, base, from, rows);
+        unsigned char *first = own->first;
+        for (uint32_t k = 0; k < TLSF_WALK_ROWS && left > 0u; k++) {
+            from = (uint64_t)rows[k].place + rows[k].size;
+            walker(first + (rows[k].place - base), rows[k].size - FRONT, rows[k].used, user);
+            left--;
+        }
+    }
+}
+
 void tlsf_walk_pool(pool_t pool, tlsf_walker walker, void *user)
 {
-    struct pool *own = (struct pool *)pool;
-    tlsf_heap_row rows[TLSF_WALK_ROWS];
-    uint64_t base = control_of_pool(pool) == NULL ? 0 : own->place, from = 0, left = 1;
-    while (left > 0 && control_of_pool(pool) != NULL
-           && tlsf_heap_walk(&own->control->heap, base, from, rows, TLSF_WALK_ROWS, &left)
-                  == TLSF_OK) {
-        unsigned char *memory = own->memory;
-        for (int k = 0; k < TLSF_WALK_ROWS && left > 0; k++, left--) {
-            void *ptr = memory + (rows[k].place - base) + FRONT;
-            from = (uint64_t)rows[k].place + rows[k].size;
-            (walker == NULL ? print : walker)(ptr, rows[k].size - FRONT, rows[k].used, user);
-        }
+    if (control_of_pool(pool) != NULL) {
+        walk((struct pool *)pool, walker == NULL ? print : walker, user, true);
     }
 }
 
@@ -327,7 +478,9 @@ void tlsf_walk_pool(pool_t pool, tlsf_walker walker, void *user)
 static void count_fault(void *ptr, size_t size, int used, void *user)
 {
     struct control *control = (struct control *)user;
-    control->faults += used && tlsf_live_size(control, ptr) != size;
+    if (used != 0 && (live_size(control, ptr) != size || tlsf_block_size(ptr) != size)) {
+        control->faults++;
+    }
 }
 
 /* Of one pool, or of all for none. Where the table isn't whole nothing else of the heap is read. */
@@ -337,13 +490,22 @@ static int check(struct control *control, pool_t pool)
         return -1;
     }
     control->faults = 0;
-    for (int k = 0; k < POOLS; k++) {
+    for (uint32_t k = 0; k < POOLS; k++) {
         if (pool == NULL || pool == &control->pools[k]) {
-            tlsf_walk_pool(&control->pools[k], count_fault, control);
+            walk(&control->pools[k], count_fault, control, false);
         }
     }
     return -control->faults;
 }
 
-int tlsf_check(tlsf_t tlsf) { return check(control_of(tlsf), NULL); }
-int tlsf_check_pool(pool_t pool) { return check(control_of_pool(pool), pool); }
+int tlsf_check(tlsf_t tlsf)
+{
+    LOCKED(tlsf);
+    return check(control_of(tlsf), NULL);
+}
+int tlsf_check_pool(pool_t pool)
+{
+    struct control *control = control_of_pool(pool);
+    LOCKED(control);
+    return check(control, pool);
+}

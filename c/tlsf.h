@@ -2,7 +2,7 @@
  *
  * A program written for his library compiles against this header as it is. docs/C.md has a table of
  * what differs. The heap behind it is proved; these calls, in tlsf.c, aren't: its head says what
- * they rely on. In short: a pointer is a multiple of 16; a block has at most 1,073,741,792 bytes; a
+ * they rely on. In short: a pointer is a multiple of 16; a block has at most 1,073,741,800 bytes; a
  * heap has at most eight pools. A call that can't be served answers a null pointer. A pointer that
  * is no live block's is refused and changes nothing.
  *
@@ -32,7 +32,7 @@ tlsf_t tlsf_create(void *mem);
 tlsf_t tlsf_create_with_pool(void *mem, size_t bytes);
 
 /* A heap with `records` records, from 1 to 65,535, and a pool in what is left of the bytes, where
- * that is 32 or more; or a null pointer (this call isn't Conte's). tlsf_size() is for 1,024
+ * that is 24 or more; or a null pointer (this call isn't Conte's). tlsf_size() is for 1,024
  * records, or as many as the library was built with. A record takes 16 bytes. */
 tlsf_t tlsf_create_records(void *mem, size_t bytes, uint32_t records);
 
@@ -44,8 +44,9 @@ void tlsf_destroy(tlsf_t tlsf);
  * answer is a null pointer. */
 pool_t tlsf_get_pool(tlsf_t tlsf);
 
-/* One more pool, or a null pointer: for fewer than 32 bytes, more than 1,073,741,808, a ninth pool,
- * memory that the heap has already, no vacant record, or pools of some 4 GiB together. */
+/* One more pool, or a null pointer: for fewer than 24 bytes, or 16 from no multiple of 16 on, more
+ * than 1,073,741,808 beside these 8, a ninth pool, memory that the heap has already, no vacant
+ * record, or pools of some 4 GiB together. */
 pool_t tlsf_add_pool(tlsf_t tlsf, void *mem, size_t bytes);
 
 /* The pool is gone, unless a block of it is live: then it stays. */
@@ -67,16 +68,54 @@ void *tlsf_realloc(tlsf_t tlsf, void *ptr, size_t size);
 /* The block is free. Nothing is done where the pointer is null or no live block's. */
 void tlsf_free(tlsf_t tlsf, void *ptr);
 
-/* The bytes of a live block; 0 for a null pointer. Of any other pointer the 16 bytes in front are
- * read. */
+/* The bytes of a live block; 0 for a null pointer. Of any other pointer the 8 bytes in front are
+ * read: it is 0 for one that was freed, but not where its heap is gone. tlsf_live_size is exact. */
 size_t tlsf_block_size(void *ptr);
 
 /* The bytes of a live block of this heap, else 0. Nothing is read in front of a pointer into none
  * of its pools (this call isn't Conte's). */
 size_t tlsf_live_size(tlsf_t tlsf, const void *ptr);
 
-/* The bytes that tlsf_create needs; what a block's address and size are multiples of; the least and
- * the greatest block; how many bytes more than n a pool has to have, so that it serves a block of n
+/* What the heap refuses. TLSF_REFUSALS is how many kinds there are. */
+enum tlsf_refusal {
+    TLSF_REFUSED_NO_FIT = 0,     /* no free block is surely as large, or no block may be */
+    TLSF_REFUSED_TABLE_FULL = 1, /* a rest would be left, and no record is vacant */
+    TLSF_REFUSED_POINTER = 2,    /* the pointer is no live block's */
+    TLSF_REFUSED_ALIGNMENT = 3,  /* no power of two, or above 2^21 */
+    TLSF_REFUSED_FRONT = 4,      /* a live block's pointer, but the 8 bytes in front were changed */
+    TLSF_REFUSALS = 5
+};
+
+/* Called with each refusal of tlsf_malloc, tlsf_memalign, tlsf_realloc and tlsf_free: what it is, the
+ * pointer or a null pointer, the bytes asked for or 0, and the program's own `user`. It runs within
+ * the call that is refused, and makes none on this heap. */
+typedef void (*tlsf_refusal_hook)(enum tlsf_refusal what, const void *ptr, size_t bytes,
+                                  void *user);
+
+/* Has each refusal told from now on; a null pointer ends that (this call isn't Conte's). A pointer
+ * whose front was changed is told from any other by a reading of the pool's chain, hook or not: then
+ * the call touches the table once for each block. No bytes and a null pointer are no refusal. */
+void tlsf_set_refusal_hook(tlsf_t tlsf, tlsf_refusal_hook hook, void *user);
+
+/* Figures of a heap. The bytes of a block are those that tlsf_block_size tells. */
+typedef struct tlsf_figures {
+    size_t bytes_live;      /* of the live blocks */
+    size_t most_bytes_live; /* the most that they had at once */
+    size_t bytes_free;      /* of the pools, beside live blocks and the 8 in front of each */
+    size_t blocks_live;
+    size_t largest_request; /* tlsf_malloc finds a block for as many bytes; 0 where none is free */
+    size_t largest_free;    /* what the largest free block serves: from largest_request to this */
+    uint32_t records;       /* of the table */
+    uint32_t records_used;  /* one for each block, live or free */
+    size_t refusals[TLSF_REFUSALS];
+} tlsf_figures;
+
+/* Puts the figures into *figures, in constant time: 3 touches of the table. 0, or -1 where there is
+ * no heap, and *figures stays (this call isn't Conte's). */
+int tlsf_stats(tlsf_t tlsf, tlsf_figures *figures);
+
+/* The bytes that tlsf_create needs; what a block's address is a multiple of; the least and the
+ * greatest block; how many bytes more than n a pool has to have, so that it serves a block of n
  * (a multiple of 8, for a program that moves an address by it); what a block takes beside its bytes. */
 size_t tlsf_size(void);
 size_t tlsf_align_size(void);
@@ -102,8 +141,8 @@ size_t tlsf_sure_bytes(uint32_t blocks, size_t bytes, size_t largest);
 typedef void (*tlsf_walker)(void *ptr, size_t size, int used, void *user);
 void tlsf_walk_pool(pool_t pool, tlsf_walker walker, void *user);
 
-/* 0 where all is whole, else less than 0: the table, and the 16 bytes in front of each live block,
- * of all pools or of one. */
+/* 0 where all is whole, else less than 0: the table, and the 8 bytes in front of each live block, of
+ * all pools or of one. */
 int tlsf_check(tlsf_t tlsf);
 int tlsf_check_pool(pool_t pool);
 

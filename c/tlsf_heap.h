@@ -64,7 +64,7 @@ extern "C" {
 #define TLSF_HEAP_TABLE_BYTES(records) (1696u + 16u * (size_t)(records))
 
 /* How far apart the lowest sizes of classes lie where a block of `bytes` bytes belongs: 16 below
- * 2,048 bytes, and from there on twice as far with each doubling of the size. */
+ * 1,024 bytes, and from there on twice as far with each doubling of the size. */
 static inline uint64_t tlsf_heap_class_step(uint64_t bytes)
 {
     uint64_t step = TLSF_HEAP_UNIT;
@@ -87,14 +87,14 @@ static inline uint32_t tlsf_heap_class_size(uint64_t align, uint64_t bytes)
 {
     uint64_t size = (bytes + TLSF_HEAP_UNIT - 1u) / TLSF_HEAP_UNIT * TLSF_HEAP_UNIT;
     uint64_t step;
-    if (bytes == 0 || bytes > TLSF_HEAP_GREATEST || align == 0 || align > (1u << 29)
-        || (align & (align - 1u)) != 0) {
+    if (bytes == 0u || bytes > TLSF_HEAP_GREATEST || align == 0u || align > (1u << 29)
+        || (align & (align - 1u)) != 0u) {
         return 0;
     }
-    size += align > TLSF_HEAP_UNIT ? align - TLSF_HEAP_UNIT : 0;
+    size += align > TLSF_HEAP_UNIT ? align - TLSF_HEAP_UNIT : 0u;
     step = tlsf_heap_class_step(size);
     size = (size + step - 1u) / step * step;
-    return size > 1056964608u ? 0 : (uint32_t)size;
+    return size > 1056964608u ? 0u : (uint32_t)size;
 }
 
 /* The bytes of one pool that is always enough, in whatever order the program asks and gives back: at
@@ -104,14 +104,15 @@ static inline uint32_t tlsf_heap_class_size(uint64_t align, uint64_t bytes)
  * functions are C and aren't proved. */
 static inline uint32_t tlsf_heap_sure_pool(uint64_t blocks, uint64_t bytes, uint32_t class_size)
 {
-    uint64_t too_small = class_size > TLSF_HEAP_UNIT ? class_size - TLSF_HEAP_UNIT : 0;
+    uint64_t size = class_size;
+    uint64_t too_small = size > TLSF_HEAP_UNIT ? size - TLSF_HEAP_UNIT : 0u;
     uint64_t pool;
-    if (class_size == 0 || blocks > (TLSF_HEAP_RECORDS_MOST - 3u) / 2u
+    if (class_size == 0u || blocks > (TLSF_HEAP_RECORDS_MOST - 3u) / 2u
         || bytes > TLSF_HEAP_GREATEST) {
         return 0;
     }
     pool = bytes + (blocks + 1u) * too_small + TLSF_HEAP_UNIT;
-    return pool > TLSF_HEAP_GREATEST ? 0 : (uint32_t)pool;
+    return pool > TLSF_HEAP_GREATEST ? 0u : (uint32_t)pool;
 }
 
 /* How many bytes the image of a heap of `records` records has: at most 1,050,080. */
@@ -152,6 +153,7 @@ enum tlsf_status {
     TLSF_OUT_OF_MEMORY = 9,  /* memory was refused */
     TLSF_NO_POOL = 10,       /* no pool begins there */
     TLSF_BAD_COUNT = 11,     /* the number of records isn't from 1 to 65,535 */
+    /* 12 and 13 aren't used. */
     TLSF_NO_ROOM = 14,       /* the image has more bytes than there is room for */
     TLSF_BAD_MEMORY = 15,    /* what is handed in is too small, or begins at no multiple of 16 */
 
@@ -344,8 +346,9 @@ static inline void *tlsf_heap_address(void *base, tlsf_heap_block block)
 static inline tlsf_heap_block tlsf_heap_block_at(const void *base, const void *address,
                                                  uint16_t slot)
 {
+    ptrdiff_t place = (const unsigned char *)address - (const unsigned char *)base;
     tlsf_heap_block block;
-    block.place = (uint32_t)((const unsigned char *)address - (const unsigned char *)base);
+    block.place = (uint32_t)place;
     block.slot = slot;
     return block;
 }

@@ -23,7 +23,7 @@
 #define OF_THREAD __thread
 #endif
 
-enum { UNIT = TLSF_HEAP_UNIT };
+#define UNIT TLSF_HEAP_UNIT
 
 /* Whether a call over memory handed in is under way, and what is left of that memory. */
 static OF_THREAD struct handed {
@@ -35,7 +35,7 @@ static OF_THREAD struct handed {
 struct rattle_tried rattle_alloc(size_t bytes, size_t align)
 {
     static unsigned char nothing;
-    size_t whole = UNIT + (bytes + UNIT - 1) / UNIT * UNIT;
+    size_t whole = UNIT + (bytes + UNIT - 1u) / UNIT * UNIT;
     bool fits = align <= UNIT && whole >= bytes && (!handed.is || whole <= handed.left);
     void *at = !fits ? NULL : handed.is ? handed.at : malloc(whole);
     if (at == NULL) {
@@ -54,8 +54,8 @@ void rattle_dealloc(unsigned char *p) { free(*(void **)(void *)(p - UNIT)); }
 /* Begins a call over this memory. None of it is taken where it begins at no multiple of 16. */
 static void hand_in(void *memory, size_t bytes)
 {
-    bool good = memory != NULL && (uintptr_t)memory % UNIT == 0;
-    handed = (struct handed){true, (unsigned char *)memory, good ? bytes : 0};
+    bool good = memory != NULL && (uintptr_t)memory % UNIT == 0u;
+    handed = (struct handed){true, (unsigned char *)memory, good ? bytes : 0u};
 }
 
 /* Ends it. Where memory was refused, what was handed in was too little. */

@@ -311,7 +311,7 @@ static void refused(void)
     free(third);
 }
 
-/* Two blocks are left, of 80 and 16 bytes. The most were two of 112 and 64. */
+/* Two blocks are left, of 72 and 8 bytes. The most were two of 104 and 56. */
 static void hold(void)
 {
     void *volatile one = malloc(100), *volatile other = malloc(50), *volatile third;
@@ -321,14 +321,17 @@ static void hold(void)
     (void)third;
 }
 
-/* Ends with a byte spoiled in front of a block, or with bytes of the table, which stands behind the
- * control part that the 16 bytes in front of a block name. */
+/* Ends with a byte spoiled in front of a block, or with bytes of the table. That stands behind the
+ * control part, which begins with its own address and 0x544c5346. The pages are one mapping. */
 static void spoil(bool table)
 {
-    unsigned char *volatile block = malloc(100), *control;
-    memcpy(&control, block - 16, sizeof control);
+    unsigned char *volatile block = malloc(100);
+    uintptr_t *at = (uintptr_t *)((uintptr_t)block / 4096 * 4096);
+    while (table && *at != (uintptr_t)at + 0x544c5346) {
+        at -= 4096 / sizeof *at;
+    }
     if (table) {
-        memset(control + 512, 0xff, 256);
+        memset((unsigned char *)at + 512, 0xff, 256);
     } else {
         block[-1] ^= 1;
     }

@@ -14,12 +14,12 @@ enum {
     AREAS = 24,
     AREA = 6144,
     STALE = 32,
-    FRONT = 16,
+    FRONT = 8,
     CLASSES = 704
 };
 #define GREATEST 1073741808u
 
-/* A block: its first byte is that in front of its pointer's sixteen. */
+/* A block: its first byte is that in front of its pointer's eight. */
 struct block {
     unsigned char *start;
     size_t size;
@@ -37,7 +37,7 @@ struct pool {
 
 struct heap {
     tlsf_t tlsf;
-    size_t records, count;
+    size_t records, count, most_live, bad_pointers, bad_aligns, unserved;
     struct block blocks[MOST_RECORDS + 2];
     struct pool pools[POOLS];
 };
@@ -312,6 +312,47 @@ static bool whole(const struct heap *heap)
     return tlsf_check(heap->tlsf) == 0;
 }
 
+/* The bytes of the pools, those of live blocks without what is in front, and the largest free block
+ * with it. */
+struct sums {
+    size_t bytes, live, blocks, largest;
+};
+
+static struct sums sums_of(const struct heap *heap)
+{
+    struct sums sums = {0, 0, 0, 0};
+    for (size_t k = 0; k < heap->count; k++) {
+        const struct block *block = &heap->blocks[k];
+        sums.bytes += block->size;
+        sums.blocks += block->live;
+        sums.live += block->live ? block->size - FRONT : 0;
+        sums.largest = !block->live && block->size > sums.largest ? block->size : sums.largest;
+    }
+    return sums;
+}
+
+/* The figures are the model's. A realloc that moves holds both blocks for a while, but tells that of
+ * neither: so the most is that between calls. */
+static bool figures_agree(struct heap *heap)
+{
+    tlsf_figures told;
+    struct sums sums = sums_of(heap);
+    uint64_t class = class_of(sums.largest);
+    size_t request = sums.largest == 0 ? 0 : low(class) - FRONT;
+    size_t free = sums.largest == 0 ? 0 : low(class + 1) - 16 - FRONT;
+    heap->most_live = sums.live > heap->most_live ? sums.live : heap->most_live;
+    return tlsf_stats(heap->tlsf, &told) == 0 && told.bytes_live == sums.live
+           && told.blocks_live == sums.blocks && told.most_bytes_live == heap->most_live
+           && told.bytes_free == sums.bytes - sums.live - FRONT * sums.blocks
+           && told.records == heap->records && told.records_used == heap->count
+           && told.largest_request == request && told.largest_free == free
+           && told.refusals[TLSF_REFUSED_POINTER] == heap->bad_pointers
+           && told.refusals[TLSF_REFUSED_ALIGNMENT] == heap->bad_aligns
+           && told.refusals[TLSF_REFUSED_NO_FIT] + told.refusals[TLSF_REFUSED_TABLE_FULL]
+                  == heap->unserved
+           && told.refusals[TLSF_REFUSED_FRONT] == 0;
+}
+
 static size_t some_bytes(void)
 {
     switch (below(24)) {
@@ -344,6 +385,8 @@ static bool ask_for_block(struct heap *heap)
     align = align < 16 ? 16 : align;
     if (given == NULL) {
         refused++;
+        heap->bad_aligns += bad && bytes != 0;
+        heap->unserved += !bad && bytes != 0;
         return bad || (may_refuse(heap, m, align) && !has_below(heap, m, align));
     }
     served++;
@@ -405,6 +448,7 @@ static bool ask_for_realloc(struct heap *heap)
     size_t bytes = some_bytes(), m = rounded(bytes), at = some_live(heap);
     if (at == MOST_RECORDS) {
         unsigned char *given = (unsigned char *)tlsf_realloc(heap->tlsf, NULL, bytes);
+        heap->unserved += given == NULL && bytes != 0;
         return given == NULL ? may_refuse(heap, m, 16) && !has_below(heap, m, 16)
                              : takes(heap, given, m, 16);
     }
@@ -420,12 +464,22 @@ static bool ask_for_realloc(struct heap *heap)
     }
     if (given == NULL) {
         refused++;
+        heap->unserved++;
         return may_refuse(heap, m, 16) && tlsf_block_size(pointer_of(&old)) == old.size - FRONT;
     }
     moved++;
     bool good = is_filled(given, old.size - FRONT, old.seed) && takes(heap, given, m, 16);
     release(heap, find(heap, pointer_of(&old)));
     return good;
+}
+
+/* Where a block begins in memory that the program has written all of: an array of its own. Of the
+ * others no call has to read a byte that wasn't written. */
+static void *start_of_written(const struct heap *heap)
+{
+    size_t at = heap->count == 0 ? 0 : below(heap->count);
+    const struct block *block = &heap->blocks[at];
+    return heap->count == 0 || heap->pools[block->pool].area % 2 != 0 ? NULL : block->start;
 }
 
 /* A pointer that is no live block's of the heap. */
@@ -440,7 +494,7 @@ static void *bad_pointer(struct heap *heap, unsigned char *on_stack)
     case 2:
         return at == MOST_RECORDS ? on_stack
                                   : pointer_of(block) + 1 + below(block->size - FRONT - 1);
-    case 3: return heap->count == 0 ? NULL : pointer_of(&heap->blocks[below(heap->count)]) - FRONT;
+    case 3: return start_of_written(heap);
     case 4: return heap->tlsf;
     default: return on_stack;
     }
@@ -454,12 +508,13 @@ static bool ask_with_bad_pointer(struct heap *heap)
         return true;
     }
     bad_pointers++;
+    heap->bad_pointers += 3;
     tlsf_free(heap->tlsf, pointer);
     return tlsf_realloc(heap->tlsf, pointer, 1 + below(200)) == NULL
            && tlsf_realloc(heap->tlsf, pointer, 0) == NULL;
 }
 
-/* The sixteen bytes in front of a pointer, copied to elsewhere in its block, make no pointer. */
+/* The eight bytes in front of a pointer, copied to elsewhere in its block, make no pointer. */
 static bool ask_with_copied_front(struct heap *heap)
 {
     size_t at = some_live(heap);
@@ -467,12 +522,13 @@ static bool ask_with_copied_front(struct heap *heap)
         return true;
     }
     unsigned char *pointer = pointer_of(&heap->blocks[at]);
-    memcpy(pointer, pointer - FRONT, FRONT);
-    tlsf_free(heap->tlsf, pointer + FRONT);
-    bool good = tlsf_realloc(heap->tlsf, pointer + FRONT, 20) == NULL
-                && tlsf_block_size(pointer + FRONT) == 0;
+    memcpy(pointer + 8, pointer - FRONT, FRONT);
+    tlsf_free(heap->tlsf, pointer + 16);
+    bool good = tlsf_realloc(heap->tlsf, pointer + 16, 20) == NULL
+                && tlsf_block_size(pointer + 16) == 0;
     fill(&heap->blocks[at]);
     bad_pointers++;
+    heap->bad_pointers += 2;
     return good;
 }
 
@@ -504,7 +560,7 @@ static bool add_pool(struct heap *heap)
     int area = (int)below(AREAS), k = 0;
     size_t skip = 8 * below(40), bytes = below(8) == 0 ? below(60) : below(AREA - skip);
     skip += below(30) == 0 ? 1 + below(7) : 0;
-    unsigned char *memory = areas[area] + skip, *start = areas[area] + (skip + 15) / 16 * 16;
+    unsigned char *memory = areas[area] + skip, *start = areas[area] + (skip + 7) / 16 * 16 + 8;
     size_t usable = bytes < (size_t)(start - memory) ? 0
                                                      : (bytes - (size_t)(start - memory)) / 16 * 16;
     bool own = overlaps(heap, start, usable);
@@ -514,7 +570,7 @@ static bool add_pool(struct heap *heap)
     while (k < POOLS && heap->pools[k].handle != NULL) {
         k++;
     }
-    bool right = skip % 8 == 0 && usable >= 32 && k < POOLS && !own && heap->count < heap->records;
+    bool right = skip % 8 == 0 && usable >= 16 && k < POOLS && !own && heap->count < heap->records;
     pool_t handle = tlsf_add_pool(heap->tlsf, memory, bytes);
     if (!right) {
         pools_refused++;
@@ -575,7 +631,7 @@ static bool call(struct heap *heap)
                 : kind < 89 ? ask_with_copied_front(heap)
                 : kind < 95 ? add_pool(heap)
                             : remove_pool(heap);
-    return good && agrees(heap);
+    return good && agrees(heap) && figures_agree(heap);
 }
 
 static bool run(uint64_t seed, uint64_t how_many)

@@ -55,13 +55,13 @@ static void exact_memory(void)
         void *one = tlsf_malloc(tlsf, 100);
         expect(tlsf == control + skip && pool != NULL && one != NULL,
                "a heap in tlsf_size() bytes, and a pool elsewhere");
-        expect(count(pool).bytes == 4000 - 2 * skip && tlsf_check(tlsf) == 0,
-               "the pool has its bytes, less those to a multiple of 16");
+        expect(count(pool).bytes == (skip == 0 ? 4000 - 16 : 4000) && tlsf_check(tlsf) == 0,
+               "the pool has its bytes, less those beside fronts and multiples of 16");
         size_t blocks = 1;
         while (tlsf_malloc(tlsf, 1) != NULL) {
             blocks++;
         }
-        expect(blocks == (count(pool).bytes - 128) / 32 + 1, "it is filled to its end");
+        expect(blocks == (count(pool).bytes - 112) / 16 + 1, "it is filled to its end");
         free(control);
         free(pool_memory);
     }
@@ -69,7 +69,7 @@ static void exact_memory(void)
 
 static void creates(void)
 {
-    size_t least = control_bytes(1) + 32;
+    size_t least = control_bytes(1) + 24;
     expect(tlsf_create(NULL) == NULL && tlsf_create_with_pool(NULL, 1 << 20) == NULL,
            "no memory, no heap");
     expect(tlsf_create(memory + 4) == NULL && tlsf_create_with_pool(memory + 1, 1 << 15) == NULL,
@@ -93,12 +93,12 @@ static void creates(void)
                && tlsf_create_records(memory + 8, tlsf_size_records(1), 1) != NULL
                && tlsf_get_pool(memory + 8) == NULL,
            "tlsf_size_records: the bytes of a heap without a pool");
-    expect(tlsf_create_records(memory, control_bytes(1) + 31, 1) != NULL
+    expect(tlsf_create_records(memory, control_bytes(1) + 23, 1) != NULL
                && tlsf_get_pool(memory) == NULL,
-           "31 bytes are no pool");
-    expect(tlsf_create_records(memory, control_bytes(1) + 32, 1) != NULL
+           "23 bytes are no pool");
+    expect(tlsf_create_records(memory, control_bytes(1) + 24, 1) != NULL
                && tlsf_get_pool(memory) != NULL,
-           "32 bytes are one");
+           "24 bytes are one");
     expect(tlsf_malloc(memory + 4, 1) == NULL && tlsf_check(memory + 4) == -1,
            "no heap is at a multiple of 4");
     bool refused = true;
@@ -118,7 +118,7 @@ static bool has_records(void *mem, size_t bytes, size_t records)
     while (tlsf_malloc(tlsf, 1) != NULL) {}
     struct counted counted = count(tlsf_get_pool(tlsf));
     bool good = counted.live + counted.free == records
-                && counted.bytes == bytes - control_bytes(records);
+                && counted.bytes == bytes - control_bytes(records) - 16;
     good = good && tlsf_check(tlsf) == 0 && tlsf_malloc(tlsf, 1) == NULL;
     tlsf_destroy(tlsf);
     return good;
@@ -156,16 +156,17 @@ static size_t filled(size_t bytes, size_t size, uint32_t records)
     return blocks;
 }
 
-/* Of 1,000 bytes a block takes 1,024, and a record 16. So 9,346 records leave 1 MiB room for 876,
- * and 1,007 for 1,006. */
+/* Of 1,000 bytes a block takes 1,008, and a record 16. So 9,344 records leave 1 MiB room for 889,
+ * and 1,022 for 1,021. */
 static void capacities(void)
 {
+    uint32_t few = (uint32_t)(((1 << 20) - tlsf_size_records(0)) / 1024 + 1);
     expect(filled(65536, 64, 0) >= 560, "64 KiB: at least 560 blocks of 64 bytes");
     expect(filled(1 << 20, 64, 0) >= 9300, "1 MiB: at least 9,300 blocks of 64 bytes");
-    expect(filled(1 << 20, 1000, 0) == 876, "1 MiB: 876 blocks of 1,000 bytes");
+    expect(filled(1 << 20, 1000, 0) == 889, "1 MiB: 889 blocks of 1,000 bytes");
     expect(filled(64 << 20, 16, 0) == 65534, "64 MiB: a block of 16 bytes for each record but one");
-    expect(filled(1 << 20, 1000, 1046656 / 1040 + 1) == 1006,
-           "1 MiB, a record for each 1,040 bytes: 1,006 blocks of 1,000 bytes");
+    expect(filled(1 << 20, 1000, few) == 1021,
+           "1 MiB, a record for each 1,024 bytes: 1,021 blocks of 1,000 bytes");
 }
 
 static void limits(void)
@@ -179,20 +180,20 @@ static void limits(void)
         fits = fits && tlsf_add_pool(tlsf, memory, n + tlsf_pool_overhead()) != NULL
                && tlsf_malloc(tlsf, n) != NULL;
         tlsf = tlsf_create(other_memory);
-        tlsf_add_pool(tlsf, memory + 8, n + 1 + tlsf_pool_overhead() - 8);
-        least = least && tlsf_malloc(tlsf, n + 1) == NULL;
+        tlsf_add_pool(tlsf, memory, n + 9 + tlsf_pool_overhead() - 8);
+        least = least && tlsf_malloc(tlsf, n + 9) == NULL;
     }
     expect(fits && least,
            "tlsf_pool_overhead() more bytes are enough for a block, and eight less aren't");
     expect(tlsf_pool_overhead() % 8 == 0, "a pool may begin so many bytes behind another address");
     tlsf_t tlsf = tlsf_create_with_pool(memory, sizeof memory);
     void *one = tlsf_malloc(tlsf, 1);
-    expect(tlsf_block_size(one) == tlsf_block_size_min() && tlsf_block_size_min() == 16,
+    expect(tlsf_block_size(one) == tlsf_block_size_min() && tlsf_block_size_min() == 8,
            "the least block");
     expect((uintptr_t)one % tlsf_align_size() == 0 && tlsf_align_size() == 16,
            "a pointer is a multiple of 16");
     expect((unsigned char *)tlsf_malloc(tlsf, 16) - (unsigned char *)one
-               == (ptrdiff_t)(16 + tlsf_alloc_overhead()),
+               == (ptrdiff_t)(8 + tlsf_alloc_overhead()),
            "what a block takes");
     expect(tlsf_block_size(NULL) == 0 && tlsf_malloc(tlsf, 0) == NULL
                && tlsf_memalign(tlsf, 64, 0) == NULL,
@@ -200,7 +201,7 @@ static void limits(void)
     expect(tlsf_malloc(tlsf, SIZE_MAX) == NULL && tlsf_memalign(tlsf, 64, SIZE_MAX) == NULL
                && tlsf_realloc(tlsf, one, SIZE_MAX) == NULL,
            "more bytes than there are");
-    expect(tlsf_block_size(one) == 16 && tlsf_check(tlsf) == 0,
+    expect(tlsf_block_size(one) == 8 && tlsf_check(tlsf) == 0,
            "a refused realloc leaves its block");
 }
 
@@ -240,17 +241,17 @@ static void overheads(unsigned char *large)
 static void tight_fits(void)
 {
     tlsf_t tlsf = tlsf_create_records(memory, control_bytes(2), 2);
-    tlsf_add_pool(tlsf, other_memory, 2064 + 16);
-    expect(tlsf_malloc(tlsf, 2064 + 1) == NULL && has(tlsf_get_pool(tlsf), 0, 1)
+    tlsf_add_pool(tlsf, other_memory, 2080 + 16);
+    expect(tlsf_malloc(tlsf, 2072 + 1) == NULL && has(tlsf_get_pool(tlsf), 0, 1)
                && tlsf_check(tlsf) == 0,
            "one byte more than a pool has is refused, and the pool is one free block");
-    void *one = tlsf_malloc(tlsf, 2064);
+    void *one = tlsf_malloc(tlsf, 2072);
     expect(one != NULL && has(tlsf_get_pool(tlsf), 1, 0), "all that it has is served");
     tlsf = tlsf_create_records(memory, control_bytes(1), 1);
-    tlsf_add_pool(tlsf, other_memory, 2064 + 16);
-    expect(tlsf_malloc(tlsf, 2064) == NULL && has(tlsf_get_pool(tlsf), 0, 1),
+    tlsf_add_pool(tlsf, other_memory, 2080 + 16);
+    expect(tlsf_malloc(tlsf, 2072) == NULL && has(tlsf_get_pool(tlsf), 0, 1),
            "with one record it isn't: the smaller block has a rest");
-    expect(tlsf_memalign(tlsf, 32, 2064) == NULL && has(tlsf_get_pool(tlsf), 0, 1),
+    expect(tlsf_memalign(tlsf, 32, 2072) == NULL && has(tlsf_get_pool(tlsf), 0, 1),
            "nor with an alignment above 16");
 }
 
@@ -265,7 +266,7 @@ static void alignments(unsigned char *large)
             size_t align = (size_t)1 << k;
             blocks[k] = tlsf_memalign(tlsf, align, 100);
             aligned = aligned && blocks[k] != NULL && (uintptr_t)blocks[k] % align == 0
-                      && tlsf_block_size(blocks[k]) == 112;
+                      && tlsf_block_size(blocks[k]) == 104;
         }
         refused = refused && tlsf_memalign(tlsf, 1 << 22, 1) == NULL
                   && tlsf_memalign(tlsf, 48, 1) == NULL && tlsf_memalign(tlsf, SIZE_MAX, 1) == NULL;
@@ -301,7 +302,23 @@ static void great_alignments(unsigned char *large)
     expect(aligned, "alignments of 2^20 and 2^21 in pools that aren't so aligned");
 }
 
-/* Pools and the heap's own memory that touch, in each order; and those that share 16 bytes. */
+/* A pool whose first pointer is a multiple of 2^21, and one record: so the heap has its one block at
+ * the place 0, in the slot 0. A request that is refused leaves it. */
+static void first_place(unsigned char *large)
+{
+    size_t two = (size_t)2 << 20;
+    unsigned char *even = large + (two - (uintptr_t)large % two);
+    tlsf_t tlsf = tlsf_create_records(memory, control_bytes(1), 1);
+    tlsf_add_pool(tlsf, even - 8, 4096);
+    void *one = tlsf_malloc(tlsf, 4088);
+    bool refused = one == even;
+    for (size_t bytes = 1; bytes < 9000; bytes += 97) {
+        refused = refused && tlsf_malloc(tlsf, bytes) == NULL;
+    }
+    expect(refused && tlsf_live_size(tlsf, one) == 4088, "a block at the place 0 stays");
+}
+
+/* Pools and the heap's own memory that touch, in each order; and those that share 32 bytes. */
 static void side_by_side(void)
 {
     unsigned char *area = other_memory;
@@ -309,15 +326,15 @@ static void side_by_side(void)
     tlsf_t tlsf = tlsf_create_records(area + 8192, own - own % 16, 64);
     expect(tlsf_get_pool(tlsf) == NULL && tlsf_add_pool(tlsf, area + 4096, 1024) != NULL,
            "a pool of 1,024 bytes");
-    expect(tlsf_add_pool(tlsf, area + 4096 - 1024 + 16, 1024) == NULL
-               && tlsf_add_pool(tlsf, area + 4096 + 1024 - 16, 1024) == NULL,
-           "one that shares 16 bytes with it is refused");
+    expect(tlsf_add_pool(tlsf, area + 4096 - 1024 + 32, 1024) == NULL
+               && tlsf_add_pool(tlsf, area + 4096 + 1024 - 32, 1024) == NULL,
+           "one that shares 32 bytes with it is refused");
     pool_t before = tlsf_add_pool(tlsf, area + 4096 - 1024, 1024),
            behind = tlsf_add_pool(tlsf, area + 4096 + 1024, 1024);
     expect(before != NULL && behind != NULL, "one directly in front of it, and one directly behind");
-    expect(tlsf_add_pool(tlsf, area + 8192 - 1024 + 16, 1024) == NULL
+    expect(tlsf_add_pool(tlsf, area + 8192 - 1024 + 32, 1024) == NULL
                && tlsf_add_pool(tlsf, area + 8192 + own / 16 * 16 - 32, 1024) == NULL,
-           "one that shares 16 bytes with the heap itself is refused");
+           "one that shares 32 bytes with the heap itself is refused");
     expect(tlsf_add_pool(tlsf, area + 8192 - 1024, 1024) != NULL
                && tlsf_add_pool(tlsf, area + 8192 + own / 16 * 16, 1024) != NULL,
            "one directly in front of the heap, and one directly behind");
@@ -334,11 +351,11 @@ static void side_by_side(void)
 static void greatest(unsigned char *large)
 {
     tlsf_t tlsf = tlsf_create(memory);
-    expect(tlsf_add_pool(tlsf, large, GREATEST_POOL + 16) == NULL, "a pool above the greatest");
+    expect(tlsf_add_pool(tlsf, large, GREATEST_POOL + 24) == NULL, "a pool above the greatest");
     expect(tlsf_add_pool(tlsf, large, SIZE_MAX) == NULL
                && tlsf_add_pool(tlsf, (void *)(UINTPTR_MAX - 63), 128) == NULL,
            "a pool above the end of memory");
-    pool_t pool = tlsf_add_pool(tlsf, large, GREATEST_POOL + 15);
+    pool_t pool = tlsf_add_pool(tlsf, large, GREATEST_POOL + 23);
     expect(pool != NULL && count(pool).bytes == GREATEST_POOL, "the greatest pool");
     void *one = tlsf_malloc(tlsf, GIGABYTE / 2),
          *whole = tlsf_realloc(tlsf, one, tlsf_block_size_max());
@@ -427,16 +444,16 @@ static void pools(void)
                && tlsf_add_pool(tlsf, memory + tlsf_size() - 32, 1000) == NULL,
            "that of the heap itself is refused");
     expect(tlsf_add_pool(tlsf, area + 3004, 500) == NULL && tlsf_add_pool(tlsf, NULL, 500) == NULL
-               && tlsf_add_pool(tlsf, area + 3008, 31) == NULL,
+               && tlsf_add_pool(tlsf, area + 3008, 23) == NULL,
            "at no multiple of 8, none, or too small");
-    expect(tlsf_add_pool(tlsf, area + 3008, 32) != NULL && tlsf_check(tlsf) == 0, "the least pool");
+    expect(tlsf_add_pool(tlsf, area + 3008, 24) != NULL && tlsf_check(tlsf) == 0, "the least pool");
     void *one = tlsf_malloc(tlsf, 500);
     size_t kept = 0;
     for (int k = 0; k < 8; k++) {
         tlsf_remove_pool(tlsf, made[k]);
         kept += tlsf_check_pool(made[k]) == 0;
     }
-    expect(one != NULL && kept == 1 && tlsf_block_size(one) == 512,
+    expect(one != NULL && kept == 1 && tlsf_block_size(one) == 504,
            "the pool of a live block stays");
     tlsf_free(tlsf, one);
     tlsf_t other = tlsf_create_with_pool(other_memory + 16384, 8192);
@@ -464,7 +481,7 @@ static void pointers(void)
                   *two = (unsigned char *)tlsf_malloc(tlsf, 100);
     void *far = tlsf_malloc(other, 100);
     _Alignas(16) unsigned char on_stack[64] = {0};
-    expect(tlsf_live_size(tlsf, one) == 112 && tlsf_live_size(other, far) == 112, "a live block");
+    expect(tlsf_live_size(tlsf, one) == 104 && tlsf_live_size(other, far) == 104, "a live block");
     expect(tlsf_live_size(tlsf, far) == 0 && tlsf_live_size(NULL, one) == 0
                && tlsf_live_size(tlsf, NULL) == 0 && tlsf_live_size(tlsf, (void *)16) == 0
                && tlsf_live_size(tlsf, two + 16) == 0 && tlsf_live_size(tlsf, on_stack) == 0,
@@ -472,7 +489,7 @@ static void pointers(void)
     tlsf_free(tlsf, one);
     expect(refuses(tlsf, one) && tlsf_block_size(one) == 0 && tlsf_live_size(tlsf, one) == 0,
            "a pointer that is free");
-    expect(refuses(tlsf, far) && tlsf_block_size(far) == 112, "another heap's");
+    expect(refuses(tlsf, far) && tlsf_block_size(far) == 104, "another heap's");
     unsigned char *block = (unsigned char *)tlsf_malloc(other, 16384);
     tlsf_t within = tlsf_create_with_pool(block, 16384);
     void *inner = tlsf_malloc(within, 100);
@@ -496,21 +513,41 @@ static void old_pointers(void)
 {
     tlsf_t tlsf = tlsf_create_with_pool(memory, sizeof memory);
     void *two = tlsf_malloc(tlsf, 100), *behind = tlsf_malloc(tlsf, 100);
-    unsigned char kept[16];
+    unsigned char kept[8];
     void *moved = tlsf_realloc(tlsf, two, 3000);
     expect(behind != NULL && moved != NULL && moved != two && refuses(tlsf, two),
            "one that a realloc moved");
     void *aligned = tlsf_memalign(tlsf, 1024, 50);
     tlsf_free(tlsf, aligned);
     expect(refuses(tlsf, aligned), "an aligned one that is free");
-    memcpy(kept, (unsigned char *)moved - 16, 16);
-    memset((unsigned char *)moved - 1, 0, 1);
+    memcpy(kept, (unsigned char *)moved - 8, 8);
+    ((unsigned char *)moved)[-1] ^= 1;
     tlsf_free(tlsf, moved);
     expect(tlsf_realloc(tlsf, moved, 10) == NULL && tlsf_check(tlsf) == -1
                && tlsf_check_pool(tlsf_get_pool(tlsf)) == -1,
            "one with a changed byte in front of it, and the check tells it");
-    memcpy((unsigned char *)moved - 16, kept, 16);
-    expect(tlsf_check(tlsf) == 0 && tlsf_block_size(moved) == 3008, "whole again");
+    memcpy((unsigned char *)moved - 8, kept, 8);
+    expect(tlsf_check(tlsf) == 0 && tlsf_block_size(moved) == 3000, "whole again");
+}
+
+/* Each byte of a front, in each way: the check tells it, no call takes the pointer for its block, and
+ * with the byte as it was all is whole. */
+static void each_byte_in_front(void)
+{
+    tlsf_t tlsf = tlsf_create_with_pool(memory, sizeof memory);
+    unsigned char *one = (unsigned char *)tlsf_malloc(tlsf, 40);
+    bool told = true, kept = true;
+    for (unsigned k = 0; k < 8 * 255; k++) {
+        unsigned char *at = one - 1 - k % 8, change = (unsigned char)(1 + k / 8);
+        *at ^= change;
+        told = told && tlsf_check(tlsf) == -1 && tlsf_live_size(tlsf, one) == 0
+               && tlsf_block_size(one) == 0;
+        tlsf_free(tlsf, one);
+        kept = kept && tlsf_realloc(tlsf, one, 80) == NULL && has(tlsf_get_pool(tlsf), 1, 1);
+        *at ^= change;
+    }
+    expect(told && tlsf_check(tlsf) == 0, "each changed byte in front of a block is told");
+    expect(kept && tlsf_block_size(one) == 40, "and the block is kept");
 }
 
 /* A byte behind a block is the next one's front. */
@@ -524,8 +561,8 @@ static void overruns(void)
     }
     expect(tlsf_check(tlsf) == 0 && tlsf_check_pool(tlsf_get_pool(tlsf)) == 0,
            "bytes of blocks may be anything");
-    blocks[0][32] ^= 1;
-    blocks[1][40] ^= 1;
+    blocks[0][24] ^= 1;
+    blocks[1][31] ^= 1;
     expect(tlsf_check(tlsf) == -2 && tlsf_check_pool(tlsf_get_pool(tlsf)) == -2,
            "two overruns are counted");
     tlsf_free(tlsf, blocks[1]);
@@ -534,7 +571,7 @@ static void overruns(void)
     unsigned char *last = (unsigned char *)tlsf_malloc(tlsf, 3000);
     last[-1] ^= 1;
     expect(tlsf_check(tlsf) == -3 && tlsf_check_pool(pool) == -1, "each pool is looked at");
-    memset(memory + 300, 0xff, 200);
+    memset(memory + 512, 0xff, 256);
     expect(tlsf_check(tlsf) == -1 && tlsf_check_pool(tlsf_get_pool(tlsf)) == -1,
            "a spoiled table is told");
     memory[0] ^= 1;
@@ -543,10 +580,156 @@ static void overruns(void)
            "a spoiled heap is none");
 }
 
+/* What a hook was told last, and how often. */
+struct told {
+    enum tlsf_refusal what;
+    const void *ptr;
+    size_t bytes, calls;
+};
+
+static void tell(enum tlsf_refusal what, const void *ptr, size_t bytes, void *user)
+{
+    struct told *told = (struct told *)user;
+    *told = (struct told){what, ptr, bytes, told->calls + 1};
+}
+
+/* Whether so many calls told it since the last time that this was asked, the last of them this. */
+static bool was_told(struct told *told, size_t calls, enum tlsf_refusal what, const void *ptr,
+                     size_t bytes)
+{
+    bool good = told->calls == calls && told->what == what && told->ptr == ptr
+                && told->bytes == bytes;
+    told->calls = 0;
+    return good;
+}
+
+static size_t refused(tlsf_t tlsf, enum tlsf_refusal what)
+{
+    tlsf_figures figures;
+    return tlsf_stats(tlsf, &figures) == 0 ? figures.refusals[what] : SIZE_MAX;
+}
+
+static void refused_requests(void)
+{
+    struct told told = {TLSF_REFUSALS, NULL, 0, 0};
+    tlsf_t tlsf = tlsf_create_records(memory, 32768, 2);
+    tlsf_set_refusal_hook(tlsf, tell, &told);
+    bool good = tlsf_malloc(tlsf, 40000) == NULL
+                && was_told(&told, 1, TLSF_REFUSED_NO_FIT, NULL, 40000)
+                && tlsf_malloc(tlsf, SIZE_MAX) == NULL
+                && was_told(&told, 1, TLSF_REFUSED_NO_FIT, NULL, SIZE_MAX)
+                && tlsf_memalign(tlsf, 64, 40000) == NULL
+                && was_told(&told, 1, TLSF_REFUSED_NO_FIT, NULL, 40000);
+    void *one = tlsf_malloc(tlsf, 100);
+    good = good && tlsf_realloc(tlsf, one, 40000) == NULL
+           && was_told(&told, 1, TLSF_REFUSED_NO_FIT, one, 40000)
+           && tlsf_realloc(tlsf, one, SIZE_MAX) == NULL
+           && was_told(&told, 1, TLSF_REFUSED_NO_FIT, one, SIZE_MAX);
+    expect(good && refused(tlsf, TLSF_REFUSED_NO_FIT) == 5, "requests without room are told: no fit");
+    good = tlsf_malloc(tlsf, 100) == NULL && was_told(&told, 1, TLSF_REFUSED_TABLE_FULL, NULL, 100)
+           && tlsf_memalign(tlsf, 64, 100) == NULL
+           && was_told(&told, 1, TLSF_REFUSED_TABLE_FULL, NULL, 100)
+           && tlsf_realloc(tlsf, NULL, 100) == NULL
+           && was_told(&told, 1, TLSF_REFUSED_TABLE_FULL, NULL, 100);
+    expect(good && refused(tlsf, TLSF_REFUSED_TABLE_FULL) == 3,
+           "requests without a record are told: table full");
+    good = tlsf_memalign(tlsf, 48, 1) == NULL && was_told(&told, 1, TLSF_REFUSED_ALIGNMENT, NULL, 1)
+           && tlsf_memalign(tlsf, 3, 2) == NULL && was_told(&told, 1, TLSF_REFUSED_ALIGNMENT, NULL, 2)
+           && tlsf_memalign(tlsf, 1 << 22, 1) == NULL
+           && was_told(&told, 1, TLSF_REFUSED_ALIGNMENT, NULL, 1);
+    expect(good && refused(tlsf, TLSF_REFUSED_ALIGNMENT) == 3, "alignments are told");
+    tlsf_free(tlsf, NULL);
+    good = tlsf_malloc(tlsf, 0) == NULL && tlsf_memalign(tlsf, 48, 0) == NULL
+           && tlsf_realloc(tlsf, NULL, 0) == NULL && tlsf_realloc(tlsf, one, 0) == NULL;
+    expect(good && told.calls == 0, "no bytes and no pointer are no refusal");
+    tlsf_set_refusal_hook(tlsf, NULL, NULL);
+    good = tlsf_malloc(tlsf, 40000) == NULL && told.calls == 0;
+    expect(good && refused(tlsf, TLSF_REFUSED_NO_FIT) == 6, "without a hook it is counted");
+    tlsf_set_refusal_hook(NULL, tell, &told);
+    expect(tlsf_malloc(NULL, 1) == NULL && told.calls == 0, "no heap tells nothing");
+}
+
+/* A free and a realloc of a pointer, each refused as this. */
+static bool both_tell(tlsf_t tlsf, struct told *told, enum tlsf_refusal what, void *ptr)
+{
+    size_t before = refused(tlsf, what);
+    tlsf_free(tlsf, ptr);
+    bool good = was_told(told, 1, what, ptr, 0) && tlsf_realloc(tlsf, ptr, 7) == NULL;
+    return was_told(told, 1, what, ptr, 7) && good && refused(tlsf, what) == before + 2;
+}
+
+static void refused_pointers(void)
+{
+    struct told told = {TLSF_REFUSALS, NULL, 0, 0};
+    tlsf_t tlsf = tlsf_create_with_pool(memory, sizeof memory);
+    tlsf_set_refusal_hook(tlsf, tell, &told);
+    unsigned char *one = (unsigned char *)tlsf_malloc(tlsf, 100),
+                  *two = (unsigned char *)tlsf_malloc(tlsf, 100);
+    _Alignas(16) unsigned char on_stack[64] = {0};
+    memset(two, 0x5a, 100);
+    tlsf_free(tlsf, one);
+    expect(both_tell(tlsf, &told, TLSF_REFUSED_POINTER, one)
+               && both_tell(tlsf, &told, TLSF_REFUSED_POINTER, two + 16)
+               && both_tell(tlsf, &told, TLSF_REFUSED_POINTER, two + 1)
+               && both_tell(tlsf, &told, TLSF_REFUSED_POINTER, on_stack + 16)
+               && both_tell(tlsf, &told, TLSF_REFUSED_POINTER, tlsf),
+           "a stale, an interior and a foreign pointer are told");
+    tlsf_add_pool(tlsf, other_memory, 4096);
+    unsigned char *blocks[2] = {two, NULL}, kept[8];
+    while (blocks[1] < other_memory || blocks[1] >= other_memory + 4096) {
+        blocks[1] = (unsigned char *)tlsf_malloc(tlsf, 3000);
+    }
+    bool spoiled = true;
+    for (int k = 0; k < 2; k++) {
+        memcpy(kept, blocks[k] - 8, 8);
+        for (size_t bytes = 1; bytes <= 8; bytes++) {
+            memset(blocks[k] - bytes, 0xee, bytes);
+            spoiled = spoiled && both_tell(tlsf, &told, TLSF_REFUSED_FRONT, blocks[k]);
+            memcpy(blocks[k] - 8, kept, 8);
+            memset(blocks[k] - 8, 0xee, bytes);
+            spoiled = spoiled && both_tell(tlsf, &told, TLSF_REFUSED_FRONT, blocks[k]);
+            memcpy(blocks[k] - 8, kept, 8);
+        }
+        tlsf_free(tlsf, blocks[k]);
+    }
+    expect(spoiled, "a live block's pointer whose front was written over is told as that");
+    expect(told.calls == 0 && tlsf_check(tlsf) == 0, "and freed where the front is as it was");
+}
+
+static void figures(void)
+{
+    tlsf_figures figures = {.blocks_live = 4711}, before;
+    expect(tlsf_stats(NULL, &figures) == -1 && figures.blocks_live == 4711,
+           "no figures of no heap");
+    tlsf_t tlsf = tlsf_create_records(memory, tlsf_size_records(9), 9);
+    bool good = tlsf_stats(tlsf, &before) == 0 && before.bytes_live == 0 && before.bytes_free == 0
+                && before.blocks_live == 0 && before.largest_request == 0
+                && before.largest_free == 0 && before.records == 9 && before.records_used == 0;
+    expect(good, "of a heap without a pool");
+    tlsf_add_pool(tlsf, other_memory + 8, 4096);
+    void *one = tlsf_malloc(tlsf, 100), *two = tlsf_malloc(tlsf, 1000);
+    good = tlsf_stats(tlsf, &figures) == 0 && figures.bytes_live == 104 + 1000
+           && figures.blocks_live == 2 && figures.records_used == 3
+           && figures.bytes_free == 4096 - 112 - 1008 && figures.most_bytes_live == 1104;
+    /* 2,976 bytes are of the class from 2,944 to 3,008. */
+    expect(good && figures.largest_request == 2944 - 8 && figures.largest_free == 3008 - 16 - 8,
+           "of two blocks and a free one");
+    tlsf_free(tlsf, one);
+    two = tlsf_realloc(tlsf, two, 500);
+    good = tlsf_stats(tlsf, &figures) == 0 && figures.bytes_live == 504
+           && figures.blocks_live == 1 && figures.records_used == 3
+           && figures.bytes_free == 4096 - 512 && figures.most_bytes_live == 1104;
+    expect(good && two != NULL, "a block that is free, and one that shrinks");
+    two = tlsf_realloc(tlsf, two, 3000);
+    good = tlsf_stats(tlsf, &figures) == 0 && figures.bytes_live == 3000
+           && figures.most_bytes_live == 3000;
+    expect(good && two != NULL, "and one that grows");
+}
+
 /* A control part that has forgotten its pools: no call looks for a block's pool behind the eight. */
 static void forgotten_pools(void)
 {
-    enum { AT = 24, BYTES = 8 * 24 };
+    enum { AT = 16, BYTES = 8 * 32 };
     tlsf_t tlsf = tlsf_create_with_pool(memory, sizeof memory);
     void *one = tlsf_malloc(tlsf, 100);
     memset(memory + AT, 0, BYTES);
@@ -640,7 +823,7 @@ static void ends(void)
     one = tlsf_malloc(tlsf, 10);
     tlsf_destroy(tlsf);
     tlsf_free(tlsf, one);
-    expect(tlsf_block_size(one) == 0 && tlsf_malloc(tlsf, 1) == NULL
+    expect(tlsf_live_size(tlsf, one) == 0 && tlsf_malloc(tlsf, 1) == NULL
                && tlsf_realloc(tlsf, one, 20) == NULL && tlsf_get_pool(tlsf) == NULL,
            "a heap that is gone has no block");
     expect(tlsf_add_pool(tlsf, other_memory, 1000) == NULL && tlsf_check(tlsf) == -1
@@ -667,6 +850,7 @@ int main(void)
         overheads(large);
         alignments(large);
         great_alignments(large);
+        first_place(large);
         greatest(large);
         places(large);
         places_between(large);
@@ -677,7 +861,11 @@ int main(void)
     side_by_side();
     pointers();
     old_pointers();
+    each_byte_in_front();
     overruns();
+    refused_requests();
+    refused_pointers();
+    figures();
     forgotten_pools();
     ends();
     walks_that_end();

@@ -1,0 +1,138 @@
+/* tlsf_front.h: how tlsf.c brings a pointer back to its block. It belongs to tlsf.c, and is for no
+ * program. Not proved.
+ *
+ * A block begins eight bytes in front of its pointer. These bytes, its front, keep the block's slot
+ * and size, scrambled with the pointer: so a byte that is changed there shows, and a copy elsewhere.
+ * Its place is as far behind the pool's first place as the pointer behind the first pointer.
+ */
+#ifndef TLSF_FRONT_H
+#define TLSF_FRONT_H
+
+#include <string.h>
+
+#include "tlsf.h"
+#include "tlsf_heap.h"
+
+/* A function that few calls come to: the others don't save registers for it. */
+#define RARE __attribute__((noinline, cold))
+
+#define UNIT TLSF_HEAP_UNIT
+#define POOLS TLSF_HEAP_POOLS
+#define FRONT 8u
+
+/* What the control part begins with, less its own address: so a copy is no heap. */
+#define MAGIC 0x544c5346u
+
+/* A pool: its first pointer, how far behind it another may be, and the first place. One that isn't
+ * there has no reach. */
+struct pool {
+    struct control *control;
+    unsigned char *first;
+    size_t reach;
+    uint32_t place;
+};
+
+/* What stands at the start of the memory handed in, in front of the table. */
+struct control {
+    uintptr_t magic;
+    tlsf_heap heap;
+    struct pool pools[POOLS];
+    tlsf_figures figures; /* those that the heap can't tell */
+    tlsf_refusal_hook hook;
+    void *user;
+    uint32_t taken; /* its bytes, with the table's behind it */
+    int faults;     /* what a check counts */
+};
+
+/* A front is a size in units and a slot, 42 bits, times an odd number, and the pointer added. The
+ * other number undoes it. With a changed byte that gives more bits. */
+#define SCRAMBLE 0x9e3779b97f4a7c15u
+#define UNSCRAMBLE 0xf1de83e19937733du
+#define SLOT_BITS 16u
+#define FRONT_BITS 42u
+
+typedef char scrambling_is_undone[SCRAMBLE * UNSCRAMBLE == 1u ? 1 : -1];
+
+/* A heap, where the program has one there; else null. */
+static inline struct control *control_of(void *tlsf)
+{
+    uintptr_t magic = 0;
+    if (tlsf != NULL) {
+        (void)memcpy(&magic, tlsf, sizeof magic);
+    }
+    return magic == (uintptr_t)tlsf + MAGIC ? (struct control *)tlsf : NULL;
+}
+
+/* The size and slot that the front of a pointer keeps: more than 42 bits where it isn't whole. */
+static inline uint64_t unscrambled(const void *ptr)
+{
+    uint64_t front;
+    (void)memcpy(&front, (const unsigned char *)ptr - FRONT, FRONT);
+    return (front - (uintptr_t)ptr) * UNSCRAMBLE;
+}
+
+static inline void write_front(void *ptr, size_t size, uint64_t slot)
+{
+    uint64_t front = (((uint64_t)(size / UNIT) << SLOT_BITS) + slot) * SCRAMBLE + (uintptr_t)ptr;
+    (void)memcpy((unsigned char *)ptr - FRONT, &front, FRONT);
+}
+
+static inline bool has_place(const struct pool *pool, uint32_t place)
+{
+    return (uint32_t)(place - pool->place) < pool->reach;
+}
+static inline bool has_pointer(const struct pool *pool, const void *ptr)
+{
+    return (uintptr_t)ptr - (uintptr_t)pool->first < pool->reach;
+}
+
+/* The pool that has a place, or where that is null a pointer, behind the first; or none. */
+RARE static const struct pool *later_pool(const struct control *control, const uint32_t *place,
+                                          const void *ptr)
+{
+    const struct pool *pool = NULL;
+    for (uint32_t k = 1; k < POOLS && pool == NULL; k++) {
+        const struct pool *own = &control->pools[k];
+        bool has = place == NULL ? has_pointer(own, ptr) : has_place(own, *place);
+        pool = has ? own : NULL;
+    }
+    return pool;
+}
+static inline const struct pool *pool_of(const struct control *control, const void *ptr)
+{
+    const struct pool *first = control->pools;
+    return has_pointer(first, ptr) ? first : later_pool(control, NULL, ptr);
+}
+
+/* The pointer to a live block, whose front is written. Only where the control part or the table is
+ * spoiled does the block lie in no pool, and then the pointer is null. */
+static inline void *hand_out(const struct control *control, tlsf_heap_block block, size_t size)
+{
+    const struct pool *first = control->pools;
+    const struct pool *pool
+        = has_place(first, block.place) ? first : later_pool(control, &block.place, NULL);
+    if (pool == NULL) {
+        return NULL;
+    }
+    void *ptr = pool->first + (uint32_t)(block.place - pool->place);
+    write_front(ptr, size, block.slot);
+    return ptr;
+}
+
+/* Whether a pointer lies in a pool of the heap, with a whole front: then its block and size. Whether
+ * the block is live is the heap's to say. */
+static inline bool find(const struct control *control, const void *ptr, tlsf_heap_block *block,
+                        size_t *size)
+{
+    const struct pool *pool = pool_of(control, ptr);
+    if (pool == NULL) {
+        return false;
+    }
+    uint64_t kept = unscrambled(ptr);
+    block->place = pool->place + (uint32_t)((uintptr_t)ptr - (uintptr_t)pool->first);
+    block->slot = (uint16_t)kept;
+    *size = (size_t)(kept >> SLOT_BITS) * UNIT;
+    return kept >> FRONT_BITS == 0u;
+}
+
+#endif

@@ -1,0 +1,184 @@
+/* Threads on one heap, by a tlsf.c that is built with a lock: each has blocks of its own, with bytes
+ * of its own, and now and then reads all. The lock says where a call takes it twice, or gives back
+ * what it hasn't. */
+#define _GNU_SOURCE
+#include <pthread.h>
+#include <string.h>
+
+#include "cases.h"
+#include "lock.h"
+#include "tlsf.h"
+
+enum { THREADS = 4, STEPS = 20000, HELD = 40 };
+
+static _Alignas(16) unsigned char memory[1 << 18], more[1 << 14], last[4096];
+static pthread_mutex_t lock;
+static size_t takes;
+static bool wrong;
+static tlsf_t heap;
+
+void take_lock(void *tlsf)
+{
+    wrong = pthread_mutex_lock(&lock) != 0 || wrong;
+    wrong = tlsf != heap || wrong;
+    takes++;
+}
+
+void give_lock(void *tlsf)
+{
+    wrong = tlsf != heap || wrong;
+    if (pthread_mutex_unlock(&lock) != 0) {
+        wrong = true;
+    }
+}
+
+/* What a thread has, and whether all was right. */
+struct worker {
+    unsigned seed;
+    bool good;
+    unsigned char *blocks[HELD];
+    size_t bytes[HELD];
+};
+
+static unsigned below(struct worker *worker, unsigned most)
+{
+    worker->seed = worker->seed * 1664525u + 1013904223u;
+    return (worker->seed >> 8) % most;
+}
+
+
+static void see(void *ptr, size_t size, int used, void *user)
+{
+    (void)ptr, (void)used;
+    *(size_t *)user += size;
+}
+
+static void read_all(void)
+{
+    tlsf_figures figures;
+    size_t bytes = 0;
+    tlsf_walk_pool(tlsf_get_pool(heap), see, &bytes);
+    tlsf_check_pool(tlsf_get_pool(heap));
+    if (tlsf_stats(heap, &figures) != 0 || tlsf_check(heap) != 0 || bytes == 0) {
+        wrong = true;
+    }
+}
+
+static void step(struct worker *worker)
+{
+    unsigned k = below(worker, HELD);
+    unsigned char byte = (unsigned char)(17 * k + 5);
+    size_t bytes = 1 + below(worker, 300), had = worker->bytes[k];
+    unsigned char *block = worker->blocks[k];
+    bool same = true;
+    for (size_t at = 0; at < had; at++) {
+        same = same && block[at] == byte;
+    }
+    same = same && (block == NULL || tlsf_live_size(heap, block) >= had);
+    if (below(worker, 3) == 0) {
+        tlsf_free(heap, block);
+        block = NULL;
+    } else if (block == NULL && below(worker, 2) == 0) {
+        block = (unsigned char *)tlsf_memalign(heap, 64, bytes);
+    } else {
+        block = (unsigned char *)tlsf_realloc(heap, block, bytes);
+    }
+    worker->blocks[k] = block;
+    worker->bytes[k] = block == NULL ? 0 : bytes;
+    worker->good = worker->good && same && (block == NULL || memset(block, byte, bytes) == block);
+}
+
+static void *work(void *user)
+{
+    struct worker *worker = (struct worker *)user;
+    for (unsigned k = 0; k < STEPS; k++) {
+        step(worker);
+        if (k % 1000 == worker->seed % 1000) {
+            read_all();
+        }
+    }
+    for (unsigned k = 0; k < HELD; k++) {
+        tlsf_free(heap, worker->blocks[k]);
+    }
+    return NULL;
+}
+
+/* Pools come and go beside the threads. */
+static void *change_pools(void *user)
+{
+    size_t *pools = (size_t *)user;
+    for (unsigned k = 0; k < 200; k++) {
+        pool_t pool = tlsf_add_pool(heap, more, sizeof more);
+        *pools += pool != NULL;
+        tlsf_remove_pool(heap, pool);
+    }
+    return NULL;
+}
+
+/* Whether the calls since the last time that this was asked took the lock so often. */
+static bool took(size_t times)
+{
+    static size_t before;
+    bool good = takes == before + times;
+    before = takes;
+    return good;
+}
+
+/* Each call takes the lock once. */
+static void each_call(void)
+{
+    tlsf_figures figures;
+    size_t bytes = 0;
+    took(0);
+    pool_t pool = tlsf_add_pool(heap, last, sizeof last);
+    bool good = pool != NULL && took(1) && tlsf_get_pool(heap) != NULL && took(1);
+    void *one = tlsf_malloc(heap, 100);
+    good = good && took(1);
+    void *two = tlsf_memalign(heap, 64, 100);
+    good = good && took(1);
+    one = tlsf_realloc(heap, one, 200);
+    good = good && took(1) && tlsf_live_size(heap, one) == 200 && took(1);
+    tlsf_free(heap, one);
+    good = good && took(1) && tlsf_realloc(heap, two, 0) == NULL && took(1)
+           && tlsf_stats(heap, &figures) == 0 && took(1) && tlsf_check(heap) == 0 && took(1)
+           && tlsf_check_pool(pool) == 0 && took(1);
+    tlsf_walk_pool(pool, see, &bytes);
+    good = good && took(1);
+    tlsf_remove_pool(heap, pool);
+    good = good && took(1);
+    tlsf_set_refusal_hook(heap, NULL, NULL);
+    good = good && took(1);
+    tlsf_destroy(heap);
+    expect(good && took(1) && !wrong, "each call takes the lock of its heap once, and gives it back");
+}
+
+int main(void)
+{
+    static struct worker workers[THREADS];
+    pthread_t threads[THREADS + 1];
+    pthread_mutexattr_t kind;
+    size_t pools = 0;
+    pthread_mutexattr_init(&kind);
+    pthread_mutexattr_settype(&kind, PTHREAD_MUTEX_ERRORCHECK);
+    pthread_mutex_init(&lock, &kind);
+    heap = memory;
+    bool good = tlsf_create_with_pool(memory, sizeof memory) == heap;
+    for (unsigned k = 0; k < THREADS; k++) {
+        workers[k] = (struct worker){.seed = k + 1, .good = true};
+        good = pthread_create(&threads[k], NULL, work, &workers[k]) == 0 && good;
+    }
+    good = pthread_create(&threads[THREADS], NULL, change_pools, &pools) == 0 && good;
+    for (unsigned k = 0; k <= THREADS; k++) {
+        pthread_join(threads[k], NULL);
+    }
+    for (unsigned k = 0; k < THREADS; k++) {
+        good = good && workers[k].good;
+    }
+    expect(good && pools > 0, "each thread's blocks keep its bytes");
+    tlsf_figures figures;
+    good = tlsf_stats(heap, &figures) == 0 && figures.blocks_live == 0 && figures.bytes_live == 0
+           && figures.refusals[TLSF_REFUSED_POINTER] == 0 && tlsf_check(heap) == 0;
+    expect(good, "and all is given back");
+    each_call();
+    return cases_end();
+}
