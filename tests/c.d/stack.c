@@ -128,7 +128,17 @@ static void add_and_remove(void)
 static void alloc(void) { pointers[k] = tlsf_malloc(tlsf, 1 + 37 * (size_t)k); }
 static void memalign(void) { pointers[k] = tlsf_memalign(tlsf, 1u << k % 12, 100); }
 static void resize(void) { pointers[k] = tlsf_realloc(tlsf, pointers[k], k % 3 == 0 ? 5000 : 50); }
-static void release(void) { tlsf_free(tlsf, pointers[k * 7 % BLOCKS]); }
+/* The second is no block's pointer, and the pool's chain is read for it. */
+static void release(void)
+{
+    tlsf_free(tlsf, pointers[k * 7 % BLOCKS]);
+    tlsf_free(tlsf, (unsigned char *)pointers[k * 7 % BLOCKS] + 16);
+}
+static void stats(void)
+{
+    tlsf_figures figures;
+    seen += tlsf_stats(tlsf, &figures) == 0;
+}
 static void block_size(void) { bytes += tlsf_block_size(pointers[k]); }
 static void see(void *ptr, size_t size, int used, void *user)
 {
@@ -151,6 +161,7 @@ static void of_tlsf(void)
     most("tlsf_realloc", resize, nothing);
     most("tlsf_walk_pool", walk, nothing);
     most("tlsf_check", check, nothing);
+    most("tlsf_stats", stats, nothing);
     most("tlsf_free", release, nothing);
     most("tlsf_memalign", memalign, nothing);
 }
