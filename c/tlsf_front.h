@@ -14,7 +14,7 @@
 #include "tlsf_heap.h"
 
 /* A function that few calls come to: the others don't save registers for it. */
-#define RARE __attribute__((noinline, cold))
+#define RARE __attribute__((noinline))
 
 #define UNIT TLSF_HEAP_UNIT
 #define POOLS TLSF_HEAP_POOLS
