@@ -95,15 +95,22 @@ fn reports_and_images(rt: HostRuntime) -> Result<(), Fail> {
     Ok(())
 }
 
+/// The greatest heap, which `sites` takes where no option is given.
+const GREATEST: Settings = Settings {
+    pool: 1_073_741_808,
+    pools: 1,
+    records: 65_535,
+};
+
 /// Words of a log that is read more than once, with what it is read for.
 const AGAIN: [(&[&str], Rereading); 4] = [
-    (&["tlsf", "sites"], Rereading::Sites(Settings::DEFAULT)),
+    (&["tlsf", "sites"], Rereading::Sites(GREATEST)),
     (
         &["tlsf", "sites", "--records", "777", "--pools", "5"],
         Rereading::Sites(Settings {
             records: 777,
             pools: 5,
-            ..Settings::DEFAULT
+            ..GREATEST
         }),
     ),
     (&["tlsf", "fit"], Rereading::Fit(None)),
