@@ -80,7 +80,7 @@ size_t tlsf_block_size_max(void) { return TOO_GREAT - 1u; }
 size_t tlsf_pool_overhead(void) { return HANDED_IN + FRONT + UNIT; }
 size_t tlsf_alloc_overhead(void) { return FRONT; }
 
-/* The bytes of a block that serves so many, with its front. */
+/* The bytes of a block that serves a request of these bytes, with its front. */
 static inline size_t in_units(size_t bytes) { return (bytes + FRONT + UNIT - 1u) / UNIT * UNIT; }
 
 /* The bytes to the next multiple of 16. */

@@ -134,7 +134,7 @@ impl<'m> Heap<'m> {
         Self::over(unsafe { calls::tlsf_create_with_pool(at, bytes) })
     }
 
-    /// A heap with so many records, from 1 to 65,535, or `None` where the slice is too short. Each
+    /// A heap with this many records, from 1 to 65,535, or `None` where the slice is too short. Each
     /// block takes a record, live or free.
     pub fn with_records(memory: &'m mut [u8], records: u32) -> Option<Self> {
         let (at, bytes) = from_multiple_of_8(memory);
