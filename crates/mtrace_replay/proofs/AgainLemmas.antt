@@ -1,9 +1,11 @@
 -- The first lines of a log, read and replayed.
-use Rattle.std.proofs.Common.{◌≡◌, ◌<◌, ℕ, List, length, refl, sym, subst, arith, ◌⊎◌, inl, inr}
-use Rattle.std.specs.Prelude.{Result}
+use Rattle.std.proofs.Common.{◌≡◌, ◌<◌, ◌≤◌, ℕ, List, length, refl, sym, subst, arith, ◌⊎◌, inl, inr}
+use Rattle.std.specs.Prelude.{Result, Ok, Err}
 use Rattle.std.specs.Io.KnownBytes.{prepend_known}
 use Rattle.mtrace_log.specs.Progress.{Progress, Stage, Reading, Ended, Faulted, to_come, greatest_number}
 use Rattle.mtrace_log.specs.declared.call.Call.{Call}
+use Rattle.mtrace_log.specs.declared.call.Call.TheVariants.{Gave}
+use Rattle.mtrace_log.proofs.TraceLemmas.{moved_none}
 use Rattle.mtrace_log.specs.Trace.{HasGivenAll}
 use Rattle.mtrace_log.specs.HasRead.{HasRead, HasReadAll, HasReadSo}
 use Rattle.mtrace_log.specs.Event.{Event}
@@ -11,9 +13,9 @@ use Rattle.mtrace_log.specs.declared.event.LineFault.{LineFault}
 use Rattle.mtrace_replay.specs.declared.settings.Settings.{Settings}
 use Rattle.mtrace_replay.specs.Replay.{Replayed}
 use Rattle.mtrace_replay.specs.Run.{Bytes, FailedInPiece, IsPastLastNumber}
-use Rattle.mtrace_replay.specs.Again.{HasReadFirst, HasReplayedFirst, StopsEarly}
-use Rattle.mtrace_replay.specs.Replaying.{IsReplaying}
-use Rattle.mtrace_replay.proofs.ReplayingLemmas.{used_to_end}
+use Rattle.mtrace_replay.specs.Again.{HasReadFirst, HasReplayedFirst, StopsEarly, ReplaysFirst}
+use Rattle.mtrace_replay.specs.Replaying.{IsReplaying, ReplaysUpTo}
+use Rattle.mtrace_replay.proofs.ReplayingLemmas.{used_to_end, no_line, replaying_start}
 
 -- what was read so far
 pub read_first : (settings : Settings) (progress : Progress) (replay : Replayed) (start left : Bytes) → (so_far : IsReplaying settings progress replay start left)
@@ -49,3 +51,27 @@ pub failed_in_piece : (start left : Bytes) (calls_start calls : List Call) (line
     → FailedInPiece start left calls_start calls lines
 failed_in_piece start left calls_start calls lines few (inl failed) = failed
 failed_in_piece start left calls_start calls lines few (inr (unused, past)) = absurd (omega (arith, few, past.count))
+
+-- the lines up to one, from the first on, are the first lines
+pub first_up_to : {R E : Type 0} (left bytes : R → Bytes) (pulls : R → List Call) (many : ℕ) (result : Result (Unit {0}) E) (new : Progress) (replay_old replay_new : Replayed) (reader_old reader_new : R)
+    → many ≤ greatest_number → ReplaysUpTo left bytes pulls many result no_line new replay_old replay_new reader_old reader_new
+    → ReplaysFirst left bytes pulls (left reader_old) (pulls reader_old) (StopsEarly many (left reader_old) (left reader_new) (pulls reader_old) (pulls reader_new)) many result
+    replay_old replay_new reader_old reader_new
+first_up_to left bytes pulls many (Ok done) new replay_old replay_new reader_old reader_new within up =
+    let none = moved_none Gave (pulls reader_old) in
+    record {
+      done = λ settings stands.
+          first_at_most many settings new replay_new (left reader_old) (left reader_new) (up.replaying settings (left reader_old) (replaying_start settings replay_old (left reader_old) stands)).now up.reached;
+      not_failed = (up.gave (pulls reader_old) none (inl none)).1;
+      read = tt;
+      whole = up.whole;
+      records = up.records;
+    }
+first_up_to left bytes pulls many (Err failed) new replay_old replay_new reader_old reader_new within up = record {
+  done = tt;
+  not_failed = tt;
+  read = λ settings stands.
+      up.stops settings (left reader_old) (pulls reader_old) many (replaying_start settings replay_old (left reader_old) stands) (moved_none Gave (pulls reader_old)) (omega arith) within;
+  whole = up.whole;
+  records = up.records;
+}

@@ -23,6 +23,7 @@ mod LookLemmas
 mod Moments
 mod ReplayingLemmas
 mod PlanLemmas
+mod Points
 mod RowLemmas
 mod RunLemmas
 mod RunOutcomes
@@ -42,7 +43,9 @@ mod StepLemmas
 mod Stood
 mod SurePool
 mod TextLemmas
+mod TimelineLemmas
 mod ToldLemmas
+mod ToldLines
 mod TotalsLemmas
 mod TotalsStep
 mod TriedLemmas

@@ -1,8 +1,8 @@
 -- Lines read and replayed, one after the other, and how the reading goes on and ends.
-use Rattle.std.proofs.Common.{◌≡◌, ◌≢◌, ℕ, List, [], ◌∷◌, ◌++◌, length, refl, sym, ap, ◌∙◌, subst, arith, Some, None, reverse, ◌⊎◌, inl, inr, length-append}
+use Rattle.std.proofs.Common.{◌≡◌, ◌≢◌, ℕ, List, [], ◌∷◌, ◌++◌, length, refl, sym, ap, ◌∙◌, subst, arith, Some, None, reverse, ◌⊎◌, inl, inr, length-append, append_assoc}
 use Rattle.std.specs.Prelude.{Result}
 use Rattle.std.specs.Io.KnownBytes.{prepend_known, IsAtEnd}
-use Rattle.std.proofs.lemmas.List.{reverse-append}
+use Rattle.std.proofs.lemmas.List.{reverse-append, append-nil}
 use Rattle.mtrace_log.specs.Progress.{Progress, Stage, Reading, Ended, Faulted, to_come, ReadsLine, GivesLine, FindsEnd, StopsReading, GivesFault, CallsFor}
 use Rattle.mtrace_log.specs.declared.call.Call.{Call}
 use Rattle.mtrace_log.specs.HasRead.{HasRead, HasReadAll, HasReadBefore, HasReadSo}
@@ -15,7 +15,7 @@ use Rattle.mtrace_log.proofs.ReadLemmas.{HasRead-none, HasReadSo-line, HasReadSo
 use Rattle.mtrace_replay.specs.declared.settings.Settings.{Settings}
 use Rattle.mtrace_replay.specs.Replay.{Replayed, StandsFor}
 use Rattle.mtrace_replay.specs.Run.{Bytes, FailedInPiece, IsPastLastNumber}
-use Rattle.mtrace_replay.specs.Replaying.{IsReplaying}
+use Rattle.mtrace_replay.specs.Replaying.{IsReplaying, GoesOn}
 
 pub prepend_nothing : (known : Bytes) → prepend_known [] known ≡ known
 prepend_nothing None = refl
@@ -24,9 +24,13 @@ prepend_nothing (Some bytes) = refl
 pub no_fault_yet : (fault : ReadFault) → Reading ≢ Faulted fault
 no_fault_yet fault is = cc
 
+-- no line was read yet
+abbrev pub no_line : Progress
+no_line = record { held = []; count = 0; stage = Reading; last = Some [] }
+
 -- before the first line
 abbrev pub replaying_start : (settings : Settings) (replay : Replayed) (left : Bytes) → StandsFor replay settings []
-    → IsReplaying settings (record { held = []; count = 0; stage = Reading; last = Some [] }) replay left left
+    → IsReplaying settings no_line replay left left
 replaying_start settings replay left stands = record {
   lines = [];
   count = refl;
@@ -50,6 +54,33 @@ replaying_line settings old new replay_old replay_new start before after line so
   no_fault = (λ fault is. (let T : Stage → Type 0 = λ stage. ReadsLine stage (to_come old before) (to_come new after) line.event in subst T is given.taken));
   read = HasReadSo-line start (to_come old before) (to_come new after) old new line so_far.lines so_far.read given;
   stands = (let Q : List (Result Event LineFault) → Type 0 = λ past. StandsFor replay_new settings past in subst Q (sym (reverse-more so_far.lines line.event)) stands);
+}
+
+-- so far nothing came behind
+abbrev pub going_on_none : (settings : Settings) (progress : Progress) (replay : Replayed) (start left : Bytes) (so_far : IsReplaying settings progress replay start left)
+    → GoesOn settings so_far.lines progress replay start left
+going_on_none settings progress replay start left so_far = record { now = so_far; more = []; behind = sym (append-nil so_far.lines) }
+
+-- one line more came behind
+abbrev pub going_on : (settings : Settings) (old new : Progress) (replay_old replay_new : Replayed) (start before after : Bytes) (line : Line)
+    → (so_far : IsReplaying settings old replay_old start before)
+    → GivesLine old new (to_come old before) (to_come new after) line
+    → StandsFor replay_new settings (line.event ∷ reverse so_far.lines)
+    → GoesOn settings so_far.lines new replay_new start after
+going_on settings old new replay_old replay_new start before after line so_far given stands = record {
+  now = replaying_line settings old new replay_old replay_new start before after line so_far given stands;
+  more = line.event ∷ [];
+  behind = refl;
+}
+
+-- what came behind, and then what came behind that
+abbrev pub going_on_further : (settings : Settings) (first : List (Result Event LineFault)) (old new : Progress) (replay_old replay_new : Replayed) (start before after : Bytes)
+    → (so_far : GoesOn settings first old replay_old start before) → GoesOn settings so_far.now.lines new replay_new start after
+    → GoesOn settings first new replay_new start after
+going_on_further settings first old new replay_old replay_new start before after so_far later = record {
+  now = later.now;
+  more = so_far.more ++ later.more;
+  behind = later.behind ∙ ap (λ lines. lines ++ later.more) so_far.behind ∙ append_assoc first so_far.more later.more;
 }
 
 -- a line that was taken leaves the stage reading or ended

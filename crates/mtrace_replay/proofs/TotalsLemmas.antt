@@ -1,5 +1,5 @@
 -- How the totals of a log's lines go on by one line.
-use Rattle.std.proofs.Common.{◌≡◌, ℕ, zero, suc, ◌+◌, ◌-◌, ◌*◌, ◌<◌, ◌≤◌, Bool, true, false, List, [], ◌∷◌, length, drop, ◌⊎◌, inl, inr, refl, sym, ap, ◌∙◌, subst, arith, Ok, Err}
+use Rattle.std.proofs.Common.{◌≡◌, ℕ, zero, suc, ◌-◌, ◌*◌, ◌<◌, ◌≤◌, Bool, true, false, List, [], ◌∷◌, length, drop, ◌⊎◌, inl, inr, refl, sym, ap, ◌∙◌, subst, arith, Ok, Err}
 use Rattle.std.specs.Prelude.{◌&&◌, max, nat_le, nat_lt, if◌then◌else◌}
 use Rattle.std.specs.List.{Contains, list_all}
 use Rattle.std.proofs.lemmas.Bool.{cases_Bool, leb-true, leb-false, ltb-true, ltb-false}
@@ -13,8 +13,7 @@ use Rattle.tlsf_heap.proofs.Good.LiveBlocks.{none_stands, gap_is_free}
 use Rattle.mtrace_replay.specs.declared.settings.Settings.{Settings}
 use Rattle.mtrace_replay.specs.Started.{Bare, left_by, with_pools, started}
 use Rattle.mtrace_replay.specs.Moment.{Given, Moment}
-use Rattle.mtrace_replay.specs.History.{content_after}
-use Rattle.mtrace_replay.specs.Totals.{first_moments, Measures, IsGreatestOf, IsMost, IsLiveIn, IsEnd, IsHighPlace}
+use Rattle.mtrace_replay.specs.Totals.{first_moments, Measures, IsGreatestOf, IsMost, IsEnd, IsHighPlace}
 use Rattle.mtrace_replay.proofs.SortedLemmas.{one_list}
 use Rattle.mtrace_replay.proofs.FoundLemmas.{none_held}
 

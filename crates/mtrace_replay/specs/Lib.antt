@@ -20,6 +20,7 @@ pub mod Rows
 pub mod Run
 pub mod RunFit
 pub mod RunSites
+pub mod RunTimeline
 pub mod Saving
 pub mod Search
 pub mod Settings
@@ -27,5 +28,7 @@ pub mod Sites
 pub mod Size
 pub mod Started
 pub mod Step
+pub mod Survey
 pub mod Texts
+pub mod Timeline
 pub mod Totals

@@ -34,6 +34,21 @@ pub record Replayed : Type 0 where
 abbrev pub entries : Replayed → List Entry
 entries replay = entries_of replay.given
 
+-- the same replay, whose heap was touched this often
+abbrev pub touched : ℕ → Replayed → Replayed
+touched touches replay = record {
+  content = replay.content;
+  touches = touches;
+  comparisons = replay.comparisons;
+  given = replay.given;
+  totals = replay.totals;
+  most = replay.most;
+  most_rounded = replay.most_rounded;
+  class_size = replay.class_size;
+  pending = replay.pending;
+  out_of_memory = replay.out_of_memory;
+}
+
 -- the replay stands for the lines, of which the latest comes first
 pub record StandsFor (replay : Replayed) (settings : Settings) (past : List ReadLine) : Type 0 where
   pub works : replay.out_of_memory ≡ false

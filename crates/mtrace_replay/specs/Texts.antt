@@ -10,6 +10,7 @@ use Rattle.tlsf_heap.specs.Rows.{row_of}
 use Rattle.mtrace_replay.specs.Entry.{Entry}
 use Rattle.mtrace_replay.specs.declared.report.Report.{Report}
 use Rattle.mtrace_replay.specs.declared.report.Report.TheVariants.{Leaks, Peak, Walk, Nothing}
+use Rattle.mtrace_replay.specs.declared.point.Point.{Point}
 use Rattle.mtrace_replay.specs.declared.totals.Totals.{Totals}
 use Rattle.mtrace_replay.specs.Started.{Bare}
 use Rattle.mtrace_replay.specs.Sites.{Site}
@@ -219,6 +220,23 @@ untried_lines =
     ++ size_line (codes "safe pool: ") None
     ++ number_line (codes "sizes tried: ") 0
     ++ size_line (codes "sure pool: ") None
+
+-- a number behind a blank
+abbrev pub column : ℕ → List ℕ
+column number = codes " " ++ decimal number
+
+-- the words above the points
+abbrev pub timeline_words : List ℕ
+timeline_words = codes "line bytes blocks reach free largest" ++ newline ∷ []
+
+-- `LINE BYTES BLOCKS REACH FREE LARGEST`, one line
+abbrev pub point_text : Point → List ℕ
+point_text point =
+    decimal point.line ++ column point.bytes ++ column point.blocks ++ column point.reach ++ column point.free ++ column point.largest ++ newline ∷ []
+
+-- a line for each point below their words, and how many lines were refused, where some were
+abbrev pub timeline_text : List Point → (refused : ℕ) → List ℕ
+timeline_text points refused = timeline_words ++ flat_map point_text points ++ refused_line refused
 
 -- the text of a report
 abbrev pub report_text : Report → List Entry → Totals → Bare → List ℕ

@@ -1,8 +1,8 @@
 //! A log that is read again.
 
-ghost use Rattle.std.specs.Prelude.{◌≡◌, [], OnOk};
+ghost use Rattle.std.specs.Prelude.{◌≡◌, ◌≤◌, [], OnOk};
 ghost use Rattle.mtrace_replay.specs.Again.{StopsEarly, ReplaysFirst};
-ghost use Rattle.mtrace_replay.specs.Replaying.{ReplaysNext};
+ghost use Rattle.mtrace_replay.specs.Replaying.{ReplaysNext, ReplaysUpTo};
 
 use crate::findings::Findings;
 use crate::replay::Replay;
@@ -38,6 +38,32 @@ pub(crate) fn replay_next<R: Source>(
     Ok(())
 }
 
+/// Reads and replays the lines up to the one of this number. What is wrong with them isn't told.
+///
+/// # Errors
+///
+/// `Failed` where the reader fails, or has fewer lines.
+pub(crate) fn replay_up_to<R: Source>(
+    lines: &mut Lines,
+    reader: &mut R,
+    replay: &mut Replay<Heap>,
+    findings: &mut Findings,
+    number: u64,
+) -> Result<(), Failed>
+    requires counted { replay.old.totals.lines ≡ lines.old.count }
+    requires none { findings.old ≡ [] }
+    requires ahead { lines.old.count ≤ number }
+    ensures lines { ReplaysUpTo R.left R.whole R.trace number result lines.old lines.new replay.old replay.new reader.old reader.new }
+    ensures none { OnOk result (findings.new ≡ []) }
+{
+    for _ in replay.totals().lines..number {
+        let Ok(()) = replay_next(lines, reader, replay, findings) else {
+            return Err(Failed);
+        };
+    }
+    Ok(())
+}
+
 /// Reads and replays the first lines of the log, this many. What is wrong with them isn't told.
 ///
 /// # Errors
@@ -55,10 +81,5 @@ pub(crate) fn replay_first<R: Source>(
 {
     let mut lines = Lines::new();
     let mut findings = Findings::none();
-    for _ in 0..many {
-        let Ok(()) = replay_next(&mut lines, reader, replay, &mut findings) else {
-            return Err(Failed);
-        };
-    }
-    Ok(())
+    replay_up_to(&mut lines, reader, replay, &mut findings, many)
 }

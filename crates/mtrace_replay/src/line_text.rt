@@ -5,12 +5,13 @@ ghost use Rattle.std.specs.Option.{option_copied};
 ghost use Rattle.arrayvec.specs.ArrayVec.{array_vec_len};
 ghost use Rattle.mtrace_log.specs.Address.{address_text};
 ghost use Rattle.mtrace_replay.specs.Appends.{Appends, IsShort};
-ghost use Rattle.mtrace_replay.specs.Texts.{count_line, refused_line, refusal_text as text_of_refusal, kind_text as text_of_kind, diagnostic_text as text_of_diagnostic, at_text as text_of_location, entry_text as text_of_entry, number_line, pair_line, spread_text as text_of_spread, count_lines, greatest_line, held_lines, free_lines, spread_line, peak_lines, peak_words as words_of_peak, site_text as text_of_site, use_text as text_of_use, row_text as text_of_row};
+ghost use Rattle.mtrace_replay.specs.Texts.{count_line, refused_line, refusal_text as text_of_refusal, kind_text as text_of_kind, diagnostic_text as text_of_diagnostic, at_text as text_of_location, entry_text as text_of_entry, number_line, pair_line, spread_text as text_of_spread, count_lines, greatest_line, held_lines, free_lines, spread_line, peak_lines, peak_words as words_of_peak, site_text as text_of_site, use_text as text_of_use, row_text as text_of_row, column, point_text as text_of_point};
 
 use crate::diagnostic::{Diagnostic, Kind};
 use crate::entry::Entry;
-use crate::free_blocks::Free;
+use crate::point::Point;
 use crate::site::Site;
+use crate::survey::Survey;
 use crate::totals::Totals;
 use arrayvec::ArrayVec;
 use itoa::Buffer;
@@ -283,19 +284,19 @@ fn push_held(text: &mut LineText, totals: Totals)
 }
 
 /// Appends what is free.
-fn push_free(text: &mut LineText, free: Free)
+fn push_free(text: &mut LineText, survey: Survey)
     requires { array_vec_len text.old ≤ 500 }
-    ensures { Appends (free_lines free.bytes free.blocks free.largest) 160 text.old text.new }
+    ensures { Appends (free_lines survey.free_bytes survey.free_blocks survey.largest_free) 160 text.old text.new }
 {
     push_pair_line(
         text,
         b"free: ",
-        free.bytes,
+        survey.free_bytes,
         b" bytes in ",
-        free.blocks,
+        survey.free_blocks,
         b" blocks",
     );
-    push_number_line(text, b"largest free: ", free.largest);
+    push_number_line(text, b"largest free: ", survey.largest_free);
 }
 
 /// Appends the high place in thousandths of the peak, or that there is no peak.
@@ -321,13 +322,13 @@ fn push_spread_line(text: &mut LineText, totals: Totals)
 }
 
 /// The nine lines of the peak.
-pub(crate) fn peak_text(totals: Totals, free: Free) -> LineText
-    ensures { result.items ≡ peak_lines totals free.bytes free.blocks free.largest }
+pub(crate) fn peak_text(totals: Totals, survey: Survey) -> LineText
+    ensures { result.items ≡ peak_lines totals survey.free_bytes survey.free_blocks survey.largest_free }
 {
     let mut text = ArrayVec::new();
     push_counts(&mut text, totals);
     push_held(&mut text, totals);
-    push_free(&mut text, free);
+    push_free(&mut text, survey);
     push_spread_line(&mut text, totals);
     text
 }
@@ -355,5 +356,29 @@ pub(crate) fn pool_text(base: u64, bytes: u64) -> LineText
 {
     let mut text = ArrayVec::new();
     push_pair_line(&mut text, b"pool ", base, b": ", bytes, b" bytes");
+    text
+}
+
+/// Appends a number behind a blank.
+fn push_column(text: &mut LineText, number: u64)
+    requires { array_vec_len text.old + 41 ≤ LONGEST_TEXT }
+    ensures { Appends (column number) 41 text.old text.new }
+{
+    push_bytes(text, b" ");
+    push_number(text, u128::from(number));
+}
+
+/// The line of a point.
+pub(crate) fn point_text(point: &Point) -> LineText
+    ensures { result.items ≡ text_of_point point.now }
+{
+    let mut text = ArrayVec::new();
+    push_number(&mut text, u128::from(point.line));
+    push_column(&mut text, point.bytes);
+    push_column(&mut text, point.blocks);
+    push_column(&mut text, point.reach);
+    push_column(&mut text, point.free);
+    push_column(&mut text, point.largest);
+    push_bytes(&mut text, b"\n");
     text
 }

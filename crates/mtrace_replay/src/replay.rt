@@ -5,11 +5,11 @@ ghost use Rattle.mtrace_replay.specs.History.{old_address as address_of_old};
 use crate::asked::Asked;
 use crate::diagnostic::{Diagnostic, Kind, Note};
 use crate::findings::Findings;
-use crate::free_blocks::{Free, free_in};
 use crate::index::{Entries, Index};
 use crate::settings::Settings;
 use crate::start::{restart_heap, started_heap};
 use crate::step::outcome;
+use crate::survey::{Survey, survey_heap};
 use crate::totals::Totals;
 use crate::walk::put_walk;
 use mtrace_log::{Addr, Event, Failed, LentLocation, Line, LineFault, Sink};
@@ -118,10 +118,10 @@ impl<H: Heaped> Replay<H> {
     ghost use Rattle.mtrace_replay.specs.declared.settings.Settings.{Settings};
     ghost use Rattle.mtrace_replay.specs.Settings.{are_bad};
     ghost use Rattle.mtrace_replay.specs.Index.{Counts};
-    ghost use Rattle.mtrace_replay.specs.Replay.{StandsFor, entries, Feeds, TellsEnd};
+    ghost use Rattle.mtrace_replay.specs.Replay.{StandsFor, entries, touched, Feeds, TellsEnd};
     ghost use Rattle.mtrace_log.specs.Output.{Puts};
     ghost use Rattle.mtrace_replay.specs.Texts.{free_sizes, walk_report, total_size};
-    ghost use Rattle.mtrace_replay.specs.Rows.{IsFree};
+    ghost use Rattle.mtrace_replay.specs.Survey.{live_ends, IsSurvey};
 
     /// A replay of no line yet, on a heap by the settings.
     ///
@@ -289,13 +289,14 @@ impl<H: Heaped> Replay<H> {
         self.class_size
     }
 
-    /// What is free of the heap.
-    pub(crate) fn free(&mut self) -> Free
+    /// What is free in the heap, and how far its live blocks reach.
+    pub(crate) fn survey(&mut self) -> Survey
         requires works { self.old.out_of_memory ≡ false }
-        ensures { IsFree result (free_sizes self.old.content) }
+        ensures survey { IsSurvey result (free_sizes self.old.content) (live_ends self.old.content) }
+        ensures kept { self.new ≡ touched self.new.touches self.old }
     {
         self.heap.keeps_good();
-        free_in(&mut self.heap)
+        survey_heap(&mut self.heap)
     }
 
     /// Puts the report of the walk.
@@ -332,6 +333,13 @@ impl Replay<Heap> {
         self.class_size = Some(tlsf_class::UNIT);
         self.pending = None;
         self.out_of_memory = false;
+    }
+
+    /// Says that memory was never refused, and does nothing.
+    pub(crate) fn keeps_working(&self)
+        ensures { self.now.out_of_memory ≡ false }
+    {
+        let _ = &self.heap;
     }
 
     /// Puts an image of the heap.

@@ -69,8 +69,8 @@ fn put_peak<W: Sink, H: Heaped>(writer: &mut W, replay: &mut Replay<H>) -> Resul
     ensures { Puts W.taken W.trace result (peak_report replay.old.totals replay.old.content) writer.old writer.new }
 {
     let totals = replay.totals();
-    let free = replay.free();
-    put_all(writer, peak_text(totals, free).as_slice())
+    let survey = replay.survey();
+    put_all(writer, peak_text(totals, survey).as_slice())
 }
 
 /// Puts a report.

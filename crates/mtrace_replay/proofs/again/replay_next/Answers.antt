@@ -1,6 +1,6 @@
 use Rattle.std.proofs.Common.{arith, refl, sym, ◌∙◌, reverse, inl}
 use Rattle.mtrace_log.proofs.CallLemmas.{calls_more, calls_of_line, calls_to_end, calls_to_fault}
-use Rattle.mtrace_replay.proofs.ReplayingLemmas.{replaying_line, replaying_end, replaying_fault}
+use Rattle.mtrace_replay.proofs.ReplayingLemmas.{going_on, replaying_end, replaying_fault}
 use Rattle.mtrace_replay.proofs.AgainLemmas.{ends_early, failed_in_piece}
 use Rattle.mtrace_replay.proofs.again.replay_next.Goals as goal
 
@@ -49,8 +49,7 @@ returns-clause-next g c =
     record {
       counted = fed.counted ∙ sym given.count;
       one_more = given.count ∙ given.number;
-      replaying = λ settings start so_far.
-          replaying_line settings c.args.lines.now c.advance.new.self c.args.replay.now c.feed_lent.new.self
+      replaying = λ settings start so_far. going_on settings c.args.lines.now c.advance.new.self c.args.replay.now c.feed_lent.new.self
           start (left c.args.reader.now) (left c.advance.new.reader) (record { number = c.in-Ok-Some.number; event = c.event.result })
           so_far given (fed.stands settings (reverse so_far.lines) so_far.stands);
       gave = λ calls gave.

@@ -9,7 +9,7 @@ loop-preserved g c =
     let next = c.in-Ok.ensures.next in
     let gave = next.gave _ kept.gave in
     record {
-      so_far = λ settings stands. next.replaying settings _ (kept.so_far settings stands);
+      so_far = λ settings stands. (next.replaying settings _ (kept.so_far settings stands)).now;
       counted = next.counted;
       many = omega (arith, next.one_more, kept.many);
       served = omega (arith, ap (λ (totals : Totals). totals.refused) c.totals.ensures.totals, c.if-totals-gt0.false);
@@ -42,7 +42,7 @@ returns-then-totals-gt0 g c =
       tried = λ settings stands.
           let some : 0 < c.totals.result.refused = c.if-totals-gt0.true in
           tried_refused c.args.many settings c.replay_next.new.lines c.replay_next.new.replay (left c.args.reader.now) (left c.replay_next.new.reader)
-          (next.replaying settings _ (kept.so_far settings stands))
+          (next.replaying settings _ (kept.so_far settings stands)).now
           (omega (arith, next.one_more, kept.many, c.loop-test.true))
           (subst (λ n. 0 < n) (ap (λ (totals : Totals). totals.refused) c.totals.ensures.totals) some);
       not_failed = none_failed (trace c.args.reader.now) (trace c.replay_next.new.reader) (next.gave _ kept.gave).1;

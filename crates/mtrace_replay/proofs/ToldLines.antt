@@ -1,0 +1,251 @@
+-- Line numbers that are told in rising order.
+use Rattle.std.proofs.Common.{◌≡◌, ◌⊎◌, inl, inr, ℕ, zero, suc, ◌+◌, ◌*◌, ◌<◌, ◌≤◌, Bool, true, false, nat_lt, if◌then◌else◌, max, min, List, [], ◌∷◌, ◌++◌, length, refl, sym, ap, subst, ◌∙◌, arith, length-append}
+use Rattle.std.specs.Int.{div_ceil}
+use Rattle.std.specs.List.{All, Contains}
+use Rattle.std.specs.List.Sorted.{IsStrictlyIncreasing}
+use Rattle.std.proofs.Math.ListN.{get_or, get_or-append}
+use Rattle.std.proofs.Math.Nat.{mul-le-mul_right, le_of_mul-le-mul_right}
+use Rattle.std.proofs.Math.Seq.{get_or-append_seam}
+use Rattle.std.proofs.lemmas.Bool.{cases_lt}
+use Rattle.std.proofs.lemmas.Bool.Decides.{nat_tests}
+use Rattle.std.proofs.lemmas.Grind.{div_ceil_times}
+use Rattle.std.proofs.lemmas.List.{get_or_default}
+use Rattle.std.proofs.lemmas.List.Elements.{All-append, Contains-append_left, Contains-append_right}
+use Rattle.mtrace_replay.specs.Texts.{greatest}
+use Rattle.mtrace_replay.specs.Timeline.{end_of_part, IsTold, AreTold, told_later}
+
+-- the numbers that are told, up to the last of them
+pub record AreToldUpTo (lines peak parts last : ℕ) (told : List ℕ) : Type 0 where
+  pub rising : IsStrictlyIncreasing told
+  pub within : All (λ line. IsTold lines peak parts line × (line ≤ last)) told
+  pub all : (line : ℕ) → IsTold lines peak parts line → line ≤ last → Contains told line
+
+all_of_one : (P : ℕ → Type 0) (number : ℕ) → P number → All P (number ∷ [])
+all_of_one P number is zero other below = is
+all_of_one P number is (suc k) other below = absurd (omega (arith, below))
+
+has_one : (number : ℕ) → Contains (number ∷ []) number
+has_one number = (0, omega arith, refl)
+
+rising_one : (number : ℕ) → IsStrictlyIncreasing (number ∷ [])
+rising_one number k below = absurd (omega (arith, below))
+
+-- before the first part
+pub told_none : (lines peak parts : ℕ) → AreToldUpTo lines peak parts 0 (0 ∷ [])
+told_none lines peak parts = record {
+  rising = rising_one 0;
+  within = all_of_one (λ line. IsTold lines peak parts line × (line ≤ 0)) 0 (inl refl, omega arith);
+  all = λ line told none. subst (Contains (0 ∷ [])) (let is : 0 ≡ line = omega (arith, none) in is) (has_one 0);
+}
+
+-- a number behind those below it
+rising_more : (told : List ℕ) (last number : ℕ) → IsStrictlyIncreasing told → All (λ line. line ≤ last) told → last < number → IsStrictlyIncreasing (told ++ number ∷ [])
+rising_more told last number rising within above k below = by_place (cases_lt (k + 1) (length told))
+  where
+    all : List ℕ
+    all = told ++ number ∷ []
+
+    here : k < length told
+    here = omega (arith, below, length-append {A = ℕ})
+
+    first : get_or all k 0 ≡ get_or told k 0
+    first = get_or-append told (number ∷ []) 0 k here
+
+    by_place : (k + 1 < length told) ⊎ (length told ≤ k + 1) → get_or all k 0 < get_or all (k + 1) 0
+    by_place (inl inside) = omega (arith, first, get_or-append told (number ∷ []) 0 (k + 1) inside, rising k inside)
+    by_place (inr end) =
+        let place : length told ≡ k + 1 = omega (arith, end, here) in
+        let next : get_or all (k + 1) 0 ≡ number = ap (λ n. get_or all n 0) (sym place) ∙ get_or-append_seam told number [] 0 in
+        omega (arith, first, next, within k 0 here, above)
+
+-- the next number that is told
+pub told_next : (lines peak parts last number : ℕ) (told : List ℕ) → AreToldUpTo lines peak parts last told → IsTold lines peak parts number
+    → ((line : ℕ) → IsTold lines peak parts line → last < line → number ≤ line)
+    → AreToldUpTo lines peak parts (max last number) (told_later told last number)
+told_next lines peak parts last number told are is next = by_order (nat_lt last number) refl
+  where
+    P : ℕ → Type 0
+    P most = AreToldUpTo lines peak parts most told
+
+    Q : ℕ → Type 0
+    Q most = AreToldUpTo lines peak parts most (told ++ number ∷ [])
+
+    more : last < number → AreToldUpTo lines peak parts number (told ++ number ∷ [])
+    more above = record {
+      rising = rising_more told last number are.rising (λ k other below. (are.within k other below).1) above;
+      within = All-append (λ line. IsTold lines peak parts line × (line ≤ number)) told (number ∷ [])
+          (λ k other below. ((are.within k other below).0, omega (arith, (are.within k other below).1, above)))
+          (all_of_one (λ line. IsTold lines peak parts line × (line ≤ number)) number (is, omega arith));
+      all = λ line told_too up. found line told_too up (cases_lt last line);
+    }
+      where
+        found : (line : ℕ) → IsTold lines peak parts line → line ≤ number → (last < line) ⊎ (line ≤ last) → Contains (told ++ number ∷ []) line
+        found line told_too up (inl later) =
+            let same : number ≡ line = omega (arith, next line told_too later, up) in
+            subst (Contains (told ++ number ∷ [])) same (Contains-append_right told (number ∷ []) number (has_one number))
+        found line told_too up (inr before) = Contains-append_left told (number ∷ []) line (are.all line told_too before)
+
+    by_order : (later : Bool) → nat_lt last number ≡ later → AreToldUpTo lines peak parts (max last number) (if later then told ++ number ∷ [] else told)
+    by_order true above =
+        let later : last < number = grind (arith, nat_tests, above) in
+        subst Q (let is : number ≡ max last number = omega (arith, later) in is) (more later)
+    by_order false above =
+        let not_later : number ≤ last = grind (arith, nat_tests, above) in
+        subst P (let is : last ≡ max last number = omega (arith, not_later) in is) are
+
+-- a number for each part so far, and 0, and the peak's where it was told
+pub counts_of_part : (last first end middle peak part before between after : ℕ) → first ≡ min peak end → middle ≡ max last first → last ≤ end
+    → (last < first → between ≡ before + 1) → (first ≤ last → between ≡ before) → (middle < end → after ≡ between + 1) → (end ≤ middle → after ≡ between)
+    → (last < peak → before ≤ part + 1) → before ≤ part + 2
+    → (end < peak → after ≤ part + 1 + 1) × (after ≤ part + 1 + 2)
+counts_of_part last first end middle peak part before between after first_is middle_is up one_more as_many end_more end_as_many early few = by_order (cases_lt last first) (cases_lt middle end)
+  where
+    by_order : (last < first) ⊎ (first ≤ last) → (middle < end) ⊎ (end ≤ middle) → (end < peak → after ≤ part + 1 + 1) × (after ≤ part + 1 + 2)
+    by_order (inl a) (inl b) = ((λ c. omega (arith, first_is, middle_is, up, a, b, c)), omega (arith, first_is, one_more a, end_more b, early (omega (arith, first_is, a))))
+    by_order (inl a) (inr b) =
+        let from = early (omega (arith, first_is, a)) in
+        ((λ c. omega (arith, one_more a, end_as_many b, from)), omega (arith, one_more a, end_as_many b, from))
+    by_order (inr a) (inl b) = ((λ c. omega (arith, first_is, middle_is, up, a, b, c)), omega (arith, as_many a, end_more b, few))
+    by_order (inr a) (inr b) = ((λ c. omega (arith, as_many a, end_as_many b, early (omega (arith, up, c)))), omega (arith, as_many a, end_as_many b, few))
+
+-- a quotient that is rounded up is the least of those that are large enough
+ceil_le : (n parts most : ℕ) → 0 < parts → n ≤ most * parts → div_ceil n parts ≤ most
+ceil_le n parts most some within = by_order (cases_lt most (div_ceil n parts))
+  where
+    by_order : (most < div_ceil n parts) ⊎ (div_ceil n parts ≤ most) → div_ceil n parts ≤ most
+    by_order (inr is) = is
+    by_order (inl more) =
+        let times : (most + 1) * parts ≤ div_ceil n parts * parts = mul-le-mul_right parts (omega (arith, more)) in
+        let next : (most + 1) * parts ≡ most * parts + parts = omega arith in
+        absurd (omega (arith, times, next, within, (div_ceil_times n parts some).1))
+
+ceil_ge : (n parts least : ℕ) → 0 < parts → least * parts ≤ n → least ≤ div_ceil n parts
+ceil_ge n parts least some within =
+    le_of_mul-le-mul_right {m = least} {n = div_ceil n parts} {k = parts} (omega (arith, within, (div_ceil_times n parts some).0)) some
+
+-- a later part doesn't end before
+pub ends_rise : (lines parts part other : ℕ) → 0 < parts → part ≤ other → end_of_part lines parts part ≤ end_of_part lines parts other
+ends_rise lines parts part other some before =
+    let times : part * lines ≤ other * lines = mul-le-mul_right lines before in
+    ceil_le (part * lines) parts (end_of_part lines parts other) some (omega (arith, times, (div_ceil_times (other * lines) parts some).0))
+
+-- the last part ends with the last line
+pub last_end : (lines parts : ℕ) → 0 < parts → end_of_part lines parts parts ≡ lines
+last_end lines parts some =
+    let same : parts * lines ≡ lines * parts = omega arith in
+    let up = ceil_le (parts * lines) parts lines some (omega (arith, same)) in
+    let down = ceil_ge (parts * lines) parts lines some (omega (arith, same)) in
+    omega (arith, up, down)
+
+-- behind the end of a part, no number is told before the next part's end but the peak's
+none_between : (lines peak parts part line : ℕ) → 0 < parts → IsTold lines peak parts line → end_of_part lines parts part < line
+    → (line ≡ peak) ⊎ (end_of_part lines parts (part + 1) ≤ line)
+none_between lines peak parts part line some (inl is) behind = absurd (omega (arith, is, behind))
+none_between lines peak parts part line some (inr (inl is)) behind = inl is
+none_between lines peak parts part line some (inr (inr (other, within, is))) behind = by_order (cases_lt part other)
+  where
+    by_order : (part < other) ⊎ (other ≤ part) → (line ≡ peak) ⊎ (end_of_part lines parts (part + 1) ≤ line)
+    by_order (inl later) = inr (omega (arith, is, ends_rise lines parts (part + 1) other some (omega (arith, later))))
+    by_order (inr before) = absurd (omega (arith, is, behind, ends_rise lines parts other part some before))
+
+-- one part more: first the peak, where it is told before the part's end, and then that end
+pub told_part : (lines peak parts part : ℕ) (told : List ℕ) → 0 < parts → part < parts → AreToldUpTo lines peak parts (end_of_part lines parts part) told
+    → (let end = end_of_part lines parts (part + 1) in
+    let last = end_of_part lines parts part in
+    AreToldUpTo lines peak parts end (told_later (told_later told last (min peak end)) (max last (min peak end)) end))
+told_part lines peak parts part told some within are =
+    let is : max middle end ≡ end = omega (arith, ends_rise lines parts part (part + 1) some (omega arith)) in
+    subst (λ most. AreToldUpTo lines peak parts most (told_later (told_later told last first) middle end)) is (told_next lines peak parts middle end (told_later told last first) early end_told end_next)
+  where
+    last : ℕ
+    last = end_of_part lines parts part
+
+    end : ℕ
+    end = end_of_part lines parts (part + 1)
+
+    first : ℕ
+    first = min peak end
+
+    middle : ℕ
+    middle = max last first
+
+    end_told : IsTold lines peak parts end
+    end_told = inr (inr (part + 1, omega (arith, within), refl))
+
+    first_told : IsTold lines peak parts first
+    first_told = by_order (cases_lt peak end)
+      where
+        by_order : (peak < end) ⊎ (end ≤ peak) → IsTold lines peak parts first
+        by_order (inl before) = inr (inl (omega (arith, before)))
+        by_order (inr behind) = subst (IsTold lines peak parts) (let is : end ≡ first = omega (arith, behind) in is) end_told
+
+    first_next : (line : ℕ) → IsTold lines peak parts line → last < line → first ≤ line
+    first_next line is behind = by_kind (none_between lines peak parts part line some is behind)
+      where
+        by_kind : (line ≡ peak) ⊎ (end ≤ line) → first ≤ line
+        by_kind (inl same) = omega (arith, same)
+        by_kind (inr later) = omega (arith, later)
+
+    early : AreToldUpTo lines peak parts middle (told_later told last first)
+    early = told_next lines peak parts last first told are first_told first_next
+
+    end_next : (line : ℕ) → IsTold lines peak parts line → middle < line → end ≤ line
+    end_next line is behind = by_kind (none_between lines peak parts part line some is (omega (arith, behind)))
+      where
+        by_kind : (line ≡ peak) ⊎ (end ≤ line) → end ≤ line
+        by_kind (inl same) = omega (arith, same, behind)
+        by_kind (inr later) = later
+
+-- the same, by what was computed
+pub told_by_part : (lines peak parts part : ℕ) (told told_first told_end : List ℕ) (last first end middle at_end : ℕ) → 0 < parts → part < parts → AreToldUpTo lines peak parts last told
+    → last ≡ end_of_part lines parts part → end ≡ end_of_part lines parts (part + 1) → first ≡ min peak end → told_first ≡ told_later told last first → middle ≡ max last first
+    → told_end ≡ told_later told_first middle end → at_end ≡ end_of_part lines parts (part + 1) → AreToldUpTo lines peak parts at_end told_end
+told_by_part lines peak parts part told told_first told_end last first end middle at_end some within are last_is end_is first_is told_first_is middle_is told_end_is at_end_is =
+    let start : AreToldUpTo lines peak parts (end_of_part lines parts part) told = subst (λ n. AreToldUpTo lines peak parts n told) last_is are in
+    rw (at_end_is, told_end_is, told_first_is, middle_is, first_is, end_is, last_is) (told_part lines peak parts part told some within start)
+
+-- no number is told behind the last line's
+told_below : (lines peak parts line : ℕ) → 0 < parts → peak ≤ lines → IsTold lines peak parts line → line ≤ lines
+told_below lines peak parts line some within (inl none) = omega (arith, none)
+told_below lines peak parts line some within (inr (inl same)) = omega (arith, same, within)
+told_below lines peak parts line some within (inr (inr (part, few, same))) = omega (arith, same, last_end lines parts some, ends_rise lines parts part parts some few)
+
+-- all parts
+pub told_all : (lines peak parts last : ℕ) (told : List ℕ) → 0 < parts → last ≡ end_of_part lines parts parts → AreToldUpTo lines peak parts last told → peak ≤ lines → AreTold lines peak parts told
+told_all lines peak parts last told some is are within = record {
+  rising = are.rising;
+  each = λ line. (from line, λ told_too. are.all line told_too (omega (arith, is, last_end lines parts some, told_below lines peak parts line some within told_too)));
+}
+  where
+    from : (line : ℕ) → Contains told line → IsTold lines peak parts line
+    from line (k, inside, at) = subst (IsTold lines peak parts) at (are.within k line inside).0
+
+-- the number at a place stands in the list
+stands_at : (numbers : List ℕ) (place other : ℕ) → place < length numbers → Contains numbers (get_or numbers place other)
+stands_at numbers place other inside = (place, inside, get_or_default numbers place (get_or numbers place other) other inside)
+
+-- what is told is no line behind the last one
+pub told_within : (lines peak parts : ℕ) (told : List ℕ) → 0 < parts → peak ≤ lines → AreTold lines peak parts told → All (λ number. number ≤ lines) told
+told_within lines peak parts told some within are k other inside =
+    told_below lines peak parts (get_or told k other) some within ((are.each (get_or told k other)).0 (stands_at told k other inside))
+
+greatest_within : (numbers : List ℕ) (most : ℕ) → All (λ number. number ≤ most) numbers → greatest numbers ≤ most
+greatest_within [] most within = omega arith
+greatest_within (number ∷ numbers) most within =
+    let first : number ≤ most = within 0 0 (omega arith) in
+    let others = greatest_within numbers most (λ k other inside. within (suc k) other (omega (arith, inside))) in
+    omega (arith, first, others)
+
+greatest_reached : (numbers : List ℕ) (number place other : ℕ) → place < length numbers → get_or numbers place other ≡ number → number ≤ greatest numbers
+greatest_reached [] number place other inside is = absurd (omega (arith, inside))
+greatest_reached (first ∷ numbers) number zero other inside is = omega (arith, is)
+greatest_reached (first ∷ numbers) number (suc place) other inside is =
+    let later = greatest_reached numbers number place other (omega (arith, inside)) is in
+    omega (arith, later)
+
+-- the last number that is told is the last line's
+pub greatest_told : (lines peak parts : ℕ) (told : List ℕ) → 0 < parts → peak ≤ lines → AreTold lines peak parts told → greatest told ≡ lines
+greatest_told lines peak parts told some within are =
+    let last : IsTold lines peak parts lines = inr (inr (parts, omega arith, sym (last_end lines parts some))) in
+    let at = (are.each lines).1 last in
+    omega (arith, greatest_within told lines (told_within lines peak parts told some within are), greatest_reached told lines at.0 lines at.1 at.2)

@@ -1,0 +1,63 @@
+use Rattle.std.proofs.Common.{arith, refl, ap, ◌∙◌}
+use Rattle.mtrace_replay.specs.declared.totals.Totals.{Totals}
+use Rattle.mtrace_replay.proofs.ReplayingLemmas.{going_on_none, going_on_further}
+use Rattle.mtrace_replay.proofs.again.replay_up_to.Goals as goal
+
+pub loop-init : goal.loop-init
+loop-init g c = record {
+  so_far = λ settings start before. going_on_none settings c.args.lines.now c.args.replay.now start (g.R.Source.left c.args.reader.now) before;
+  counted = c.requires.counted;
+  many = omega (arith, c.requires.counted, ap (λ (totals : Totals). totals.lines) c.totals-counter.ensures.totals);
+  none = c.requires.none;
+  whole = refl;
+  gave = λ calls gave not_failed. (gave, not_failed);
+  calls = λ calls gave. gave;
+  records = refl;
+}
+
+pub loop-preserved : goal.loop-preserved
+loop-preserved g c =
+    let left = g.R.Source.left in
+    let kept = c.loop.invariant in
+    let next = c.in-Ok.ensures.next in
+    record {
+      so_far = λ settings start before.
+          let so_far = kept.so_far settings start before in
+          going_on_further settings before.lines c.loop.lines c.replay_next.new.lines c.loop.replay c.replay_next.new.replay start (left c.loop.reader) (left c.replay_next.new.reader)
+          so_far (next.replaying settings start so_far.now);
+      counted = next.counted;
+      many = omega (arith, next.one_more, kept.many);
+      none = c.in-Ok.ensures.none;
+      whole = next.whole ∙ kept.whole;
+      gave = λ calls gave not_failed. next.gave calls (kept.calls calls gave);
+      calls = λ calls gave. (next.gave calls (kept.calls calls gave)).0;
+      records = next.records ∙ kept.records;
+    }
+
+pub returns-in_default-clause-lines : goal.returns-in_default-clause-lines
+returns-in_default-clause-lines g c =
+    let kept = c.loop.invariant in
+    let next = c.in_default.ensures.next in
+    record {
+      counted = tt;
+      reached = tt;
+      replaying = tt;
+      gave = tt;
+      stops = λ settings start calls many before gave up within.
+          next.stops settings start calls many (kept.so_far settings start before).now (kept.calls calls gave) (omega (arith, kept.many, c.loop-test.true, up)) within;
+      whole = next.whole ∙ kept.whole;
+      records = next.records ∙ kept.records;
+    }
+
+pub returns-clause-lines : goal.returns-clause-lines
+returns-clause-lines g c =
+    let kept = c.loop.invariant in
+    record {
+      counted = kept.counted;
+      reached = omega (arith, kept.many, c.loop-test.false, c.loop.auto.counter-end, c.requires.ahead, c.requires.counted, ap (λ (totals : Totals). totals.lines) c.totals-counter.ensures.totals);
+      replaying = kept.so_far;
+      gave = kept.gave;
+      stops = tt;
+      whole = kept.whole;
+      records = kept.records;
+    }

@@ -1,0 +1,69 @@
+use Rattle.std.proofs.Common.{rules, ◌≤◌, ℕ, List, refl, sym, subst, arith, inl, inr}
+use Rattle.mtrace_log.specs.Progress.{greatest_number}
+use Rattle.mtrace_replay.specs.declared.point.Point.{Point}
+use Rattle.mtrace_replay.specs.RunTimeline.{HasPoints}
+use Rattle.mtrace_replay.specs.Texts.{timeline_text}
+use Rattle.mtrace_replay.specs.Timeline.{AreTold}
+use Rattle.mtrace_replay.proofs.TimelineLemmas.{tells_timeline, fails_before}
+use Rattle.mtrace_replay.proofs.timeline.tell_timeline.Goals as goal
+
+pub returns-in_default : goal.returns-in_default
+returns-in_default g c = λ lines stands.
+    let taken = g.W.Sink.taken in
+    let trace = g.W.Sink.trace in
+    let totals = c.totals-totals.result in
+    let numbers = c.as_slice.result.now in
+    let T : List ℕ → Type 0 = λ all. AreTold totals.lines totals.peak_line c.args.parts all in
+    let told : totals.peak_line ≤ totals.lines → T numbers = λ within. subst T (sym c.as_slice.ensures.value) (c.tell_lines.ensures.told within) in
+    let few : totals.lines ≤ greatest_number = omega (arith, c.totals-totals.type_inv) in
+    record {
+      faults = inl refl;
+      told = λ other. absurd (other refl);
+      reader_not_failed = λ other. absurd (other refl);
+      read_fault = λ _. fails_before c.args.settings c.args.parts lines c.args.replay.now totals numbers (g.R.Source.whole c.args.reader.now) (g.R.Source.left c.args.reader.now) (g.R.Source.left c.read_points.new.reader)
+          (g.R.Source.trace c.args.reader.now) (g.R.Source.trace c.read_points.new.reader) c.requires.some stands c.totals-totals.ensures.totals told few
+          (c.in_default.ensures.fails c.args.settings totals.lines c.restart.ensures.made);
+      nothing_put = λ _. refl;
+    }
+
+pub returns-in-Ok-put_and_flush : goal.returns-in-Ok-put_and_flush
+returns-in-Ok-put_and_flush g c = λ lines stands.
+    let taken = g.W.Sink.taken in
+    let trace = g.W.Sink.trace in
+    let totals = c.totals-totals.result in
+    let numbers = c.as_slice.result.now in
+    let T : List ℕ → Type 0 = λ all. AreTold totals.lines totals.peak_line c.args.parts all in
+    let told : totals.peak_line ≤ totals.lines → T numbers = λ within. subst T (sym c.as_slice.ensures.value) (c.tell_lines.ensures.told within) in
+    let points = c.as_slice-2.result.now in
+    let H : List Point → Type 0 = λ all. HasPoints c.args.settings numbers all (g.R.Source.whole c.args.reader.now) (g.R.Source.left c.read_points.new.reader) in
+    let has = subst H (sym c.as_slice-2.ensures.value) (c.in-Ok.ensures.done c.args.settings c.restart.ensures.made) in
+    let tells = tells_timeline c.args.settings c.args.parts lines c.args.replay.now totals numbers points (g.R.Source.whole c.args.reader.now) (g.R.Source.left c.read_points.new.reader)
+    c.requires.some stands c.totals-totals.ensures.totals told has in
+    record {
+      faults = tt;
+      told = λ _. (timeline_text points totals.refused, tells, c.in-Ok-put_and_flush.ensures);
+      reader_not_failed = λ _. c.in-Ok.ensures.not_failed;
+      read_fault = search rules;
+      nothing_put = search rules;
+    }
+
+pub returns : goal.returns
+returns g c = λ lines stands.
+    let taken = g.W.Sink.taken in
+    let trace = g.W.Sink.trace in
+    let totals = c.totals-totals.result in
+    let numbers = c.as_slice.result.now in
+    let T : List ℕ → Type 0 = λ all. AreTold totals.lines totals.peak_line c.args.parts all in
+    let told : totals.peak_line ≤ totals.lines → T numbers = λ within. subst T (sym c.as_slice.ensures.value) (c.tell_lines.ensures.told within) in
+    let points = c.as_slice-2.result.now in
+    let H : List Point → Type 0 = λ all. HasPoints c.args.settings numbers all (g.R.Source.whole c.args.reader.now) (g.R.Source.left c.read_points.new.reader) in
+    let has = subst H (sym c.as_slice-2.ensures.value) (c.in-Ok.ensures.done c.args.settings c.restart.ensures.made) in
+    let tells = tells_timeline c.args.settings c.args.parts lines c.args.replay.now totals numbers points (g.R.Source.whole c.args.reader.now) (g.R.Source.left c.read_points.new.reader)
+    c.requires.some stands c.totals-totals.ensures.totals told has in
+    record {
+      faults = inr refl;
+      told = λ _. (timeline_text points totals.refused, tells, c.in-Err.ensures);
+      reader_not_failed = λ _. c.in-Ok.ensures.not_failed;
+      read_fault = search rules;
+      nothing_put = search rules;
+    }

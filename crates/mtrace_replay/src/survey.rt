@@ -1,0 +1,123 @@
+//! What stands in a heap.
+
+ghost use Rattle.std.specs.Prelude.{◌≡◌, ◌+◌, ◌<◌, ◌≤◌, ◌^◌, List, [], ◌∷◌, ◌++◌, length, max};
+ghost use Rattle.tlsf_heap.specs.declared.row.Row.{Row};
+ghost use Rattle.tlsf_heap.specs.Pools.{most_records};
+ghost use Rattle.tlsf_heap.specs.Content.{blocks_of};
+ghost use Rattle.tlsf_heap.specs.Bare.{bare};
+ghost use Rattle.mtrace_replay.specs.Texts.{free_sizes};
+ghost use Rattle.mtrace_replay.specs.Rows.{rows_at};
+ghost use Rattle.mtrace_replay.specs.Survey.{live_ends, IsSurvey, SurveysRows, SurveysFew, ReadsRows};
+
+use tlsf_heap::{Cursor, Heaped, Row};
+
+/// What is free in a heap, and how far its live blocks reach.
+#[derive(Clone, Copy, Debug, PartialEq, Eq)]
+pub(crate) struct Survey {
+    /// How many blocks are free.
+    pub(crate) free_blocks: u64,
+    /// The sum of their sizes, in bytes.
+    pub(crate) free_bytes: u64,
+    /// The greatest of their sizes, in bytes; 0 where none is free.
+    pub(crate) largest_free: u64,
+    /// The greatest end of a live block, as a place; 0 where none is live.
+    pub(crate) reach: u64,
+}
+
+/// The larger of two numbers.
+fn larger(first: u64, second: u64) -> u64
+    ensures { result ≡ max first second }
+{
+    if first > second { first } else { second }
+}
+
+impl Survey {
+    /// That of no block.
+    fn none() -> Survey
+        ensures { IsSurvey result [] [] }
+    {
+        Survey {
+            free_blocks: 0,
+            free_bytes: 0,
+            largest_free: 0,
+            reach: 0,
+        }
+    }
+
+    /// That of the blocks of both.
+    fn joined(self, more: Survey) -> Survey
+        requires blocks { self.free_blocks + more.free_blocks < 2 ^ 64 }
+        requires bytes { self.free_bytes + more.free_bytes < 2 ^ 64 }
+        ensures joined { (first second : List Row) → SurveysRows first self → SurveysRows second more → SurveysRows (first ++ second) result }
+        ensures blocks { result.free_blocks ≡ self.free_blocks + more.free_blocks }
+        ensures bytes { result.free_bytes ≡ self.free_bytes + more.free_bytes }
+    {
+        Survey {
+            free_blocks: self.free_blocks + more.free_blocks,
+            free_bytes: self.free_bytes + more.free_bytes,
+            largest_free: larger(self.largest_free, more.largest_free),
+            reach: larger(self.reach, more.reach),
+        }
+    }
+}
+
+/// The survey of a row's block.
+fn survey_row(row: Row) -> Survey
+    ensures { SurveysFew 1 (row ∷ []) result }
+{
+    let size = u64::from(row.size);
+    if row.used {
+        Survey {
+            reach: u64::from(row.place) + size,
+            ..Survey::none()
+        }
+    } else {
+        Survey {
+            free_blocks: 1,
+            free_bytes: size,
+            largest_free: size,
+            reach: 0,
+        }
+    }
+}
+
+/// The survey of the rows from a cursor on.
+fn survey_rows<H: Heaped>(heap: &mut H, cursor: Cursor) -> Survey
+    requires stands { H.stands heap.old cursor }
+    requires few { length (H.rest heap.old cursor) ≤ most_records }
+    ensures { ReadsRows H.content most_records (H.rest heap.old cursor) result heap.old heap.new }
+{
+    let mut survey = Survey::none();
+    let mut here = cursor;
+    while let Some(next) = heap.row(here) {
+        survey = survey.joined(survey_row(next.0));
+        here = next.1;
+    }
+    survey
+}
+
+/// The survey of the pool that begins at the place `base`.
+fn survey_pool<H: Heaped>(heap: &mut H, base: u64) -> Survey
+    requires few { length (blocks_of (H.content heap.old).pools) ≤ most_records }
+    ensures { ReadsRows H.content most_records (rows_at (H.content heap.old).pools base) result heap.old heap.new }
+{
+    match heap.first(base) {
+        Ok(cursor) => survey_rows(heap, cursor),
+        Err(_) => Survey::none(),
+    }
+}
+
+/// The survey of a heap.
+pub(crate) fn survey_heap<H: Heaped>(heap: &mut H) -> Survey
+    requires few { length (blocks_of (H.content heap.old).pools) ≤ most_records }
+    ensures survey { IsSurvey result (free_sizes (bare (H.content heap.old))) (live_ends (bare (H.content heap.old))) }
+    ensures unchanged { H.content heap.new ≡ H.content heap.old }
+{
+    heap.keeps_good();
+    let pools = heap.pools();
+    let mut survey = Survey::none();
+    for range in pools.as_slice() {
+        survey = survey.joined(survey_pool(heap, range.0));
+    }
+    survey
+}

@@ -1,0 +1,59 @@
+//! Which lines are told of a log that is cut in equal parts.
+
+ghost use Rattle.std.specs.Prelude.{◌≡◌, ◌+◌, ◌<◌, ◌≤◌, [], max, vec_len, vec_capacity};
+ghost use Rattle.std.specs.List.Sorted.{IsStrictlyIncreasing};
+ghost use Rattle.mtrace_replay.specs.Timeline.{is_bad_parts as are_bad, end_of_part as line_of_part, AreTold, told_later};
+
+/// In no more parts is a log cut.
+const MOST_PARTS: u32 = 10_000;
+
+/// Whether a log can't be cut in so many parts.
+pub(crate) fn is_bad_parts(parts: u32) -> bool
+    ensures { result ≡ are_bad parts }
+{
+    parts == 0 || parts > MOST_PARTS
+}
+
+/// The number of the line with which this many of the equal parts have ended.
+fn end_of_part(lines: u64, parts: u32, part: u32) -> u64
+    requires some { 0 < parts }
+    requires within { part ≤ parts }
+    ensures { result ≡ line_of_part lines parts part }
+{
+    let end = (u128::from(part) * u128::from(lines)).div_ceil(u128::from(parts));
+    u64::try_from(end).unwrap_or(lines)
+}
+
+/// Tells a number, unless the last one that was told is as great. Answers the last one then.
+fn tell(numbers: &mut Vec<u64>, last: u64, number: u64) -> u64
+    requires room { last < number → vec_len numbers.old < vec_capacity numbers.old }
+    ensures told { numbers.new.items ≡ told_later numbers.old.items last number }
+    ensures last { result ≡ max last number }
+    ensures one_more { last < number → vec_len numbers.new ≡ vec_len numbers.old + 1 }
+    ensures as_many { number ≤ last → vec_len numbers.new ≡ vec_len numbers.old }
+    ensures capacity { vec_capacity numbers.old ≤ vec_capacity numbers.new }
+{
+    if number <= last {
+        return last;
+    }
+    numbers.push_reserved(number);
+    number
+}
+
+/// The line numbers that are told: 0, the peak's, and where each part ends, in rising order.
+pub(crate) fn tell_lines(lines: u64, peak: u64, parts: u32, numbers: &mut Vec<u64>)
+    requires some { 0 < parts }
+    requires empty { numbers.old.items ≡ [] }
+    requires room { parts + 2 ≤ vec_capacity numbers.old }
+    ensures told { peak ≤ lines → AreTold lines peak parts numbers.new.items }
+    ensures rising { IsStrictlyIncreasing numbers.new.items }
+    ensures few { vec_len numbers.new ≤ parts + 2 }
+{
+    numbers.push_reserved(0);
+    let mut last = 0;
+    for part in 0..parts {
+        let end = end_of_part(lines, parts, part + 1);
+        last = tell(numbers, last, peak.min(end));
+        last = tell(numbers, last, end);
+    }
+}
