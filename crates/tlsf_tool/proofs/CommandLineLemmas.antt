@@ -16,12 +16,12 @@ use Rattle.mtrace_replay.specs.declared.settings.Settings.{Settings}
 use Rattle.mtrace_replay.specs.declared.size.Bounds.{Bounds}
 use Rattle.mtrace_replay.specs.declared.status.RunFault.TheVariants.{OutOfMemory}
 use Rattle.tlsf_tool.specs.declared.asked.Command.{Command}
-use Rattle.tlsf_tool.specs.declared.asked.Command.TheVariants.{Report, Sites, Fit, Size, Save, Check}
+use Rattle.tlsf_tool.specs.declared.asked.Command.TheVariants.{Report, Sites, Timeline, Fit, Size, Save, Check}
 use Rattle.tlsf_tool.specs.declared.asked.Name.{Name}
 use Rattle.tlsf_tool.specs.declared.asked.Name.TheVariants.{Leaks, Peak, Walk}
 use Rattle.tlsf_tool.specs.declared.asked.ToolFault.{ToolFault}
 use Rattle.tlsf_tool.specs.declared.asked.ToolFault.TheVariants.{Help, Usage, CannotOpen, ReadsOnce, ReadsFileOnce, Run}
-use Rattle.tlsf_tool.specs.CommandLine.{AskFor, HasNumber, HasSettings, HasBounds, HasNoLog, MatchesAskFor, bare_line, report_line, sites_line, fit_line, size_line, save_line, check_line, name_text, texts_of, tlsf_line, wrong_with}
+use Rattle.tlsf_tool.specs.CommandLine.{AskFor, HasNumber, HasSettings, HasBounds, HasNoLog, MatchesAskFor, bare_line, report_line, great_line, timeline_line, fit_line, size_line, save_line, check_line, name_text, texts_of, tlsf_line, wrong_with}
 use Rattle.tlsf_tool.specs.Faults.{ExplainsKind, ExplainsWords, IsUsage}
 use Rattle.tlsf_tool.specs.Asks.{Asks, Picks}
 
@@ -38,13 +38,13 @@ put : (more a b next : App) → a ≡ b → next ≡ with_subcommand a more.top 
 put more a b next is next_is = next_is ∙ ap (λ (x : App). with_subcommand x more.top) is
 
 -- the lines of the subcommands, put to the bare one one after the other
-pub line_of : (bare leaks peak walk sites fit size save last : App) → bare ≡ bare_line → leaks ≡ with_subcommand bare (report_line (codes "leaks")).top
+pub line_of : (bare leaks peak walk sites timeline fit size save last : App) → bare ≡ bare_line → leaks ≡ with_subcommand bare (report_line (codes "leaks")).top
     → peak ≡ with_subcommand leaks (report_line (codes "peak")).top → walk ≡ with_subcommand peak (report_line (codes "walk")).top
-    → sites ≡ with_subcommand walk sites_line.top → fit ≡ with_subcommand sites fit_line.top
+    → sites ≡ with_subcommand walk (great_line (codes "sites")).top → timeline ≡ with_subcommand sites timeline_line.top → fit ≡ with_subcommand timeline fit_line.top
     → size ≡ with_subcommand fit size_line.top → save ≡ with_subcommand size save_line.top → last ≡ with_subcommand save check_line.top → last ≡ tlsf_line
-line_of bare leaks peak walk sites fit size save last bare_is leaks_is peak_is walk_is sites_is fit_is size_is save_is last_is =
-    put check_line _ _ last (put save_line _ _ save (put size_line _ _ size (put fit_line _ _ fit (put sites_line _ _ sites (put (report_line (codes "walk")) _ _ walk (put (report_line (codes "peak")) _ _ peak
-    (put (report_line (codes "leaks")) _ _ leaks bare_is leaks_is) peak_is) walk_is) sites_is) fit_is) size_is) save_is) last_is
+line_of bare leaks peak walk sites timeline fit size save last bare_is leaks_is peak_is walk_is sites_is timeline_is fit_is size_is save_is last_is =
+    put check_line _ _ last (put save_line _ _ save (put size_line _ _ size (put fit_line _ _ fit (put timeline_line _ _ timeline (put (great_line (codes "sites")) _ _ sites (put (report_line (codes "walk")) _ _ walk (put (report_line (codes "peak")) _ _ peak
+    (put (report_line (codes "leaks")) _ _ leaks bare_is leaks_is) peak_is) walk_is) sites_is) timeline_is) fit_is) size_is) save_is) last_is
 
 -- ---- numbers
 
@@ -91,6 +91,7 @@ no_such one text none some = let e : None ≡ Some text = sym none ∙ some in c
 abbrev subcommand_text : Command → Text
 subcommand_text (Report name settings log) = name_text name
 subcommand_text (Sites settings log) = codes "sites"
+subcommand_text (Timeline settings parts log) = codes "timeline"
 subcommand_text (Fit step log) = codes "fit"
 subcommand_text (Size bounds) = codes "size"
 subcommand_text (Save settings log image) = codes "save"
@@ -99,6 +100,7 @@ subcommand_text (Check image) = codes "check"
 asked_under : (found : Text × List Row) (command : Command) → MatchesAskFor (Some found) command → found.0 ≡ subcommand_text command
 asked_under found (Report name settings log) asks = asks.0
 asked_under found (Sites settings log) asks = asks.0
+asked_under found (Timeline settings parts log) asks = asks.0
 asked_under found (Fit step log) asks = asks.0
 asked_under found (Size bounds) asks = asks.0
 asked_under found (Save settings log image) asks = asks.0
@@ -106,12 +108,17 @@ asked_under found (Check image) asks = asks.0
 
 -- what matches of these rows ask for, where the log or the settings are missing, or the image
 module _ (rows : List Row) where
+  -- there is no number of parts
+  abbrev HasNoParts : Type 0
+  HasNoParts = (parts : ℕ) → HasNumber rows (codes "points") 32 parts → ⊥
+
   -- what the subcommand of this text needs is missing: its settings, its log, its bounds or its image
   abbrev IsMissing : Text → Type 0
   IsMissing text = MatchBool (bytes_eq text (codes "check")) (first_of (codes "IMAGE") rows ≡ None)
       (MatchBool (bytes_eq text (codes "size")) ((bounds : Bounds) → HasBounds rows bounds → ⊥)
       (MatchBool (bytes_eq text (codes "fit")) (first_of (codes "LOG") rows ≡ None)
-      (MatchBool (bytes_eq text (codes "save")) (HasNoLog rows ⊎ (first_of (codes "IMAGE") rows ≡ None)) (HasNoLog rows))))
+      (MatchBool (bytes_eq text (codes "timeline")) (HasNoParts ⊎ HasNoLog rows)
+      (MatchBool (bytes_eq text (codes "save")) (HasNoLog rows ⊎ (first_of (codes "IMAGE") rows ≡ None)) (HasNoLog rows)))))
 
   no_log : (settings : Settings) (log : String Global) → HasNoLog rows → HasSettings rows settings → first_of (codes "LOG") rows ≡ Some (string_bytes log) → ⊥
   no_log settings log (inl never) has is = never settings has
@@ -122,6 +129,8 @@ module _ (rows : List Row) where
   has_all text (Report Peak settings log) asks missing = no_log settings log missing asks.1 asks.2
   has_all text (Report Walk settings log) asks missing = no_log settings log missing asks.1 asks.2
   has_all text (Sites settings log) asks missing = no_log settings log missing asks.1 asks.2
+  has_all text (Timeline settings parts log) asks (inl never) = never parts asks.2
+  has_all text (Timeline settings parts log) asks (inr missing) = no_log settings log missing asks.1 asks.3
   has_all text (Fit step log) asks none = no_such (first_of (codes "LOG") rows) (string_bytes log) none asks.2
   has_all text (Size bounds) asks never = never bounds asks.1
   has_all text (Save settings log image) asks (inl missing) = no_log settings log missing asks.1 asks.2
@@ -138,6 +147,9 @@ module _ (rows : List Row) where
 
   pub sites_asks_nothing : HasNoLog rows → AsksNothing (Some (codes "sites", rows))
   sites_asks_nothing missing = text_asks_nothing (codes "sites") missing
+
+  pub timeline_asks_nothing : HasNoParts ⊎ HasNoLog rows → AsksNothing (Some (codes "timeline", rows))
+  timeline_asks_nothing missing = text_asks_nothing (codes "timeline") missing
 
   pub fit_asks_nothing : first_of (codes "LOG") rows ≡ None → AsksNothing (Some (codes "fit", rows))
   fit_asks_nothing none = text_asks_nothing (codes "fit") none

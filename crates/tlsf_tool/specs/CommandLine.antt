@@ -14,7 +14,7 @@ use Rattle.tlsf_class.specs.Classes.{unit, greatest_size}
 use Rattle.mtrace_replay.specs.declared.settings.Settings.{Settings}
 use Rattle.mtrace_replay.specs.declared.size.Bounds.{Bounds}
 use Rattle.tlsf_tool.specs.declared.asked.Command.{Command}
-use Rattle.tlsf_tool.specs.declared.asked.Command.TheVariants.{Report, Sites, Fit, Size, Save, Check}
+use Rattle.tlsf_tool.specs.declared.asked.Command.TheVariants.{Report, Sites, Timeline, Fit, Size, Save, Check}
 use Rattle.tlsf_tool.specs.declared.asked.Name.{Name}
 use Rattle.tlsf_tool.specs.declared.asked.Name.TheVariants.{Leaks, Peak, Walk}
 
@@ -37,6 +37,9 @@ pools_rule = option_rule (codes "pools") (codes "1") (parser.Signed (pos 1) (pos
 
 abbrev pub records_rule : Text → Rule
 records_rule default = option_rule (codes "records") default (parser.Signed (pos 1) (pos 65535))
+
+abbrev pub points_rule : Rule
+points_rule = option_rule (codes "points") (codes "100") (parser.Signed (pos 1) (pos 10000))
 
 -- `--ID` with one value, where it is given, and no default
 abbrev pub given_rule : Text → ValueParser → Rule
@@ -85,9 +88,12 @@ heap_line pool records name = with_rule (with_rule (with_rule (with_rule (new_ap
 abbrev pub report_line : Text → App
 report_line = heap_line (codes "16777216") (codes "8192")
 
--- the default heap of this one is the greatest
-abbrev pub sites_line : App
-sites_line = heap_line (codes "1073741808") (codes "65535") (codes "sites")
+-- the default heap of these is the greatest
+abbrev pub great_line : Text → App
+great_line = heap_line (codes "1073741808") (codes "65535")
+
+abbrev pub timeline_line : App
+timeline_line = with_rule (great_line (codes "timeline")) points_rule
 
 abbrev pub fit_line : App
 fit_line = with_rule (with_rule (new_app (codes "fit")) step_rule) log_rule
@@ -106,8 +112,8 @@ abbrev pub bare_line : App
 bare_line = on_top (λ s. record s { has_version = true; subcommand_required = true }) (new_app (codes "tlsf"))
 
 abbrev pub tlsf_line : App
-tlsf_line = with_subcommand (with_subcommand (with_subcommand (with_subcommand (with_subcommand (with_subcommand (with_subcommand (with_subcommand bare_line (report_line (codes "leaks")).top)
-    (report_line (codes "peak")).top) (report_line (codes "walk")).top) sites_line.top) fit_line.top) size_line.top) save_line.top) check_line.top
+tlsf_line = with_subcommand (with_subcommand (with_subcommand (with_subcommand (with_subcommand (with_subcommand (with_subcommand (with_subcommand (with_subcommand bare_line (report_line (codes "leaks")).top)
+    (report_line (codes "peak")).top) (report_line (codes "walk")).top) (great_line (codes "sites")).top) timeline_line.top) fit_line.top) size_line.top) save_line.top) check_line.top
 
 -- an option or a word by this rule, which the subcommand has for itself
 pub record IsArgOf (rule : Rule) (arg : Arg) : Type 0 where
@@ -156,6 +162,8 @@ MatchesAskFor (Some found) (Report name settings log) = (found.0 ≡ name_text n
     × HasSettings found.1 settings × (first_of (codes "LOG") found.1 ≡ Some (string_bytes log))
 MatchesAskFor (Some found) (Sites settings log) = (found.0 ≡ codes "sites")
     × HasSettings found.1 settings × (first_of (codes "LOG") found.1 ≡ Some (string_bytes log))
+MatchesAskFor (Some found) (Timeline settings parts log) = (found.0 ≡ codes "timeline")
+    × HasSettings found.1 settings × HasNumber found.1 (codes "points") 32 parts × (first_of (codes "LOG") found.1 ≡ Some (string_bytes log))
 MatchesAskFor (Some found) (Fit step log) = (found.0 ≡ codes "fit") × HasGiven found.1 (codes "step") step × (first_of (codes "LOG") found.1 ≡ Some (string_bytes log))
 MatchesAskFor (Some found) (Size bounds) = (found.0 ≡ codes "size") × HasBounds found.1 bounds
 MatchesAskFor (Some found) (Save settings log image) = (found.0 ≡ codes "save")

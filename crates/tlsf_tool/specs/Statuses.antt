@@ -3,10 +3,11 @@ use Rattle.std.specs.Prelude.{◌≡◌, ◌≤◌, ◌⊎◌, ℕ, List, Result
 use Rattle.mtrace_log.specs.declared.call.Call.{Call}
 use Rattle.mtrace_replay.specs.Run.{Bytes}
 use Rattle.mtrace_replay.specs.RunSites.{RunsSites}
+use Rattle.mtrace_replay.specs.RunTimeline.{RunsTimeline}
 use Rattle.mtrace_replay.specs.RunFit.{RunsFit}
 use Rattle.mtrace_replay.specs.Saving.{PutsAndFlushes}
 use Rattle.tlsf_tool.specs.declared.plan.Rereading.{Rereading}
-use Rattle.tlsf_tool.specs.declared.plan.Rereading.TheVariants.{Sites, Fit}
+use Rattle.tlsf_tool.specs.declared.plan.Rereading.TheVariants.{Sites, Timeline, Fit}
 use Rattle.tlsf_tool.specs.declared.asked.Name.{Name}
 use Rattle.tlsf_tool.specs.declared.asked.Name.TheVariants.{Leaks, Peak, Walk}
 use Rattle.mtrace_replay.specs.declared.report.Report.{Report}
@@ -56,6 +57,8 @@ abbrev pub Rereads : {R W : Type 0} → Rereading → (left whole : R → Bytes)
     → Result Status RunFault → (reader_old reader_new : R) (writer_old writer_new : W) → Type 0
 Rereads (Sites settings) left whole pulls taken puts outcome reader_old reader_new writer_old writer_new =
     RunsSites settings left whole pulls taken puts outcome reader_old reader_new writer_old writer_new
+Rereads (Timeline settings parts) left whole pulls taken puts outcome reader_old reader_new writer_old writer_new =
+    RunsTimeline settings parts left whole pulls taken puts outcome reader_old reader_new writer_old writer_new
 Rereads (Fit step) left whole pulls taken puts outcome reader_old reader_new writer_old writer_new =
     RunsFit step left whole pulls taken puts outcome reader_old reader_new writer_old writer_new
 

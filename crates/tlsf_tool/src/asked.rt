@@ -37,6 +37,15 @@ pub enum Command {
         /// The log's name. It is read twice.
         log: String,
     },
+    /// What is held over the lines of a log.
+    Timeline {
+        /// The heap that the log is replayed on.
+        settings: Settings,
+        /// In how many equal parts the log is cut.
+        parts: u32,
+        /// The log's name. It is read twice.
+        log: String,
+    },
     /// How large a pool a log needs.
     Fit {
         /// How many bytes lie between two sizes that are tried, where that is given.

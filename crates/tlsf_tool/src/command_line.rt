@@ -2,7 +2,7 @@
 
 ghost use Rattle.std.specs.Prelude.{◌≡◌, IfOk};
 ghost use Rattle.clap.specs.Words.{App, app_of, with_subcommand};
-ghost use Rattle.tlsf_tool.specs.CommandLine.{IsArgOf, IsCommandOf, log_rule, image_rule, pool_rule, pools_rule, records_rule, step_rule, blocks_rule, largest_rule, bytes_rule, align_rule, heap_line, report_line, sites_line, fit_line, size_line, save_line, check_line, bare_line, tlsf_line};
+ghost use Rattle.tlsf_tool.specs.CommandLine.{IsArgOf, IsCommandOf, log_rule, image_rule, points_rule, pool_rule, pools_rule, records_rule, step_rule, blocks_rule, largest_rule, bytes_rule, align_rule, heap_line, report_line, great_line, timeline_line, fit_line, size_line, save_line, check_line, bare_line, tlsf_line};
 
 use clap::{Arg, Command, value_parser};
 use std::alloc::{AllocError, Global};
@@ -12,7 +12,7 @@ use tlsf_class::{GREATEST_SIZE, UNIT};
 const NAME: &str = "tlsf";
 
 /// The program's version.
-const VERSION: &str = "0.1.0";
+const VERSION: &str = "1.0.0";
 
 /// What `tlsf` is for.
 const ABOUT: &str =
@@ -21,6 +21,7 @@ const ABOUT: &str =
 /// The end of the program's help.
 const EXAMPLES: &str = "Examples:
   tlsf sites a.log                          who holds the memory of a.log, at its peak and at its end
+  tlsf timeline a.log                       what a.log holds over its lines
   tlsf leaks a.log                          what is not freed at the end of a.log
   tlsf peak --pool 1048576 --pools 2 a.log  the peak of a.log on two pools of 1 MiB
   tlsf walk --records 65535 -               the heap at the end of the log on standard input
@@ -43,11 +44,15 @@ const PEAK_EXAMPLES: &str = "Examples:
 
 const WALK_EXAMPLES: &str = "Examples:
   tlsf walk a.log                           the heap's blocks at the end of a.log
-  tlsf walk --records 65535 -               the same of the log on standard input";
+  tlsf walk --records 65535 -               those at the end of the log on standard input";
 
 const SITES_EXAMPLES: &str = "Examples:
   tlsf sites a.log                              who holds the memory of a.log
   tlsf sites --pool 65536 --records 500 a.log   the same, where the heap has no more";
+
+const TIMELINE_EXAMPLES: &str = "Examples:
+  tlsf timeline a.log                           what a.log holds, at some 100 of its lines
+  tlsf timeline --points 1000 a.log             the same at some 1000 lines";
 
 const FIT_EXAMPLES: &str = "Examples:
   tlsf fit a.log                            how large a pool a.log needs, and how many records
@@ -59,7 +64,7 @@ const SIZE_EXAMPLES: &str = "Examples:
 
 const SAVE_EXAMPLES: &str = "Examples:
   tlsf save a.log a.image                   the heap at the end of a.log, in a file
-  tlsf save --pool 65536 - a.image          the same of the log on standard input, on 64 KiB";
+  tlsf save --pool 65536 - a.image          that of the log on standard input, on 64 KiB";
 
 const CHECK_EXAMPLES: &str = "Examples:
   tlsf check a.image                               whether a.image can be loaded
@@ -80,6 +85,10 @@ const WALK: &str =
 /// What the report of sites means.
 const SITES: &str =
     "Reports who holds the memory, at the peak and at the end of the log: blocks and bytes by the location that asked for them. LOG is read twice.";
+
+/// What the timeline means.
+const TIMELINE: &str =
+    "Reports what is held over the lines of the log: bytes, blocks, how far they reach, and what is free. LOG is read twice.";
 
 /// What the report of the sizes means.
 const FIT: &str =
@@ -133,6 +142,21 @@ fn records_option<'a>(alloc: Global, default: &'a str) -> Arg<'a>
         .default_value(default)
         .value_parser(parser)
         .help("Number of records, one for each block, from the number of pools to 65535")
+}
+
+/// The option of how many equal parts a log is cut in.
+fn points_option<'a>(alloc: Global) -> Arg<'a>
+    ensures { IsArgOf points_rule result }
+{
+    let parser = value_parser!(u32).range(1..=10_000);
+    Arg::new(alloc, "points")
+        .long("points")
+        .value_name("N")
+        .default_value("100")
+        .value_parser(parser)
+        .help(
+            "Number of equal parts of the log, from 1 to 10000: a line is told at the end of each",
+        )
 }
 
 /// The option of the bytes between two sizes.
@@ -250,11 +274,23 @@ fn report_command<'a>(
     heap_command(alloc, name, about, examples, "16777216", "8192")
 }
 
-/// The subcommand that tells who holds the memory. Its default heap is the greatest.
-fn sites_command<'a>(alloc: Global) -> Result<Command<'a>, AllocError>
-    ensures { IfOk result (IsCommandOf sites_line) }
+/// A subcommand whose default heap is the greatest.
+fn great_command<'a>(
+    alloc: Global,
+    name: &'a str,
+    about: &'a str,
+    examples: &'a str,
+) -> Result<Command<'a>, AllocError>
+    ensures { IfOk result (IsCommandOf (great_line name.entry.now)) }
 {
-    heap_command(alloc, "sites", SITES, SITES_EXAMPLES, "1073741808", "65535")
+    heap_command(alloc, name, about, examples, "1073741808", "65535")
+}
+
+/// The subcommand that tells what is held over the lines.
+fn timeline_command<'a>(alloc: Global) -> Result<Command<'a>, AllocError>
+    ensures { IfOk result (IsCommandOf timeline_line) }
+{
+    great_command(alloc, "timeline", TIMELINE, TIMELINE_EXAMPLES)?.arg(points_option(alloc))
 }
 
 /// The subcommand that tries sizes.
@@ -333,8 +369,9 @@ pub fn tlsf_command<'a>(alloc: Global) -> Result<Command<'a>, AllocError>
     let leaks = with(bare, report_command(alloc, "leaks", LEAKS, LEAKS_EXAMPLES))?;
     let peak = with(leaks, report_command(alloc, "peak", PEAK, PEAK_EXAMPLES))?;
     let walk = with(peak, report_command(alloc, "walk", WALK, WALK_EXAMPLES))?;
-    let sites = with(walk, sites_command(alloc))?;
-    let fit = with(sites, fit_command(alloc))?;
+    let sites = with(walk, great_command(alloc, "sites", SITES, SITES_EXAMPLES))?;
+    let timeline = with(sites, timeline_command(alloc))?;
+    let fit = with(timeline, fit_command(alloc))?;
     let size = with(fit, size_command(alloc))?;
     let save = with(size, save_command(alloc))?;
     with(save, check_command(alloc))

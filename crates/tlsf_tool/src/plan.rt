@@ -31,6 +31,13 @@ pub enum Origin {
 pub enum Rereading {
     /// Who holds the memory of the log, on a heap by the settings.
     Sites(Settings),
+    /// What is held over the lines of the log.
+    Timeline {
+        /// The heap that the log is replayed on.
+        settings: Settings,
+        /// In how many equal parts the log is cut.
+        parts: u32,
+    },
     /// How large a pool the log needs, with the bytes between two sizes, where they are given.
     Fit(Option<u64>),
 }
@@ -152,6 +159,11 @@ fn plan_of(terminals: Terminals, command: Command) -> Result<Plan, ToolFault>
             })
         }
         Command::Sites { settings, log } => reread(terminals, log, Rereading::Sites(settings)),
+        Command::Timeline {
+            settings,
+            parts,
+            log,
+        } => reread(terminals, log, Rereading::Timeline { settings, parts }),
         Command::Fit { step, log } => reread(terminals, log, Rereading::Fit(step)),
         Command::Save {
             settings,

@@ -2,6 +2,7 @@
 
 ghost use Rattle.mtrace_replay.specs.Run.{Runs};
 ghost use Rattle.mtrace_replay.specs.RunSites.{RunsSites};
+ghost use Rattle.mtrace_replay.specs.RunTimeline.{RunsTimeline};
 ghost use Rattle.mtrace_replay.specs.RunFit.{RunsFit};
 ghost use Rattle.mtrace_replay.specs.Size.{RunsSize};
 ghost use Rattle.mtrace_replay.specs.Saving.{RunsAndSaves, PutsAndFlushes};
@@ -14,7 +15,7 @@ use arrayvec::ArrayString;
 use mtrace_log::{Again, Failed, Sink, Source, put_all};
 use mtrace_replay::{
     Bounds, RunFault, Settings, Status, Watch, run_fit, run_leaks, run_peak, run_save, run_sites,
-    run_size, run_walk,
+    run_size, run_timeline, run_walk,
 };
 use std::alloc::Global;
 use std::fmt::Write;
@@ -115,6 +116,30 @@ pub fn serve_sites<R: Again, W: Sink, E: Sink>(
     }
 }
 
+/// Tells what is held over the lines of the log that the reader has left, by `run_timeline`. Puts the line of a fault to
+/// `errors`, whose own fault doesn't matter. Answers the status that the program ends with. It is 0 where nothing was
+/// found, 1 where something was, and 2 for bad settings, or a bad number of parts. It is 3 where the reader or the writer
+/// failed, or the reader didn't begin again, and 4 where memory was refused.
+pub fn serve_timeline<R: Again, W: Sink, E: Sink>(
+    alloc: Global,
+    settings: Settings,
+    parts: u32,
+    reader: &mut R,
+    writer: &mut W,
+    errors: &mut E,
+) -> u8
+    ensures { EndsAs (λ outcome. RunsTimeline settings parts R.left R.whole R.trace W.taken W.trace outcome reader.old reader.new writer.old writer.new)
+        result errors.old errors.new }
+{
+    match run_timeline(alloc, reader, writer, settings, parts) {
+        Ok(status) => end_status(status),
+        Err(fault) => {
+            put_fault(errors, &ToolFault::Run(fault));
+            fault_status(fault)
+        }
+    }
+}
+
 /// Tells how large a pool the log needs that the reader has left, by `run_fit`. Puts the line of a fault to `errors`,
 /// whose own fault doesn't matter. Answers the status that the program ends with. It is 0 where nothing was found, 1
 /// where something was, and 2 for a bad step. It is 3 where the reader or the writer failed, or the reader didn't
@@ -139,7 +164,7 @@ pub fn serve_fit<R: Again, W: Sink, E: Sink, T: Watch>(
     }
 }
 
-/// Serves a log that is read more than once, by `serve_sites` or `serve_fit`.
+/// Serves a log that is read more than once, by `serve_sites`, `serve_timeline` or `serve_fit`.
 pub fn serve_again<R: Again, W: Sink, E: Sink, T: Watch>(
     alloc: Global,
     what: Rereading,
@@ -153,6 +178,9 @@ pub fn serve_again<R: Again, W: Sink, E: Sink, T: Watch>(
 {
     match what {
         Rereading::Sites(settings) => serve_sites(alloc, settings, reader, writer, errors),
+        Rereading::Timeline { settings, parts } => {
+            serve_timeline(alloc, settings, parts, reader, writer, errors)
+        }
         Rereading::Fit(step) => serve_fit(alloc, step, reader, writer, errors, watch),
     }
 }

@@ -94,6 +94,21 @@ fn asked_sites(alloc: Global, found: &ArgMatches<'_>) -> Result<Command, ToolFau
     Ok(Command::Sites { settings, log })
 }
 
+/// What the matches of the subcommand that tells what is held over the lines ask for.
+fn asked_timeline(alloc: Global, found: &ArgMatches<'_>) -> Result<Command, ToolFault>
+    ensures { MatchesGive (Some (codes "timeline", rows_of (found_of found.now))) result }
+{
+    let Some(parts) = number_of(found, "points") else {
+        return Err(ToolFault::usage(alloc, NO_COMMAND));
+    };
+    let (settings, log) = log_of(alloc, found)?;
+    Ok(Command::Timeline {
+        settings,
+        parts,
+        log,
+    })
+}
+
 /// What the matches of the subcommand that tries sizes ask for.
 fn asked_fit(alloc: Global, found: &ArgMatches<'_>) -> Result<Command, ToolFault>
     ensures { MatchesGive (Some (codes "fit", rows_of (found_of found.now))) result }
@@ -171,6 +186,7 @@ fn asked(alloc: Global, matches: &ArgMatches<'_>) -> Result<Command, ToolFault>
     };
     match text {
         "sites" => asked_sites(alloc, found),
+        "timeline" => asked_timeline(alloc, found),
         "fit" => asked_fit(alloc, found),
         "save" => asked_save(alloc, found),
         "size" => asked_size(alloc, found),
@@ -189,6 +205,7 @@ fn takes_number(word: &str) -> bool {
         "--pool"
             | "--pools"
             | "--records"
+            | "--points"
             | "--step"
             | "--blocks"
             | "--largest"

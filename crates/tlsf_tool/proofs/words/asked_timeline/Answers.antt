@@ -1,0 +1,14 @@
+use Rattle.std.proofs.Common.{inl, inr}
+use Rattle.clap.specs.Words.{found_of, rows_of}
+use Rattle.tlsf_tool.proofs.CommandLineLemmas.{asks_exit, refuses, timeline_asks_nothing}
+use Rattle.tlsf_tool.proofs.words.asked_timeline.Goals as goal
+
+pub returns-in_default : goal.returns-in_default
+returns-in_default c = record {
+  asked = tt;
+  faults = refuses c.usage.result c.usage.ensures (timeline_asks_nothing (rows_of (found_of c.args.found.now)) (inl c.in_default.ensures.other));
+}
+
+pub returns-in_err-settings : goal.returns-in_err-settings
+returns-in_err-settings c =
+    asks_exit c.from_residual.result _ c.from_residual.ensures.1 (λ missing. timeline_asks_nothing (rows_of (found_of c.args.found.now)) (inr missing)) c.in_err-settings.ensures.faults
