@@ -36,6 +36,8 @@ REPORTS = {
     b"largest free: 16777216\nspread: -\n",
     "walk": b"pool 0: 16777216 bytes\n0 16777216 free\n",
     "save": b"",
+    "timeline": b"line bytes blocks reach free largest\n" + b"".join(
+        b"%d 0 0 0 1073741808 1073741808\n" % line for line in sorted({(k * 540 + 99) // 100 for k in range(101)})),
     "sites": b"Held at the peak, line 0: 0 blocks, 0 bytes.\nHeld at the end: 0 blocks, 0 bytes.\n",
 }
 # The words whose log may be a pipe.
@@ -155,6 +157,7 @@ def slow_cases():
         for log in ("file", "fifo", "pipe", "-"):
             yield f"{word} of a slow {log}", served(word, QUIET, b"", log=log)
     yield "sites of a slow file", served("sites", QUIET, b"", log="file")
+    yield "a timeline of a slow file", served("timeline", QUIET, b"", log="file")
     # The log is read three times: with six reads, and then twice with five, which don't come to its end. The first of the two
     # sizes is tried then.
     yield "sizes of a slow file", {

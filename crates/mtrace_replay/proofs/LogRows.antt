@@ -1,5 +1,6 @@
 -- Worked logs, computed by the definitions.
-use Rattle.std.proofs.Common.{◌≡◌, List, [], ◌∷◌, Some, None, Ok, Err, refl, codes}
+use Rattle.std.proofs.Common.{◌≡◌, ℕ, List, [], ◌∷◌, map, take, Some, None, Ok, Err, refl, codes}
+use Rattle.std.specs.Prelude.{sum_by}
 use Rattle.mtrace_log.specs.declared.event.Event.TheVariants.{Start, End, Alloc, Free, Old, New, Failed, Aligned}
 use Rattle.mtrace_log.specs.declared.event.LineFault.TheVariants as fault
 use Rattle.std.specs.Fmt.{digits}
@@ -8,8 +9,10 @@ use Rattle.tlsf_class.specs.Rounding.{rounded}
 use Rattle.mtrace_replay.specs.declared.settings.Settings.{Settings}
 use Rattle.mtrace_replay.specs.Started.{started}
 use Rattle.mtrace_replay.specs.Moment.{ReadLine}
-use Rattle.mtrace_replay.specs.History.{moments, history, held, diagnostics}
-use Rattle.mtrace_replay.specs.Texts.{leaks_text}
+use Rattle.mtrace_replay.specs.History.{moments, history, held, content_after, diagnostics}
+use Rattle.mtrace_replay.specs.Survey.{live_ends}
+use Rattle.mtrace_replay.specs.Texts.{free_sizes, greatest, leaks_text, timeline_text}
+use Rattle.mtrace_replay.specs.Timeline.{end_of_part}
 
 -- the settings where none are named
 abbrev default_settings : Settings
@@ -165,3 +168,22 @@ empty_log-text : leaks_text (diagnostics small empty_log) []
     ≡ codes "No memory leaks.\n"
 unfolding started moments class need low rounded digits
 empty_log-text = refl
+
+-- a-hole (one pool of 1024 bytes, 16 records): `+ 0x10 0x64`, `+ 0x20 0x8`, `- 0x10`
+abbrev a_hole : List ReadLine
+a_hole = Ok (Alloc None (Some 16) 100) ∷ Ok (Alloc None (Some 32) 8) ∷ Ok (Free None 16) ∷ []
+
+-- the ends of its live blocks, and the sizes of its free ones, after each number of lines
+a_hole-points : (live_ends (content_after (started small) (history small [])) ≡ []) × (free_sizes (content_after (started small) (history small [])) ≡ 1024 ∷ [])
+    × (live_ends (content_after (started small) (history small (take 1 a_hole))) ≡ 112 ∷ []) × (free_sizes (content_after (started small) (history small (take 1 a_hole))) ≡ 912 ∷ [])
+    × (live_ends (content_after (started small) (history small (take 2 a_hole))) ≡ 112 ∷ 128 ∷ []) × (free_sizes (content_after (started small) (history small (take 2 a_hole))) ≡ 896 ∷ [])
+    × (live_ends (content_after (started small) (history small a_hole)) ≡ 128 ∷ []) × (free_sizes (content_after (started small) (history small a_hole)) ≡ 112 ∷ 896 ∷ [])
+    × (timeline_text (record { line = 3; bytes = 8; blocks = 1; reach = greatest (128 ∷ []); free = sum_by (λ (size : ℕ). size) (112 ∷ 896 ∷ []); largest = greatest (112 ∷ 896 ∷ []) } ∷ []) 0
+      ≡ codes "line bytes blocks reach free largest\n3 8 1 128 1008 896\n")
+unfolding started moments class need low rounded digits
+a_hole-points = (refl, refl, refl, refl, refl, refl, refl, refl, refl)
+
+-- the ends of three parts of seven lines, and of five parts of fourteen; a log of one line ends with each part
+ends_of_parts : (map (end_of_part 7 3) (0 ∷ 1 ∷ 2 ∷ 3 ∷ []) ≡ 0 ∷ 3 ∷ 5 ∷ 7 ∷ []) × (map (end_of_part 14 5) (0 ∷ 1 ∷ 2 ∷ 3 ∷ 4 ∷ 5 ∷ []) ≡ 0 ∷ 3 ∷ 6 ∷ 9 ∷ 12 ∷ 14 ∷ [])
+    × (map (end_of_part 1 3) (0 ∷ 1 ∷ 2 ∷ 3 ∷ []) ≡ 0 ∷ 1 ∷ 1 ∷ 1 ∷ [])
+ends_of_parts = (refl, refl, refl)

@@ -18,6 +18,7 @@ mod rows;
 mod sites;
 mod size;
 mod store;
+mod timeline;
 mod words;
 
 use std::fmt::Debug;

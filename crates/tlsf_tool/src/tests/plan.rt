@@ -95,7 +95,7 @@ fn reports_and_images(rt: HostRuntime) -> Result<(), Fail> {
     Ok(())
 }
 
-/// The greatest heap, which `sites` takes where no option is given.
+/// The greatest heap, which `sites` and `timeline` take where no option is given.
 const GREATEST: Settings = Settings {
     pool: 1_073_741_808,
     pools: 1,
@@ -103,7 +103,7 @@ const GREATEST: Settings = Settings {
 };
 
 /// Words of a log that is read more than once, with what it is read for.
-const AGAIN: [(&[&str], Rereading); 4] = [
+const AGAIN: [(&[&str], Rereading); 6] = [
     (&["tlsf", "sites"], Rereading::Sites(GREATEST)),
     (
         &["tlsf", "sites", "--records", "777", "--pools", "5"],
@@ -112,6 +112,23 @@ const AGAIN: [(&[&str], Rereading); 4] = [
             pools: 5,
             ..GREATEST
         }),
+    ),
+    (
+        &["tlsf", "timeline"],
+        Rereading::Timeline {
+            settings: GREATEST,
+            parts: 100,
+        },
+    ),
+    (
+        &["tlsf", "timeline", "--pool", "64", "--points", "10000"],
+        Rereading::Timeline {
+            settings: Settings {
+                pool: 64,
+                ..GREATEST
+            },
+            parts: 10_000,
+        },
     ),
     (&["tlsf", "fit"], Rereading::Fit(None)),
     (

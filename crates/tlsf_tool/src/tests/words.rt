@@ -226,7 +226,7 @@ fn words_of_images(rt: HostRuntime) -> Result<(), Fail> {
 }
 
 /// Words that ask for nothing that there is.
-const WRONG: [&[&str]; 29] = [
+const WRONG: [&[&str]; 33] = [
     &[],
     &["tlsf"],
     &["tlsf", "leaks"],
@@ -250,6 +250,10 @@ const WRONG: [&[&str]; 29] = [
     &["tlsf", "peak", "--records", "0", "-"],
     &["tlsf", "peak", "--records", "65536", "-"],
     &["tlsf", "peak", "--records", "99999999999999999999999", "-"],
+    &["tlsf", "timeline"],
+    &["tlsf", "timeline", "--points", "0", "a"],
+    &["tlsf", "timeline", "--points", "10001", "a"],
+    &["tlsf", "timeline", "--points", "-5", "a"],
     &["tlsf", "leaks", "--version"],
     &["tlsf", "save", "a.log"],
     &["tlsf", "save", "a.log", "an.image", "b"],

@@ -13,7 +13,7 @@ loop-next-preserved g c =
       past = kept.past ++ row;
       survey = c.joined-survey.ensures.joined kept.past row kept.survey c.survey_row.ensures.survey_is;
       all = append_assoc kept.past row (g.H.Heaped.rest c.row.new.self c.in-Some.next.1) ∙ ap (λ rows. kept.past ++ rows) (sym some) ∙ kept.all;
-      blocks = omega (arith, kept.blocks, count, c.joined-survey.ensures.blocks, c.survey_row.ensures.blocks);
-      bytes = omega (arith, kept.bytes, count, c.joined-survey.ensures.bytes, c.survey_row.ensures.bytes);
+      few_blocks = omega (arith, kept.few_blocks, count, c.joined-survey.ensures.blocks, c.survey_row.ensures.blocks);
+      few_bytes = omega (arith, kept.few_bytes, count, c.joined-survey.ensures.bytes, c.survey_row.ensures.bytes);
       same = c.in-Some.ensures.unchanged.content ∙ kept.same;
     }

@@ -11,8 +11,8 @@ invariant-loop-next g l = record {
   past : List Row;
   survey : SurveysRows past l.survey;
   all : past ++ g.H.Heaped.rest l.heap l.here ≡ g.H.Heaped.rest l.initial.heap l.fn.cursor;
-  blocks : l.survey.free_blocks + length (g.H.Heaped.rest l.heap l.here) ≤ most_records;
-  bytes : l.survey.free_bytes + 2 ^ 32 * length (g.H.Heaped.rest l.heap l.here) ≤ 2 ^ 32 * most_records;
+  few_blocks : l.survey.free_blocks + length (g.H.Heaped.rest l.heap l.here) ≤ most_records;
+  few_bytes : l.survey.free_bytes + 2 ^ 32 * length (g.H.Heaped.rest l.heap l.here) ≤ 2 ^ 32 * most_records;
   same : g.H.Heaped.content l.heap ≡ g.H.Heaped.content l.initial.heap;
 }
 
