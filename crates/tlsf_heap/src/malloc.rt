@@ -5,8 +5,8 @@ ghost use Rattle.tlsf_class.specs.Classes.{unit};
 ghost use Rattle.tlsf_store.specs.declared.records.State.TheVariants.{Free};
 ghost use Rattle.tlsf_store.specs.Records.{record_at, vacant_count};
 ghost use Rattle.tlsf_heap.specs.Touches.{AtMost, malloc_touches};
-ghost use Rattle.tlsf_heap.specs.Lists.{pick as picked};
-ghost use Rattle.tlsf_heap.specs.Malloc.{malloc as served, malloc_rounded};
+ghost use Rattle.tlsf_heap.specs.Lists.{pick};
+ghost use Rattle.tlsf_heap.specs.Malloc.{malloc, malloc_rounded};
 ghost use Rattle.tlsf_heap.specs.Served.{IsServed};
 ghost use Rattle.tlsf_heap.specs.Inner.Following.{Stands, content_of};
 ghost use Rattle.tlsf_heap.specs.Inner.Nodes.{NodeState, InUse, Listed, is_listed};
@@ -29,7 +29,7 @@ use tlsf_store::{Record, Slot, State, Store};
 /// As `Heap::malloc`.
 pub(crate) fn malloc(store: &mut Store, n: u64) -> Result<Ptr, Refusal>
     requires { Stands store.old.cells }
-    ensures { Answers result (IsServed (λ slot. served slot n)) (λ refusal old. (slot : ℕ) → served slot n old ≡ Err refusal) malloc_touches store.old store.new }
+    ensures { Answers result (IsServed (λ slot. malloc slot n)) (λ refusal old. (slot : ℕ) → malloc slot n old ≡ Err refusal) malloc_touches store.old store.new }
 {
     if n == 0 {
         return Err(Refusal::ZeroSize);
@@ -64,8 +64,8 @@ pub(crate) fn pick(store: &mut Store, asked: u32) -> Option<Slot>
     requires whole { asked % unit ≡ 0 }
     requires some { 0 < asked }
     ensures free { IfSome result (λ slot. (record_at store.old.cells.records slot).state ≡ Free) }
-    ensures found { IfSome result (λ slot. picked asked (content_of store.old.cells).lists ≡ Some (record_at store.old.cells.records slot).place) }
-    ensures none { IfNone result (picked asked (content_of store.old.cells).lists ≡ None) }
+    ensures found { IfSome result (λ slot. pick asked (content_of store.old.cells).lists ≡ Some (record_at store.old.cells.records slot).place) }
+    ensures none { IfNone result (pick asked (content_of store.old.cells).lists ≡ None) }
     ensures left { Leaves store.old.cells 4 store.old store.new }
 {
     let Some(class) = class_for(asked) else {
@@ -84,7 +84,7 @@ fn take(store: &mut Store, slot: Slot, asked: u32) -> Result<Ptr, Refusal>
     requires whole { asked % unit ≡ 0 }
     requires some { 0 < asked }
     requires free { (record_at store.old.cells.records slot).state ≡ Free }
-    requires found { picked asked (content_of store.old.cells).lists ≡ Some (record_at store.old.cells.records slot).place }
+    requires found { pick asked (content_of store.old.cells).lists ≡ Some (record_at store.old.cells.records slot).place }
     ensures { Answers result (IsServed (λ owner. malloc_rounded owner (Some asked))) (λ refusal old. (owner : ℕ) → malloc_rounded owner (Some asked) old ≡ Err refusal) 19 store.old store.new }
 {
     let block = store.read_used(slot);

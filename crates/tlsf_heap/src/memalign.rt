@@ -6,8 +6,8 @@ ghost use Rattle.tlsf_class.specs.Classes.{unit, greatest_size};
 ghost use Rattle.tlsf_store.specs.declared.records.State.TheVariants.{Free};
 ghost use Rattle.tlsf_store.specs.Records.{blank, record_at, vacant_count};
 ghost use Rattle.tlsf_heap.specs.Touches.{AtMost, memalign_touches};
-ghost use Rattle.tlsf_heap.specs.Lists.{pick as picked};
-ghost use Rattle.tlsf_heap.specs.Memalign.{is_alignment as is_one, size_asked as asked_size, gap_records, memalign as served, memalign_rounded};
+ghost use Rattle.tlsf_heap.specs.Lists.{pick};
+ghost use Rattle.tlsf_heap.specs.Memalign.{is_alignment, size_asked, gap_records, memalign, memalign_rounded};
 ghost use Rattle.tlsf_heap.specs.Served.{IsServed};
 ghost use Rattle.tlsf_heap.specs.Inner.Following.{Stands, content_of};
 ghost use Rattle.tlsf_heap.specs.Inner.Nodes.{InUse};
@@ -34,7 +34,7 @@ const GREATEST_ALIGNMENT: u64 = 1 << 29;
 /// As `Heap::memalign`.
 pub(crate) fn memalign(store: &mut Store, align: u64, n: u64) -> Result<Ptr, Refusal>
     requires { Stands store.old.cells }
-    ensures { Answers result (IsServed (λ slot. served slot align n)) (λ refusal old. (slot : ℕ) → served slot align n old ≡ Err refusal) memalign_touches store.old store.new }
+    ensures { Answers result (IsServed (λ slot. memalign slot align n)) (λ refusal old. (slot : ℕ) → memalign slot align n old ≡ Err refusal) memalign_touches store.old store.new }
 {
     if !is_alignment(align) {
         return Err(Refusal::BadAlign);
@@ -60,11 +60,11 @@ pub(crate) fn memalign(store: &mut Store, align: u64, n: u64) -> Result<Ptr, Ref
 /// `TableFull` where the gap and what is left behind need more records than are vacant; then nothing is changed.
 fn split_aligned(store: &mut Store, slot: Slot, align: u32, asked: u32) -> Result<Ptr, Refusal>
     requires stands { Stands store.old.cells }
-    requires is { is_one align ≡ true }
+    requires is { is_alignment align ≡ true }
     requires whole { asked % unit ≡ 0 }
     requires some { 0 < asked }
     requires free { (record_at store.old.cells.records slot).state ≡ Free }
-    requires found { picked (asked_size align asked) (content_of store.old.cells).lists ≡ Some (record_at store.old.cells.records slot).place }
+    requires found { pick (size_asked align asked) (content_of store.old.cells).lists ≡ Some (record_at store.old.cells.records slot).place }
     ensures { Answers result (IsServed (λ owner. memalign_rounded owner align (Some asked))) (λ refusal old. (owner : ℕ) → memalign_rounded owner align (Some asked) old ≡ Err refusal) 38 store.old store.new }
 {
     let block = store.read_used(slot);
@@ -96,7 +96,7 @@ fn records_for(bytes: u32) -> u32
 
 /// Whether it is an alignment, in bytes, that `memalign` takes: a power of two from 1 to 2^29.
 pub fn is_alignment(align: u64) -> bool
-    ensures { result ≡ is_one align }
+    ensures { result ≡ is_alignment align }
 {
     align <= GREATEST_ALIGNMENT && align.is_power_of_two()
 }
@@ -105,8 +105,8 @@ pub fn is_alignment(align: u64) -> bool
 /// multiple of the alignment on.
 pub(crate) fn size_asked(align: u32, bytes: u32) -> u32
     requires few { bytes ≤ greatest_size }
-    requires is { is_one align ≡ true }
-    ensures { result ≡ asked_size align bytes }
+    requires is { is_alignment align ≡ true }
+    ensures { result ≡ size_asked align bytes }
 {
     if align <= UNIT {
         bytes

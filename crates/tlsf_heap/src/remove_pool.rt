@@ -5,7 +5,7 @@ ghost use Rattle.tlsf_class.specs.Classes.{unit};
 ghost use Rattle.tlsf_store.specs.Cells.{most_pools};
 ghost use Rattle.tlsf_store.specs.Records.{record_at, is_free_state};
 ghost use Rattle.tlsf_heap.specs.Touches.{AtMost, remove_pool_touches};
-ghost use Rattle.tlsf_heap.specs.Pools.{remove_pool as removed};
+ghost use Rattle.tlsf_heap.specs.Pools.{remove_pool};
 ghost use Rattle.tlsf_heap.specs.Inner.Nodes.{Listed};
 ghost use Rattle.tlsf_heap.specs.Inner.Positions.{plug};
 ghost use Rattle.tlsf_heap.specs.Inner.Entering.{entries_in};
@@ -26,7 +26,7 @@ use tlsf_store::{Pool, Record, Slot, Store};
 /// As `Heap::remove_pool`.
 pub(crate) fn remove_pool(store: &mut Store, base: u64) -> Result<(), Refusal>
     requires { Stands store.old.cells }
-    ensures { Answers result (λ done old new. removed base old ≡ Ok new) (λ refusal old. removed base old ≡ Err refusal) remove_pool_touches store.old store.new }
+    ensures { Answers result (λ done old new. remove_pool base old ≡ Ok new) (λ refusal old. remove_pool base old ≡ Err refusal) remove_pool_touches store.old store.new }
 {
     let entries = entries(store);
     let Some(number) = number_of(entries.as_slice(), base) else {
