@@ -140,7 +140,7 @@ fn split_off(store: &mut Store, block: &Span, rest: Slot, bytes: u32)
     ensures leads { (node_state : NodeState) (at : At) → is_listed node_state ≡ false → StandsAt block.now.slot node_state store.old.cells (with_slot rest at) → StandsAt rest Listed store.new.cells (at_split_off rest bytes (at_turned InUse at)) }
     ensures touches { AtMost 11 store.old.touches store.new.touches }
 {
-    split(store, block, rest, bytes);
+    split(store, block, State::Live, rest, State::Free, bytes);
     link(store, class_of(block.size - bytes), rest);
 }
 

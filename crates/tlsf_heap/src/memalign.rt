@@ -15,7 +15,7 @@ ghost use Rattle.tlsf_heap.specs.Inner.At.{At, StandsAt, at_gapped};
 ghost use Rattle.tlsf_heap.specs.Inner.Spans.{IsRead};
 ghost use Rattle.tlsf_heap.specs.Inner.Answers.{Answers};
 
-use crate::chains::{set_state, split};
+use crate::chains::split;
 use crate::free::enter;
 use crate::malloc::{pick, split_rest, take_whole};
 use crate::span::Span;
@@ -53,7 +53,7 @@ pub(crate) fn memalign(store: &mut Store, align: u64, n: u64) -> Result<Ptr, Ref
 }
 
 /// The block picked is split: a live block of `asked` bytes begins at the least multiple of the alignment
-/// at or above its place. At most 38 touches.
+/// at or above its place. At most 34 touches.
 ///
 /// # Errors
 ///
@@ -65,7 +65,7 @@ fn split_aligned(store: &mut Store, slot: Slot, align: u32, asked: u32) -> Resul
     requires some { 0 < asked }
     requires free { (record_at store.old.cells.records slot).state ≡ Free }
     requires found { pick (size_asked align asked) (content_of store.old.cells).lists ≡ Some (record_at store.old.cells.records slot).place }
-    ensures { Answers result (IsServed (λ owner. memalign_rounded owner align (Some asked))) (λ refusal old. (owner : ℕ) → memalign_rounded owner align (Some asked) old ≡ Err refusal) 38 store.old store.new }
+    ensures { Answers result (IsServed (λ owner. memalign_rounded owner align (Some asked))) (λ refusal old. (owner : ℕ) → memalign_rounded owner align (Some asked) old ≡ Err refusal) 34 store.old store.new }
 {
     let block = store.read_used(slot);
     let start = start_of(block.place, align);
@@ -130,7 +130,7 @@ pub(crate) fn start_of(place: u32, align: u32) -> u32
 }
 
 /// A live block keeps what is behind its first bytes, under another slot. These are a free block, first in
-/// its class's list; where there are none, nothing changes. The answer is the live block's slot. At most 17
+/// its class's list; where there are none, nothing changes. The answer is the live block's slot. At most 13
 /// touches.
 fn leave_gap(store: &mut Store, block: &Span, bytes: u32) -> Slot
     requires stands { (at : At) × StandsAt block.now.slot InUse store.old.cells at }
@@ -142,7 +142,7 @@ fn leave_gap(store: &mut Store, block: &Span, bytes: u32) -> Slot
     ensures same { bytes ≡ 0 → result ≡ block.now.slot }
     ensures vacant { 0 < bytes → record_at store.old.cells.records result ≡ blank }
     ensures below { result < length store.old.cells.records }
-    ensures touches { AtMost 17 store.old.touches store.new.touches }
+    ensures touches { AtMost 13 store.old.touches store.new.touches }
 {
     if bytes == 0 {
         return block.slot;
@@ -150,9 +150,7 @@ fn leave_gap(store: &mut Store, block: &Span, bytes: u32) -> Slot
     let Some(live) = store.take_vacant() else {
         unreachable!()
     };
-    split(store, block, live, bytes);
-    set_state(store, live, State::Live);
-    set_state(store, block.slot, State::Free);
+    split(store, block, State::Free, live, State::Live, bytes);
     enter(store, block.slot, bytes);
     live
 }
