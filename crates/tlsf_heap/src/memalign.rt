@@ -12,7 +12,7 @@ ghost use Rattle.tlsf_heap.specs.Served.{IsServed};
 ghost use Rattle.tlsf_heap.specs.Inner.Following.{Stands, content_of};
 ghost use Rattle.tlsf_heap.specs.Inner.Nodes.{InUse};
 ghost use Rattle.tlsf_heap.specs.Inner.At.{At, StandsAt, at_gapped};
-ghost use Rattle.tlsf_heap.specs.Inner.Spans.{IsRead};
+ghost use Rattle.tlsf_heap.specs.Inner.Spans.{IsRead, IsOfClass};
 ghost use Rattle.tlsf_heap.specs.Inner.Answers.{Answers};
 
 use crate::chains::split;
@@ -20,7 +20,7 @@ use crate::free::enter;
 use crate::malloc::{pick, split_rest, take_whole};
 use crate::span::Span;
 use crate::{Ptr, Refusal};
-use tlsf_class::{UNIT, round};
+use tlsf_class::{Class, UNIT, round};
 use tlsf_store::{Slot, State, Store};
 
 /// The greatest alignment, in bytes.
@@ -46,23 +46,30 @@ pub(crate) fn memalign(store: &mut Store, align: u64, n: u64) -> Result<Ptr, Ref
         return Err(Refusal::NoFit);
     };
     let align = align as u32;
-    let Some(slot) = pick(store, size_asked(align, asked)) else {
+    let Some((class, slot)) = pick(store, size_asked(align, asked)) else {
         return Err(Refusal::NoFit);
     };
-    split_aligned(store, slot, align, asked)
+    split_aligned(store, class, slot, align, asked)
 }
 
-/// The block picked is split: a live block of `asked` bytes begins at the least multiple of the alignment
-/// at or above its place. At most 34 touches.
+/// The block picked, of this class, is split: a live block of `asked` bytes begins at the least multiple
+/// of the alignment at or above its place. At most 34 touches.
 ///
 /// # Errors
 ///
 /// `TableFull` where the gap and what is left behind need more records than are vacant; then nothing is changed.
-fn split_aligned(store: &mut Store, slot: Slot, align: u32, asked: u32) -> Result<Ptr, Refusal>
+fn split_aligned(
+    store: &mut Store,
+    class: Class,
+    slot: Slot,
+    align: u32,
+    asked: u32,
+) -> Result<Ptr, Refusal>
     requires stands { Stands store.old.cells }
     requires is { is_alignment align ≡ true }
     requires whole { asked % unit ≡ 0 }
     requires some { 0 < asked }
+    requires of_class { IsOfClass class (record_at store.old.cells.records slot) }
     requires free { (record_at store.old.cells.records slot).state ≡ Free }
     requires found { pick (size_asked align asked) (content_of store.old.cells).lists ≡ Some (record_at store.old.cells.records slot).place }
     ensures { Answers result (IsServed (λ owner. memalign_rounded owner align (Some asked))) (λ refusal old. (owner : ℕ) → memalign_rounded owner align (Some asked) old ≡ Err refusal) 34 store.old store.new }
@@ -74,7 +81,7 @@ fn split_aligned(store: &mut Store, slot: Slot, align: u32, asked: u32) -> Resul
     if store.vacant() < records_for(gap) + records_for(left - asked) {
         return Err(Refusal::TableFull);
     }
-    take_whole(store, slot, &block);
+    take_whole(store, class, slot, &block);
     let whole = Span::of(slot, &block);
     let live = leave_gap(store, &whole, gap);
     let behind = Span {

@@ -17,6 +17,7 @@ ghost use Rattle.tlsf_heap.specs.Inner.Answers.{Answers};
 use crate::Refusal;
 use crate::entries::{entries, entries_without, number_of, set_entries};
 use crate::malloc::take_whole;
+use tlsf_class::class_of;
 use tlsf_store::{Pool, Record, Slot, Store};
 
 /// The pool that begins at `base` leaves the store, and its one free block its class's list. At most 26 touches.
@@ -62,7 +63,7 @@ fn drop_pool(store: &mut Store, slot: Slot, block: &Record, entries: &[Pool])
     ensures leads { (at : At) → StandsAt slot Listed store.old.cells at → at.position.before ≡ [] → at.nodes ≡ [] → entries.now ≡ entries_in (plug at.position.areas_before at.position.areas_behind) → Represents store.new.cells (without_area at) }
     ensures touches { AtMost 17 store.old.touches store.new.touches }
 {
-    take_whole(store, slot, block);
+    take_whole(store, class_of(block.size), slot, block);
     store.give_vacant(slot);
     set_entries(store, entries);
 }

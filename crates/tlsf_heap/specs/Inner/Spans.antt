@@ -29,6 +29,10 @@ pub record IsRecordOf (block : Record) (pointer : Pointer) (records : List Recor
   pub place : block.place ≡ pointer.place
   pub in_units : block.place % unit ≡ 0
 
+-- the class is that of the record's block
+abbrev pub IsOfClass : ℕ → Record → Type 0
+IsOfClass number block = number ≡ class block.size
+
 -- what is known of the block by the node
 pub record IsSpanOf (span : Span) (at : At) : Type 0 where
   pub slot : span.slot ≡ at.node.slot
