@@ -1,5 +1,5 @@
 ghost use Rattle.std.specs.Prelude.{◌≡◌, length};
-ghost use Rattle.mtrace_log.specs.Trace.{pulled as outcome_of_pull, began as outcome_of_begin, offered as outcome_of_put, flushed as outcome_of_flush};
+ghost use Rattle.mtrace_log.specs.Trace.{pulled, began, offered, flushed};
 
 use crate::failed::Failed;
 
@@ -25,7 +25,7 @@ pub enum Call {
 impl Call {
     /// The outcome of a `pull` with this answer.
     pub(crate) fn pulled(answer: &Result<usize, Failed>) -> Call
-        ensures { result ≡ outcome_of_pull answer.now }
+        ensures { result ≡ pulled answer.now }
     {
         match answer {
             Ok(0) => Call::Ended,
@@ -36,7 +36,7 @@ impl Call {
 
     /// The outcome of a `begin` with this answer.
     pub(crate) fn began(answer: &Result<(), Failed>) -> Call
-        ensures { result ≡ outcome_of_begin answer.now }
+        ensures { result ≡ began answer.now }
     {
         match answer {
             Ok(()) => Call::Began,
@@ -46,7 +46,7 @@ impl Call {
 
     /// The outcome of a `put` of this many bytes, with this answer.
     pub(crate) fn offered(bytes: usize, answer: &Result<usize, Failed>) -> Call
-        ensures { result ≡ outcome_of_put bytes answer.now }
+        ensures { result ≡ offered bytes answer.now }
     {
         match answer {
             Ok(0) if bytes > 0 => Call::Failed,
@@ -57,7 +57,7 @@ impl Call {
 
     /// The outcome of a `flush` with this answer.
     pub(crate) fn flushed(answer: &Result<(), Failed>) -> Call
-        ensures { result ≡ outcome_of_flush answer.now }
+        ensures { result ≡ flushed answer.now }
     {
         match answer {
             Ok(()) => Call::Flushed,

@@ -1,16 +1,14 @@
 //! The lines that make up a log, `@ LOCATION - ADDR` and `@ LOCATION + ADDR SIZE`, read up to their newline with no search
 //! for it first.
 
-ghost use Rattle.std.specs.Prelude.{◌≡◌, ◌++◌, ◌∷◌, IfSome, Ok};
+ghost use Rattle.std.specs.Prelude.{◌≡◌, ◌∷◌, IfSome, Ok};
 ghost use Rattle.mtrace_log.specs.Bytes.{newline};
-ghost use Rattle.mtrace_log.specs.Address.{IsAddress, address_text};
 ghost use Rattle.mtrace_log.specs.Frequent.{IsFrequent, BeginsFrequent, BeginsFields};
 ghost use Rattle.mtrace_log.specs.Reading.{Reads};
 
 use crate::addr::Addr;
 use crate::event::Event;
-use crate::hex;
-use crate::line_reader::{behind_at, split_mark};
+use crate::line_reader::{behind_at, front_addr, split_mark};
 use crate::location::{LentLocation, behind_space};
 
 /// What a line says that names its place, and frees a block or asks for one and is given it.
@@ -21,21 +19,6 @@ pub(crate) struct Frequent {
     addr: Addr,
     // How many bytes were asked for, if any were.
     size: Option<u64>,
-}
-
-/// ADDR at the front, and what follows it.
-#[inline(always)]
-fn front_addr(bytes: &[u8]) -> Option<(Addr, &[u8])>
-    ensures { IfSome result (λ front. IsAddress front.0 × (bytes.now ≡ address_text front.0 ++ front.1.now)) }
-{
-    let [b'0', b'x', digits @ ..] = bytes else {
-        return None;
-    };
-    let (number, rest) = hex::read_digits(digits);
-    let Some(addr) = Addr::new(number) else {
-        return None;
-    };
-    Some((addr, rest))
 }
 
 /// What stands behind a newline, where one is first.

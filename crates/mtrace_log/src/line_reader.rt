@@ -1,4 +1,4 @@
-ghost use Rattle.std.specs.Prelude.{◌≡◌, ◌≢◌, ◌↔◌, ℕ, ◌+◌, ◌<◌, ◌≤◌, ◌++◌, ◌∷◌, List, length, codes, Err, IsTrue, MatchOption};
+ghost use Rattle.std.specs.Prelude.{◌≡◌, ◌≢◌, ◌↔◌, ℕ, ◌+◌, ◌<◌, ◌≤◌, ◌++◌, ◌∷◌, List, length, codes, Err, IsTrue, IfSome, MatchOption};
 ghost use Rattle.mtrace_log.specs.Bytes.{space};
 ghost use Rattle.mtrace_log.specs.Address.{IsAddress, address_text, pointer_text, size_text};
 ghost use Rattle.mtrace_log.specs.Form.{numbers_text, fields_text};
@@ -50,22 +50,36 @@ fn behind_zero(bytes: &[u8]) -> Option<&[u8]>
     }
 }
 
+/// ADDR at the front, and what follows it, whether a field ends before that or not.
+#[inline(always)]
+pub(crate) fn front_addr(bytes: &[u8]) -> Option<(Addr, &[u8])>
+    ensures front { MatchOption result (HasNoFront IsAddress address_text bytes.now)
+        (λ front. IsAddress front.0 × (bytes.now ≡ address_text front.0 ++ front.1.now)) }
+    // Where an address is spelled up to the end of a field, it is this one.
+    ensures only { IfSome result (λ front. (n : ℕ) (rest : List ℕ) → IsFront IsAddress address_text bytes.now n rest → rest ≡ front.1.now) }
+{
+    let [b'0', b'x', digits @ ..] = bytes else {
+        return None;
+    };
+    let (number, rest) = hex::read_digits(digits);
+    let Some(addr) = Addr::new(number) else {
+        return None;
+    };
+    Some((addr, rest))
+}
+
 /// ADDR at the front, and what follows it.
 #[inline(always)]
 fn read_addr(bytes: &[u8]) -> Option<(Addr, &[u8])>
     ensures { MatchOption result (HasNoFront IsAddress address_text bytes.now)
         (λ front. IsFront IsAddress address_text bytes.now front.0 front.1.now) }
 {
-    let [b'0', b'x', digits @ ..] = bytes else {
+    let Some((addr, rest)) = front_addr(bytes) else {
         return None;
     };
-    let (number, rest) = hex::read_digits(digits);
     if !ends_field(rest) {
         return None;
     }
-    let Some(addr) = Addr::new(number) else {
-        return None;
-    };
     Some((addr, rest))
 }
 

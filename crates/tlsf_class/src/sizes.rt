@@ -1,13 +1,13 @@
 //! Lowest sizes and classes by bit counting.
 
 ghost use Rattle.std.specs.Prelude.{◌≡◌, ◌+◌, ◌*◌, ◌%◌, ◌^◌, ◌<◌, ◌≤◌, ◌-◌, Some};
-ghost use Rattle.tlsf_class.specs.Classes.{unit, steps, levels, classes, greatest_size, step_power, low as low_size, class, need};
+ghost use Rattle.tlsf_class.specs.Classes.{unit, steps, levels, classes, greatest_size, step_power, low, class, need};
 
 use super::{Class, GREATEST_LOW, SMALL_END, STEP_POWER, STEPS, STEPS_POWER, UNIT};
 
 /// The lowest size, in bytes, of the blocks of a class.
 pub fn low(class: Class) -> u32
-    ensures { result ≡ low_size class }
+    ensures { result ≡ low class }
 {
     let number = class.number();
     let level = number / STEPS;
@@ -52,7 +52,7 @@ pub fn class_for(size: u32) -> Option<Class>
 fn next_low(size: u32) -> u32
     requires whole { size % unit ≡ 0 }
     requires some { 0 < size }
-    requires most { size ≤ low_size (classes - 1) }
+    requires most { size ≤ low (classes - 1) }
     ensures unit { result % unit ≡ 0 }
     ensures some { unit ≤ result }
     ensures most { result ≤ greatest_size }

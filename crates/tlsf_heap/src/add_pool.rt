@@ -6,7 +6,7 @@ ghost use Rattle.tlsf_store.specs.Cells.{most_pools};
 ghost use Rattle.tlsf_heap.specs.Touches.{AtMost, add_pool_touches};
 ghost use Rattle.tlsf_heap.specs.Inner.Entries.{entries_of};
 ghost use Rattle.tlsf_heap.specs.Inner.Edits.{IsUsed};
-ghost use Rattle.tlsf_heap.specs.Pools.{can_be_pool as can_be, add_pool as added};
+ghost use Rattle.tlsf_heap.specs.Pools.{can_be_pool, add_pool};
 ghost use Rattle.tlsf_heap.specs.Inner.Entries.{is_entry_apart, free_record};
 ghost use Rattle.tlsf_heap.specs.Inner.Nodes.{Layout};
 ghost use Rattle.tlsf_heap.specs.Inner.Represents.{Represents};
@@ -28,7 +28,7 @@ use tlsf_store::{Pool, Record, State, Store, can_be_pool};
 /// As `Heap::add_pool`.
 pub(crate) fn add_pool(store: &mut Store, base: u64, bytes: u64) -> Result<(), Refusal>
     requires { Stands store.old.cells }
-    ensures { Answers result (λ done old new. added base bytes old ≡ Ok new) (λ refusal old. added base bytes old ≡ Err refusal) add_pool_touches store.old store.new }
+    ensures { Answers result (λ done old new. add_pool base bytes old ≡ Ok new) (λ refusal old. add_pool base bytes old ≡ Err refusal) add_pool_touches store.old store.new }
 {
     let entries = entries(store);
     if !can_enter(entries.as_slice(), base, bytes) {
@@ -51,7 +51,7 @@ pub(crate) fn add_pool(store: &mut Store, base: u64, bytes: u64) -> Result<(), R
 
 /// Whether base and bytes can be those of a pool, which overlaps no pool of the entries.
 fn can_enter(entries: &[Pool], base: u64, bytes: u64) -> bool
-    ensures { result ≡ can_be base bytes && list_all (is_entry_apart base bytes) entries.now }
+    ensures { result ≡ can_be_pool base bytes && list_all (is_entry_apart base bytes) entries.now }
 {
     can_be_pool(base, bytes) && is_apart(entries, base, bytes)
 }
@@ -59,7 +59,7 @@ fn can_enter(entries: &[Pool], base: u64, bytes: u64) -> bool
 /// Makes a pool one free block, whose slot was taken, the first of its class's list, and puts its entry
 /// among the others. At most 17 touches.
 fn put_pool(store: &mut Store, entries: &[Pool], entry: Pool)
-    requires can { can_be entry.base entry.bytes ≡ true }
+    requires can { can_be_pool entry.base entry.bytes ≡ true }
     requires room { length entries.now < most_pools }
     requires count { length store.old.cells.pools ≡ most_pools }
     requires entries { entries.now ≡ entries_of store.old.cells.pools }

@@ -13,16 +13,7 @@ ghost use Rattle.tlsf_heap.specs.Inner.Answers.{Leaves};
 use crate::span::Span;
 use tlsf_store::{Record, Slot, State, Store};
 
-/// Makes a block free or live. Two touches.
-pub(crate) fn set_state(store: &mut Store, slot: Slot, state: State)
-    requires used { IsUsed store.old.cells.records (Some slot) }
-    requires new_used { state ≢ Vacant }
-    ensures { LeavesAfter (with_state slot state store.old.cells) 2 store.old store.new }
-{
-    store.set_state(slot, state);
-}
-
-/// Makes a block free or live, by what is known of it. One touch.
+/// Makes a block free or live. One touch.
 pub(crate) fn turn(store: &mut Store, block: &Span, state: State)
     requires used { IsUsed store.old.cells.records (Some block.now.slot) }
     requires new_used { state ≢ Vacant }
@@ -45,30 +36,39 @@ fn set_prev(store: &mut Store, slot: Option<Slot>, prev: Slot)
     }
 }
 
-/// A block keeps its first bytes and is live, and what is left is a free block of the slot `rest` behind
-/// it. At most three touches.
-pub(crate) fn split(store: &mut Store, block: &Span, rest: Slot, bytes: u32)
+/// A block keeps its first bytes, in the state `front`. What is left is a block of the slot `rest` behind it, in the state
+/// `back`. At most three touches.
+pub(crate) fn split(
+    store: &mut Store,
+    block: &Span,
+    front: State,
+    rest: Slot,
+    back: State,
+    bytes: u32,
+)
     requires slot_used { IsUsed store.old.cells.records (Some block.now.slot) }
     requires rest_used { IsUsed store.old.cells.records (Some rest) }
     requires next_used { IsUsed store.old.cells.records block.now.next }
+    requires front_used { front ≢ Vacant }
+    requires back_used { back ≢ Vacant }
     requires less { bytes < block.now.size }
     requires in_units { bytes % unit ≡ 0 }
     requires place_in_units { block.now.place % unit ≡ 0 }
     requires size_in_units { block.now.size % unit ≡ 0 }
     requires ends { block.now.place + block.now.size ≤ end_of_places }
-    ensures { Leaves (split_by block.now rest bytes store.old.cells) 3 store.old store.new }
+    ensures { Leaves (split_by block.now front rest back bytes store.old.cells) 3 store.old store.new }
 {
     let left = Record {
         place: block.place + bytes,
         size: block.size - bytes,
-        state: State::Free,
+        state: back,
         prev: Some(block.slot),
         next: block.next,
         prev_free: None,
         next_free: None,
     };
     store.write(rest, left);
-    store.set_block(block.slot, bytes, State::Live, Some(rest));
+    store.set_block(block.slot, bytes, front, Some(rest));
     set_prev(store, block.next, rest);
 }
 

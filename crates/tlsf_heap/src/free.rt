@@ -6,7 +6,7 @@ ghost use Rattle.tlsf_store.specs.declared.records.State.TheVariants.{Vacant};
 ghost use Rattle.tlsf_store.specs.Records.{record_at, is_live_state};
 ghost use Rattle.tlsf_heap.specs.Touches.{AtMost, free_touches};
 ghost use Rattle.tlsf_heap.specs.Content.{blocks_of};
-ghost use Rattle.tlsf_heap.specs.Free.{is_live as is_live_in};
+ghost use Rattle.tlsf_heap.specs.Free.{is_live};
 ghost use Rattle.tlsf_heap.specs.Pointer.{free_ptr};
 ghost use Rattle.tlsf_heap.specs.Inner.Edits.{unlinked_by};
 ghost use Rattle.tlsf_heap.specs.Inner.Nodes.{NodeState, InUse, Listed, Loose, is_listed};
@@ -43,7 +43,7 @@ pub(crate) fn free(store: &mut Store, ptr: Ptr) -> Result<(), Refusal>
 /// touch.
 pub(crate) fn live(store: &mut Store, ptr: Ptr) -> Option<Record>
     requires { Stands store.old.cells }
-    ensures value { is_some result ≡ is_live_in (λ slot. slot == ptr.slot) ptr.place (blocks_of (content_of store.old.cells).pools) }
+    ensures value { is_some result ≡ is_live (λ slot. slot == ptr.slot) ptr.place (blocks_of (content_of store.old.cells).pools) }
     ensures read { IfSome result (λ block. IsRecordOf block ptr store.old.cells.records) }
     ensures left { Leaves store.old.cells 1 store.old store.new }
 {

@@ -4,7 +4,7 @@ ghost use Rattle.std.specs.Prelude.{◌≡◌, ◌<◌, length, IfSome, IfNone, 
 ghost use Rattle.tlsf_store.specs.Records.{IsBelow};
 ghost use Rattle.tlsf_store.specs.Cells.{with_head, head_at};
 ghost use Rattle.tlsf_heap.specs.Touches.{AtMost};
-ghost use Rattle.tlsf_heap.specs.Inner.Edits.{IsUsed, with_prev_free, with_next_free, with_free_links, with_class_bit, with_first, with_behind, linked, unlinked_by};
+ghost use Rattle.tlsf_heap.specs.Inner.Edits.{IsUsed, with_prev_free, with_free_links, with_class_bit, with_first, with_behind, linked, unlinked_by};
 ghost use Rattle.tlsf_store.specs.CountedCells.{LeavesAfter};
 ghost use Rattle.tlsf_heap.specs.Inner.Answers.{Leaves};
 
@@ -31,7 +31,7 @@ fn link_before(store: &mut Store, class: Class, slot: Slot, first: Slot)
     ensures { LeavesAfter (with_head (with_prev_free (Some first) (Some slot) (with_free_links slot None (Some first) store.old.cells)) class (Some slot)) 4 store.old store.new }
 {
     set_free_links(store, slot, None, Some(first));
-    set_prev_free(store, first, Some(slot));
+    store.set_prev_free(first, Some(slot));
     store.set_head(class, Some(slot));
 }
 
@@ -67,15 +67,6 @@ fn set_free_links(store: &mut Store, slot: Slot, prev: Option<Slot>, next: Optio
     store.set_next_free(slot, next);
 }
 
-/// Links a free block to the one in front of it. One touch.
-fn set_prev_free(store: &mut Store, slot: Slot, prev: Option<Slot>)
-    requires used { IsUsed store.old.cells.records (Some slot) }
-    requires prev_below { IsBelow (length store.old.cells.records) prev }
-    ensures { LeavesAfter (with_prev_free (Some slot) prev store.old.cells) 1 store.old store.new }
-{
-    store.set_prev_free(slot, prev);
-}
-
 /// Links the block behind, if there is one, to the one in front. At most one touch, and none where there is no block.
 fn set_in_back(store: &mut Store, next: Option<Slot>, prev: Option<Slot>)
     requires used { IsUsed store.old.cells.records next }
@@ -84,17 +75,8 @@ fn set_in_back(store: &mut Store, next: Option<Slot>, prev: Option<Slot>)
     ensures idle { IfNone next (store.new.touches ≡ store.old.touches) }
 {
     if let Some(slot) = next {
-        set_prev_free(store, slot, prev);
+        store.set_prev_free(slot, prev);
     }
-}
-
-/// Links a free block to the one behind it. One touch.
-fn set_next_free(store: &mut Store, slot: Slot, next: Option<Slot>)
-    requires used { IsUsed store.old.cells.records (Some slot) }
-    requires next_below { IsBelow (length store.old.cells.records) next }
-    ensures { LeavesAfter (with_next_free (Some slot) next store.old.cells) 1 store.old store.new }
-{
-    store.set_next_free(slot, next);
 }
 
 /// Makes a block, or none, the first of a class's list. At most five touches, and for a block one.
@@ -121,7 +103,7 @@ fn set_behind(store: &mut Store, class: Class, prev: Option<Slot>, next: Option<
     ensures few { IfSome next (λ slot. AtMost 1 store.old.touches store.new.touches) }
 {
     match prev {
-        Some(slot) => set_next_free(store, slot, next),
+        Some(slot) => store.set_next_free(slot, next),
         None => set_first(store, class, next),
     }
 }

@@ -50,13 +50,13 @@ impl Heap {
     ghost use Rattle.tlsf_heap.specs.Served.{IsServed, IsMoved, Refuses};
     ghost use Rattle.tlsf_heap.specs.Readings.{FindsRows, GivesRow, TouchesForRow, IsLargestRequest};
     ghost use Rattle.tlsf_heap.specs.Content.{used_records};
-    ghost use Rattle.tlsf_heap.specs.Malloc.{malloc as served};
-    ghost use Rattle.tlsf_heap.specs.Memalign.{memalign as aligned};
+    ghost use Rattle.tlsf_heap.specs.Malloc.{malloc};
+    ghost use Rattle.tlsf_heap.specs.Memalign.{memalign};
     ghost use Rattle.tlsf_heap.specs.Pointer.{free_ptr, realloc_ptr, block_size_ptr};
     ghost use Rattle.tlsf_heap.specs.Rows.{rows_from};
     ghost use Rattle.tlsf_heap.specs.Cursors.{rows_behind, is_at_row};
     ghost use Rattle.tlsf_heap.specs.Walk.{IsWalk, walk_touches};
-    ghost use Rattle.tlsf_heap.specs.Pools.{created, add_pool as added, remove_pool as removed};
+    ghost use Rattle.tlsf_heap.specs.Pools.{created, add_pool, remove_pool};
     ghost use Rattle.tlsf_heap.specs.Counted.{range_of, IsUnchanged, Reads};
     ghost use Rattle.tlsf_heap.specs.Implied.{NoneFits, NoneFitsAligned, HasFewRecords, HasFewRecordsAndOne, IsLaidOut};
     ghost use Rattle.tlsf_heap.specs.Room.{HasRoom, HasRoomAligned};
@@ -144,8 +144,8 @@ impl Heap {
     /// many pools as there can be; `TableFull` where each record is in use: there are at most two records a live
     /// block and one a pool then.
     pub fn add_pool(&mut self, base: u64, bytes: u64) -> Result<(), Refusal>
-        ensures ok { OnOk result (added base bytes self.old.content ≡ Ok self.new.content) }
-        ensures refused { Refuses result (λ refusal. added base bytes self.old.content ≡ Err refusal) (IsUnchanged self.old self.new) }
+        ensures ok { OnOk result (add_pool base bytes self.old.content ≡ Ok self.new.content) }
+        ensures refused { Refuses result (λ refusal. add_pool base bytes self.old.content ≡ Err refusal) (IsUnchanged self.old self.new) }
         ensures table_full { result ≡ Err TableFull → HasFewRecords self.old.content }
         ensures bound { AtMost add_pool_touches self.old.touches self.new.touches }
     {
@@ -158,8 +158,8 @@ impl Heap {
     ///
     /// `NoPool` where no pool begins there; `PoolInUse` unless the pool is one free block.
     pub fn remove_pool(&mut self, base: u64) -> Result<(), Refusal>
-        ensures ok { OnOk result (removed base self.old.content ≡ Ok self.new.content) }
-        ensures refused { Refuses result (λ refusal. removed base self.old.content ≡ Err refusal) (IsUnchanged self.old self.new) }
+        ensures ok { OnOk result (remove_pool base self.old.content ≡ Ok self.new.content) }
+        ensures refused { Refuses result (λ refusal. remove_pool base self.old.content ≡ Err refusal) (IsUnchanged self.old self.new) }
         ensures bound { AtMost remove_pool_touches self.old.touches self.new.touches }
     {
         remove_pool(&mut self.store, base)
@@ -177,8 +177,8 @@ impl Heap {
     /// where there are more records than that, and the pools have more bytes than these two together: the live blocks,
     /// and a free block of a unit less than that lowest size for each live block and each pool.
     pub fn malloc(&mut self, n: u64) -> Result<Ptr, Refusal>
-        ensures ok { IfOk result (λ ptr. IsServed (λ slot. served slot n) ptr self.old.content self.new.content) }
-        ensures refused { Refuses result (λ refusal. (slot : ℕ) → served slot n self.old.content ≡ Err refusal) (IsUnchanged self.old self.new) }
+        ensures ok { IfOk result (λ ptr. IsServed (λ slot. malloc slot n) ptr self.old.content self.new.content) }
+        ensures refused { Refuses result (λ refusal. (slot : ℕ) → malloc slot n self.old.content ≡ Err refusal) (IsUnchanged self.old self.new) }
         ensures no_fit { result ≡ Err NoFit → NoneFits n self.old.content }
         ensures table_full { result ≡ Err TableFull → HasFewRecords self.old.content }
         ensures room { HasRoom n self.old.content → IsOk result }
@@ -202,9 +202,9 @@ impl Heap {
     /// more records than that, and the pools have more bytes than these two together: the live blocks, and a free block
     /// of a unit less than that lowest size for each live block and each pool.
     pub fn memalign(&mut self, align: u64, n: u64) -> Result<Ptr, Refusal>
-        ensures ok { IfOk result (λ ptr. IsServed (λ slot. aligned slot align n) ptr self.old.content self.new.content) }
+        ensures ok { IfOk result (λ ptr. IsServed (λ slot. memalign slot align n) ptr self.old.content self.new.content) }
         ensures multiple { IfOk result (λ ptr. ptr.place % align ≡ 0) }
-        ensures refused { Refuses result (λ refusal. (slot : ℕ) → aligned slot align n self.old.content ≡ Err refusal) (IsUnchanged self.old self.new) }
+        ensures refused { Refuses result (λ refusal. (slot : ℕ) → memalign slot align n self.old.content ≡ Err refusal) (IsUnchanged self.old self.new) }
         ensures no_fit { result ≡ Err NoFit → NoneFitsAligned align n self.old.content }
         ensures table_full { result ≡ Err TableFull → HasFewRecordsAndOne self.old.content }
         ensures room { HasRoomAligned align n self.old.content → IfErr result (λ refusal. refusal ≡ BadAlign) }

@@ -6,9 +6,9 @@ ghost use Rattle.tlsf_store.specs.Records.{most_records};
 ghost use Rattle.tlsf_heap.specs.declared.cursor.Cursor.{Cursor};
 ghost use Rattle.tlsf_heap.specs.declared.row.Row.{Row};
 ghost use Rattle.tlsf_heap.specs.Content.{Content};
-ghost use Rattle.tlsf_heap.specs.Pools.{created, add_pool as added, remove_pool as removed};
-ghost use Rattle.tlsf_heap.specs.Malloc.{malloc as served};
-ghost use Rattle.tlsf_heap.specs.Memalign.{memalign as aligned};
+ghost use Rattle.tlsf_heap.specs.Pools.{created, add_pool, remove_pool};
+ghost use Rattle.tlsf_heap.specs.Malloc.{malloc};
+ghost use Rattle.tlsf_heap.specs.Memalign.{memalign};
 ghost use Rattle.tlsf_heap.specs.Pointer.{free_ptr, realloc_ptr, block_size_ptr};
 ghost use Rattle.tlsf_heap.specs.Served.{IsServed, IsMoved, Refuses, RefusesOrLacks};
 ghost use Rattle.tlsf_heap.specs.Readings.{FindsRows, GivesRow, TouchesForRow};
@@ -65,8 +65,8 @@ pub trait Heaped: Drop {
     /// there are as many pools as there can be; `TableFull` where each record is in use; `OutOfMemory` where
     /// memory is refused, which it may lack.
     fn add_pool(&mut self, base: u64, bytes: u64) -> Result<(), Refusal>
-        ensures ok { OnOk result (added base bytes (content self.old) ≡ Ok (content self.new)) }
-        ensures refused { RefusesOrLacks result (λ refusal. added base bytes (content self.old) ≡ Err refusal) lacks (LooksUnchanged content stands rest self.old self.new) }
+        ensures ok { OnOk result (add_pool base bytes (content self.old) ≡ Ok (content self.new)) }
+        ensures refused { RefusesOrLacks result (λ refusal. add_pool base bytes (content self.old) ≡ Err refusal) lacks (LooksUnchanged content stands rest self.old self.new) }
         ensures bound { AtMost 64 (touches self.old) (touches self.new) };
 
     /// The pool that begins at the place `base` is gone. At most 64 touches.
@@ -76,8 +76,8 @@ pub trait Heaped: Drop {
     /// `NoPool` where no pool begins there; `PoolInUse` unless the pool is one free block; `OutOfMemory` where
     /// memory is refused, which it may lack.
     fn remove_pool(&mut self, base: u64) -> Result<(), Refusal>
-        ensures ok { OnOk result (removed base (content self.old) ≡ Ok (content self.new)) }
-        ensures refused { RefusesOrLacks result (λ refusal. removed base (content self.old) ≡ Err refusal) lacks (LooksUnchanged content stands rest self.old self.new) }
+        ensures ok { OnOk result (remove_pool base (content self.old) ≡ Ok (content self.new)) }
+        ensures refused { RefusesOrLacks result (λ refusal. remove_pool base (content self.old) ≡ Err refusal) lacks (LooksUnchanged content stands rest self.old self.new) }
         ensures bound { AtMost 64 (touches self.old) (touches self.new) };
 
     /// A live block of at least `n` bytes, with a slot that no other live block has. At most 96 touches.
@@ -88,8 +88,8 @@ pub trait Heaped: Drop {
     /// the greatest size; `TableFull` where a rest would be left and each record is in use; `OutOfMemory`
     /// where memory is refused, which it may lack.
     fn malloc(&mut self, n: u64) -> Result<Ptr, Refusal>
-        ensures ok { IfOk result (λ ptr. IsServed (λ slot. served slot n) ptr (content self.old) (content self.new)) }
-        ensures refused { RefusesOrLacks result (λ refusal. (slot : ℕ) → served slot n (content self.old) ≡ Err refusal) lacks (LooksUnchanged content stands rest self.old self.new) }
+        ensures ok { IfOk result (λ ptr. IsServed (λ slot. malloc slot n) ptr (content self.old) (content self.new)) }
+        ensures refused { RefusesOrLacks result (λ refusal. (slot : ℕ) → malloc slot n (content self.old) ≡ Err refusal) lacks (LooksUnchanged content stands rest self.old self.new) }
         ensures bound { AtMost 96 (touches self.old) (touches self.new) };
 
     /// A live block of at least `n` bytes that begins at a multiple of `align`, with a slot that no other live
@@ -102,8 +102,8 @@ pub trait Heaped: Drop {
     /// front and behind need more records than are left; `OutOfMemory` where memory is refused, which it may
     /// lack.
     fn memalign(&mut self, align: u64, n: u64) -> Result<Ptr, Refusal>
-        ensures ok { IfOk result (λ ptr. IsServed (λ slot. aligned slot align n) ptr (content self.old) (content self.new)) }
-        ensures refused { RefusesOrLacks result (λ refusal. (slot : ℕ) → aligned slot align n (content self.old) ≡ Err refusal) lacks (LooksUnchanged content stands rest self.old self.new) }
+        ensures ok { IfOk result (λ ptr. IsServed (λ slot. memalign slot align n) ptr (content self.old) (content self.new)) }
+        ensures refused { RefusesOrLacks result (λ refusal. (slot : ℕ) → memalign slot align n (content self.old) ≡ Err refusal) lacks (LooksUnchanged content stands rest self.old self.new) }
         ensures bound { AtMost 160 (touches self.old) (touches self.new) };
 
     /// The live block with the pointer's place and slot becomes free, and is merged with its free

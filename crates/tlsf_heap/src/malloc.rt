@@ -5,13 +5,13 @@ ghost use Rattle.tlsf_class.specs.Classes.{unit};
 ghost use Rattle.tlsf_store.specs.declared.records.State.TheVariants.{Free};
 ghost use Rattle.tlsf_store.specs.Records.{record_at, vacant_count};
 ghost use Rattle.tlsf_heap.specs.Touches.{AtMost, malloc_touches};
-ghost use Rattle.tlsf_heap.specs.Lists.{pick as picked};
-ghost use Rattle.tlsf_heap.specs.Malloc.{malloc as served, malloc_rounded};
+ghost use Rattle.tlsf_heap.specs.Lists.{pick};
+ghost use Rattle.tlsf_heap.specs.Malloc.{malloc, malloc_rounded};
 ghost use Rattle.tlsf_heap.specs.Served.{IsServed};
 ghost use Rattle.tlsf_heap.specs.Inner.Following.{Stands, content_of};
 ghost use Rattle.tlsf_heap.specs.Inner.Nodes.{NodeState, InUse, Listed, is_listed};
 ghost use Rattle.tlsf_heap.specs.Inner.At.{At, StandsAt, with_slot, at_turned, at_taken, at_split_off, at_split_rest};
-ghost use Rattle.tlsf_heap.specs.Inner.Spans.{IsRead};
+ghost use Rattle.tlsf_heap.specs.Inner.Spans.{IsRead, IsOfClass};
 ghost use Rattle.tlsf_heap.specs.Inner.Answers.{Answers, Leaves};
 
 use crate::chains::{split, turn};
@@ -19,7 +19,7 @@ use crate::free_lists::{link, unlink};
 use crate::search::search;
 use crate::span::Span;
 use crate::{Ptr, Refusal};
-use tlsf_class::{class_for, class_of, round};
+use tlsf_class::{Class, class_for, class_of, round};
 use tlsf_store::{Record, Slot, State, Store};
 
 /// A live block of `n` bytes, rounded up to the unit. At most 23 touches.
@@ -29,7 +29,7 @@ use tlsf_store::{Record, Slot, State, Store};
 /// As `Heap::malloc`.
 pub(crate) fn malloc(store: &mut Store, n: u64) -> Result<Ptr, Refusal>
     requires { Stands store.old.cells }
-    ensures { Answers result (IsServed (λ slot. served slot n)) (λ refusal old. (slot : ℕ) → served slot n old ≡ Err refusal) malloc_touches store.old store.new }
+    ensures { Answers result (IsServed (λ slot. malloc slot n)) (λ refusal old. (slot : ℕ) → malloc slot n old ≡ Err refusal) malloc_touches store.old store.new }
 {
     if n == 0 {
         return Err(Refusal::ZeroSize);
@@ -51,21 +51,22 @@ pub(crate) fn allocate(store: &mut Store, asked: u32) -> Result<Ptr, Refusal>
     requires some { 0 < asked }
     ensures { Answers result (IsServed (λ slot. malloc_rounded slot (Some asked))) (λ refusal old. (slot : ℕ) → malloc_rounded slot (Some asked) old ≡ Err refusal) malloc_touches store.old store.new }
 {
-    let Some(slot) = pick(store, asked) else {
+    let Some((class, slot)) = pick(store, asked) else {
         return Err(Refusal::NoFit);
     };
-    take(store, slot, asked)
+    take(store, class, slot, asked)
 }
 
 /// The first block of the first list that isn't empty, at or above the class from which each block holds
-/// `asked` bytes. At most four touches.
-pub(crate) fn pick(store: &mut Store, asked: u32) -> Option<Slot>
+/// `asked` bytes; with its class. At most four touches.
+pub(crate) fn pick(store: &mut Store, asked: u32) -> Option<(Class, Slot)>
     requires stands { Stands store.old.cells }
     requires whole { asked % unit ≡ 0 }
     requires some { 0 < asked }
-    ensures free { IfSome result (λ slot. (record_at store.old.cells.records slot).state ≡ Free) }
-    ensures found { IfSome result (λ slot. picked asked (content_of store.old.cells).lists ≡ Some (record_at store.old.cells.records slot).place) }
-    ensures none { IfNone result (picked asked (content_of store.old.cells).lists ≡ None) }
+    ensures of_class { IfSome result (λ first. IsOfClass first.0 (record_at store.old.cells.records first.1)) }
+    ensures free { IfSome result (λ first. (record_at store.old.cells.records first.1).state ≡ Free) }
+    ensures found { IfSome result (λ first. pick asked (content_of store.old.cells).lists ≡ Some (record_at store.old.cells.records first.1).place) }
+    ensures none { IfNone result (pick asked (content_of store.old.cells).lists ≡ None) }
     ensures left { Leaves store.old.cells 4 store.old store.new }
 {
     let Some(class) = class_for(asked) else {
@@ -74,36 +75,38 @@ pub(crate) fn pick(store: &mut Store, asked: u32) -> Option<Slot>
     search(store, class)
 }
 
-/// The first `asked` bytes of the block picked are a live block. At most 19 touches.
+/// The first `asked` bytes of the block picked, of this class, are a live block. At most 19 touches.
 ///
 /// # Errors
 ///
 /// `TableFull` where a rest would be left and no record is vacant; then the cells are as they were.
-fn take(store: &mut Store, slot: Slot, asked: u32) -> Result<Ptr, Refusal>
+fn take(store: &mut Store, class: Class, slot: Slot, asked: u32) -> Result<Ptr, Refusal>
     requires stands { Stands store.old.cells }
     requires whole { asked % unit ≡ 0 }
     requires some { 0 < asked }
+    requires of_class { IsOfClass class (record_at store.old.cells.records slot) }
     requires free { (record_at store.old.cells.records slot).state ≡ Free }
-    requires found { picked asked (content_of store.old.cells).lists ≡ Some (record_at store.old.cells.records slot).place }
+    requires found { pick asked (content_of store.old.cells).lists ≡ Some (record_at store.old.cells.records slot).place }
     ensures { Answers result (IsServed (λ owner. malloc_rounded owner (Some asked))) (λ refusal old. (owner : ℕ) → malloc_rounded owner (Some asked) old ≡ Err refusal) 19 store.old store.new }
 {
     let block = store.read_used(slot);
     if block.size == asked {
-        take_whole(store, slot, &block);
+        take_whole(store, class, slot, &block);
         return Ok(Ptr::new(block.place, slot.0));
     }
     let Some(rest) = store.take_vacant() else {
         return Err(Refusal::TableFull);
     };
-    take_split(store, slot, rest, asked, &block);
+    take_split(store, class, slot, rest, asked, &block);
     Ok(Ptr::new(block.place, slot.0))
 }
 
-/// The first bytes of a free block of this record, which leaves its class's list, are a live block. What
+/// The first bytes of a free block of this record, which leaves the list of its class, are a live block. What
 /// is left is a free block of the slot `rest`, first in its class's list. At most 16 touches.
-fn take_split(store: &mut Store, slot: Slot, rest: Slot, bytes: u32, block: &Record)
+fn take_split(store: &mut Store, class: Class, slot: Slot, rest: Slot, bytes: u32, block: &Record)
     requires stands { (at : At) × StandsAt slot Listed store.old.cells (with_slot rest at) }
     requires read { block.now ≡ record_at store.old.cells.records slot }
+    requires of_class { IsOfClass class block.now }
     requires in_units { block.now.place % unit ≡ 0 }
     requires some { 0 < bytes }
     requires less { bytes < block.now.size }
@@ -111,20 +114,21 @@ fn take_split(store: &mut Store, slot: Slot, rest: Slot, bytes: u32, block: &Rec
     ensures leads { (at : At) → StandsAt slot Listed store.old.cells (with_slot rest at) → StandsAt rest Listed store.new.cells (at_split_off rest bytes (at_taken at)) }
     ensures touches { AtMost 16 store.old.touches store.new.touches }
 {
-    unlink(store, class_of(block.size), block);
+    unlink(store, class, block);
     let whole = Span::of(slot, block);
     split_off(store, &whole, rest, bytes);
 }
 
-/// A free block of this record leaves its class's list and is live. At most six touches.
-pub(crate) fn take_whole(store: &mut Store, slot: Slot, block: &Record)
+/// A free block of this record leaves the list of its class and is live. At most six touches.
+pub(crate) fn take_whole(store: &mut Store, class: Class, slot: Slot, block: &Record)
     requires stands { (at : At) × StandsAt slot Listed store.old.cells at }
     requires read { block.now ≡ record_at store.old.cells.records slot }
+    requires of_class { IsOfClass class block.now }
     requires in_units { block.now.place % unit ≡ 0 }
     ensures leads { (at : At) → StandsAt slot Listed store.old.cells at → StandsAt slot InUse store.new.cells (at_taken at) }
     ensures touches { AtMost 6 store.old.touches store.new.touches }
 {
-    unlink(store, class_of(block.size), block);
+    unlink(store, class, block);
     let whole = Span::of(slot, block);
     turn(store, &whole, State::Live);
 }
@@ -140,7 +144,7 @@ fn split_off(store: &mut Store, block: &Span, rest: Slot, bytes: u32)
     ensures leads { (node_state : NodeState) (at : At) → is_listed node_state ≡ false → StandsAt block.now.slot node_state store.old.cells (with_slot rest at) → StandsAt rest Listed store.new.cells (at_split_off rest bytes (at_turned InUse at)) }
     ensures touches { AtMost 11 store.old.touches store.new.touches }
 {
-    split(store, block, rest, bytes);
+    split(store, block, State::Live, rest, State::Free, bytes);
     link(store, class_of(block.size - bytes), rest);
 }
 

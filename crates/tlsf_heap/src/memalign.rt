@@ -6,21 +6,21 @@ ghost use Rattle.tlsf_class.specs.Classes.{unit, greatest_size};
 ghost use Rattle.tlsf_store.specs.declared.records.State.TheVariants.{Free};
 ghost use Rattle.tlsf_store.specs.Records.{blank, record_at, vacant_count};
 ghost use Rattle.tlsf_heap.specs.Touches.{AtMost, memalign_touches};
-ghost use Rattle.tlsf_heap.specs.Lists.{pick as picked};
-ghost use Rattle.tlsf_heap.specs.Memalign.{is_alignment as is_one, size_asked as asked_size, gap_records, memalign as served, memalign_rounded};
+ghost use Rattle.tlsf_heap.specs.Lists.{pick};
+ghost use Rattle.tlsf_heap.specs.Memalign.{is_alignment, size_asked, gap_records, memalign, memalign_rounded};
 ghost use Rattle.tlsf_heap.specs.Served.{IsServed};
 ghost use Rattle.tlsf_heap.specs.Inner.Following.{Stands, content_of};
 ghost use Rattle.tlsf_heap.specs.Inner.Nodes.{InUse};
 ghost use Rattle.tlsf_heap.specs.Inner.At.{At, StandsAt, at_gapped};
-ghost use Rattle.tlsf_heap.specs.Inner.Spans.{IsRead};
+ghost use Rattle.tlsf_heap.specs.Inner.Spans.{IsRead, IsOfClass};
 ghost use Rattle.tlsf_heap.specs.Inner.Answers.{Answers};
 
-use crate::chains::{set_state, split};
+use crate::chains::split;
 use crate::free::enter;
 use crate::malloc::{pick, split_rest, take_whole};
 use crate::span::Span;
 use crate::{Ptr, Refusal};
-use tlsf_class::{UNIT, round};
+use tlsf_class::{Class, UNIT, round};
 use tlsf_store::{Slot, State, Store};
 
 /// The greatest alignment, in bytes.
@@ -34,7 +34,7 @@ const GREATEST_ALIGNMENT: u64 = 1 << 29;
 /// As `Heap::memalign`.
 pub(crate) fn memalign(store: &mut Store, align: u64, n: u64) -> Result<Ptr, Refusal>
     requires { Stands store.old.cells }
-    ensures { Answers result (IsServed (λ slot. served slot align n)) (λ refusal old. (slot : ℕ) → served slot align n old ≡ Err refusal) memalign_touches store.old store.new }
+    ensures { Answers result (IsServed (λ slot. memalign slot align n)) (λ refusal old. (slot : ℕ) → memalign slot align n old ≡ Err refusal) memalign_touches store.old store.new }
 {
     if !is_alignment(align) {
         return Err(Refusal::BadAlign);
@@ -46,26 +46,33 @@ pub(crate) fn memalign(store: &mut Store, align: u64, n: u64) -> Result<Ptr, Ref
         return Err(Refusal::NoFit);
     };
     let align = align as u32;
-    let Some(slot) = pick(store, size_asked(align, asked)) else {
+    let Some((class, slot)) = pick(store, size_asked(align, asked)) else {
         return Err(Refusal::NoFit);
     };
-    split_aligned(store, slot, align, asked)
+    split_aligned(store, class, slot, align, asked)
 }
 
-/// The block picked is split: a live block of `asked` bytes begins at the least multiple of the alignment
-/// at or above its place. At most 38 touches.
+/// The block picked, of this class, is split: a live block of `asked` bytes begins at the least multiple
+/// of the alignment at or above its place. At most 34 touches.
 ///
 /// # Errors
 ///
 /// `TableFull` where the gap and what is left behind need more records than are vacant; then nothing is changed.
-fn split_aligned(store: &mut Store, slot: Slot, align: u32, asked: u32) -> Result<Ptr, Refusal>
+fn split_aligned(
+    store: &mut Store,
+    class: Class,
+    slot: Slot,
+    align: u32,
+    asked: u32,
+) -> Result<Ptr, Refusal>
     requires stands { Stands store.old.cells }
-    requires is { is_one align ≡ true }
+    requires is { is_alignment align ≡ true }
     requires whole { asked % unit ≡ 0 }
     requires some { 0 < asked }
+    requires of_class { IsOfClass class (record_at store.old.cells.records slot) }
     requires free { (record_at store.old.cells.records slot).state ≡ Free }
-    requires found { picked (asked_size align asked) (content_of store.old.cells).lists ≡ Some (record_at store.old.cells.records slot).place }
-    ensures { Answers result (IsServed (λ owner. memalign_rounded owner align (Some asked))) (λ refusal old. (owner : ℕ) → memalign_rounded owner align (Some asked) old ≡ Err refusal) 38 store.old store.new }
+    requires found { pick (size_asked align asked) (content_of store.old.cells).lists ≡ Some (record_at store.old.cells.records slot).place }
+    ensures { Answers result (IsServed (λ owner. memalign_rounded owner align (Some asked))) (λ refusal old. (owner : ℕ) → memalign_rounded owner align (Some asked) old ≡ Err refusal) 34 store.old store.new }
 {
     let block = store.read_used(slot);
     let start = start_of(block.place, align);
@@ -74,7 +81,7 @@ fn split_aligned(store: &mut Store, slot: Slot, align: u32, asked: u32) -> Resul
     if store.vacant() < records_for(gap) + records_for(left - asked) {
         return Err(Refusal::TableFull);
     }
-    take_whole(store, slot, &block);
+    take_whole(store, class, slot, &block);
     let whole = Span::of(slot, &block);
     let live = leave_gap(store, &whole, gap);
     let behind = Span {
@@ -96,7 +103,7 @@ fn records_for(bytes: u32) -> u32
 
 /// Whether it is an alignment, in bytes, that `memalign` takes: a power of two from 1 to 2^29.
 pub fn is_alignment(align: u64) -> bool
-    ensures { result ≡ is_one align }
+    ensures { result ≡ is_alignment align }
 {
     align <= GREATEST_ALIGNMENT && align.is_power_of_two()
 }
@@ -105,8 +112,8 @@ pub fn is_alignment(align: u64) -> bool
 /// multiple of the alignment on.
 pub(crate) fn size_asked(align: u32, bytes: u32) -> u32
     requires few { bytes ≤ greatest_size }
-    requires is { is_one align ≡ true }
-    ensures { result ≡ asked_size align bytes }
+    requires is { is_alignment align ≡ true }
+    ensures { result ≡ size_asked align bytes }
 {
     if align <= UNIT {
         bytes
@@ -130,7 +137,7 @@ pub(crate) fn start_of(place: u32, align: u32) -> u32
 }
 
 /// A live block keeps what is behind its first bytes, under another slot. These are a free block, first in
-/// its class's list; where there are none, nothing changes. The answer is the live block's slot. At most 17
+/// its class's list; where there are none, nothing changes. The answer is the live block's slot. At most 13
 /// touches.
 fn leave_gap(store: &mut Store, block: &Span, bytes: u32) -> Slot
     requires stands { (at : At) × StandsAt block.now.slot InUse store.old.cells at }
@@ -142,7 +149,7 @@ fn leave_gap(store: &mut Store, block: &Span, bytes: u32) -> Slot
     ensures same { bytes ≡ 0 → result ≡ block.now.slot }
     ensures vacant { 0 < bytes → record_at store.old.cells.records result ≡ blank }
     ensures below { result < length store.old.cells.records }
-    ensures touches { AtMost 17 store.old.touches store.new.touches }
+    ensures touches { AtMost 13 store.old.touches store.new.touches }
 {
     if bytes == 0 {
         return block.slot;
@@ -150,9 +157,7 @@ fn leave_gap(store: &mut Store, block: &Span, bytes: u32) -> Slot
     let Some(live) = store.take_vacant() else {
         unreachable!()
     };
-    split(store, block, live, bytes);
-    set_state(store, live, State::Live);
-    set_state(store, block.slot, State::Free);
+    split(store, block, State::Free, live, State::Live, bytes);
     enter(store, block.slot, bytes);
     live
 }

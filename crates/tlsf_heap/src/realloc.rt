@@ -4,8 +4,8 @@ ghost use Rattle.std.specs.Prelude.{◌≡◌, ◌≢◌, ℕ, true, ◌%◌, �
 ghost use Rattle.tlsf_class.specs.Classes.{unit};
 ghost use Rattle.tlsf_heap.specs.Touches.{AtMost, realloc_touches};
 ghost use Rattle.tlsf_heap.specs.Content.{blocks_of, size_at};
-ghost use Rattle.tlsf_heap.specs.Free.{is_live as is_live_in};
-ghost use Rattle.tlsf_heap.specs.Realloc.{fits_in_place as fits, resized, moved, realloc_sized};
+ghost use Rattle.tlsf_heap.specs.Free.{is_live};
+ghost use Rattle.tlsf_heap.specs.Realloc.{fits_in_place, resized, moved, realloc_sized};
 ghost use Rattle.tlsf_heap.specs.Malloc.{malloc_rounded};
 ghost use Rattle.tlsf_heap.specs.Pointer.{realloc_ptr};
 ghost use Rattle.tlsf_heap.specs.Served.{IsMoved};
@@ -77,7 +77,7 @@ fn reallocate(store: &mut Store, ptr: Ptr, n: u64) -> Result<Option<Ptr>, Refusa
 /// As `Heap::malloc`, where the block has to move.
 fn resize(store: &mut Store, ptr: Ptr, block: Span, asked: u32) -> Result<Ptr, Refusal>
     requires stands { Stands store.old.cells }
-    requires live { is_live_in (λ slot. slot == ptr.slot) ptr.place (blocks_of (content_of store.old.cells).pools) ≡ true }
+    requires live { is_live (λ slot. slot == ptr.slot) ptr.place (blocks_of (content_of store.old.cells).pools) ≡ true }
     requires slot { block.slot ≡ ptr.slot }
     requires place { block.place ≡ ptr.place }
     requires read { IsRead block store.old.cells.records }
@@ -101,9 +101,9 @@ fn resize(store: &mut Store, ptr: Ptr, block: Span, asked: u32) -> Result<Ptr, R
 /// Whether the live block can have `asked` bytes in its place. At most two touches.
 fn fits_in_place(store: &mut Store, block: &Span, asked: u32) -> bool
     requires stands { Stands store.old.cells }
-    requires live { is_live_in (λ slot. slot == block.now.slot) block.now.place (blocks_of (content_of store.old.cells).pools) ≡ true }
+    requires live { is_live (λ slot. slot == block.now.slot) block.now.place (blocks_of (content_of store.old.cells).pools) ≡ true }
     requires read { IsRead block.now store.old.cells.records }
-    ensures value { result ≡ fits block.now.place asked (content_of store.old.cells) }
+    ensures value { result ≡ fits_in_place block.now.place asked (content_of store.old.cells) }
     ensures left { Leaves store.old.cells 2 store.old store.new }
 {
     let behind = free_behind(store, block);
@@ -134,9 +134,9 @@ fn free_behind(store: &mut Store, block: &Span) -> Option<u32>
 /// where anything is, is a free block. At most 24 touches.
 fn resize_in_place(store: &mut Store, block: Span, asked: u32)
     requires stands { Stands store.old.cells }
-    requires live { is_live_in (λ slot. slot == block.slot) block.place (blocks_of (content_of store.old.cells).pools) ≡ true }
+    requires live { is_live (λ slot. slot == block.slot) block.place (blocks_of (content_of store.old.cells).pools) ≡ true }
     requires read { IsRead block store.old.cells.records }
-    requires fits { fits block.place asked (content_of store.old.cells) ≡ true }
+    requires fits { fits_in_place block.place asked (content_of store.old.cells) ≡ true }
     requires other { asked ≢ size_at block.place (blocks_of (content_of store.old.cells).pools) }
     requires some { 0 < asked }
     requires whole { asked % unit ≡ 0 }
@@ -155,7 +155,7 @@ fn resize_in_place(store: &mut Store, block: Span, asked: u32)
 /// As `Heap::malloc`; then the old block is as it was.
 fn relocate(store: &mut Store, ptr: Ptr, asked: u32) -> Result<Ptr, Refusal>
     requires stands { Stands store.old.cells }
-    requires live { is_live_in (λ slot. slot == ptr.slot) ptr.place (blocks_of (content_of store.old.cells).pools) ≡ true }
+    requires live { is_live (λ slot. slot == ptr.slot) ptr.place (blocks_of (content_of store.old.cells).pools) ≡ true }
     requires some { 0 < asked }
     requires whole { asked % unit ≡ 0 }
     ensures { Answers result (λ given. IsMoved (λ slot old. moved slot ptr.place (malloc_rounded slot (Some asked) old)) (Some ptr) (Some given)) (λ refusal old. (owner : ℕ) → moved owner ptr.place (malloc_rounded owner (Some asked) old) ≡ Err refusal) 55 store.old store.new }

@@ -5,7 +5,7 @@ ghost use Rattle.tlsf_class.specs.Classes.{unit};
 ghost use Rattle.tlsf_store.specs.Cells.{most_pools};
 ghost use Rattle.tlsf_store.specs.Records.{record_at, is_free_state};
 ghost use Rattle.tlsf_heap.specs.Touches.{AtMost, remove_pool_touches};
-ghost use Rattle.tlsf_heap.specs.Pools.{remove_pool as removed};
+ghost use Rattle.tlsf_heap.specs.Pools.{remove_pool};
 ghost use Rattle.tlsf_heap.specs.Inner.Nodes.{Listed};
 ghost use Rattle.tlsf_heap.specs.Inner.Positions.{plug};
 ghost use Rattle.tlsf_heap.specs.Inner.Entering.{entries_in};
@@ -17,6 +17,7 @@ ghost use Rattle.tlsf_heap.specs.Inner.Answers.{Answers};
 use crate::Refusal;
 use crate::entries::{entries, entries_without, number_of, set_entries};
 use crate::malloc::take_whole;
+use tlsf_class::class_of;
 use tlsf_store::{Pool, Record, Slot, Store};
 
 /// The pool that begins at `base` leaves the store, and its one free block its class's list. At most 26 touches.
@@ -26,7 +27,7 @@ use tlsf_store::{Pool, Record, Slot, Store};
 /// As `Heap::remove_pool`.
 pub(crate) fn remove_pool(store: &mut Store, base: u64) -> Result<(), Refusal>
     requires { Stands store.old.cells }
-    ensures { Answers result (λ done old new. removed base old ≡ Ok new) (λ refusal old. removed base old ≡ Err refusal) remove_pool_touches store.old store.new }
+    ensures { Answers result (λ done old new. remove_pool base old ≡ Ok new) (λ refusal old. remove_pool base old ≡ Err refusal) remove_pool_touches store.old store.new }
 {
     let entries = entries(store);
     let Some(number) = number_of(entries.as_slice(), base) else {
@@ -62,7 +63,7 @@ fn drop_pool(store: &mut Store, slot: Slot, block: &Record, entries: &[Pool])
     ensures leads { (at : At) → StandsAt slot Listed store.old.cells at → at.position.before ≡ [] → at.nodes ≡ [] → entries.now ≡ entries_in (plug at.position.areas_before at.position.areas_behind) → Represents store.new.cells (without_area at) }
     ensures touches { AtMost 17 store.old.touches store.new.touches }
 {
-    take_whole(store, slot, block);
+    take_whole(store, class_of(block.size), slot, block);
     store.give_vacant(slot);
     set_entries(store, entries);
 }

@@ -1,7 +1,7 @@
 //! How much memory is always enough, in whatever order blocks are asked for and given back.
 
 ghost use Rattle.std.specs.Prelude.{◌≡◌};
-ghost use Rattle.tlsf_heap.specs.Sizing.{class_size as size_of_class, sure_pool as pool_for};
+ghost use Rattle.tlsf_heap.specs.Sizing.{class_size, sure_pool};
 
 use crate::memalign::{is_alignment, size_asked};
 use tlsf_class::{GREATEST_SIZE, UNIT, class_for, low, round};
@@ -11,7 +11,7 @@ use tlsf_store::MOST_RECORDS;
 /// `align`: from that class on each block has the bytes. `None` where there is no such class, or where `align` isn't a
 /// power of two from 1 to 2^29.
 pub fn class_size(align: u64, n: u64) -> Option<u32>
-    ensures { result ≡ size_of_class align n }
+    ensures { result ≡ class_size align n }
 {
     if !is_alignment(align) {
         return None;
@@ -27,7 +27,7 @@ pub fn class_size(align: u64, n: u64) -> Option<u32>
 /// `blocks` blocks are live, of at most `bytes` bytes, and `size` is the greatest `class_size` of the requests. `None`
 /// where there is no such class, where no pool is so large, or where there can't be as many records.
 pub fn sure_pool(blocks: u64, bytes: u64, size: Option<u32>) -> Option<u64>
-    ensures { result ≡ pool_for blocks bytes size }
+    ensures { result ≡ sure_pool blocks bytes size }
 {
     let size = size?;
     if blocks > u64::from((MOST_RECORDS - 3) / 2) || bytes > u64::from(GREATEST_SIZE) {

@@ -65,46 +65,34 @@ shown_set : (records shown : List Record) → map seen records ≡ shown → (sl
 shown_set records shown view slot r seen_as is =
     map-set seen records slot r ∙ (ap (λ v. set v slot (seen r)) view ∙ ap (λ v. set shown slot v) is)
 
--- a write: the table, and what callers see
+-- a record is changed: the table, and what callers see
 pub record Changed (records shown : List Record) (first : Option ℕ) (vacant : ℕ) : Type 0 where
   pub table : IsTable records first vacant
   pub view : map seen records ≡ shown
 
-pub write_changes : (records shown : List Record) (first : Option ℕ) (vacant : ℕ) → IsTable records first vacant →
-    map seen records ≡ shown → (slot : ℕ) (r : Record) → slot < length shown → (record_at shown slot).state ≢ Vacant →
-    r.state ≢ Vacant → IsKept (length shown) r → Changed (set records slot r) (set shown slot r) first vacant
-write_changes records shown first vacant table view slot r within used new one =
+-- a used record: as it is kept callers see it, and in its place may stand another that is used and kept
+pub record UsedAt (capacity room : ℕ) (records shown : List Record) (first : Option ℕ) (vacant slot : ℕ) (was : Record) : Type 0 where
+  pub seen_as : was ≡ record_at shown slot
+  pub kept : IsKept (length shown) (record_at shown slot)
+  pub stored : (new : Record) → new.state ≢ Vacant → IsKept (length shown) new → IsStored capacity room (set records slot new) first vacant
+  pub view : (new : Record) → new.state ≢ Vacant → map seen (set records slot new) ≡ set shown slot new
+
+pub used_at : (capacity room : ℕ) (records shown : List Record) (first : Option ℕ) (vacant : ℕ) → IsStored capacity room records first vacant → map seen records ≡ shown →
+    (slot : ℕ) → slot < length shown → (record_at shown slot).state ≢ Vacant → (was : Record) → was ≡ slice_index_or records slot was → UsedAt capacity room records shown first vacant slot was
+used_at capacity room records shown first vacant stored view slot within used was is =
     let long : length records ≡ length shown = shown_length records shown view in
     let inside : slot < length records = omega arith in
-    let kept : IsKept (length records) r = subst (λ n. IsKept n r) (sym long) one in
+    let used_here = shown_used records shown view slot inside used in
+    let same : record_at shown slot ≡ record_at records slot = shown_at records shown view slot inside ∙ seen-used (record_at records slot) used_here in
     record {
-      table = table_write records first vacant table slot r inside (shown_used records shown view slot inside used) (used_state r.state new) kept;
-      view = shown_set records shown view slot r r (seen-used r (used_state r.state new));
-    }
-
--- an edit of a used record: the table in memory, and what callers see
-pub record Edited (edit : Record → Record) (capacity room : ℕ) (records shown : List Record) (first : Option ℕ) (vacant slot : ℕ) (was : Record) : Type 0 where
-  pub stored : IsStored capacity room (set records slot (edit was)) first vacant
-  pub view : map seen (set records slot (edit was)) ≡ set shown slot (edit (record_at shown slot))
-
-pub edit_changes : (edit : Record → Record) (capacity room : ℕ) (records shown : List Record) (first : Option ℕ) (vacant : ℕ) → IsStored capacity room records first vacant →
-    map seen records ≡ shown → (slot index : ℕ) → index ≡ slot → slot < length shown → (record_at shown slot).state ≢ Vacant →
-    (edit (record_at shown slot)).state ≢ Vacant → ((r : Record) → IsKept (length shown) r → IsKept (length shown) (edit r)) →
-    (was : Record) → was ≡ slice_index_or records index was → Edited edit capacity room records shown first vacant slot was
-edit_changes edit capacity room records shown first vacant stored view slot index at within used new keeps was is =
-    let long : length records ≡ length shown = shown_length records shown view in
-    let inside : slot < length records = omega arith in
-    let here : was ≡ record_at records slot =
-    is ∙ (ap (λ k. slice_index_or records k was) at ∙ get_or_default records slot was blank inside) in
-    let same : record_at shown slot ≡ was =
-    shown_at records shown view slot inside ∙ (seen-used (record_at records slot) (shown_used records shown view slot inside used) ∙ sym here) in
-    let kept : IsKept (length shown) (record_at records slot) = subst (λ n. IsKept n (record_at records slot)) long (stored.table.kept slot blank inside) in
-    let one : IsKept (length shown) (edit was) = keeps was (subst (λ r. IsKept (length shown) r) (sym here) kept) in
-    let changed : Changed (set records slot (edit was)) (set shown slot (edit was)) first vacant =
-    write_changes records shown first vacant stored.table view slot (edit was) within used (subst (λ r. (edit r).state ≢ Vacant) same new) one in
-    record {
-      stored = record { exact = stored.exact; fits = omega (arith, stored.fits, length-set records slot (edit was)); table = changed.table };
-      view = changed.view ∙ ap (λ r. set shown slot (edit r)) (sym same);
+      seen_as = is ∙ get_or_default records slot was blank inside ∙ sym same;
+      kept = subst (IsKept (length shown)) (sym same) (subst (λ n. IsKept n (record_at records slot)) long (stored.table.kept slot blank inside));
+      stored = λ new new_used kept. record {
+        exact = stored.exact;
+        fits = omega (arith, stored.fits, length-set records slot new);
+        table = table_write records first vacant stored.table slot new inside used_here (used_state new.state new_used) (subst (λ n. IsKept n new) (sym long) kept);
+      };
+      view = λ new new_used. shown_set records shown view slot new new (seen-used new (used_state new.state new_used));
     }
 
 pub give_changes : (records shown : List Record) (first : Option ℕ) (vacant : ℕ) → IsTable records first vacant →

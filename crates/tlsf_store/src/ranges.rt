@@ -1,7 +1,7 @@
 //! Where a pool can be.
 
 ghost use Rattle.std.specs.Prelude.{◌≡◌};
-ghost use Rattle.tlsf_store.specs.Ranges.{can_be_pool as can_be};
+ghost use Rattle.tlsf_store.specs.Ranges.{can_be_pool};
 
 use tlsf_class::GREATEST_SIZE;
 
@@ -15,7 +15,7 @@ const GREATEST_POOL: u64 = GREATEST_SIZE as u64;
 
 /// Whether base and bytes, in bytes, can be those of a pool.
 pub fn can_be_pool(base: u64, bytes: u64) -> bool
-    ensures { result ≡ can_be base bytes }
+    ensures { result ≡ can_be_pool base bytes }
 {
     base % UNIT == 0
         && bytes % UNIT == 0

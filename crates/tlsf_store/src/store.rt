@@ -9,6 +9,7 @@ ghost use Rattle.tlsf_store.specs.CountedCells.{LeavesAfter};
 ghost use Rattle.tlsf_store.specs.Cells.{with_record, with_head, with_level_word, with_step_word, with_pool, with_taken, head_at, pool_at, most_pools, empty_cells, IsPoolBelow};
 
 use super::ghost_count::GhostCount;
+use super::packed::Packed;
 use super::slots::{MISSING, link_of, link_word};
 use super::table::Table;
 use super::{Pool, Record, Slot, State, StoreError};
@@ -148,7 +149,7 @@ impl Store {
         ensures left { LeavesAfter (with_record self.old.cells slot value) 1 self.old self.new }
     {
         self.touches.tick();
-        self.table.write(slot, value);
+        self.table.edit(slot, |item| *item = Packed::pack(value));
     }
 
     /// Makes a record that isn't vacant one of a free or of a live block. Two touches: the
@@ -161,7 +162,7 @@ impl Store {
     {
         self.touches.tick();
         self.touches.tick();
-        self.table.set_state(slot, state);
+        self.table.edit(slot, |item| item.set_state(state));
     }
 
     /// Writes the size, the state and the link `next` of a record that isn't vacant. One touch: nothing
@@ -175,7 +176,8 @@ impl Store {
         ensures left { LeavesAfter (with_record self.old.cells slot (record (record_at self.old.cells.records slot) { size = size; state = state; next = next })) 1 self.old self.new }
     {
         self.touches.tick();
-        self.table.set_block(slot, size, state, next);
+        self.table
+            .edit(slot, |item| item.set_block(size, state, next));
     }
 
     /// Writes the link `prev` of a record that isn't vacant. One touch.
@@ -186,7 +188,7 @@ impl Store {
         ensures left { LeavesAfter (with_record self.old.cells slot (record (record_at self.old.cells.records slot) { prev = prev })) 1 self.old self.new }
     {
         self.touches.tick();
-        self.table.set_prev(slot, prev);
+        self.table.edit(slot, |item| item.set_prev(prev));
     }
 
     /// Writes the link `prev_free` of a record that isn't vacant. One touch.
@@ -197,7 +199,7 @@ impl Store {
         ensures left { LeavesAfter (with_record self.old.cells slot (record (record_at self.old.cells.records slot) { prev_free = prev })) 1 self.old self.new }
     {
         self.touches.tick();
-        self.table.set_prev_free(slot, prev);
+        self.table.edit(slot, |item| item.set_prev_free(prev));
     }
 
     /// Writes the link `next_free` of a record that isn't vacant. One touch.
@@ -208,7 +210,7 @@ impl Store {
         ensures left { LeavesAfter (with_record self.old.cells slot (record (record_at self.old.cells.records slot) { next_free = next })) 1 self.old self.new }
     {
         self.touches.tick();
-        self.table.set_next_free(slot, next);
+        self.table.edit(slot, |item| item.set_next_free(next));
     }
 
     /// The first block of a class's list. One touch.

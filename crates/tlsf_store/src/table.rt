@@ -1,11 +1,12 @@
 //! The table of records, and the chain of those that are vacant.
 
-ghost use Rattle.std.specs.Prelude.{◌≡◌, ◌+◌, ◌<◌, ◌≤◌, ◌≢◌, ◌%◌, true, IfOk, MatchOption, length, map, replicate, slice_set, vec_capacity, [], Some};
-ghost use Rattle.tlsf_class.specs.Classes.{unit};
+ghost use Rattle.std.specs.Prelude.{◌≡◌, ◌+◌, ◌<◌, ◌≤◌, ◌≢◌, true, IfOk, MatchOption, length, map, replicate, slice_set, vec_capacity, [], Some};
+ghost use Rattle.std.specs.Fn.{FnOnceReturnsAtMut};
+ghost use Rattle.tlsf_store.specs.declared.records.Record.{Record};
 ghost use Rattle.tlsf_store.specs.declared.records.State.TheVariants.{Vacant, Free};
 ghost use Rattle.tlsf_store.specs.Slots.{link_of};
 ghost use Rattle.tlsf_store.specs.Table.{seen, IsTable};
-ghost use Rattle.tlsf_store.specs.Records.{most_records, blank, blank_in, record_at, vacant_count, IsBelow, IsKept};
+ghost use Rattle.tlsf_store.specs.Records.{most_records, blank, blank_in, record_at, vacant_count, IsKept};
 
 use super::ghost_count::GhostCount;
 use super::packed::Packed;
@@ -109,68 +110,17 @@ impl Table {
         self.items[slot.index()].unpack_used()
     }
 
-    /// Writes a record that isn't vacant over one that isn't.
-    pub(crate) fn write(&mut self, slot: Slot, value: Record)
+    /// Changes a record that isn't vacant to one that isn't.
+    #[inline(always)]
+    pub(crate) fn edit<F: FnOnce(&mut Packed)>(&mut self, slot: Slot, change: F)
+        requires callable { F.IsAlwaysCallable change }
         requires within { slot < length self.old }
         requires used { (record_at self.old slot).state ≢ Vacant }
-        requires new_used { value.state ≢ Vacant }
-        requires kept { IsKept (length self.old) value }
-        ensures { self.new ≡ slice_set self.old slot value }
+        requires kept { (new : Record) → FnOnceReturnsAtMut F.FnOnce change (record_at self.old slot) tt new
+            → IsKept (length self.old) (record_at self.old slot) → (new.state ≢ Vacant) × IsKept (length self.old) new }
+        ensures { (new : Record) × FnOnceReturnsAtMut F.FnOnce change (record_at self.old slot) tt new × (self.new ≡ slice_set self.old slot new) }
     {
-        let item = &mut self.items[slot.index()];
-        *item = Packed::pack(value);
-    }
-
-    /// Makes a record that isn't vacant one of a free or of a live block.
-    pub(crate) fn set_state(&mut self, slot: Slot, state: State)
-        requires within { slot < length self.old }
-        requires used { (record_at self.old slot).state ≢ Vacant }
-        requires new_used { state ≢ Vacant }
-        ensures { self.new ≡ slice_set self.old slot (record (record_at self.old slot) { state = state }) }
-    {
-        self.items[slot.index()].set_state(state);
-    }
-
-    /// Writes the size, the state and the link `next` of a record that isn't vacant.
-    pub(crate) fn set_block(&mut self, slot: Slot, size: u32, state: State, next: Option<Slot>)
-        requires within { slot < length self.old }
-        requires used { (record_at self.old slot).state ≢ Vacant }
-        requires new_used { state ≢ Vacant }
-        requires in_units { size % unit ≡ 0 }
-        requires below { IsBelow (length self.old) next }
-        ensures { self.new ≡ slice_set self.old slot (record (record_at self.old slot) { size = size; state = state; next = next }) }
-    {
-        self.items[slot.index()].set_block(size, state, next);
-    }
-
-    /// Writes the link `prev` of a record that isn't vacant.
-    pub(crate) fn set_prev(&mut self, slot: Slot, prev: Option<Slot>)
-        requires within { slot < length self.old }
-        requires used { (record_at self.old slot).state ≢ Vacant }
-        requires below { IsBelow (length self.old) prev }
-        ensures { self.new ≡ slice_set self.old slot (record (record_at self.old slot) { prev = prev }) }
-    {
-        self.items[slot.index()].set_prev(prev);
-    }
-
-    /// Writes the link `prev_free` of a record that isn't vacant.
-    pub(crate) fn set_prev_free(&mut self, slot: Slot, prev: Option<Slot>)
-        requires within { slot < length self.old }
-        requires used { (record_at self.old slot).state ≢ Vacant }
-        requires below { IsBelow (length self.old) prev }
-        ensures { self.new ≡ slice_set self.old slot (record (record_at self.old slot) { prev_free = prev }) }
-    {
-        self.items[slot.index()].set_prev_free(prev);
-    }
-
-    /// Writes the link `next_free` of a record that isn't vacant.
-    pub(crate) fn set_next_free(&mut self, slot: Slot, next: Option<Slot>)
-        requires within { slot < length self.old }
-        requires used { (record_at self.old slot).state ≢ Vacant }
-        requires below { IsBelow (length self.old) next }
-        ensures { self.new ≡ slice_set self.old slot (record (record_at self.old slot) { next_free = next }) }
-    {
-        self.items[slot.index()].set_next_free(next);
+        change(&mut self.items[slot.index()]);
     }
 
     /// How many records are vacant.

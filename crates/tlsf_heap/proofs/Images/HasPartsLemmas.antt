@@ -1,5 +1,5 @@
 -- Readings of a table, one after the other.
-use Rattle.std.proofs.Common.{ℕ, ◌≤◌, ◌∙◌, refl, arith}
+use Rattle.std.proofs.Common.{ℕ, ◌∙◌, refl, arith}
 use Rattle.tlsf_store.specs.Cells.{Cells}
 use Rattle.tlsf_heap.specs.Images.Image.{Parts}
 use Rattle.tlsf_heap.specs.Images.HasParts.{OnlyReads}

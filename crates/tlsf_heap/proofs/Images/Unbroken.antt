@@ -24,7 +24,7 @@ use Rattle.tlsf_heap.proofs.Images.Totals.{from_all_below, among_any}
 use Rattle.tlsf_heap.proofs.Images.UnbrokenRules.{IsUnbroken}
 use Rattle.tlsf_heap.specs.Images.Described.{parts_of}
 use Rattle.tlsf_heap.specs.Content.{is_free}
-use Rattle.tlsf_heap.specs.Good.{Covers, NoFreeNeighbours, AreGoodPools}
+use Rattle.tlsf_heap.specs.Good.{Covers, NoFreeNeighbours, IsGoodPool, AreGoodPools}
 use Rattle.tlsf_heap.specs.Inner.Entries.{padded, entries_of}
 use Rattle.tlsf_heap.specs.Inner.Nodes.{NodeState, InUse, Listed, Loose, Node, Area, owner_of, block_of, pool_of, nodes_of, nodes_in, has_slot}
 use Rattle.tlsf_heap.specs.Inner.Represents.{InPool, InList, in_pool, in_list, pool_views, list_views, state_of, first_slot, AreLinked, IsChain, uses_in}
@@ -129,34 +129,45 @@ module _ (cells : Cells) (stands : Stands cells) where
       let state : (at parts node.slot).state ≡ state_of node.state = ap (λ (v : InPool). v.state) linked.0 in
       omega (arith, count-cons (λ (other : Node). not (used other.slot)) node nodes, ap (λ s. one_if (not (is_used s))) state, ap (λ b. one_if (not b)) (used_node_state node.state), none_vacant (Some node.slot) nodes linked.1)
 
-  -- what is known of an area: its nodes are linked, and not too many
-  abbrev AreKnown : List Area → Type 0
-  AreKnown some = AllByRecursion (IsChain (pool_views cells.records)) some × (length (nodes_of some) ≤ length cells.records)
+  -- what is known of an area: its nodes are linked, and not too many, and it stands for a good pool
+  abbrev IsKnown : Area → Type 0
+  IsKnown area = IsChain (pool_views cells.records) area × (length area.nodes ≤ length cells.records) × IsGoodPool (pool_of area)
 
-  known_rest : (area : Area) (some : List Area) → AreKnown (area ∷ some) → AreKnown some
-  known_rest area some known = (known.0.1, omega (arith, known.1, length-append area.nodes (nodes_of some)))
+  each_known : (from : ℕ) (some : List Area) → AllByRecursion (IsChain (pool_views cells.records)) some → length (nodes_of some) ≤ length cells.records → AreGoodPools from (map pool_of some) → AllByRecursion IsKnown some
+  each_known from [] chains few good = tt
+  each_known from (area ∷ some) chains few good =
+      let both = length-append area.nodes (nodes_of some) in
+      ((chains.0, omega (arith, few, both), good.1), each_known (area.entry.base + area.entry.bytes) some chains.1 (omega (arith, few, both)) good.2)
 
-  chain_is : (area : Area) (some : List Area) → AreKnown (area ∷ some) → chain_of parts area.entry ≡ slots area.nodes
-  chain_is area some known =
-      ap (follow (length cells.records) (λ slot. (at parts slot).next)) (sym known.0.0.begins)
-      ∙ follow_linked in_pool (pool_views cells.records) (λ v. v.next) (λ prev node after. refl) (length cells.records) None area.nodes (omega (arith, known.1, length-append area.nodes (nodes_of some))) known.0.0.linked
+  known : AllByRecursion IsKnown areas
+  known = each_known 0 areas stands.represented.chains.chains (few cells stands.layout stands.represented) stands.good.pools_good
 
-  chains : (some : List Area) → AreKnown some → list_all (is_chain parts) (pools_of some) ≡ true
-  chains [] known = refl
-  chains (area ∷ some) known =
+  -- a test that the entry of each known area passes
+  all_pass : (test : StoredPool → Bool) → ((area : Area) → IsKnown area → test area.entry ≡ true) → list_all test (entries_of cells.pools) ≡ true
+  all_pass test passes = ap (list_all test) pools_are ∙ from_known areas known
+    where
+      from_known : (some : List Area) → AllByRecursion IsKnown some → list_all test (pools_of some) ≡ true
+      from_known [] each = refl
+      from_known (area ∷ some) each = and_from (test area.entry) (list_all test (pools_of some)) (passes area each.0) (from_known some each.1)
+
+  chain_is : (area : Area) → IsKnown area → chain_of parts area.entry ≡ slots area.nodes
+  chain_is area is =
+      ap (follow (length cells.records) (λ slot. (at parts slot).next)) (sym is.0.begins)
+      ∙ follow_linked in_pool (pool_views cells.records) (λ v. v.next) (λ prev node after. refl) (length cells.records) None area.nodes is.1 is.0.linked
+
+  chain_linked : (area : Area) → IsKnown area → is_chain parts area.entry ≡ true
+  chain_linked area is =
       let P : Option ℕ → Type 0 = λ first. is_linked used (λ slot. (at parts slot).next) (λ slot. (at parts slot).prev) (length cells.records) None first ≡ true in
-      and_from (is_chain parts area.entry) (list_all (is_chain parts) (pools_of some)) (
-      subst P known.0.0.begins (
-      linked_slots in_pool (pool_views cells.records) (λ v. v.next) (λ v. v.prev) (λ prev node after. refl) (λ prev node after. refl) used (length cells.records) None area.nodes
-      (omega (arith, known.1, length-append area.nodes (nodes_of some))) known.0.0.linked (none_vacant None area.nodes known.0.0.linked)
+      subst P is.0.begins (
+      linked_slots in_pool (pool_views cells.records) (λ v. v.next) (λ v. v.prev) (λ prev node after. refl) (λ prev node after. refl) used (length cells.records) None area.nodes is.1 is.0.linked
+      (none_vacant None area.nodes is.0.linked)
       )
-      ) (chains some (known_rest area some known))
 
-  slots_of : (some : List Area) → AreKnown some → flat_map (chain_of parts) (pools_of some) ≡ slots (nodes_of some)
-  slots_of [] known = refl
-  slots_of (area ∷ some) known =
-      ap (λ here. here ++ flat_map (chain_of parts) (pools_of some)) (chain_is area some known)
-      ∙ ap (λ more. slots area.nodes ++ more) (slots_of some (known_rest area some known))
+  slots_of : (some : List Area) → AllByRecursion IsKnown some → flat_map (chain_of parts) (pools_of some) ≡ slots (nodes_of some)
+  slots_of [] each = refl
+  slots_of (area ∷ some) each =
+      ap (λ here. here ++ flat_map (chain_of parts) (pools_of some)) (chain_is area each.0)
+      ∙ ap (λ more. slots area.nodes ++ more) (slots_of some each.1)
       ∙ sym (map-append (λ (node : Node). node.slot) area.nodes (nodes_of some))
 
   covered : (before : Option ℕ) (nodes : List Node) (from to : ℕ) → AreLinked in_pool (pool_views cells.records) before nodes → Covers from to (map block_of nodes) → covers parts from to (slots nodes) ≡ true
@@ -176,30 +187,17 @@ module _ (cells : Cells) (stands : Stands cells) where
       and_from (not (after && is_free_state (at parts node.slot).state)) (are_merged parts (is_free_state (at parts node.slot).state) (slots nodes)) (subst P free is.0)
       (merged (Some node.slot) (is_free_state (at parts node.slot).state) nodes linked.1 (subst Q free is.1))
 
-  cover : (from : ℕ) (some : List Area) → AreKnown some → AreGoodPools from (map pool_of some) → list_all (λ pool. covers parts pool.base (pool.base + pool.bytes) (chain_of parts pool)) (pools_of some) ≡ true
-  cover from [] known good = refl
-  cover from (area ∷ some) known good =
-      and_from (covers parts area.entry.base (area.entry.base + area.entry.bytes) (chain_of parts area.entry)) _
-      (ap (covers parts area.entry.base (area.entry.base + area.entry.bytes)) (chain_is area some known) ∙ covered None area.nodes area.entry.base (area.entry.base + area.entry.bytes) known.0.0.linked good.1.covered)
-      (cover (area.entry.base + area.entry.bytes) some (known_rest area some known) good.2)
-
-  all_merged : (from : ℕ) (some : List Area) → AreKnown some → AreGoodPools from (map pool_of some) → list_all (λ pool. are_merged parts false (chain_of parts pool)) (pools_of some) ≡ true
-  all_merged from [] known good = refl
-  all_merged from (area ∷ some) known good =
-      and_from (are_merged parts false (chain_of parts area.entry)) _ (ap (are_merged parts false) (chain_is area some known) ∙ merged None false area.nodes known.0.0.linked good.1.merged)
-      (all_merged (area.entry.base + area.entry.bytes) some (known_rest area some known) good.2)
-
   -- the first node of each area is in range
   abbrev FirstsBelow : List Area → Type 0
   FirstsBelow some = (slot : ℕ) → 1 ≤ count_by (has_slot slot) (nodes_of some) → slot < length cells.records
 
-  ordered : (from : ℕ) (some : List Area) → AreKnown some → FirstsBelow some → AreGoodPools from (map pool_of some) → are_pools (length cells.records) from (pools_of some) ≡ true
-  ordered from [] known below good = refl
-  ordered from (area ∷ some) known below good =
+  ordered : (from : ℕ) (some : List Area) → AllByRecursion IsKnown some → FirstsBelow some → AreGoodPools from (map pool_of some) → are_pools (length cells.records) from (pools_of some) ≡ true
+  ordered from [] each below good = refl
+  ordered from (area ∷ some) each below good =
       let pool = area.entry in
       let here = good.1 in
       let both : (slot : ℕ) → count_by (has_slot slot) (nodes_of (area ∷ some)) ≡ count_by (has_slot slot) area.nodes + count_by (has_slot slot) (nodes_of some) = λ slot. count-nodes (has_slot slot) area some in
-      let first : pool.first < length cells.records = below pool.first (omega (arith, both pool.first, first_stands area.nodes pool.first known.0.0.begins)) in
+      let first : pool.first < length cells.records = below pool.first (omega (arith, both pool.first, first_stands area.nodes pool.first each.0.0.begins)) in
       and_from (is_pool (length cells.records) from pool) (are_pools (length cells.records) (pool.base + pool.bytes) (pools_of some)) (
       and_from (can_be_pool pool.base pool.bytes) _ (
       and_from (eqb (pool.base % unit) 0) _ (eq-eqb _ _ here.base_in_units) (
@@ -210,10 +208,7 @@ module _ (cells : Cells) (stands : Stands cells) where
       )
       )
       ) (and_from (nat_le from pool.base) (nat_lt pool.first (length cells.records)) (le-leb from pool.base good.0) (lt-ltb pool.first (length cells.records) first))
-      ) (ordered (pool.base + pool.bytes) some (known_rest area some known) (λ slot h. below slot (omega (arith, h, both slot))) good.2)
-
-  known : AreKnown areas
-  known = (stands.represented.chains.chains, few cells stands.layout stands.represented)
+      ) (ordered (pool.base + pool.bytes) some each.1 (λ slot h. below slot (omega (arith, h, both slot))) good.2)
 
   -- ---- the lists
 
@@ -328,16 +323,15 @@ module _ (cells : Cells) (stands : Stands cells) where
 
     pub stand_unbroken : IsUnbroken parts
     stand_unbroken =
-        let areas_known = known in
-        let good = stands.good.pools_good in
         record {
           links = and_from (list_all (is_below (length cells.records)) cells.heads) (list_all (has_record_links (length cells.records)) cells.records)
               (list_all-from_AllPass (is_below (length cells.records)) cells.heads head_below)
               (list_all-from_AllPass (has_record_links (length cells.records)) cells.records (λ slot d within. ap (has_record_links (length cells.records)) (get_or_default cells.records slot d blank within) ∙ record_links slot));
-          chains = ap (list_all (is_chain parts)) pools_are ∙ chains areas areas_known;
-          cover = ap (list_all (λ pool. covers parts pool.base (pool.base + pool.bytes) (chain_of parts pool))) pools_are ∙ cover 0 areas areas_known good;
+          chains = all_pass (is_chain parts) chain_linked;
+          cover = all_pass (λ pool. covers parts pool.base (pool.base + pool.bytes) (chain_of parts pool)) (λ area is.
+              ap (covers parts area.entry.base (area.entry.base + area.entry.bytes)) (chain_is area is) ∙ covered None area.nodes area.entry.base (area.entry.base + area.entry.bytes) is.0.linked is.2.covered);
           on_chains = from_all_below (λ slot. not (used slot) || list_any (λ pool. is_among slot (chain_of parts pool)) (entries_of cells.pools)) (length cells.records) (λ slot within. on_chains slot);
-          merged = ap (list_all (λ pool. are_merged parts false (chain_of parts pool))) pools_are ∙ all_merged 0 areas areas_known good;
+          merged = all_pass (λ pool. are_merged parts false (chain_of parts pool)) (λ area is. ap (are_merged parts false) (chain_is area is) ∙ merged None false area.nodes is.0.linked is.2.merged);
           lists = lists_from parts 0 cells.heads (λ number within. ap (is_list parts (0 + number)) (head_is number None within) ∙ list_at_zero number);
           on_lists = from_all_below (λ slot. not (is_free_state (at parts slot).state) || list_any (λ first. is_among slot (slots_in_list parts first)) cells.heads) (length cells.records) (λ slot within. on_lists slot);
         }

@@ -3,6 +3,7 @@
 use Rattle.std.proofs.Common.{◌≡◌, ℕ, ◌+◌, ◌-◌, ◌%◌, ◌<◌, Bool, List, ◌∷◌, length, map, refl, ap, subst, arith, Some, true, false, cond, [], ◌++◌, sym, count_by}
 use Rattle.std.proofs.lemmas.Bool.{eq-eqb, ne_eqb}
 use Rattle.tlsf_class.specs.Classes.{unit, class}
+use Rattle.tlsf_store.specs.declared.records.State.TheVariants.{Free, Live}
 use Rattle.tlsf_store.specs.Records.{blank, record_at}
 use Rattle.tlsf_store.specs.Cells.{Cells, with_taken}
 use Rattle.tlsf_heap.specs.Good.{Covers}
@@ -71,12 +72,12 @@ module _ (cells : Cells) (slot rest : ℕ) (node_state : NodeState) (at : At) (s
 
 module _ (cells : Cells) (slot rest : ℕ) (at : At) (stands : StandsAt slot InUse cells (with_slot rest at)) where
   module _ (bytes : ℕ) (some : 0 < bytes) (less : bytes < at.node.size) (whole : bytes % unit ≡ 0) where
-    pub split_stands : StandsAt rest Loose (split slot rest bytes cells) (at_split rest bytes at)
+    pub split_stands : StandsAt rest Loose (split slot rest Free bytes cells) (at_split rest bytes at)
     split_stands =
-        let P : ℕ → Type 0 = λ q. Represents (split q rest bytes cells) (layout_at (at_split rest bytes at)) in
+        let P : ℕ → Type 0 = λ q. Represents (split q rest Free bytes cells) (layout_at (at_split rest bytes at)) in
         let loose : Node → Bool = λ n. is_loose n.state in
         let first : Node = record at.node { size = bytes } in (
-          subst P stands.1.slot_is (split_laid cells at.count at.position at.node at.nodes at.lists rest at.taken bytes stands.0 (ap is_listed stands.1.node_state_is)),
+          subst P stands.1.slot_is (split_laid cells at.count at.position at.node at.nodes at.lists rest Loose at.taken bytes stands.0 (ap is_listed stands.1.node_state_is) refl),
           record {
             slot_is = refl;
             node_state_is = refl;
@@ -91,6 +92,24 @@ module _ (cells : Cells) (slot rest : ℕ) (at : At) (stands : StandsAt slot InU
             covered = covered_refilled at.position (at.node ∷ at.nodes) (first ∷ rest_node rest bytes at.node ∷ at.nodes) (covers_split rest bytes at.node at.nodes some less whole) stands.1.covered;
           },
         )
+
+-- the node keeps its first bytes, and a live one of what is left stands behind it
+abbrev pub at_front : ℕ → ℕ → At → At
+at_front live bytes at = record at { node = record at.node { size = bytes }; nodes = turned InUse (rest_node live bytes at.node) ∷ at.nodes }
+
+pub front_stands : (cells : Cells) (slot live bytes : ℕ) (at : At) → StandsAt slot Loose cells (with_slot live at) → 0 < bytes → bytes < at.node.size → bytes % unit ≡ 0 → StandsAt slot Loose (split slot live Live bytes cells) (at_front live bytes at)
+front_stands cells slot live bytes at stands some less whole =
+    let P : ℕ → Type 0 = λ q. Represents (split q live Live bytes cells) (layout_at (at_front live bytes at)) in
+    let loose : Node → Bool = λ n. is_loose n.state in
+    let second : Node = turned InUse (rest_node live bytes at.node) in (
+      subst P stands.1.slot_is (split_laid cells at.count at.position at.node at.nodes at.lists live InUse at.taken bytes stands.0 (ap is_listed stands.1.node_state_is) refl),
+      record {
+        slot_is = stands.1.slot_is;
+        node_state_is = stands.1.node_state_is;
+        others_settled = omega (arith, stands.1.others_settled, count-filled loose at.position at.nodes, count-filled loose at.position (second ∷ at.nodes), count-cons loose second at.nodes);
+        covered = covered_refilled at.position (at.node ∷ at.nodes) (record at.node { size = bytes } ∷ second ∷ at.nodes) (covers_split live bytes at.node at.nodes some less whole) stands.1.covered;
+      },
+    )
 
 -- a gap of no bytes is none, and another is a node
 rest_split_all : (rest : ℕ) (at : At) → at_split_rest rest at.node.size at ≡ at

@@ -1,23 +1,22 @@
 -- The first block of the lists is the one that is picked: its node, its record and its place.
-use Rattle.std.proofs.Common.{◌≡◌, ℕ, zero, suc, ◌+◌, Bool, true, false, not, ◌&&◌, eqb, List, [], ◌∷◌, map, drop, refl, sym, ap, ◌∙◌, subst, arith, count_by, Option, Some, None, option_map, inl, inr}
+use Rattle.std.proofs.Common.{◌≡◌, ℕ, zero, suc, ◌+◌, ◌≤◌, not, eqb, List, [], ◌∷◌, map, drop, refl, sym, ap, ◌∙◌, subst, arith, count_by, Option, Some, None, option_map, inl, inr}
 use Rattle.std.specs.Prelude.{IfSome, IfNone, option_and_then}
-use Rattle.std.specs.List.{AllByRecursion}
-use Rattle.std.proofs.lemmas.Bool.{cases_Bool, eqb-true, false≢true}
+use Rattle.std.proofs.lemmas.Bool.{cases_Bool, eqb-true}
 use Rattle.std.proofs.lemmas.List.{drop-map, get_or-drop}
-use Rattle.tlsf_class.specs.Classes.{class, need}
-use Rattle.tlsf_store.specs.declared.records.State.{State}
-use Rattle.tlsf_store.specs.declared.records.State.TheVariants.{Vacant, Free, Live}
-use Rattle.tlsf_store.specs.declared.records.Record.{Record}
-use Rattle.tlsf_store.specs.Records.{record_at, is_free_state}
-use Rattle.tlsf_store.specs.Cells.{Cells}
+use Rattle.tlsf_class.specs.Classes.{need}
+use Rattle.tlsf_store.specs.declared.records.State.TheVariants.{Free}
+use Rattle.tlsf_store.specs.Records.{record_at}
+use Rattle.tlsf_store.specs.Cells.{Cells, head_at}
 use Rattle.tlsf_heap.specs.Content.{Content}
 use Rattle.tlsf_heap.specs.Lists.{first_of_lists, pick}
 use Rattle.tlsf_heap.specs.Inner.Bitmaps.{first_head}
-use Rattle.tlsf_heap.specs.Inner.Nodes.{NodeState, InUse, Listed, Loose, Node, Area, nodes_of, nodes_in, is_listed, is_listed_in}
-use Rattle.tlsf_heap.specs.Inner.Represents.{InPool, in_pool, pool_views, state_of, first_slot, AreLinked, IsChain}
+use Rattle.tlsf_heap.specs.Inner.Nodes.{Node, nodes_in, has_slot}
+use Rattle.tlsf_heap.specs.Inner.Represents.{first_slot}
+use Rattle.tlsf_heap.specs.Inner.Spans.{IsOfClass}
 use Rattle.tlsf_heap.specs.Inner.Following.{content_of, Stands}
 use Rattle.tlsf_heap.proofs.Counts.{one_if, count-cons}
-use Rattle.tlsf_heap.proofs.Inner.Plugs.{count-nodes}
+use Rattle.tlsf_heap.proofs.Inner.Links.{first_stands}
+use Rattle.tlsf_heap.proofs.Images.FoundNodes.{listed_at}
 use Rattle.tlsf_heap.proofs.Inner.Followed.{strays, list_strays, stood_for}
 use Rattle.tlsf_heap.proofs.Meaning.Places.{by_places}
 
@@ -45,48 +44,19 @@ first_in ((other ∷ nodes) ∷ lists) node is = (zero, nodes, ap (λ n. n ∷ n
     same : (x y : Node) → Some x ≡ Some y → x ≡ y
     same x y e = cc
 
-module _ (records : List Record) where
-  -- a node whose record isn't free
-  abbrev unfree : Node → Bool
-  unfree node = not (is_free_state (record_at records node.slot).state)
-
-  listed_free : (number : ℕ) (node : Node) → (record_at records node.slot).state ≡ state_of node.state → one_if (is_listed_in number node && unfree node) ≡ 0
-  listed_free number node is = by_node_state node.state (ap is_free_state is)
-    where
-      by_node_state : (node_state : NodeState) → is_free_state (record_at records node.slot).state ≡ is_free_state (state_of node_state) → one_if ((is_listed node_state && eqb (class node.size) number) && unfree node) ≡ 0
-      by_node_state InUse is = refl
-      by_node_state Listed is = rw is (nothing (eqb (class node.size) number))
-        where
-          nothing : (b : Bool) → one_if (b && false) ≡ 0
-          nothing true = refl
-          nothing false = refl
-      by_node_state Loose is = refl
-
-  all_free : (number : ℕ) (before : Option ℕ) (nodes : List Node) → AreLinked in_pool (pool_views records) before nodes → count_by (λ node. is_listed_in number node && unfree node) nodes ≡ 0
-  all_free number before [] l = refl
-  all_free number before (node ∷ nodes) l =
-      omega (arith, count-cons (λ n. is_listed_in number n && unfree n) node nodes, listed_free number node (ap (λ (v : InPool). v.state) l.0), all_free number (Some node.slot) nodes l.1)
-
-  free_in_areas : (number : ℕ) (areas : List Area) → AllByRecursion (IsChain (pool_views records)) areas → count_by (λ node. is_listed_in number node && unfree node) (nodes_of areas) ≡ 0
-  free_in_areas number [] chains = refl
-  free_in_areas number (area ∷ areas) chains =
-      omega (arith, count-nodes (λ n. is_listed_in number n && unfree n) area areas, all_free number None area.nodes chains.0.linked, free_in_areas number areas chains.1)
-
-free_is : (s : State) → is_free_state s ≡ true → s ≡ Free
-free_is Vacant is = absurd (false≢true is)
-free_is Free is = refl
-free_is Live is = absurd (false≢true is)
+-- the first of a class's list is in it
+head_listed : (lists : List (List Node)) (number slot : ℕ) → head_at (map first_slot lists) number ≡ Some slot → 1 ≤ count_by (has_slot slot) (nodes_in number lists)
+head_listed [] number slot is = absurd (cc)
+head_listed (nodes ∷ lists) zero slot is = first_stands nodes slot is
+head_listed (nodes ∷ lists) (suc number) slot is = head_listed lists number slot is
 
 module _ (cells : Cells) (stands : Stands cells) where
   -- what the record of the first node of a list says
   first_says : (number : ℕ) (node : Node) (nodes : List Node) → nodes_in number stands.layout.lists ≡ node ∷ nodes → ((record_at cells.records node.slot).state ≡ Free) × ((record_at cells.records node.slot).place ≡ node.place)
   first_says number node nodes is =
       let stray = ap (count_by (strays cells.records)) (sym is) ∙ list_strays cells stands.layout stands.represented number in
-      let free = ap (count_by (unfree cells.records)) (sym is) ∙ stands.represented.agree number (unfree cells.records) ∙ free_in_areas cells.records number stands.layout.areas stands.represented.chains.chains in (
-        elim (cases_Bool (is_free_state (record_at cells.records node.slot).state)) [
-          | inl yes_free ↦ free_is (record_at cells.records node.slot).state yes_free
-          | inr not_free ↦ absurd (omega (arith, free, count-cons (unfree cells.records) node nodes, ap (λ b. one_if (not b)) not_free))
-        ],
+      let listed = listed_at cells stands number node.slot (omega (arith, ap (count_by (has_slot node.slot)) is, first_stands (node ∷ nodes) node.slot refl)) in (
+        listed.free,
         elim (cases_Bool (eqb (record_at cells.records node.slot).place node.place)) [
           | inl same ↦ eqb-true (record_at cells.records node.slot).place node.place same
           | inr apart ↦ absurd (omega (arith, stray, count-cons (strays cells.records) node nodes, ap (λ b. one_if (not b)) apart))
@@ -117,3 +87,17 @@ module _ (cells : Cells) (stands : Stands cells) where
           let says = first_says (number + at.0) node at.1 (sym (get_or-drop number stands.layout.lists at.0 []) ∙ at.2) in
           let P : Option ℕ → Type 0 = λ o. Tells asked o in
           subst P (sym slot_is) (record { free = says.0; found = place_is ∙ ap Some (sym says.1); none = tt })
+
+  -- the same, where search answers the class, too
+  pub record Finds (asked : ℕ) (first : Option (ℕ × ℕ)) : Type 0 where
+    pub of_class : IfSome first (λ f. IsOfClass f.0 (record_at cells.records f.1))
+    pub free : IfSome first (λ f. (record_at cells.records f.1).state ≡ Free)
+    pub found : IfSome first (λ f. pick asked (content_of cells).lists ≡ Some (record_at cells.records f.1).place)
+    pub none : IfNone first (pick asked (content_of cells).lists ≡ None)
+
+  pub search_finds : (asked number : ℕ) → need asked ≡ Some number → (first : Option (ℕ × ℕ)) → option_map (λ f. f.1) first ≡ first_head (drop number cells.heads) → IfSome first (λ f. head_at cells.heads f.0 ≡ Some f.1) → Finds asked first
+  search_finds asked number need_is None is head = record { of_class = tt; free = tt; found = tt; none = (search_tells asked number need_is None is).none }
+  search_finds asked number need_is (Some f) is head =
+      let tells = search_tells asked number need_is (Some f.1) is in
+      let listed = listed_at cells stands f.0 f.1 (head_listed stands.layout.lists f.0 f.1 (ap (λ heads. head_at heads f.0) (sym stands.represented.index.heads_are) ∙ head)) in
+      record { of_class = sym listed.of_class; free = tells.free; found = tells.found; none = tt }

@@ -1,7 +1,7 @@
 -- Layouts of worked rows: what the cells say of their nodes, what they stand for, and what edits leave.
 use Rattle.std.proofs.Common.{◌≡◌, ℕ, List, [], ◌∷◌, map, replicate, Some, None, refl}
 use Rattle.tlsf_class.specs.Classes.{classes, class, low}
-use Rattle.tlsf_store.specs.declared.records.State.TheVariants.{Live}
+use Rattle.tlsf_store.specs.declared.records.State.TheVariants.{Free, Live}
 use Rattle.tlsf_store.specs.Cells.{Cells, empty_cells, with_taken}
 use Rattle.tlsf_store.specs.declared.pools.Pool.{Pool as StoredPool}
 use Rattle.tlsf_heap.specs.Content.{Content}
@@ -26,7 +26,7 @@ position before = record { areas_before = []; entry = entry; before = before; ar
 
 -- its first 112 bytes are taken
 abbrev first_split : Cells
-first_split = with_state 0 Live (linked 57 1 (split 0 1 112 (unlinked 64 0 (with_taken (pool_entered entry (with_taken (empty_cells 4) (Some 0))) (Some 1)))))
+first_split = with_state 0 Live (linked 57 1 (split 0 1 Free 112 (unlinked 64 0 (with_taken (pool_entered entry (with_taken (empty_cells 4) (Some 0))) (Some 1)))))
 
 abbrev taken : Node
 taken = record { slot = 0; place = 0; size = 112; state = InUse }

@@ -23,7 +23,7 @@ use Rattle.tlsf_heap.proofs.Inner.Used.{prev_used, next_used}
 use Rattle.tlsf_heap.proofs.Inner.Reads.{edited_kept}
 use Rattle.tlsf_heap.proofs.Inner.Unlinked.{cleared_is}
 use Rattle.tlsf_heap.proofs.Inner.Steps.{slot_used, size_read, place_read, whole_at, turned_stands}
-use Rattle.tlsf_heap.proofs.Inner.Allotted.{split_stands, prev_used as prev_free_used, behind_used, unlinked_stands}
+use Rattle.tlsf_heap.proofs.Inner.Allotted.{split_stands, at_front, front_stands, prev_used as prev_free_used, behind_used, unlinked_stands}
 use Rattle.tlsf_heap.proofs.Inner.Mergeable.{Merges, next_is}
 
 -- the state that a node's record says
@@ -79,25 +79,25 @@ module _ (cells : Cells) (slot : ℕ) (node_state : NodeState) (at : At) (stands
       let P : ℕ → Type 0 = λ q. IsUsed cells.records (record_at cells.records q).next in
       subst P stands.1.slot_is (next_used cells.records at.position at.node at.nodes at.taken (at_node cells.records at.position at.node at.nodes at.taken stands.0.chains))
 
--- a split by what is known is a split of the live block
-module _ (cells : Cells) (span : Span) (rest bytes : ℕ) (apart : rest ≢ span.slot) (within : span.slot < length cells.records) (read : IsRead span cells.records) where
+-- a split by what is known is a split of the block in its new state
+module _ (cells : Cells) (span : Span) (front back : State) (rest bytes : ℕ) (apart : rest ≢ span.slot) (within : span.slot < length cells.records) (read : IsRead span cells.records) where
   abbrev old : Record
   old = record_at cells.records span.slot
 
-  abbrev live : Record
-  live = record (record_at cells.records span.slot) { state = Live }
+  abbrev changed : Record
+  changed = record (record_at cells.records span.slot) { state = front }
 
   abbrev kept : Record → Record
-  kept r = record r { size = bytes; state = Live; next = Some rest }
+  kept r = record r { size = bytes; state = front; next = Some rest }
 
   abbrev lived : List Record
-  lived = set cells.records span.slot (record (record_at cells.records span.slot) { state = Live })
+  lived = set cells.records span.slot changed
 
   abbrev written : List Record
-  written = set cells.records rest (rest_of span bytes)
+  written = set cells.records rest (rest_of back span bytes)
 
-  there : record_at lived span.slot ≡ live
-  there = record_at-set_same cells.records span.slot live within
+  there : record_at lived span.slot ≡ changed
+  there = record_at-set_same cells.records span.slot changed within
 
   place_same : span.place ≡ (record_at lived span.slot).place
   place_same = read.place ∙ sym (ap (λ (r : Record). r.place) there)
@@ -108,31 +108,41 @@ module _ (cells : Cells) (span : Span) (rest bytes : ℕ) (apart : rest ≢ span
   next_same : span.next ≡ (record_at lived span.slot).next
   next_same = read.next ∙ sym (ap (λ (r : Record). r.next) there)
 
-  rest_same : rest_of span bytes ≡ rest_record span.slot bytes (record_at lived span.slot)
-  rest_same = λ i. record { place = place_same i + bytes; size = size_same i - bytes; state = Free; prev = Some span.slot; next = next_same i; prev_free = None; next_free = None }
+  rest_same : rest_of back span bytes ≡ rest_record back span.slot bytes (record_at lived span.slot)
+  rest_same = λ i. record { place = place_same i + bytes; size = size_same i - bytes; state = back; prev = Some span.slot; next = next_same i; prev_free = None; next_free = None }
 
   first_same : record_at written span.slot ≡ old
-  first_same = record_at-set_other cells.records rest span.slot (rest_of span bytes) (λ e. apart (sym e))
+  first_same = record_at-set_other cells.records rest span.slot (rest_of back span bytes) (λ e. apart (sym e))
 
-  records_same : set written span.slot (kept (record_at written span.slot)) ≡ set (set lived rest (rest_record span.slot bytes (record_at lived span.slot))) span.slot (record (record_at lived span.slot) { size = bytes; next = Some rest })
+  records_same : set written span.slot (kept (record_at written span.slot)) ≡ set (set lived rest (rest_record back span.slot bytes (record_at lived span.slot))) span.slot (record (record_at lived span.slot) { size = bytes; next = Some rest })
   records_same =
       ap (λ r. set written span.slot (kept r)) first_same
-      ∙ (sym (set-set written span.slot live (kept old))
-      ∙ (ap (λ xs. set xs span.slot (kept old)) (sym (set_comm cells.records span.slot rest live (rest_of span bytes) (λ e. apart (sym e))))
+      ∙ (sym (set-set written span.slot changed (kept old))
+      ∙ (ap (λ xs. set xs span.slot (kept old)) (sym (set_comm cells.records span.slot rest changed (rest_of back span bytes) (λ e. apart (sym e))))
       ∙ (λ i. set (set lived rest (rest_same i)) span.slot (record (sym there i) { size = bytes; next = Some rest }))))
 
-  pub split_by_is : split_by span rest bytes cells ≡ split span.slot rest bytes (with_state span.slot Live cells)
+  pub split_by_is : split_by span front rest back bytes cells ≡ split span.slot rest back bytes (with_state span.slot front cells)
   split_by_is = λ i. record cells { records = edited_in (λ r. record r { prev = Some rest }) (next_same i) (records_same i) }
 
 -- once it was split
 pub span_splits : (old new : Cells) (span : Span) (node_state : NodeState) (rest bytes : ℕ) (at : At) → is_listed node_state ≡ false → StandsAt span.slot node_state old (with_slot rest at) → IsRead span old.records → 0 < bytes → bytes < span.size → bytes % unit ≡ 0
-    → new ≡ split_by span rest bytes old → StandsAt rest Loose new (at_split rest bytes (at_turned InUse at))
+    → new ≡ split_by span Live rest Free bytes old → StandsAt rest Loose new (at_split rest bytes (at_turned InUse at))
 span_splits old new span node_state rest bytes at unlisted stands read some less whole is =
     let live : StandsAt span.slot InUse (with_state span.slot Live old) (with_slot rest (at_turned InUse at)) = turned_stands old span.slot node_state (with_slot rest at) stands InUse unlisted refl in
-    let same = split_by_is old span rest bytes (rest_apart old span.slot rest node_state at stands) (slot_used old span.slot node_state (with_slot rest at) stands).0 read in
+    let same = split_by_is old span Live Free rest bytes (rest_apart old span.slot rest node_state at stands) (slot_used old span.slot node_state (with_slot rest at) stands).0 read in
     let size = size_read old span.slot node_state (with_slot rest at) stands in
     subst (λ c. StandsAt rest Loose c (at_split rest bytes (at_turned InUse at))) (sym (is ∙ same))
     (split_stands (with_state span.slot Live old) span.slot rest (at_turned InUse at) live bytes some (omega (arith, less, read.size, size)) whole)
+
+-- the same, where the first bytes become free and the rest is live
+pub span_gaps : (old new : Cells) (span : Span) (live bytes : ℕ) (at : At) → StandsAt span.slot InUse old (with_slot live at) → IsRead span old.records → 0 < bytes → bytes < span.size → bytes % unit ≡ 0
+    → new ≡ split_by span Free live Live bytes old → StandsAt span.slot Loose new (at_front live bytes (at_turned Loose at))
+span_gaps old new span live bytes at stands read some less whole is =
+    let free : StandsAt span.slot Loose (with_state span.slot Free old) (with_slot live (at_turned Loose at)) = turned_stands old span.slot InUse (with_slot live at) stands Loose refl refl in
+    let same = split_by_is old span Free Live live bytes (rest_apart old span.slot live InUse at stands) (slot_used old span.slot InUse (with_slot live at) stands).0 read in
+    let size = size_read old span.slot InUse (with_slot live at) stands in
+    subst (λ c. StandsAt span.slot Loose c (at_front live bytes (at_turned Loose at))) (sym (is ∙ same))
+    (front_stands (with_state span.slot Free old) span.slot live bytes (at_turned Loose at) free some (omega (arith, less, read.size, size)) whole)
 
 -- a view that doesn't see the neighbours in a list
 module _ {V : Type 0} (view : Record → V) (blind_prev : (o : Option ℕ) (r : Record) → view (record r { prev_free = o }) ≡ view r) (blind_next : (o : Option ℕ) (r : Record) → view (record r { next_free = o }) ≡ view r) where

@@ -1,7 +1,6 @@
 -- Edits of a store's cells: blocks linked in their pool, a block split, and one merged with the block behind it.
 use Rattle.std.specs.Prelude.{ℕ, ◌+◌, ◌-◌, Option, Some, None}
 use Rattle.tlsf_store.specs.declared.records.State.{State}
-use Rattle.tlsf_store.specs.declared.records.State.TheVariants.{Free}
 use Rattle.tlsf_store.specs.declared.records.Record.{Record}
 use Rattle.tlsf_store.specs.Records.{blank, record_at}
 use Rattle.tlsf_store.specs.Cells.{Cells, with_record}
@@ -16,15 +15,15 @@ with_prev slot prev cells = edited (λ r. record r { prev = prev }) slot cells
 abbrev pub with_state : ℕ → State → Cells → Cells
 with_state slot state cells = edited (λ r. record r { state = state }) (Some slot) cells
 
--- what is left of a block behind its first bytes: a free block
-abbrev pub rest_record : ℕ → ℕ → Record → Record
-rest_record slot bytes block = record { place = block.place + bytes; size = block.size - bytes; state = Free; prev = Some slot; next = block.next; prev_free = None; next_free = None }
+-- what is left of a block behind its first bytes, in this state
+abbrev pub rest_record : State → ℕ → ℕ → Record → Record
+rest_record state slot bytes block = record { place = block.place + bytes; size = block.size - bytes; state = state; prev = Some slot; next = block.next; prev_free = None; next_free = None }
 
--- the slot's block keeps its first bytes; the rest is a free block of the other slot, behind it
-abbrev pub split : ℕ → ℕ → ℕ → Cells → Cells
-split slot rest bytes cells =
+-- the slot's block keeps its first bytes; the rest is a block of the other slot, behind it, in this state
+abbrev pub split : ℕ → ℕ → State → ℕ → Cells → Cells
+split slot rest back bytes cells =
     let old = record_at cells.records slot in
-    with_prev old.next (Some rest) (with_record (with_record cells rest (rest_record slot bytes old)) slot (record old { size = bytes; next = Some rest }))
+    with_prev old.next (Some rest) (with_record (with_record cells rest (rest_record back slot bytes old)) slot (record old { size = bytes; next = Some rest }))
 
 -- the slot's block is merged with the one behind it, whose slot becomes vacant
 abbrev pub merged_behind : ℕ → ℕ → Cells → Cells

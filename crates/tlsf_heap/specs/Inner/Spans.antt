@@ -2,7 +2,6 @@
 use Rattle.std.specs.Prelude.{◌≡◌, ℕ, ◌+◌, ◌-◌, ◌%◌, ◌<◌, ◌≤◌, List, Option, Some, None}
 use Rattle.tlsf_class.specs.Classes.{unit, class, greatest_size}
 use Rattle.tlsf_store.specs.declared.records.State.{State}
-use Rattle.tlsf_store.specs.declared.records.State.TheVariants.{Free, Live}
 use Rattle.tlsf_store.specs.declared.records.Record.{Record}
 use Rattle.tlsf_store.specs.Records.{blank, record_at}
 use Rattle.tlsf_store.specs.Cells.{Cells, with_record}
@@ -30,6 +29,10 @@ pub record IsRecordOf (block : Record) (pointer : Pointer) (records : List Recor
   pub place : block.place ≡ pointer.place
   pub in_units : block.place % unit ≡ 0
 
+-- the class is that of the record's block
+abbrev pub IsOfClass : ℕ → Record → Type 0
+IsOfClass number block = number ≡ class block.size
+
 -- what is known of the block by the node
 pub record IsSpanOf (span : Span) (at : At) : Type 0 where
   pub slot : span.slot ≡ at.node.slot
@@ -42,14 +45,14 @@ pub record IsSpanOf (span : Span) (at : At) : Type 0 where
 abbrev pub with_block : ℕ → ℕ → State → Option ℕ → Cells → Cells
 with_block slot size state next cells = edited (λ r. record r { size = size; state = state; next = next }) (Some slot) cells
 
--- what is left of the block behind its first bytes: a free block
-abbrev pub rest_of : Span → ℕ → Record
-rest_of span bytes = record { place = span.place + bytes; size = span.size - bytes; state = Free; prev = Some span.slot; next = span.next; prev_free = None; next_free = None }
+-- what is left of the block behind its first bytes, in this state
+abbrev pub rest_of : State → Span → ℕ → Record
+rest_of state span bytes = record { place = span.place + bytes; size = span.size - bytes; state = state; prev = Some span.slot; next = span.next; prev_free = None; next_free = None }
 
--- the block keeps its first bytes, and is live; the rest is a free block of the other slot, behind it
-abbrev pub split_by : Span → ℕ → ℕ → Cells → Cells
-split_by span rest bytes cells =
-    with_prev span.next (Some rest) (with_block span.slot bytes Live (Some rest) (with_record cells rest (rest_of span bytes)))
+-- the block keeps its first bytes, in one state; the rest is a block of the other slot, behind it, in the other state
+abbrev pub split_by : Span → State → ℕ → State → ℕ → Cells → Cells
+split_by span front rest back bytes cells =
+    with_prev span.next (Some rest) (with_block span.slot bytes front (Some rest) (with_record cells rest (rest_of back span bytes)))
 
 -- the block, in this state, is merged with the one behind it, whose slot becomes vacant; the span says what it is then
 abbrev pub merged_behind_by : Span → State → ℕ → Cells → Cells

@@ -3,7 +3,7 @@
 ghost use Rattle.std.specs.Prelude.{◌≡◌, ◌+◌, ◌*◌, ◌<◌, ◌≤◌, IsTrue, length};
 ghost use Rattle.tlsf_class.specs.Classes.{classes};
 ghost use Rattle.tlsf_store.specs.Cells.{most_pools};
-ghost use Rattle.tlsf_heap.specs.Images.Image.{record_start, two_at as number_at, count_at, pools_at, pool_in};
+ghost use Rattle.tlsf_heap.specs.Images.Image.{record_start, two_at, count_at, pools_at, pool_in};
 ghost use Rattle.tlsf_heap.specs.Images.Rules.{has_magic, has_length, has_unused_pools, has_pools, has_state, has_states};
 
 use super::bytes::{are_zero, four_at, two_at};
@@ -58,7 +58,7 @@ pub(crate) fn has_length(bytes: &[u8]) -> bool
 /// Whether the entries behind the pools are zero.
 pub(crate) fn has_unused_pools(bytes: &[u8]) -> bool
     requires whole { record_start 0 ≤ length bytes.now }
-    requires few { number_at pools_at bytes.now ≤ most_pools }
+    requires few { two_at pools_at bytes.now ≤ most_pools }
     ensures { result ≡ has_unused_pools bytes.now }
 {
     let pools = usize::from(two_at(bytes, POOLS_AT));
@@ -87,7 +87,7 @@ pub(crate) fn pool_in(bytes: &[u8], number: usize) -> Pool
 /// zeros.
 pub(crate) fn has_pools(bytes: &[u8]) -> bool
     requires whole { record_start 0 ≤ length bytes.now }
-    requires few { number_at pools_at bytes.now ≤ most_pools }
+    requires few { two_at pools_at bytes.now ≤ most_pools }
     ensures { result ≡ has_pools bytes.now }
 {
     let count = u32::from(two_at(bytes, COUNT_AT));
@@ -118,7 +118,7 @@ fn has_state(bytes: &[u8], slot: usize) -> bool
 
 /// Whether each record's state is vacant, free or live, and each vacant record is zero.
 pub(crate) fn has_states(bytes: &[u8]) -> bool
-    requires { record_start (number_at count_at bytes.now) ≡ length bytes.now }
+    requires { record_start (two_at count_at bytes.now) ≡ length bytes.now }
     ensures { result ≡ has_states bytes.now }
 {
     for slot in 0..usize::from(two_at(bytes, COUNT_AT)) {

@@ -1,7 +1,7 @@
 //! The pools of a table.
 
 ghost use Rattle.std.specs.Prelude.{◌≡◌, ◌≤◌, length};
-ghost use Rattle.tlsf_heap.specs.Images.Rules.{is_pool as can_be_pool_from, are_pools, has_packed_pools};
+ghost use Rattle.tlsf_heap.specs.Images.Rules.{is_pool, are_pools, has_packed_pools};
 ghost use Rattle.tlsf_heap.specs.Images.HasParts.{OnlyReads};
 
 use super::HasParts;
@@ -9,7 +9,7 @@ use tlsf_store::{MOST_POOLS, Pool, can_be_pool};
 
 /// Whether the pool can be at its range, from a place on, and its first record is one of this many.
 pub(crate) fn is_pool(count: u32, from: u64, pool: &Pool) -> bool
-    ensures { result ≡ can_be_pool_from count from pool.now }
+    ensures { result ≡ is_pool count from pool.now }
 {
     let base = u64::from(pool.base);
     can_be_pool(base, u64::from(pool.bytes)) && from <= base && u32::from(pool.first.0) < count

@@ -1,7 +1,7 @@
 //! A store as its image tells it.
 
 ghost use Rattle.std.specs.Prelude.{◌≡◌};
-ghost use Rattle.tlsf_heap.specs.Images.Told.{told as what_is_told};
+ghost use Rattle.tlsf_heap.specs.Images.Told.{told};
 
 use super::{HasParts, VACANT};
 use tlsf_class::Class;
@@ -9,7 +9,7 @@ use tlsf_store::{Pool, Record, Slot, State, Store};
 
 /// What an image tells of a record: nothing of a vacant one, and of a live one no neighbours in a list.
 fn told(block: Record) -> Record
-    ensures { result ≡ what_is_told block }
+    ensures { result ≡ told block }
 {
     match block.state {
         State::Vacant => VACANT,

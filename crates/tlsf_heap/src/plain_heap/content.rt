@@ -313,19 +313,19 @@ impl Content {
 }
 
 ghost use Rattle.std.specs.Prelude.{◌≡◌, IfOk};
-ghost use Rattle.tlsf_heap.specs.Lists.{first_of_lists as first_place};
-ghost use Rattle.tlsf_heap.specs.PlainHeap.{lists_of, blocks_among as among};
+ghost use Rattle.tlsf_heap.specs.Lists.{first_of_lists};
+ghost use Rattle.tlsf_heap.specs.PlainHeap.{lists_of, blocks_among};
 
 /// The blocks that there are.
 fn blocks_among(alloc: Global, blocks: &[Option<Block>]) -> Result<Vec<Block>, AllocError>
-    ensures { IfOk result (λ v. v.items ≡ among blocks.now) }
+    ensures { IfOk result (λ v. v.items ≡ blocks_among blocks.now) }
 {
     blocks.iter().filter_map(|block| *block).collect(alloc)
 }
 
 /// The first place of the first list that isn't empty.
 fn first_of_lists(lists: &[Vec<u32>]) -> Option<u32>
-    ensures { result ≡ first_place (lists_of lists.now) }
+    ensures { result ≡ first_of_lists (lists_of lists.now) }
 {
     for places in lists {
         if let Some(place) = places.first() {

@@ -2,7 +2,7 @@
 
 ghost use Rattle.std.specs.Prelude.{◌≡◌, ◌≢◌, ℕ, true, ◌%◌, ◌<◌, ◌≤◌, Some, Err, IfOk, IfErr};
 ghost use Rattle.tlsf_class.specs.Classes.{unit, greatest_size};
-ghost use Rattle.tlsf_heap.specs.Memalign.{is_alignment as is_one, memalign_rounded};
+ghost use Rattle.tlsf_heap.specs.Memalign.{is_alignment, memalign_rounded};
 ghost use Rattle.tlsf_heap.specs.Served.{IsServed};
 ghost use Rattle.tlsf_heap.specs.PlainHeap.{IsPlain};
 
@@ -20,7 +20,7 @@ use crate::{Ptr, Refusal};
 /// memory is refused.
 pub fn split_aligned(content: &Content, align: u32, asked: u32) -> Result<(Content, Ptr), Refusal>
     requires plain { IsPlain content.now }
-    requires is { is_one align ≡ true }
+    requires is { is_alignment align ≡ true }
     requires whole { asked % unit ≡ 0 }
     requires some { 0 < asked }
     requires most { asked ≤ greatest_size }

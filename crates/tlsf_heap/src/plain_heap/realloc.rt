@@ -4,7 +4,7 @@ ghost use Rattle.std.specs.Prelude.{◌≡◌, ◌≢◌, ℕ, ◌==◌, ◌%◌
 ghost use Rattle.tlsf_class.specs.Classes.{unit};
 ghost use Rattle.tlsf_heap.specs.Content.{blocks_of, size_at};
 ghost use Rattle.tlsf_heap.specs.Free.{is_live};
-ghost use Rattle.tlsf_heap.specs.Realloc.{fits_in_place as fits, resized as resized_so, moved, realloc_sized};
+ghost use Rattle.tlsf_heap.specs.Realloc.{fits_in_place, resized, moved, realloc_sized};
 ghost use Rattle.tlsf_heap.specs.Malloc.{malloc_rounded};
 ghost use Rattle.tlsf_heap.specs.Served.{IsMoved};
 ghost use Rattle.tlsf_heap.specs.PlainHeap.{IsPlain};
@@ -20,7 +20,7 @@ use std::alloc::AllocError;
 pub fn fits_in_place(content: &Content, ptr: Ptr, asked: u32) -> bool
     requires plain { IsPlain content.now }
     requires live { is_live (λ slot. slot == ptr.slot) ptr.place (blocks_of content.now.pools) ≡ true }
-    ensures { result ≡ fits ptr.place asked content.now }
+    ensures { result ≡ fits_in_place ptr.place asked content.now }
 {
     let place = ptr.place();
     let size = content.size_at(place);
@@ -35,12 +35,12 @@ pub fn fits_in_place(content: &Content, ptr: Ptr, asked: u32) -> bool
 pub fn resized(content: &Content, ptr: Ptr, asked: u32) -> Result<Content, AllocError>
     requires plain { IsPlain content.now }
     requires live { is_live (λ slot. slot == ptr.slot) ptr.place (blocks_of content.now.pools) ≡ true }
-    requires fits { fits ptr.place asked content.now ≡ true }
+    requires fits { fits_in_place ptr.place asked content.now ≡ true }
     requires other { asked ≢ size_at ptr.place (blocks_of content.now.pools) }
     requires whole { asked % unit ≡ 0 }
     requires some { 0 < asked }
     ensures plain { IfOk result (λ after. IsPlain after) }
-    ensures value { IfOk result (λ after. after ≡ resized_so ptr.slot ptr.place asked content.now) }
+    ensures value { IfOk result (λ after. after ≡ resized ptr.slot ptr.place asked content.now) }
 {
     let place = ptr.place();
     let next = content.free_next(place);

@@ -5,15 +5,6 @@ use Rattle.tlsf_heap.specs.Inner.Spans.{span_of}
 use Rattle.tlsf_heap.proofs.Inner.Spans.{listed_read, read_leaves, read_of, by_node, by_record}
 use Rattle.tlsf_heap.proofs.malloc.take_split.Goals as goal
 
-pub class_of-requires-clause-whole : goal.class_of-requires-clause-whole
-class_of-requires-clause-whole c = (listed_read c.args.store.now.cells c.args.slot c.args.block.now (with_slot c.args.rest c.requires.stands.0) c.requires.stands.1 c.requires.read).whole
-
-pub class_of-requires-clause-some : goal.class_of-requires-clause-some
-class_of-requires-clause-some c = (listed_read c.args.store.now.cells c.args.slot c.args.block.now (with_slot c.args.rest c.requires.stands.0) c.requires.stands.1 c.requires.read).some
-
-pub class_of-requires-clause-most : goal.class_of-requires-clause-most
-class_of-requires-clause-most c = (listed_read c.args.store.now.cells c.args.slot c.args.block.now (with_slot c.args.rest c.requires.stands.0) c.requires.stands.1 c.requires.read).most
-
 pub unlink-requires-clause-prev_used : goal.unlink-requires-clause-prev_used
 unlink-requires-clause-prev_used c = (listed_read c.args.store.now.cells c.args.slot c.args.block.now (with_slot c.args.rest c.requires.stands.0) c.requires.stands.1 c.requires.read).prev_used
 
@@ -23,17 +14,17 @@ unlink-requires-clause-next_used c = (listed_read c.args.store.now.cells c.args.
 pub split_off-requires-clause-stands : goal.split_off-requires-clause-stands
 split_off-requires-clause-stands c =
     let at : At = c.requires.stands.0 in
-    let left : StandsAt c.args.slot Loose c.unlink.new.store.cells (at_unlisted (with_slot c.args.rest at)) = read_leaves c.args.store.now.cells c.unlink.new.store.cells c.args.slot c.class_of.result c.args.block.now (with_slot c.args.rest at) c.requires.stands.1 c.requires.read c.class_of.ensures c.unlink.ensures.cells in
+    let left : StandsAt c.args.slot Loose c.unlink.new.store.cells (at_unlisted (with_slot c.args.rest at)) = read_leaves c.args.store.now.cells c.unlink.new.store.cells c.args.slot c.args.class c.args.block.now (with_slot c.args.rest at) c.requires.stands.1 c.requires.read c.requires.of_class c.unlink.ensures.cells in
     rw c.of-whole.ensures (Loose, at_unlisted at, refl, left)
 
 pub split_off-requires-clause-read : goal.split_off-requires-clause-read
 split_off-requires-clause-read c =
     let at : At = with_slot c.args.rest c.requires.stands.0 in
-    let left : StandsAt c.args.slot Loose c.unlink.new.store.cells (at_unlisted at) = read_leaves c.args.store.now.cells c.unlink.new.store.cells c.args.slot c.class_of.result c.args.block.now at c.requires.stands.1 c.requires.read c.class_of.ensures c.unlink.ensures.cells in
+    let left : StandsAt c.args.slot Loose c.unlink.new.store.cells (at_unlisted at) = read_leaves c.args.store.now.cells c.unlink.new.store.cells c.args.slot c.args.class c.args.block.now at c.requires.stands.1 c.requires.read c.requires.of_class c.unlink.ensures.cells in
     let known = by_node c.args.store.now.cells Listed at (span_of c.args.slot c.args.block.now) c.requires.stands.1 (read_of c.args.store.now.cells.records c.args.slot c.args.block.now c.requires.read c.requires.in_units) in
     rw c.of-whole.ensures (by_record c.unlink.new.store.cells Loose (at_unlisted at) (span_of c.args.slot c.args.block.now) left (record { slot = known.slot; place = known.place; size = known.size; next = known.next; in_units = known.in_units }))
 
 pub returns-clause-leads : goal.returns-clause-leads
 returns-clause-leads c at stands =
-    let left : StandsAt c.args.slot Loose c.unlink.new.store.cells (at_unlisted (with_slot c.args.rest at)) = read_leaves c.args.store.now.cells c.unlink.new.store.cells c.args.slot c.class_of.result c.args.block.now (with_slot c.args.rest at) stands c.requires.read c.class_of.ensures c.unlink.ensures.cells in
+    let left : StandsAt c.args.slot Loose c.unlink.new.store.cells (at_unlisted (with_slot c.args.rest at)) = read_leaves c.args.store.now.cells c.unlink.new.store.cells c.args.slot c.args.class c.args.block.now (with_slot c.args.rest at) stands c.requires.read c.requires.of_class c.unlink.ensures.cells in
     c.split_off.ensures.leads Loose (at_unlisted at) refl (rw c.of-whole.ensures left)

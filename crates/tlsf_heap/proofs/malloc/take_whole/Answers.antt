@@ -11,15 +11,6 @@ use Rattle.tlsf_heap.proofs.Inner.Steps.{slot_used, turned_stands}
 use Rattle.tlsf_heap.proofs.Inner.Spans.{listed_read, read_leaves, read_of, by_node, by_record, back_used}
 use Rattle.tlsf_heap.proofs.malloc.take_whole.Goals as goal
 
-pub class_of-requires-clause-whole : goal.class_of-requires-clause-whole
-class_of-requires-clause-whole c = (listed_read c.args.store.now.cells c.args.slot c.args.block.now c.requires.stands.0 c.requires.stands.1 c.requires.read).whole
-
-pub class_of-requires-clause-some : goal.class_of-requires-clause-some
-class_of-requires-clause-some c = (listed_read c.args.store.now.cells c.args.slot c.args.block.now c.requires.stands.0 c.requires.stands.1 c.requires.read).some
-
-pub class_of-requires-clause-most : goal.class_of-requires-clause-most
-class_of-requires-clause-most c = (listed_read c.args.store.now.cells c.args.slot c.args.block.now c.requires.stands.0 c.requires.stands.1 c.requires.read).most
-
 pub unlink-requires-clause-prev_used : goal.unlink-requires-clause-prev_used
 unlink-requires-clause-prev_used c = (listed_read c.args.store.now.cells c.args.slot c.args.block.now c.requires.stands.0 c.requires.stands.1 c.requires.read).prev_used
 
@@ -36,19 +27,19 @@ known old new slot number block at stands read in_units number_is left =
 pub turn-requires-clause-used : goal.turn-requires-clause-used
 turn-requires-clause-used c =
     let at : At = c.requires.stands.0 in
-    rw c.of-whole.ensures (slot_used c.unlink.new.store.cells c.args.slot Loose (at_unlisted at) (read_leaves c.args.store.now.cells c.unlink.new.store.cells c.args.slot c.class_of.result c.args.block.now at c.requires.stands.1 c.requires.read c.class_of.ensures c.unlink.ensures.cells))
+    rw c.of-whole.ensures (slot_used c.unlink.new.store.cells c.args.slot Loose (at_unlisted at) (read_leaves c.args.store.now.cells c.unlink.new.store.cells c.args.slot c.args.class c.args.block.now at c.requires.stands.1 c.requires.read c.requires.of_class c.unlink.ensures.cells))
 
 pub turn-requires-clause-next_used : goal.turn-requires-clause-next_used
 turn-requires-clause-next_used c =
     let at : At = c.requires.stands.0 in
     let new : Cells = c.unlink.new.store.cells in
-    let left = read_leaves c.args.store.now.cells new c.args.slot c.class_of.result c.args.block.now at c.requires.stands.1 c.requires.read c.class_of.ensures c.unlink.ensures.cells in
-    let read = known c.args.store.now.cells new c.args.slot c.class_of.result c.args.block.now at c.requires.stands.1 c.requires.read c.requires.in_units c.class_of.ensures c.unlink.ensures.cells in
+    let left = read_leaves c.args.store.now.cells new c.args.slot c.args.class c.args.block.now at c.requires.stands.1 c.requires.read c.requires.of_class c.unlink.ensures.cells in
+    let read = known c.args.store.now.cells new c.args.slot c.args.class c.args.block.now at c.requires.stands.1 c.requires.read c.requires.in_units c.requires.of_class c.unlink.ensures.cells in
     rw c.of-whole.ensures (subst (λ o. IsUsed new.records o) (sym read.next) (back_used new c.args.slot Loose (at_unlisted at) left))
 
 pub turn-requires-clause-read : goal.turn-requires-clause-read
 turn-requires-clause-read c =
-    rw c.of-whole.ensures (known c.args.store.now.cells c.unlink.new.store.cells c.args.slot c.class_of.result c.args.block.now c.requires.stands.0 c.requires.stands.1 c.requires.read c.requires.in_units c.class_of.ensures c.unlink.ensures.cells)
+    rw c.of-whole.ensures (known c.args.store.now.cells c.unlink.new.store.cells c.args.slot c.args.class c.args.block.now c.requires.stands.0 c.requires.stands.1 c.requires.read c.requires.in_units c.requires.of_class c.unlink.ensures.cells)
 
 pub turn-requires-clause-in_units : goal.turn-requires-clause-in_units
 turn-requires-clause-in_units c = rw c.of-whole.ensures (listed_read c.args.store.now.cells c.args.slot c.args.block.now c.requires.stands.0 c.requires.stands.1 c.requires.read).whole
@@ -56,4 +47,4 @@ turn-requires-clause-in_units c = rw c.of-whole.ensures (listed_read c.args.stor
 pub returns-clause-leads : goal.returns-clause-leads
 returns-clause-leads c at stands =
     rw (c.turn.ensures.cells, c.of-whole.ensures)
-    (turned_stands c.unlink.new.store.cells c.args.slot Loose (at_unlisted at) (read_leaves c.args.store.now.cells c.unlink.new.store.cells c.args.slot c.class_of.result c.args.block.now at stands c.requires.read c.class_of.ensures c.unlink.ensures.cells) InUse refl refl)
+    (turned_stands c.unlink.new.store.cells c.args.slot Loose (at_unlisted at) (read_leaves c.args.store.now.cells c.unlink.new.store.cells c.args.slot c.args.class c.args.block.now at stands c.requires.read c.requires.of_class c.unlink.ensures.cells) InUse refl refl)

@@ -1,18 +1,17 @@
-use Rattle.std.proofs.Common.{◌≡◌, ℕ, ◌%◌, ◌<◌, length, refl, sym, ap, ◌∙◌, subst, arith, Option, Some}
+use Rattle.std.proofs.Common.{◌≡◌, ℕ, ◌%◌, ◌<◌, length, sym, ap, ◌∙◌, subst, arith, Option, Some}
 use Rattle.tlsf_store.specs.Records.{blank, record_at}
 use Rattle.tlsf_store.specs.declared.records.State.TheVariants.{Free, Live}
 use Rattle.tlsf_store.specs.Cells.{Cells, with_taken}
 use Rattle.tlsf_class.specs.Classes.{unit}
 use Rattle.tlsf_heap.specs.declared.span.Span.{Span}
 use Rattle.tlsf_heap.specs.Inner.Edits.{IsUsed}
-use Rattle.tlsf_heap.specs.Inner.Chains.{with_state}
 use Rattle.tlsf_heap.specs.Inner.Spans.{IsRead, split_by}
 use Rattle.tlsf_heap.specs.Inner.Nodes.{InUse, Loose}
-use Rattle.tlsf_heap.specs.Inner.At.{At, StandsAt, with_slot, at_turned, at_split}
-use Rattle.tlsf_heap.proofs.Inner.Steps.{slot_used, size_read, place_read, whole_at, turned_stands}
-use Rattle.tlsf_heap.proofs.Inner.Allotted.{slot_stands, last_used}
-use Rattle.tlsf_heap.proofs.Inner.Spans.{by_node, by_record, span_splits}
-use Rattle.tlsf_heap.proofs.Inner.Gapped.{at_front, front_stands, gapped_stands}
+use Rattle.tlsf_heap.specs.Inner.At.{At, StandsAt, with_slot, at_turned}
+use Rattle.tlsf_heap.proofs.Inner.Steps.{slot_used, size_read, place_read, whole_at}
+use Rattle.tlsf_heap.proofs.Inner.Allotted.{slot_stands, last_used, at_front}
+use Rattle.tlsf_heap.proofs.Inner.Spans.{by_node, by_record, span_gaps}
+use Rattle.tlsf_heap.proofs.Inner.Gapped.{gapped_stands}
 use Rattle.tlsf_heap.proofs.memalign.leave_gap.Goals as goal
 
 -- a record was taken
@@ -50,56 +49,32 @@ split-requires-clause-ends c =
     let stands : StandsAt c.args.block.now.slot InUse old at = c.requires.stands.1 in
     omega (arith, (whole_at old c.args.block.now.slot InUse at stands).ends, c.requires.read.size, c.requires.read.place, size_read old c.args.block.now.slot InUse at stands, place_read old c.args.block.now.slot InUse at stands)
 
--- the front one, once what is behind it is live
-front : (mid left live : Cells) (span : Span) (rest bytes : ℕ) (at : At) → StandsAt span.slot InUse mid (with_slot rest at) → IsRead span mid.records → 0 < bytes → bytes < span.size → bytes % unit ≡ 0 → left ≡ split_by span rest bytes mid → live ≡ with_state rest Live left
-    → StandsAt span.slot InUse live (at_front span.slot rest bytes at)
-front mid left live span rest bytes at stands read some less whole split_is live_is =
-    let P : At → Type 0 = λ a. StandsAt rest Loose left (at_split rest bytes a) in
-    let same : at_turned InUse at ≡ at = ap (λ s. at_turned s at) (sym stands.1.node_state_is) in
-    let split : StandsAt rest Loose left (at_split rest bytes at) = subst P same (span_splits mid left span InUse rest bytes at refl stands read some less whole split_is) in
-    rw live_is (front_stands span.slot rest bytes at left split stands.1.slot_is stands.1.node_state_is)
-
-fronted : (old mid left live : Cells) (span : Span) (result : Option ℕ) (rest bytes : ℕ) (at : At) → StandsAt span.slot InUse old at → IsRead span old.records → result ≡ Some rest → mid ≡ with_taken old result → rest < length old.records → record_at old.records rest ≡ blank
-    → 0 < bytes → bytes < span.size → bytes % unit ≡ 0 → left ≡ split_by span rest bytes mid → live ≡ with_state rest Live left → StandsAt span.slot InUse live (at_front span.slot rest bytes at)
-fronted old mid left live span result rest bytes at stands read is taken within vacant some less whole split_is live_is =
-    let now = spared old mid result span.slot rest at stands is taken within vacant in
-    front mid left live span rest bytes at now (known old mid span rest at stands now read) some less whole split_is live_is
-
--- and once it is free
-freed : (live free : Cells) (slot rest bytes : ℕ) (at : At) → StandsAt slot InUse live (at_front slot rest bytes at) → free ≡ with_state slot Free live → StandsAt slot Loose free (at_turned Loose (at_front slot rest bytes at))
-freed live free slot rest bytes at stands is = rw is (turned_stands live slot InUse (at_front slot rest bytes at) stands Loose refl refl)
-
-pub set_state-requires-2-clause-used : goal.set_state-requires-2-clause-used
-set_state-requires-2-clause-used c =
-    let at : At = c.requires.stands.0 in
-    slot_used c.set_state.new.store.cells c.args.block.now.slot InUse (at_front c.args.block.now.slot c.in-Some.live c.args.bytes at)
-    (fronted c.args.store.now.cells c.take_vacant.new.self.cells c.split.new.store.cells c.set_state.new.store.cells c.args.block.now c.take_vacant.result c.in-Some.live c.args.bytes at c.requires.stands.1 c.requires.read c.in-Some.is c.take_vacant.ensures.left.cells c.in-Some.ensures.within c.in-Some.ensures.vacant (grind (arith, c.if-bytes-eq0.false)) c.requires.less c.requires.whole c.split.ensures.cells c.set_state.ensures.cells)
+-- the front one, once it was split
+fronted : (old mid new : Cells) (span : Span) (result : Option ℕ) (live bytes : ℕ) (at : At) → StandsAt span.slot InUse old at → IsRead span old.records → result ≡ Some live → mid ≡ with_taken old result → live < length old.records → record_at old.records live ≡ blank
+    → 0 < bytes → bytes < span.size → bytes % unit ≡ 0 → new ≡ split_by span Free live Live bytes mid → StandsAt span.slot Loose new (at_front live bytes (at_turned Loose at))
+fronted old mid new span result live bytes at stands read is taken within vacant some less whole split_is =
+    let now = spared old mid result span.slot live at stands is taken within vacant in
+    span_gaps mid new span live bytes at now (known old mid span live at stands now read) some less whole split_is
 
 pub enter-requires-clause-stands : goal.enter-requires-clause-stands
 enter-requires-clause-stands c =
     let at : At = c.requires.stands.0 in (
-      at_turned Loose (at_front c.args.block.now.slot c.in-Some.live c.args.bytes at),
-      freed c.set_state.new.store.cells c.set_state-2.new.store.cells c.args.block.now.slot c.in-Some.live c.args.bytes at
-          (fronted c.args.store.now.cells c.take_vacant.new.self.cells c.split.new.store.cells c.set_state.new.store.cells c.args.block.now c.take_vacant.result c.in-Some.live c.args.bytes at c.requires.stands.1 c.requires.read c.in-Some.is c.take_vacant.ensures.left.cells c.in-Some.ensures.within c.in-Some.ensures.vacant (grind (arith, c.if-bytes-eq0.false)) c.requires.less c.requires.whole c.split.ensures.cells c.set_state.ensures.cells)
-          c.set_state-2.ensures.cells,
+      at_front c.in-Some.live c.args.bytes (at_turned Loose at),
+      fronted c.args.store.now.cells c.take_vacant.new.self.cells c.split.new.store.cells c.args.block.now c.take_vacant.result c.in-Some.live c.args.bytes at c.requires.stands.1 c.requires.read c.in-Some.is c.take_vacant.ensures.left.cells c.in-Some.ensures.within c.in-Some.ensures.vacant (grind (arith, c.if-bytes-eq0.false)) c.requires.less c.requires.whole c.split.ensures.cells,
     )
 
 pub enter-requires-clause-size : goal.enter-requires-clause-size
 enter-requires-clause-size c =
     let at : At = c.requires.stands.0 in
-    sym (size_read c.set_state-2.new.store.cells c.args.block.now.slot Loose (at_turned Loose (at_front c.args.block.now.slot c.in-Some.live c.args.bytes at))
-    (freed c.set_state.new.store.cells c.set_state-2.new.store.cells c.args.block.now.slot c.in-Some.live c.args.bytes at
-    (fronted c.args.store.now.cells c.take_vacant.new.self.cells c.split.new.store.cells c.set_state.new.store.cells c.args.block.now c.take_vacant.result c.in-Some.live c.args.bytes at c.requires.stands.1 c.requires.read c.in-Some.is c.take_vacant.ensures.left.cells c.in-Some.ensures.within c.in-Some.ensures.vacant (grind (arith, c.if-bytes-eq0.false)) c.requires.less c.requires.whole c.split.ensures.cells c.set_state.ensures.cells)
-    c.set_state-2.ensures.cells))
+    sym (size_read c.split.new.store.cells c.args.block.now.slot Loose (at_front c.in-Some.live c.args.bytes (at_turned Loose at))
+    (fronted c.args.store.now.cells c.take_vacant.new.self.cells c.split.new.store.cells c.args.block.now c.take_vacant.result c.in-Some.live c.args.bytes at c.requires.stands.1 c.requires.read c.in-Some.is c.take_vacant.ensures.left.cells c.in-Some.ensures.within c.in-Some.ensures.vacant (grind (arith, c.if-bytes-eq0.false)) c.requires.less c.requires.whole c.split.ensures.cells))
 
 pub returns-clause-leads : goal.returns-clause-leads
 returns-clause-leads c at stands =
     let some : 0 < c.args.bytes = grind (arith, c.if-bytes-eq0.false) in
-    let end = c.enter.ensures.leads (at_turned Loose (at_front c.args.block.now.slot c.in-Some.live c.args.bytes at))
-    (freed c.set_state.new.store.cells c.set_state-2.new.store.cells c.args.block.now.slot c.in-Some.live c.args.bytes at
-    (fronted c.args.store.now.cells c.take_vacant.new.self.cells c.split.new.store.cells c.set_state.new.store.cells c.args.block.now c.take_vacant.result c.in-Some.live c.args.bytes at stands c.requires.read c.in-Some.is c.take_vacant.ensures.left.cells c.in-Some.ensures.within c.in-Some.ensures.vacant some c.requires.less c.requires.whole c.split.ensures.cells c.set_state.ensures.cells)
-    c.set_state-2.ensures.cells) in
-    gapped_stands c.args.block.now.slot c.in-Some.live c.args.bytes at c.enter.new.store.cells stands.1.slot_is stands.1.node_state_is some end
+    gapped_stands c.args.block.now.slot c.in-Some.live c.args.bytes at c.enter.new.store.cells stands.1.slot_is stands.1.node_state_is some
+    (c.enter.ensures.leads (at_front c.in-Some.live c.args.bytes (at_turned Loose at))
+    (fronted c.args.store.now.cells c.take_vacant.new.self.cells c.split.new.store.cells c.args.block.now c.take_vacant.result c.in-Some.live c.args.bytes at stands c.requires.read c.in-Some.is c.take_vacant.ensures.left.cells c.in-Some.ensures.within c.in-Some.ensures.vacant some c.requires.less c.requires.whole c.split.ensures.cells))
 
 pub returns-then-bytes-eq0-clause-below : goal.returns-then-bytes-eq0-clause-below
 returns-then-bytes-eq0-clause-below c = (slot_used c.args.store.now.cells c.args.block.now.slot InUse c.requires.stands.0 c.requires.stands.1).0

@@ -3,8 +3,18 @@ use Rattle.tlsf_store.specs.Cells.{Cells}
 use Rattle.tlsf_heap.specs.Inner.Nodes.{InUse}
 use Rattle.tlsf_heap.specs.Inner.At.{at_taken}
 use Rattle.tlsf_heap.proofs.Inner.Steps.{slot_used}
+use Rattle.tlsf_heap.proofs.Inner.Spans.{listed_read}
 use Rattle.tlsf_heap.proofs.Inner.Removed.{pools_stay, area_leaves}
 use Rattle.tlsf_heap.proofs.remove_pool.drop_pool.Goals as goal
+
+pub class_of-requires-clause-whole : goal.class_of-requires-clause-whole
+class_of-requires-clause-whole c = (listed_read c.args.store.now.cells c.args.slot c.args.block.now c.requires.stands.0 c.requires.stands.1 c.requires.read).whole
+
+pub class_of-requires-clause-some : goal.class_of-requires-clause-some
+class_of-requires-clause-some c = (listed_read c.args.store.now.cells c.args.slot c.args.block.now c.requires.stands.0 c.requires.stands.1 c.requires.read).some
+
+pub class_of-requires-clause-most : goal.class_of-requires-clause-most
+class_of-requires-clause-most c = (listed_read c.args.store.now.cells c.args.slot c.args.block.now c.requires.stands.0 c.requires.stands.1 c.requires.read).most
 
 pub give_vacant-requires-clause-within : goal.give_vacant-requires-clause-within
 give_vacant-requires-clause-within c =

@@ -17,5 +17,5 @@ returns-clause-value c =
     let old : Cells = c.args.store.now.cells in
     let within : c.args.class < classes = omega (arith, c.number-level.ensures.value, c.number-level.ensures.below) in
     let lowest = rw (c.step_word-word.ensures.value, c.number-level.ensures.value, c.number.ensures.value) at c.in-Some.ensures.found in
-    rw (c.head.ensures.value, c.step_word-word.ensures.left.cells, c.new.ensures, c.number-level.ensures.value)
+    rw (c.first_of.ensures.value, c.step_word-word.ensures.left.cells, c.new.ensures, c.number-level.ensures.value)
     (found_in_level old.heads old.step_words old.level_word c.requires.bitmaps c.requires.count c.args.class c.in-Some.step within lowest)

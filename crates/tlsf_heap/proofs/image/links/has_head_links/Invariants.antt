@@ -1,4 +1,4 @@
-use Rattle.std.proofs.Common.{◌≡◌, ◌≤◌, ◌<◌, length, drop}
+use Rattle.std.proofs.Common.{◌≡◌, ◌<◌, length, drop}
 use Rattle.std.specs.List.{list_all}
 use Rattle.tlsf_class.specs.Classes.{classes}
 use Rattle.tlsf_heap.specs.Images.Rules.{is_below}
