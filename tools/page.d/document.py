@@ -10,37 +10,16 @@ from texts import counted, escaped, shown, site_name
 
 TOP_SITES = 10
 TENTHS = 10
-FRAME = re.compile(rb"(?:(.+):)?\[(0x[0-9a-f]+)\]", re.S)
 KIND_NAMES = ("too long", "not a line", "not held", "already held", "refused", "half of a reallocation", "no < before >")
 
 
 # ---- sites
 
-def frames_of(location, told):
-    """The frames of a site, nearest first: as source-lines tells them, else as they stand."""
-    if told != location:
-        return told.split(b" < ")
-    return plain_frames(location)
-
-
-def plain_frames(location):
-    """The frames of a stack as tools/trace writes it; what isn't one is one frame."""
-    module, frames = b"", []
-    for part in location.split(b"<"):
-        found = FRAME.fullmatch(part)
-        if not found or not (found[1] or module):
-            return [location]
-        module = found[1] or module
-        frames.append(module.rpartition(b"/")[2] + b"[" + found[2] + b"]")
-    return frames if len(frames) > 1 else [location]
-
-
 def sites_data(log):
     """Names of frames, the frames of each site, and its location where that is told in other words."""
     names, rows, raw = {}, [], []
     for location in (log.locations[site] for site in log.kept):
-        told = log.told_of(location)
-        frames = frames_of(location, told)
+        told, frames = log.told_of(location), log.frames_of(location)
         rows.append([names.setdefault(site_name(frame), len(names)) for frame in frames])
         raw.append(shown(location) if location and told != location else 0)
     return list(names), rows, raw
@@ -76,10 +55,10 @@ def sizes_data(log):
     rows = []
     for power in range(65):
         numbers, calls, asked = [], 0, 0
-        for point, (counts, sums) in enumerate(log.powers):
-            if counts[power] != calls:
-                numbers += [point, counts[power] - calls, sums[power] - asked]
-                calls, asked = counts[power], sums[power]
+        for point, powers in enumerate(log.powers):
+            if powers[power][0] != calls:
+                numbers += [point, powers[power][0] - calls, powers[power][1] - asked]
+                calls, asked = powers[power]
         if numbers:
             rows.append([power, numbers])
     return rows

@@ -15,11 +15,16 @@ ASKED, CALLS, FREED, FREES, TEMPORARY = range(5)
 
 
 class Numbers(dict):
-    """Sizes by their digits."""
+    """Sizes by their digits, each with the calls and bytes of its power of two."""
+
+    def __init__(self):
+        super().__init__()
+        self.powers = [[0, 0] for _ in range(65)]
 
     def __missing__(self, digits):
-        number = self[digits] = int(digits, 16)
-        return number
+        number = int(digits, 16)
+        entry = self[digits] = number, self.powers[number.bit_length()]
+        return entry
 
 
 class Sites(dict):
@@ -49,51 +54,59 @@ class Progress:
             print("\r\033[K", end="", file=sys.stderr, flush=True)
 
 
+def parts_of(words):
+    """Location, form, address and size of a line's words; what a form lacks is something else."""
+    if words[0] == b"@":
+        return words[1], words[2], words[3], words[-1]
+    return b"", words[0], words[1], words[-1]
+
+
 class Reading:
     """A log that is read line by line. Lines that a report found something wrong with are read by what it says."""
 
     def __init__(self):
         self.held, self.sites, self.numbers = {}, Sites(), Numbers()
-        self.powers = [0] * 65
-        self.power_bytes = [0] * 65
         self.last = self.taken = None
 
     def take_whole(self, lines):
-        """Reads lines without a diagnostic: each is well formed, and served."""
-        held, sites, numbers, powers, power_bytes = self.held, self.sites, self.numbers, self.powers, self.power_bytes
-        free, last, taken = held.pop, self.last, self.taken
+        """Reads lines without a diagnostic: each is well formed, and served. The two frequent forms come first."""
+        held, sites, numbers, free, last = self.held, self.sites, self.numbers, self.held.pop, self.last
         for line in lines:
             words = line.split()
-            location, form, address, size = b"", words[0], words[1], words[-1]
-            if form == b"@":
-                location, form, address = words[1], words[2], words[3]
-            if form == b"-":
-                number, counts = free(address)
+            if len(words) == 4 and words[2] == b"-":
+                number, counts = free(words[3])
                 counts[2] += number
                 counts[3] += 1
-                if address == last:
+                if words[3] == last:
                     counts[4] += 1
-            elif form == b"+" or form == b">" or form == b"*":
-                if address == NIL:
-                    continue
-                if form == b">":
-                    number, counts = free(taken)
-                    counts[2] += number
-                    counts[3] += 1
-                    if taken == last:
-                        counts[4] += 1
-                number = numbers[size]
-                counts = sites[location]
-                counts[0] += number
-                counts[1] += 1
-                power = number.bit_length()
-                powers[power] += 1
-                power_bytes[power] += number
-                held[address] = number, counts
-                last = address
-            elif form == b"<":
-                taken = address
-        self.last, self.taken = last, taken
+                continue
+            if len(words) == 5:
+                _, location, form, address, size = words
+            else:
+                location, form, address, size = parts_of(words)
+            if form != b"+" and not self.gives(form, address, last) or address == NIL:
+                continue
+            number, power = numbers[size]
+            power[0] += 1
+            power[1] += number
+            counts = sites[location]
+            counts[0] += number
+            counts[1] += 1
+            held[address] = number, counts
+            last = address
+        self.last = last
+
+    def gives(self, form, address, last):
+        """Whether a line of another form gives a block; what it takes is taken."""
+        if form == b"<":
+            self.taken = address
+        if form == b"-" or form == b">":
+            old = address if form == b"-" else self.taken
+            number, counts = self.held.pop(old)
+            counts[FREED] += number
+            counts[FREES] += 1
+            counts[TEMPORARY] += old == last
+        return form == b">" or form == b"*"
 
     def take_faulty(self, line, kinds):
         """Reads a line with diagnostics. What is held after it is as docs/FORMATS.md, "What a line does", has it."""
@@ -164,7 +177,7 @@ def read_log(path, points, found, progress):
             progress.tell(f"{before:,} of {points[-1]:,} lines are read")
             bad = read_up_to(log, reading, before, point, faulty, bad)
             changes.append(snapshot(reading, indices, seen))
-            powers.append((tuple(reading.powers), tuple(reading.power_bytes)))
+            powers.append([tuple(power) for power in reading.numbers.powers])
     gc.enable()
     return list(indices), changes, powers
 

@@ -293,6 +293,7 @@ class Chart {
     this.anchor = null;
     this.listen();
     this.tell(this.at);
+    this.cursor.setAttribute("visibility", "hidden");
     this.named();
   }
 

@@ -1,6 +1,7 @@
 """All that is told of one log: the reports, side by side with a reading of its own, and whether both agree."""
 import json
 import os
+import re
 from collections import Counter
 from concurrent.futures import ThreadPoolExecutor
 from itertools import accumulate
@@ -13,6 +14,7 @@ from texts import shown, site_name
 # So many sites are told one by one, with so many bytes of names; and of the greatest of these so many changes between the points.
 MOST_SITES, MOST_TEXT, MOST_CHANGES = 5000, 700_000, 70_000
 MOST_DIAGNOSTICS = 500
+FRAME = re.compile(rb"(?:(.+):)?\[(0x[0-9a-f]+)\]", re.S)
 
 
 class Study:
@@ -140,9 +142,26 @@ class Study:
         """A location as source-lines tells it."""
         return self.told.get(location, location)
 
+    def frames_of(self, location):
+        """The frames of a site, nearest first: as source-lines tells them, else as they stand."""
+        told = self.told_of(location)
+        return told.split(b" < ") if told != location else plain_frames(location)
+
     def name_of(self, location):
-        """A location as it is shown."""
-        return site_name(self.told_of(location))
+        """A site as it is shown."""
+        return " < ".join(site_name(frame) for frame in self.frames_of(location))
+
+
+def plain_frames(location):
+    """The frames of a stack as tools/trace writes it; what isn't one is one frame."""
+    module, frames = b"", []
+    for part in location.split(b"<"):
+        found = FRAME.fullmatch(part)
+        if not found or not (found[1] or module):
+            return [location]
+        module = found[1] or module
+        frames.append(module.rpartition(b"/")[2] + b"[" + found[2] + b"]")
+    return frames if len(frames) > 1 else [location]
 
 
 def measures(pools):
