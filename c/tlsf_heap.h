@@ -43,7 +43,7 @@
 extern "C" {
 #endif
 
-#define TLSF_HEAP_VERSION "0.1.0"
+#define TLSF_HEAP_VERSION "1.0.0"
 
 /* Limits: what places and sizes are multiples of, the greatest block and pool, how many pools and
  * records a heap has at most. tlsf_heap_malloc serves up to 1,056,964,608 bytes, from which on each
