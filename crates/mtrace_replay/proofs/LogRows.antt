@@ -179,7 +179,7 @@ a_hole-points : (live_ends (content_after (started small) (history small [])) �
     × (live_ends (content_after (started small) (history small (take 2 a_hole))) ≡ 112 ∷ 128 ∷ []) × (free_sizes (content_after (started small) (history small (take 2 a_hole))) ≡ 896 ∷ [])
     × (live_ends (content_after (started small) (history small a_hole)) ≡ 128 ∷ []) × (free_sizes (content_after (started small) (history small a_hole)) ≡ 112 ∷ 896 ∷ [])
     × (timeline_text (record { line = 3; bytes = 8; blocks = 1; reach = greatest (128 ∷ []); free = sum_by (λ (size : ℕ). size) (112 ∷ 896 ∷ []); largest = greatest (112 ∷ 896 ∷ []) } ∷ []) 0
-      ≡ codes "line bytes blocks reach free largest\n3 8 1 128 1008 896\n")
+    ≡ codes "line bytes blocks reach free largest\n3 8 1 128 1008 896\n")
 unfolding started moments class need low rounded digits
 a_hole-points = (refl, refl, refl, refl, refl, refl, refl, refl, refl)
 

@@ -13,6 +13,7 @@ ghost use Rattle.mtrace_replay.specs.RunFit.{IsTried, TriesLog, AreVerdicts, Tri
 
 use crate::fit_text::{fitted_text, untried_text};
 use crate::fitted::Fitted;
+use crate::flush::put_and_flush;
 use crate::line_text::LineText;
 use crate::replay::Replay;
 use crate::report::Report;
@@ -21,7 +22,7 @@ use crate::settings::{GREATEST_POOL, Settings, UNIT};
 use crate::status::{RunFault, Status};
 use crate::tried::is_served;
 use crate::watch::Watch;
-use mtrace_log::{Again, Failed, Sink, put_all};
+use mtrace_log::{Again, Failed, Sink};
 use std::alloc::Global;
 use tlsf_heap::{Heap, MOST_RECORDS, sure_pool};
 
@@ -221,16 +222,6 @@ fn fit_text<R: Again, T: Watch>(
     };
     let fitted = try_sizes(reader, replay, trial, step_of(step, peak), peak, watch)?;
     Ok(fitted_text(totals, most, trial.records, fitted, sure))
-}
-
-/// Puts a text, and flushes.
-pub(crate) fn put_and_flush<W: Sink>(writer: &mut W, text: &[u8]) -> Result<(), Failed>
-    ensures { PutsAndFlushes W.taken W.trace result text.now writer.old writer.new }
-{
-    if put_all(writer, text).is_err() {
-        return Err(Failed);
-    }
-    writer.flush()
 }
 
 /// Tells how large a pool the log needs that was replayed on the greatest one.

@@ -11,6 +11,7 @@ mod findings;
 mod fit;
 mod fit_text;
 mod fitted;
+mod flush;
 mod grouping;
 mod index;
 mod key;

@@ -8,11 +8,11 @@ ghost use Rattle.mtrace_replay.specs.Settings.{are_bad};
 ghost use Rattle.mtrace_replay.specs.Moment.{ReadLine};
 ghost use Rattle.mtrace_replay.specs.Replay.{StandsFor, entries};
 ghost use Rattle.mtrace_replay.specs.Texts.{site_text as text_of_site, section, peak_words as words_of_peak, end_words, refused_line};
-ghost use Rattle.mtrace_replay.specs.Saving.{PutsAndFlushes};
 ghost use Rattle.mtrace_replay.specs.Again.{FailsAgain, ReplaysFirst};
 ghost use Rattle.mtrace_replay.specs.RunSites.{Groups, HasMemory, SitesFollow, RunsSites};
 
 use crate::again::replay_first;
+use crate::flush::flush_behind;
 use crate::grouping::Grouping;
 use crate::line_text::{peak_words, refused_text, section_text, site_text};
 use crate::replay::{Replay, ReplayFault};
@@ -111,24 +111,6 @@ fn put_both<W: Sink>(
     put_all(writer, refused_text(totals.refused).as_slice())
 }
 
-/// Puts this, and flushes.
-fn put_and_flush<W: Sink>(
-    writer: &mut W,
-    totals: Totals,
-    peak_sum: Sum,
-    peak_sites: &[Site<'_>],
-    end_sum: Sum,
-    end_sites: &[Site<'_>],
-) -> Result<(), Failed>
-    ensures { PutsAndFlushes W.taken W.trace result (section (words_of_peak totals.peak_line) peak_sum.blocks peak_sum.bytes peak_sites.now
-        ++ section end_words end_sum.blocks end_sum.bytes end_sites.now ++ refused_line totals.refused) writer.old writer.new }
-{
-    if put_both(writer, totals, peak_sum, peak_sites, end_sum, end_sites).is_err() {
-        return Err(Failed);
-    }
-    writer.flush()
-}
-
 /// Reads the log again, up to the line of the peak, and puts who holds its memory.
 fn tell_sites<'a, R: Again, W: Sink>(
     reader: &mut R,
@@ -151,7 +133,8 @@ fn tell_sites<'a, R: Again, W: Sink>(
         return Err(RunFault::Read);
     };
     let peak_sum = group_held(at_peak, &mut peak);
-    match put_and_flush(writer, totals, peak_sum, peak.sites(), end_sum, end.sites()) {
+    let put = put_both(writer, totals, peak_sum, peak.sites(), end_sum, end.sites());
+    match flush_behind(writer, put) {
         Ok(()) => Ok(()),
         Err(_) => Err(RunFault::Write),
     }

@@ -4,8 +4,8 @@ ghost use Rattle.std.specs.Prelude.{◌≡◌, ◌++◌, ◌<◌, ◌^◌};
 ghost use Rattle.mtrace_replay.specs.Saving.{PutsAndFlushes};
 ghost use Rattle.mtrace_replay.specs.Size.{align_of as alignment_of, are_bad_bounds, blocks_bytes, size_text as text_of_size, RunsSize};
 
-use crate::fit::put_and_flush;
 use crate::fit_text::{push_records, push_size_line};
+use crate::flush::put_and_flush;
 use crate::line_text::LineText;
 use crate::status::{RunFault, Status};
 use crate::step::rounded_bytes;

@@ -7,11 +7,11 @@ ghost use Rattle.mtrace_replay.specs.Settings.{are_bad};
 ghost use Rattle.mtrace_replay.specs.Moment.{ReadLine};
 ghost use Rattle.mtrace_replay.specs.Replay.{StandsFor};
 ghost use Rattle.mtrace_replay.specs.Texts.{point_text as text_of_point, timeline_words, timeline_text};
-ghost use Rattle.mtrace_replay.specs.Saving.{PutsAndFlushes};
 ghost use Rattle.mtrace_replay.specs.RunTimeline.{HasRoom, ReadsPoints, TimelineFollows, RunsTimeline};
 
 use crate::again::replay_up_to;
 use crate::findings::Findings;
+use crate::flush::flush_behind;
 use crate::line_text::{point_text, refused_text};
 use crate::point::{Point, point_after};
 use crate::replay::{Replay, ReplayFault};
@@ -41,16 +41,6 @@ fn put_timeline<W: Sink>(writer: &mut W, points: &[Point], refused: u64) -> Resu
     put_all(writer, b"line bytes blocks reach free largest\n")?;
     put_points(writer, points)?;
     put_all(writer, refused_text(refused).as_slice())
-}
-
-/// Puts this, and flushes.
-fn put_and_flush<W: Sink>(writer: &mut W, points: &[Point], refused: u64) -> Result<(), Failed>
-    ensures { PutsAndFlushes W.taken W.trace result (timeline_text points.now refused) writer.old writer.new }
-{
-    if put_timeline(writer, points, refused).is_err() {
-        return Err(Failed);
-    }
-    writer.flush()
 }
 
 /// Begins the log again, replays it up to the last of the lines that are told, and gathers a point after each of these.
@@ -126,7 +116,8 @@ fn tell_timeline<R: Again, W: Sink>(
     let Ok(()) = read_points(reader, replay, room.numbers.as_slice(), &mut room.points) else {
         return Err(RunFault::Read);
     };
-    match put_and_flush(writer, room.points.as_slice(), totals.refused) {
+    let put = put_timeline(writer, room.points.as_slice(), totals.refused);
+    match flush_behind(writer, put) {
         Ok(()) => Ok(()),
         Err(_) => Err(RunFault::Write),
     }

@@ -1,5 +1,5 @@
 -- How the calls end that answer the status of a run.
-use Rattle.std.proofs.Common.{◌≡◌, ◌≤◌, ℕ, Ok, Err, Result, arith, refl, sym}
+use Rattle.std.proofs.Common.{◌≡◌, ◌≤◌, ℕ, Ok, Err, Result, arith, refl, sym, subst}
 use Rattle.mtrace_replay.specs.declared.status.Status.{Status}
 use Rattle.mtrace_replay.specs.declared.status.RunFault.{RunFault}
 use Rattle.mtrace_replay.specs.declared.status.RunFault.TheVariants.{Read, Write, OutOfMemory, BadSettings, Image}
@@ -19,3 +19,7 @@ module _ {E : Type 0} {IsSo : Result Status RunFault → Type 0} where
 
   pub ends_early : (fault : RunFault) (status : ℕ) (old new : E) → IsSo (Err fault) → status ≡ status_of_run_fault fault → EndsAs IsSo status old new
   ends_early fault status old new told is = record { outcome = Err fault; told = told; status_is = sym is; no_errors = λ few. absurd (fault_above fault (omega (arith, few, is))) }
+
+  -- what is so of the answer of a run
+  pub ends_so : (run : Result Status RunFault) (status : ℕ) (old new : E) → EndsAs (λ outcome. outcome ≡ run) status old new → IsSo run → EndsAs IsSo status old new
+  ends_so run status old new ends so = record { outcome = ends.outcome; told = subst IsSo (sym ends.told) so; status_is = ends.status_is; no_errors = ends.no_errors }

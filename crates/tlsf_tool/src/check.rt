@@ -6,8 +6,7 @@ ghost use Rattle.tlsf_tool.specs.Checking.{Pulls, ReadsImage, ChecksImage, check
 ghost use Rattle.tlsf_tool.specs.Statuses.{EndsAs};
 
 use crate::asked::ToolFault;
-use crate::service::{put_fault, put_text};
-use crate::statuses::{end_status, fault_status};
+use crate::service::{end_run, put_text};
 use mtrace_log::{Failed, Sink, Source};
 use mtrace_replay::{RunFault, Status};
 use std::alloc::{AllocError, Global};
@@ -134,11 +133,6 @@ pub fn check_image<R: Source, W: Sink, E: Sink>(
     ensures { EndsAs (λ outcome. ChecksImage R.left R.trace W.taken W.trace outcome reader.old reader.new writer.old writer.new)
         result errors.old errors.new }
 {
-    match checked(alloc, reader, writer) {
-        Ok(status) => end_status(status),
-        Err(fault) => {
-            put_fault(errors, &ToolFault::Run(fault));
-            fault_status(fault)
-        }
-    }
+    let run = checked(alloc, reader, writer);
+    end_run(errors, run)
 }

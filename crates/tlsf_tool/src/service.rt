@@ -1,5 +1,6 @@
 //! One run, with its status.
 
+ghost use Rattle.std.specs.Prelude.{◌≡◌};
 ghost use Rattle.mtrace_replay.specs.Run.{Runs};
 ghost use Rattle.mtrace_replay.specs.RunSites.{RunsSites};
 ghost use Rattle.mtrace_replay.specs.RunTimeline.{RunsTimeline};
@@ -28,6 +29,20 @@ pub(crate) fn put_fault<E: Sink>(errors: &mut E, fault: &ToolFault) {
     let mut text: ArrayString<LONGEST_FAULT> = ArrayString::new();
     if write!(text, "{fault}\n").is_ok() {
         let _ = put_all(errors, text.as_str().as_bytes());
+    }
+}
+
+/// Ends after a run of this answer: puts the line of its fault to `errors`, whose own fault doesn't matter. Answers the
+/// status that the program ends with.
+pub(crate) fn end_run<E: Sink>(errors: &mut E, run: Result<Status, RunFault>) -> u8
+    ensures { EndsAs (λ outcome. outcome ≡ run) result errors.old errors.new }
+{
+    match run {
+        Ok(status) => end_status(status),
+        Err(fault) => {
+            put_fault(errors, &ToolFault::Run(fault));
+            fault_status(fault)
+        }
     }
 }
 
@@ -84,13 +99,8 @@ pub fn serve<R: Source, W: Sink, E: Sink>(
     ensures { EndsAs (λ outcome. Runs (report_of name) settings R.left R.trace W.taken W.trace outcome reader.old reader.new writer.old writer.new)
         result errors.old errors.new }
 {
-    match run_named(alloc, name, settings, reader, writer) {
-        Ok(status) => end_status(status),
-        Err(fault) => {
-            put_fault(errors, &ToolFault::Run(fault));
-            fault_status(fault)
-        }
-    }
+    let run = run_named(alloc, name, settings, reader, writer);
+    end_run(errors, run)
 }
 
 /// Tells who holds the memory of the log that the reader has left, by `run_sites`. Puts the line of a fault to
@@ -107,13 +117,8 @@ pub fn serve_sites<R: Again, W: Sink, E: Sink>(
     ensures { EndsAs (λ outcome. RunsSites settings R.left R.whole R.trace W.taken W.trace outcome reader.old reader.new writer.old writer.new)
         result errors.old errors.new }
 {
-    match run_sites(alloc, reader, writer, settings) {
-        Ok(status) => end_status(status),
-        Err(fault) => {
-            put_fault(errors, &ToolFault::Run(fault));
-            fault_status(fault)
-        }
-    }
+    let run = run_sites(alloc, reader, writer, settings);
+    end_run(errors, run)
 }
 
 /// Tells what is held over the lines of the log that the reader has left, by `run_timeline`. Puts the line of a fault to
@@ -131,13 +136,8 @@ pub fn serve_timeline<R: Again, W: Sink, E: Sink>(
     ensures { EndsAs (λ outcome. RunsTimeline settings parts R.left R.whole R.trace W.taken W.trace outcome reader.old reader.new writer.old writer.new)
         result errors.old errors.new }
 {
-    match run_timeline(alloc, reader, writer, settings, parts) {
-        Ok(status) => end_status(status),
-        Err(fault) => {
-            put_fault(errors, &ToolFault::Run(fault));
-            fault_status(fault)
-        }
-    }
+    let run = run_timeline(alloc, reader, writer, settings, parts);
+    end_run(errors, run)
 }
 
 /// Tells how large a pool the log needs that the reader has left, by `run_fit`. Puts the line of a fault to `errors`,
@@ -155,13 +155,8 @@ pub fn serve_fit<R: Again, W: Sink, E: Sink, T: Watch>(
     ensures { EndsAs (λ outcome. RunsFit step R.left R.whole R.trace W.taken W.trace outcome reader.old reader.new writer.old writer.new)
         result errors.old errors.new }
 {
-    match run_fit(alloc, reader, writer, step, watch) {
-        Ok(status) => end_status(status),
-        Err(fault) => {
-            put_fault(errors, &ToolFault::Run(fault));
-            fault_status(fault)
-        }
-    }
+    let run = run_fit(alloc, reader, writer, step, watch);
+    end_run(errors, run)
 }
 
 /// Serves a log that is read more than once, by `serve_sites`, `serve_timeline` or `serve_fit`.
@@ -191,13 +186,8 @@ pub fn serve_again<R: Again, W: Sink, E: Sink, T: Watch>(
 pub fn serve_size<W: Sink, E: Sink>(bounds: Bounds, writer: &mut W, errors: &mut E) -> u8
     ensures { EndsAs (λ outcome. RunsSize bounds W.taken W.trace outcome writer.old writer.new) result errors.old errors.new }
 {
-    match run_size(writer, bounds) {
-        Ok(status) => end_status(status),
-        Err(fault) => {
-            put_fault(errors, &ToolFault::Run(fault));
-            fault_status(fault)
-        }
-    }
+    let run = run_size(writer, bounds);
+    end_run(errors, run)
 }
 
 /// Saves the heap at the end of the log that the reader has left, by `run_save`. Puts the line of a fault to
@@ -215,11 +205,6 @@ pub fn serve_save<R: Source, W: Sink, I: Sink, E: Sink>(
     ensures { EndsAs (λ outcome. RunsAndSaves settings R.left R.trace W.taken W.trace I.taken I.trace outcome
         reader.old reader.new writer.old writer.new image.old image.new) result errors.old errors.new }
 {
-    match run_save(alloc, reader, writer, image, settings) {
-        Ok(status) => end_status(status),
-        Err(fault) => {
-            put_fault(errors, &ToolFault::Run(fault));
-            fault_status(fault)
-        }
-    }
+    let run = run_save(alloc, reader, writer, image, settings);
+    end_run(errors, run)
 }

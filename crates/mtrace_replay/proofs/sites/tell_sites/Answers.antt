@@ -10,8 +10,8 @@ use Rattle.mtrace_replay.specs.Saving.{PutsAndFlushes}
 use Rattle.mtrace_replay.proofs.SitesLemmas.{sites_text, tells_sites, sites_text-is}
 use Rattle.mtrace_replay.proofs.sites.tell_sites.Goals as goal
 
-pub returns-in-Ok-put_and_flush : goal.returns-in-Ok-put_and_flush
-returns-in-Ok-put_and_flush g c = λ settings lines stands fresh.
+pub returns-in-Ok-flush_behind : goal.returns-in-Ok-flush_behind
+returns-in-Ok-flush_behind g c = λ settings lines stands fresh.
     let taken = g.W.Sink.taken in
     let trace = g.W.Sink.trace in
     let end = c.args.at_end.now in
@@ -26,10 +26,10 @@ returns-in-Ok-put_and_flush g c = λ settings lines stands fresh.
     let tells = tells_sites settings lines peak end peak_sites end_sites (g.R.Source.whole c.args.reader.now) (g.R.Source.left c.replay_again.new.reader) stands
     (subst M line (c.in-Ok.ensures.done settings fresh)) (subst (A peak) (sym c.sites.ensures) c.group_held-peak_sum.ensures.sites) (subst (A end) (sym c.sites-2.ensures) c.group_held-end_sum.ensures.sites) in
     let answer : Result (Unit {0}) RunFault = Ok tt in
-    let P : List ℕ → Type 0 = λ words. PutsAndFlushes taken trace answer words c.args.writer.now c.put_and_flush.new.writer in
+    let P : List ℕ → Type 0 = λ words. PutsAndFlushes taken trace answer words c.args.writer.now c.flush_behind.new.writer in
     record {
       faults = tt;
-      told = λ _. (sites_text peak peak_sites end end_sites, tells, subst P text c.in-Ok-put_and_flush.ensures);
+      told = λ _. (sites_text peak peak_sites end end_sites, tells, subst P text (c.in-Ok-flush_behind.ensures c.args.writer.now _ c.put_both-put.ensures));
       reader_not_failed = λ _. c.in-Ok.ensures.not_failed;
       read_fault = search rules;
       nothing_put = search rules;
@@ -51,10 +51,10 @@ returns g c = λ settings lines stands fresh.
     let tells = tells_sites settings lines peak end peak_sites end_sites (g.R.Source.whole c.args.reader.now) (g.R.Source.left c.replay_again.new.reader) stands
     (subst M line (c.in-Ok.ensures.done settings fresh)) (subst (A peak) (sym c.sites.ensures) c.group_held-peak_sum.ensures.sites) (subst (A end) (sym c.sites-2.ensures) c.group_held-end_sum.ensures.sites) in
     let answer : Result (Unit {0}) RunFault = Err Write in
-    let P : List ℕ → Type 0 = λ words. PutsAndFlushes taken trace answer words c.args.writer.now c.put_and_flush.new.writer in
+    let P : List ℕ → Type 0 = λ words. PutsAndFlushes taken trace answer words c.args.writer.now c.flush_behind.new.writer in
     record {
       faults = inr refl;
-      told = λ _. (sites_text peak peak_sites end end_sites, tells, subst P text c.in-Err.ensures);
+      told = λ _. (sites_text peak peak_sites end end_sites, tells, subst P text (c.in-Err.ensures c.args.writer.now _ c.put_both-put.ensures));
       reader_not_failed = λ _. c.in-Ok.ensures.not_failed;
       read_fault = search rules;
       nothing_put = search rules;

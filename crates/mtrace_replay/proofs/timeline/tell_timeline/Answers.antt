@@ -26,8 +26,8 @@ returns-in_default g c = λ lines stands.
       nothing_put = λ _. refl;
     }
 
-pub returns-in-Ok-put_and_flush : goal.returns-in-Ok-put_and_flush
-returns-in-Ok-put_and_flush g c = λ lines stands.
+pub returns-in-Ok-flush_behind : goal.returns-in-Ok-flush_behind
+returns-in-Ok-flush_behind g c = λ lines stands.
     let taken = g.W.Sink.taken in
     let trace = g.W.Sink.trace in
     let totals = c.totals-totals.result in
@@ -41,7 +41,7 @@ returns-in-Ok-put_and_flush g c = λ lines stands.
     c.requires.some stands c.totals-totals.ensures.totals told has in
     record {
       faults = tt;
-      told = λ _. (timeline_text points totals.refused, tells, c.in-Ok-put_and_flush.ensures);
+      told = λ _. (timeline_text points totals.refused, tells, c.in-Ok-flush_behind.ensures c.args.writer.now (timeline_text points totals.refused) c.put_timeline-put.ensures);
       reader_not_failed = λ _. c.in-Ok.ensures.not_failed;
       read_fault = search rules;
       nothing_put = search rules;
@@ -62,7 +62,7 @@ returns g c = λ lines stands.
     c.requires.some stands c.totals-totals.ensures.totals told has in
     record {
       faults = inr refl;
-      told = λ _. (timeline_text points totals.refused, tells, c.in-Err.ensures);
+      told = λ _. (timeline_text points totals.refused, tells, c.in-Err.ensures c.args.writer.now (timeline_text points totals.refused) c.put_timeline-put.ensures);
       reader_not_failed = λ _. c.in-Ok.ensures.not_failed;
       read_fault = search rules;
       nothing_put = search rules;

@@ -1,9 +1,5 @@
-use Rattle.std.proofs.Common.{rules}
-use Rattle.tlsf_tool.proofs.StatusLemmas.{ends, ends_early}
+use Rattle.tlsf_tool.proofs.StatusLemmas.{ends_so}
 use Rattle.tlsf_tool.proofs.service.serve_save.Goals as goal
 
-pub returns-in-Ok : goal.returns-in-Ok
-returns-in-Ok g c = ends c.in-Ok.status _ _ (search rules) c.end_status.ensures
-
-pub returns-in-Err : goal.returns-in-Err
-returns-in-Err g c = ends_early c.in-Err.fault _ _ _ (search rules) c.fault_status.ensures
+pub returns : goal.returns
+returns g c = ends_so c.run_save-run.result _ _ _ c.end_run.ensures c.run_save-run.ensures.saves
