@@ -11,7 +11,7 @@ use Rattle.mtrace_log.specs.declared.line.ReadFault.TheVariants.{ReaderFailed, T
 use Rattle.mtrace_log.proofs.TraceLemmas.{moved_append, moved_then_append}
 
 -- calls while lines were read, and then more
-calls_after : (stage : Stage) (start before after : List Call) → CallsFor Reading start before → CallsFor stage before after → CallsFor stage start after
+pub calls_after : (stage : Stage) (start before after : List Call) → CallsFor Reading start before → CallsFor stage before after → CallsFor stage start after
 calls_after Reading start before after first second = moved_append Gave start before after first second
 calls_after Ended start before after first second = moved_then_append Gave ToldEnd start before after first second
 calls_after (Faulted ReaderFailed) start before after first second = moved_then_append Gave Failed start before after first second

@@ -15,4 +15,5 @@ pub mod LineLemmas
 pub mod PieceLemmas
 pub mod ReadLemmas
 pub mod CallLemmas
+pub mod FilledLemmas
 mod Vectors

@@ -37,9 +37,10 @@ CallsUpTo Newline old new = HasGiven old new
 CallsUpTo End old new = HasGivenAll old new
 CallsUpTo Failed old new = HasGivenAndFailed old new
 
--- one piece without newline was taken and is in the buffer
+-- one piece without newline, that isn't empty, was taken and is in the buffer
 pub record TakesPiece (buffer : LineBuffer) (stop : Stop) (before after : Option (List ℕ)) : Type 0 where
   pub piece : List ℕ
+  pub some : 0 < length piece
   pub no_newline : Lacks newline piece
   pub held : Holds buffer piece
   pub taken : TakesUpTo stop piece before after

@@ -1,4 +1,4 @@
-ghost use Rattle.std.specs.Prelude.{◌≡◌, ℕ, ◌++◌, [], List, length, IsTrue, ◌↔◌};
+ghost use Rattle.std.specs.Prelude.{ℕ, ◌++◌, [], List};
 ghost use Rattle.mtrace_log.specs.LineBuffer.{Holds, kept_bytes};
 ghost use Rattle.mtrace_log.specs.Progress.{Says};
 
@@ -23,13 +23,6 @@ impl LineBuffer {
             bytes: ArrayVec::new(),
             too_long: false,
         }
-    }
-
-    /// Whether the line has no byte.
-    pub(crate) fn is_empty(&self) -> bool
-        ensures { (piece : List ℕ) → Holds self.now piece → IsTrue result ↔ (length piece ≡ 0) }
-    {
-        !self.too_long && self.bytes.is_empty()
     }
 
     /// More bytes.

@@ -1,4 +1,5 @@
-ghost use Rattle.std.specs.Prelude.{◌≡◌, ◌<◌, [], Some};
+ghost use Rattle.std.specs.Prelude.{◌≡◌, ◌<◌, [], length, Some};
+ghost use Rattle.mtrace_log.specs.Bytes.{Lacks, newline};
 ghost use Rattle.mtrace_log.specs.Progress.{Reading, greatest_number, Says, GivesLine, PassesLine, Advances, Passes};
 
 use crate::buffer::Buffer;
@@ -147,7 +148,7 @@ impl Lines {
         ensures { Passes R.left R.whole R.trace result self.old self.new reader.old reader.new }
     {
         if self.count == u64::MAX {
-            return self.find_end(reader);
+            return self.read_other(reader);
         }
         self.frequent = self.buffer.take_frequent();
         if self.frequent.is_none() {
@@ -158,14 +159,49 @@ impl Lines {
         Ok(Some(self.count))
     }
 
-    /// Passes over the next line, which is none of the two frequent forms.
+    /// Passes over the next line, be it of any form. Where no byte is held, the buffer is filled first.
     #[inline(never)]
     fn read_other<R: Source>(&mut self, reader: &mut R) -> Result<Option<u64>, ReadFault>
+        requires { self.old.stage ≡ Reading }
+        ensures { Passes R.left R.whole R.trace result self.old self.new reader.old reader.new }
+    {
+        if self.buffer.is_empty() {
+            return self.read_filled(reader);
+        }
+        self.read_held(reader)
+    }
+
+    /// Passes over the next line, where no byte is held.
+    fn read_filled<R: Source>(&mut self, reader: &mut R) -> Result<Option<u64>, ReadFault>
         requires reading { self.old.stage ≡ Reading }
-        requires room { self.old.count < greatest_number }
+        requires none { self.old.held ≡ [] }
         ensures { Passes R.left R.whole R.trace result self.old self.new reader.old reader.new }
     {
         self.frequent = None;
+        match self.buffer.refill(reader) {
+            Ok(0) => {
+                self.stage = Stage::Ended;
+                Ok(None)
+            }
+            Ok(_) => self.read_held(reader),
+            Err(Failed) => {
+                self.stage = Stage::Failed;
+                Err(ReadFault::ReaderFailed)
+            }
+        }
+    }
+
+    /// Passes over the next line, of which bytes are held.
+    fn read_held<R: Source>(&mut self, reader: &mut R) -> Result<Option<u64>, ReadFault>
+        requires reading { self.old.stage ≡ Reading }
+        requires some { 0 < length self.old.held }
+        ensures { Passes R.left R.whole R.trace result self.old self.new reader.old reader.new }
+    {
+        self.frequent = None;
+        if self.count == u64::MAX {
+            self.stage = Stage::Full;
+            return Err(ReadFault::TooManyLines);
+        }
         if !self.buffer.take_line() {
             return self.read_across(reader);
         }
@@ -174,10 +210,12 @@ impl Lines {
         Ok(Some(self.count))
     }
 
-    /// Passes over the next line, where its newline isn't in the buffer.
+    /// Passes over the next line, whose first bytes are held, and not its newline.
     #[inline(never)]
     fn read_across<R: Source>(&mut self, reader: &mut R) -> Result<Option<u64>, ReadFault>
         requires reading { self.old.stage ≡ Reading }
+        requires some { 0 < length self.old.held }
+        requires no_newline { Lacks newline self.old.held }
         requires room { self.old.count < greatest_number }
         ensures { Passes R.left R.whole R.trace result self.old self.new reader.old reader.new }
     {
@@ -189,44 +227,11 @@ impl Lines {
                 self.stage = Stage::Failed;
                 return Err(ReadFault::ReaderFailed);
             }
-            Stop::End => {
-                self.stage = Stage::Ended;
-                if line.is_empty() {
-                    return Ok(None);
-                }
-            }
+            Stop::End => self.stage = Stage::Ended,
         }
         self.across = line;
         self.is_across = true;
         self.count += 1;
         Ok(Some(self.count))
-    }
-
-    /// Where no number is left for a line: the end, or a fault.
-    #[inline(never)]
-    fn find_end<R: Source>(&mut self, reader: &mut R) -> Result<Option<u64>, ReadFault>
-        requires reading { self.old.stage ≡ Reading }
-        requires full { self.old.count ≡ greatest_number }
-        ensures { Passes R.left R.whole R.trace result self.old self.new reader.old reader.new }
-    {
-        self.frequent = None;
-        if !self.buffer.is_empty() {
-            self.stage = Stage::Full;
-            return Err(ReadFault::TooManyLines);
-        }
-        match self.buffer.refill(reader) {
-            Ok(0) => {
-                self.stage = Stage::Ended;
-                Ok(None)
-            }
-            Ok(_) => {
-                self.stage = Stage::Full;
-                Err(ReadFault::TooManyLines)
-            }
-            Err(Failed) => {
-                self.stage = Stage::Failed;
-                Err(ReadFault::ReaderFailed)
-            }
-        }
     }
 }

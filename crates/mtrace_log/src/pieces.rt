@@ -1,7 +1,8 @@
 //! The pieces of a stream between newlines, where they don't lie whole in the buffer.
-ghost use Rattle.std.specs.Prelude.{◌≡◌, []};
+ghost use Rattle.std.specs.Prelude.{◌≡◌, ℕ, ◌<◌, ◌++◌, [], List, length};
 ghost use Rattle.std.specs.Io.KnownBytes.{prepend_known};
-ghost use Rattle.mtrace_log.specs.LineBuffer.{TakesFront, TakesPiece, CallsUpTo};
+ghost use Rattle.mtrace_log.specs.Bytes.{Lacks, newline};
+ghost use Rattle.mtrace_log.specs.LineBuffer.{Holds, TakesFront, TakesPiece, CallsUpTo};
 ghost use Rattle.mtrace_log.specs.declared.pieces.Stop.TheVariants.{Failed as PieceFailed};
 
 use crate::buffer::Buffer;
@@ -17,6 +18,15 @@ pub(crate) enum Stop {
     Failed,
 }
 
+/// Takes all unread bytes onto the line.
+fn take_all(buffer: &mut Buffer, line: &mut LineBuffer)
+    ensures held { (piece : List ℕ) → Holds line.old piece → Holds line.new (piece ++ buffer.old.unread) }
+    ensures none { buffer.new.unread ≡ [] }
+{
+    line.extend(buffer.unread());
+    buffer.skip_all();
+}
+
 /// Takes the unread bytes before the first newline onto the line, and passes over the newline. Where
 /// there is none, takes them all and answers false.
 fn take_front(buffer: &mut Buffer, line: &mut LineBuffer) -> bool
@@ -26,27 +36,29 @@ fn take_front(buffer: &mut Buffer, line: &mut LineBuffer) -> bool
         line.extend(buffer.line());
         return true;
     }
-    line.extend(buffer.unread());
-    buffer.skip_all();
+    take_all(buffer, line);
     false
 }
 
-/// The next piece, and how it ended.
+/// The next piece, which begins with the unread bytes, and how it ended.
 pub(crate) fn read_piece<R: Source>(buffer: &mut Buffer, reader: &mut R) -> (LineBuffer, Stop)
+    requires some { 0 < length buffer.old.unread }
+    requires no_newline { Lacks newline buffer.old.unread }
     ensures piece { TakesPiece result.0 result.1 (prepend_known buffer.old.unread (R.left reader.old)) (prepend_known buffer.new.unread (R.left reader.new)) }
     ensures calls { CallsUpTo result.1 (R.trace reader.old) (R.trace reader.new) }
     ensures whole { R.whole reader.new ≡ R.whole reader.old }
     ensures nothing_held { result.1 ≡ PieceFailed → buffer.new.unread ≡ [] }
 {
     let mut line = LineBuffer::new();
+    take_all(buffer, &mut line);
     loop {
-        if take_front(buffer, &mut line) {
-            return (line, Stop::Newline);
-        }
         match buffer.refill(reader) {
             Ok(0) => return (line, Stop::End),
             Ok(_) => {}
             Err(Failed) => return (line, Stop::Failed),
+        }
+        if take_front(buffer, &mut line) {
+            return (line, Stop::Newline);
         }
     }
 }

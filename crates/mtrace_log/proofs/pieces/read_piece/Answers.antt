@@ -1,27 +1,32 @@
-use Rattle.std.proofs.Common.{◌∙◌, arith}
-use Rattle.mtrace_log.proofs.TraceLemmas.{gave_more}
-use Rattle.mtrace_log.proofs.PieceLemmas.{piece_to_newline, piece_filled, piece_to_end, at_end-nil, left-same}
+use Rattle.std.proofs.Common.{refl, subst, ◌∙◌, [], arith}
+use Rattle.mtrace_log.specs.LineBuffer.{TakesPiece}
+use Rattle.mtrace_log.specs.declared.call.Call.TheVariants.{Gave}
+use Rattle.mtrace_log.specs.declared.pieces.Stop.TheVariants.{Failed}
+use Rattle.mtrace_log.proofs.TraceLemmas.{moved_none, gave_more}
+use Rattle.mtrace_log.proofs.PieceLemmas.{piece_begun, piece_rest, piece_to_newline}
 use Rattle.mtrace_log.proofs.pieces.read_piece.Goals as goal
+
+pub loop-line-init : goal.loop-line-init
+loop-line-init g c =
+    record {
+      piece = piece_begun c.take_all.new.line c.args.buffer.now.unread _ c.requires.some c.requires.no_newline (c.take_all.ensures.held [] c.new-line.ensures);
+      none = c.take_all.ensures.none;
+      calls = moved_none Gave _;
+      whole = refl;
+    }
 
 pub returns-then-take_front-clause-piece : goal.returns-then-take_front-clause-piece
 returns-then-take_front-clause-piece g c =
-    piece_to_newline c.loop-line.line c.take_front.new.line c.loop-line.buffer.unread c.take_front.new.buffer.unread _ _ c.loop-line.invariant.piece c.if-take_front.ensures
+    piece_to_newline c.loop-line.line c.take_front.new.line c.refill.new.self.unread c.take_front.new.buffer.unread _ _ (subst (TakesPiece c.loop-line.line Failed _) c.in-Ok.ensures.bytes c.loop-line.invariant.piece) c.if-take_front.ensures
 
-pub returns-in-Ok-eq0-clause-piece : goal.returns-in-Ok-eq0-clause-piece
-returns-in-Ok-eq0-clause-piece g c =
-    piece_to_end _ _ _
-    (piece_filled c.loop-line.line c.take_front.new.line c.loop-line.buffer.unread c.take_front.new.buffer.unread c.refill.new.self.unread _ _ _ c.loop-line.invariant.piece c.if-take_front.ensures c.in-Ok-eq0.ensures.bytes)
-    (at_end-nil c.refill.new.self.unread _ (c.in-Ok-eq0.ensures.count ∙ c.in-Ok-eq0.field-0-test) (c.in-Ok-eq0.ensures.end c.in-Ok-eq0.field-0-test))
+pub returns-then-take_front-clause-calls : goal.returns-then-take_front-clause-calls
+returns-then-take_front-clause-calls g c = gave_more c.in-Ok.field-0 _ _ _ (omega (arith, c.in-Ok.field-0-test)) c.loop-line.invariant.calls c.in-Ok.ensures.told
 
 pub loop-line-preserved : goal.loop-line-preserved
 loop-line-preserved g c =
     record {
-      piece = piece_filled c.loop-line.line c.take_front.new.line c.loop-line.buffer.unread c.take_front.new.buffer.unread c.refill.new.self.unread _ _ _ c.loop-line.invariant.piece c.if-take_front.ensures c.in-Ok.ensures.bytes;
+      piece = piece_rest c.loop-line.line c.take_front.new.line c.refill.new.self.unread c.take_front.new.buffer.unread _ _ (subst (TakesPiece c.loop-line.line Failed _) c.in-Ok.ensures.bytes c.loop-line.invariant.piece) c.if-take_front.ensures;
+      none = c.if-take_front.ensures.taken.1;
       calls = gave_more c.in-Ok.field-0 _ _ _ (omega (arith, c.in-Ok.field-0-test)) c.loop-line.invariant.calls c.in-Ok.ensures.told;
       whole = c.in-Ok.ensures.whole ∙ c.loop-line.invariant.whole;
     }
-
-pub returns-in-Err-clause-piece : goal.returns-in-Err-clause-piece
-returns-in-Err-clause-piece g c =
-    piece_filled c.loop-line.line c.take_front.new.line c.loop-line.buffer.unread c.take_front.new.buffer.unread c.refill.new.self.unread _ _ _ c.loop-line.invariant.piece c.if-take_front.ensures
-    (left-same c.refill.new.self.unread _ _ c.in-Err.ensures.failed.0 c.in-Err.ensures.failed.1)

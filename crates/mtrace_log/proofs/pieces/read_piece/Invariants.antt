@@ -1,14 +1,15 @@
-use Rattle.std.proofs.Common.{◌≡◌}
+use Rattle.std.proofs.Common.{◌≡◌, []}
 use Rattle.std.specs.Io.KnownBytes.{prepend_known}
 use Rattle.mtrace_log.specs.LineBuffer.{TakesPiece}
 use Rattle.mtrace_log.specs.Trace.{HasGiven}
 use Rattle.mtrace_log.specs.declared.pieces.Stop.TheVariants.{Failed}
 use Rattle.mtrace_log.proofs.pieces.read_piece.Given as goal
 
--- a piece was taken that hasn't ended, and the reader hasn't failed
+-- a piece was taken that hasn't ended, nothing is unread, and the reader hasn't failed
 abbrev pub invariant-loop-line : goal.invariant-loop-line
 invariant-loop-line g l = record {
-  piece : TakesPiece l.line Failed (prepend_known l.fn.buffer.unread (g.R.Source.left l.fn.reader)) (prepend_known l.buffer.unread (g.R.Source.left l.reader));
+  piece : TakesPiece l.line Failed (prepend_known l.fn.buffer.unread (g.R.Source.left l.fn.reader)) (g.R.Source.left l.reader);
+  none : l.buffer.unread ≡ [];
   calls : HasGiven (g.R.Source.trace l.fn.reader) (g.R.Source.trace l.reader);
   whole : g.R.Source.whole l.reader ≡ g.R.Source.whole l.fn.reader;
 }
