@@ -147,14 +147,31 @@ impl Lines {
         requires { self.old.stage ≡ Reading }
         ensures { Passes R.left R.whole R.trace result self.old self.new reader.old reader.new }
     {
+        if self.count == u64::MAX {
+            return self.read_other(reader);
+        }
+        self.frequent = self.buffer.take_frequent();
+        if self.frequent.is_none() {
+            return self.read_other(reader);
+        }
+        self.is_across = false;
+        self.count += 1;
+        Ok(Some(self.count))
+    }
+
+    /// Passes over the next line, be it of any form. Where no byte is held, the buffer is filled first.
+    #[inline(never)]
+    fn read_other<R: Source>(&mut self, reader: &mut R) -> Result<Option<u64>, ReadFault>
+        requires { self.old.stage ≡ Reading }
+        ensures { Passes R.left R.whole R.trace result self.old self.new reader.old reader.new }
+    {
         if self.buffer.is_empty() {
             return self.read_filled(reader);
         }
         self.read_held(reader)
     }
 
-    /// Passes over the next line, where no byte is held: the buffer is filled first.
-    #[inline(never)]
+    /// Passes over the next line, where no byte is held.
     fn read_filled<R: Source>(&mut self, reader: &mut R) -> Result<Option<u64>, ReadFault>
         requires reading { self.old.stage ≡ Reading }
         requires none { self.old.held ≡ [] }
@@ -175,34 +192,16 @@ impl Lines {
     }
 
     /// Passes over the next line, of which bytes are held.
-    #[inline(always)]
     fn read_held<R: Source>(&mut self, reader: &mut R) -> Result<Option<u64>, ReadFault>
         requires reading { self.old.stage ≡ Reading }
         requires some { 0 < length self.old.held }
         ensures { Passes R.left R.whole R.trace result self.old self.new reader.old reader.new }
     {
+        self.frequent = None;
         if self.count == u64::MAX {
             self.stage = Stage::Full;
             return Err(ReadFault::TooManyLines);
         }
-        self.frequent = self.buffer.take_frequent();
-        if self.frequent.is_none() {
-            return self.read_other(reader);
-        }
-        self.is_across = false;
-        self.count += 1;
-        Ok(Some(self.count))
-    }
-
-    /// Passes over the next line, of which bytes are held, and which is none of the two frequent forms.
-    #[inline(never)]
-    fn read_other<R: Source>(&mut self, reader: &mut R) -> Result<Option<u64>, ReadFault>
-        requires reading { self.old.stage ≡ Reading }
-        requires some { 0 < length self.old.held }
-        requires room { self.old.count < greatest_number }
-        ensures { Passes R.left R.whole R.trace result self.old self.new reader.old reader.new }
-    {
-        self.frequent = None;
         if !self.buffer.take_line() {
             return self.read_across(reader);
         }

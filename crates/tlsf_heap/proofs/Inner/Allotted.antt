@@ -1,6 +1,6 @@
 -- A listed node leaves its list and is in use, and the rest behind its first bytes is listed. What the steps need and
 -- leave.
-use Rattle.std.proofs.Common.{◌≡◌, ℕ, ◌+◌, ◌-◌, ◌%◌, ◌<◌, Bool, List, ◌∷◌, length, map, refl, ap, subst, arith, Some, true, false, cond, [], ◌++◌, sym, count_by}
+use Rattle.std.proofs.Common.{◌≡◌, ℕ, ◌+◌, ◌-◌, ◌%◌, ◌<◌, Bool, List, ◌∷◌, length, map, refl, ap, subst, arith, Option, Some, true, false, cond, [], ◌++◌, sym, count_by}
 use Rattle.std.proofs.lemmas.Bool.{eq-eqb, ne_eqb}
 use Rattle.tlsf_class.specs.Classes.{unit, class}
 use Rattle.tlsf_store.specs.declared.records.State.TheVariants.{Free, Live}
@@ -51,9 +51,11 @@ module _ (cells : Cells) (slot : ℕ) (at : At) (stands : StandsAt slot Listed c
       )
 
 -- a vacant record was taken meanwhile
-pub slot_stands : (cells : Cells) (slot : ℕ) (node_state : NodeState) (at : At) (rest : ℕ) → StandsAt slot node_state cells at → rest < length cells.records → record_at cells.records rest ≡ blank → StandsAt slot node_state (with_taken cells (Some rest)) (with_slot rest at)
-slot_stands cells slot node_state at rest stands within vacant =
-    (slot_taken cells (layout_at at) rest stands.0 within vacant, record { slot_is = stands.1.slot_is; node_state_is = stands.1.node_state_is; others_settled = stands.1.others_settled; covered = stands.1.covered })
+pub slot_stands : (old new : Cells) (result : Option ℕ) (slot rest : ℕ) (node_state : NodeState) (at : At) → StandsAt slot node_state old at → result ≡ Some rest → new ≡ with_taken old result → rest < length old.records → record_at old.records rest ≡ blank
+    → StandsAt slot node_state new (with_slot rest at)
+slot_stands old new result slot rest node_state at stands is taken within vacant =
+    rw (taken, is)
+    (slot_taken old (layout_at at) rest stands.0 within vacant, record { slot_is = stands.1.slot_is; node_state_is = stands.1.node_state_is; others_settled = stands.1.others_settled; covered = stands.1.covered })
 
 covers_split : (rest bytes : ℕ) (node : Node) (nodes : List Node) → 0 < bytes → bytes < node.size → bytes % unit ≡ 0 → (from to : ℕ) → Covers from to (map block_of (node ∷ nodes)) → Covers from to (map block_of (record node { size = bytes } ∷ rest_node rest bytes node ∷ nodes))
 covers_split rest bytes node nodes some less whole from to c =

@@ -1,6 +1,5 @@
-use Rattle.std.proofs.Common.{◌≡◌, ℕ, ◌<◌, length, refl, sym, ap, ◌∙◌, subst, arith, Option, Some}
-use Rattle.tlsf_store.specs.Records.{blank, record_at}
-use Rattle.tlsf_store.specs.Cells.{Cells, with_taken}
+use Rattle.std.proofs.Common.{◌≡◌, ℕ, refl, sym, ap, ◌∙◌, subst, arith}
+use Rattle.tlsf_store.specs.Cells.{Cells}
 use Rattle.tlsf_heap.specs.declared.span.Span.{Span}
 use Rattle.tlsf_heap.specs.Inner.Nodes.{InUse, Listed}
 use Rattle.tlsf_heap.specs.Inner.At.{At, StandsAt, with_slot, at_turned, at_split_off}
@@ -13,12 +12,6 @@ use Rattle.tlsf_heap.proofs.malloc.split_rest.Goals as goal
 -- the size that was read is the node's
 size_is : (old : Cells) (span : Span) (at : At) → StandsAt span.slot InUse old at → IsRead span old.records → span.size ≡ at.node.size
 size_is old span at stands read = read.size ∙ size_read old span.slot InUse at stands
-
--- once a record was taken
-spared : (old new : Cells) (result : Option ℕ) (slot rest : ℕ) (at : At) → StandsAt slot InUse old at → result ≡ Some rest → new ≡ with_taken old result → rest < length old.records → record_at old.records rest ≡ blank
-    → StandsAt slot InUse new (with_slot rest at)
-spared old new result slot rest at stands is taken within vacant =
-    rw (taken, is) (slot_stands old slot InUse at rest stands within vacant)
 
 pub returns-then-block-bytes-clause-leads : goal.returns-then-block-bytes-clause-leads
 returns-then-block-bytes-clause-leads c at stands =
@@ -33,14 +26,14 @@ unreachable-requires c =
 pub split_off-requires-clause-stands : goal.split_off-requires-clause-stands
 split_off-requires-clause-stands c =
     let at : At = c.requires.stands.0 in
-    (InUse, at, refl, spared c.args.store.now.cells c.take_vacant.new.self.cells c.take_vacant.result c.args.block.now.slot c.in-Some.rest at c.requires.stands.1 c.in-Some.is c.take_vacant.ensures.left.cells c.in-Some.ensures.within c.in-Some.ensures.vacant)
+    (InUse, at, refl, slot_stands c.args.store.now.cells c.take_vacant.new.self.cells c.take_vacant.result c.args.block.now.slot c.in-Some.rest InUse at c.requires.stands.1 c.in-Some.is c.take_vacant.ensures.left.cells c.in-Some.ensures.within c.in-Some.ensures.vacant)
 
 pub split_off-requires-clause-read : goal.split_off-requires-clause-read
 split_off-requires-clause-read c =
     let at : At = c.requires.stands.0 in
     let known = by_node c.args.store.now.cells InUse at c.args.block.now c.requires.stands.1 c.requires.read in
     by_record c.take_vacant.new.self.cells InUse (with_slot c.in-Some.rest at) c.args.block.now
-    (spared c.args.store.now.cells c.take_vacant.new.self.cells c.take_vacant.result c.args.block.now.slot c.in-Some.rest at c.requires.stands.1 c.in-Some.is c.take_vacant.ensures.left.cells c.in-Some.ensures.within c.in-Some.ensures.vacant)
+    (slot_stands c.args.store.now.cells c.take_vacant.new.self.cells c.take_vacant.result c.args.block.now.slot c.in-Some.rest InUse at c.requires.stands.1 c.in-Some.is c.take_vacant.ensures.left.cells c.in-Some.ensures.within c.in-Some.ensures.vacant)
     (record { slot = known.slot; place = known.place; size = known.size; next = known.next; in_units = known.in_units })
 
 pub returns-clause-leads : goal.returns-clause-leads
@@ -48,7 +41,7 @@ returns-clause-leads c at stands =
     let old : Cells = c.args.store.now.cells in
     let rest : ℕ = c.in-Some.rest in
     let size = size_is old c.args.block.now at stands c.requires.read in
-    let taken = spared old c.take_vacant.new.self.cells c.take_vacant.result c.args.block.now.slot rest at stands c.in-Some.is c.take_vacant.ensures.left.cells c.in-Some.ensures.within c.in-Some.ensures.vacant in
+    let taken = slot_stands old c.take_vacant.new.self.cells c.take_vacant.result c.args.block.now.slot rest InUse at stands c.in-Some.is c.take_vacant.ensures.left.cells c.in-Some.ensures.within c.in-Some.ensures.vacant in
     let P : At → Type 0 = λ a. StandsAt rest Listed c.split_off.new.store.cells (at_split_off rest c.args.bytes a) in
     let same : at_turned InUse at ≡ at = ap (λ s. at_turned s at) (sym stands.1.node_state_is) in
     (rest, rest_split_stands old c.split_off.new.store.cells c.args.block.now.slot rest c.args.bytes at stands (omega (arith, c.requires.most, c.if-block-bytes.false, size)) (subst P same (c.split_off.ensures.leads InUse at refl taken)))

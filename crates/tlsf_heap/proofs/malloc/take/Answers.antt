@@ -25,7 +25,7 @@ size_is old slot at block stands read = rw read (size_read old slot Listed at st
 spared : (old before new : Cells) (result : Option ℕ) (slot rest : ℕ) (at : At) → StandsAt slot Listed old at → before ≡ old → result ≡ Some rest → new ≡ with_taken before result → rest < length before.records → record_at before.records rest ≡ blank
     → StandsAt slot Listed new (with_slot rest at)
 spared old before new result slot rest at stands same is taken within vacant =
-    rw (taken, is, same) (slot_stands old slot Listed at rest stands (rw same at within) (rw same at vacant))
+    slot_stands old new result slot rest Listed at stands is (taken ∙ ap (λ (c : Cells). with_taken c result) same) (rw same at within) (rw same at vacant)
 
 -- the record of a free block is as it was read, once another was taken
 kept : (old before new : Cells) (result : Option ℕ) (slot rest : ℕ) (block : Record) → (record_at old.records slot).state ≡ Free → before ≡ old → result ≡ Some rest → new ≡ with_taken before result → record_at before.records rest ≡ blank → block ≡ record_at old.records slot

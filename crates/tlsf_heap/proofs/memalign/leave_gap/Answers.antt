@@ -14,10 +14,6 @@ use Rattle.tlsf_heap.proofs.Inner.Spans.{by_node, by_record, span_gaps}
 use Rattle.tlsf_heap.proofs.Inner.Gapped.{gapped_stands}
 use Rattle.tlsf_heap.proofs.memalign.leave_gap.Goals as goal
 
--- a record was taken
-spared : (old new : Cells) (result : Option ℕ) (slot rest : ℕ) (at : At) → StandsAt slot InUse old at → result ≡ Some rest → new ≡ with_taken old result → rest < length old.records → record_at old.records rest ≡ blank → StandsAt slot InUse new (with_slot rest at)
-spared old new result slot rest at stands is taken within vacant = rw (taken, is) (slot_stands old slot InUse at rest stands within vacant)
-
 -- the block as it is known, once a record was taken
 known : (old new : Cells) (span : Span) (rest : ℕ) (at : At) → StandsAt span.slot InUse old at → StandsAt span.slot InUse new (with_slot rest at) → IsRead span old.records → IsRead span new.records
 known old new span rest at was stands read =
@@ -27,12 +23,12 @@ known old new span rest at was stands read =
 pub split-requires-clause-slot_used : goal.split-requires-clause-slot_used
 split-requires-clause-slot_used c =
     let at : At = c.requires.stands.0 in
-    slot_used c.take_vacant.new.self.cells c.args.block.now.slot InUse (with_slot c.in-Some.live at) (spared c.args.store.now.cells c.take_vacant.new.self.cells c.take_vacant.result c.args.block.now.slot c.in-Some.live at c.requires.stands.1 c.in-Some.is c.take_vacant.ensures.left.cells c.in-Some.ensures.within c.in-Some.ensures.vacant)
+    slot_used c.take_vacant.new.self.cells c.args.block.now.slot InUse (with_slot c.in-Some.live at) (slot_stands c.args.store.now.cells c.take_vacant.new.self.cells c.take_vacant.result c.args.block.now.slot c.in-Some.live InUse at c.requires.stands.1 c.in-Some.is c.take_vacant.ensures.left.cells c.in-Some.ensures.within c.in-Some.ensures.vacant)
 
 pub split-requires-clause-next_used : goal.split-requires-clause-next_used
 split-requires-clause-next_used c =
     let at : At = c.requires.stands.0 in
-    let stands = spared c.args.store.now.cells c.take_vacant.new.self.cells c.take_vacant.result c.args.block.now.slot c.in-Some.live at c.requires.stands.1 c.in-Some.is c.take_vacant.ensures.left.cells c.in-Some.ensures.within c.in-Some.ensures.vacant in
+    let stands = slot_stands c.args.store.now.cells c.take_vacant.new.self.cells c.take_vacant.result c.args.block.now.slot c.in-Some.live InUse at c.requires.stands.1 c.in-Some.is c.take_vacant.ensures.left.cells c.in-Some.ensures.within c.in-Some.ensures.vacant in
     let P : Option ℕ → Type 0 = λ o. IsUsed c.take_vacant.new.self.cells.records o in
     subst P (sym (known c.args.store.now.cells c.take_vacant.new.self.cells c.args.block.now c.in-Some.live at c.requires.stands.1 stands c.requires.read).next) (last_used c.take_vacant.new.self.cells c.args.block.now.slot c.in-Some.live InUse at stands)
 
@@ -53,7 +49,7 @@ split-requires-clause-ends c =
 fronted : (old mid new : Cells) (span : Span) (result : Option ℕ) (live bytes : ℕ) (at : At) → StandsAt span.slot InUse old at → IsRead span old.records → result ≡ Some live → mid ≡ with_taken old result → live < length old.records → record_at old.records live ≡ blank
     → 0 < bytes → bytes < span.size → bytes % unit ≡ 0 → new ≡ split_by span Free live Live bytes mid → StandsAt span.slot Loose new (at_front live bytes (at_turned Loose at))
 fronted old mid new span result live bytes at stands read is taken within vacant some less whole split_is =
-    let now = spared old mid result span.slot live at stands is taken within vacant in
+    let now = slot_stands old mid result span.slot live InUse at stands is taken within vacant in
     span_gaps mid new span live bytes at now (known old mid span live at stands now read) some less whole split_is
 
 pub enter-requires-clause-stands : goal.enter-requires-clause-stands
