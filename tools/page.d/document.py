@@ -136,20 +136,31 @@ class Lows:
         return best
 
 
-def grown_most(log):
-    """The site whose lows grow most, in words."""
-    sites = {}
+def growth_of(log, sites):
+    """The greatest growth of some sites, with its point, tenth, and site; and the lows of this one."""
+    lows = {site: Lows(len(log.rows)) for site in sites}
     for point, changes in enumerate(log.changes):
         for at in range(0, len(changes), CHANGE):
-            sites.setdefault(changes[at], Lows(len(log.rows))).change(point, changes[at + 1])
-    if not sites:
+            if changes[at] in lows:
+                lows[changes[at]].change(point, changes[at + 1])
+    best = max((low.growth(), -site) for site, low in lows.items())
+    return *best[0], -best[1], lows[-best[1]].lows
+
+
+def grown_most(log):
+    """The site whose lows grow most, in words. No site grows by more than it ever held, so few have to be looked at."""
+    order, count = sorted(range(len(log.locations)), key=lambda site: -log.most[site]), 100
+    if not order:
         return "Nothing."
-    (grown, point, tenth), site = max((lows.growth(), -site) for site, lows in sites.items())
+    grown, point, tenth, site, lows = growth_of(log, order[:count])
+    while count < len(order) and grown <= log.most[order[count]]:
+        count *= 8
+        grown, point, tenth, site, lows = growth_of(log, order[:count])
     if not grown:
         return "Nothing: each site comes back to what it held."
-    low = next(value for value, at in sites[-site].lows if at == point)
+    low = next(value for value, at in lows if at == point)
     first, last = (-(-edge * len(log.rows) // TENTHS) for edge in (tenth, tenth + 1))
-    return f"{log.name_of(log.locations[-site])}: from {counted(low, 'byte')} after line {log.rows[point][0]:,} to at least " \
+    return f"{log.name_of(log.locations[site])}: from {counted(low, 'byte')} after line {log.rows[point][0]:,} to at least " \
         f"{low + grown:,} between lines {log.rows[first][0]:,} and {log.rows[last - 1][0]:,}."
 
 
