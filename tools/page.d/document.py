@@ -103,20 +103,24 @@ def stacked(log):
 # ---- the head
 
 class Lows:
-    """The least that a site holds in each tenth of the points, with its point. Of the first tenth it is what is held at its end,
+    """The least that a site holds in each tenth of the points, or at each where they are fewer, with its point. Of the first tenth it is what is held at its end,
     since what a program takes at its start is no growth."""
 
     def __init__(self, points):
-        self.points, self.held, self.lows = points, 0, []
+        self.points, self.parts, self.held, self.lows = points, min(TENTHS, points), 0, []
 
     def tenth(self, point):
         """The tenth that a point is in."""
-        return min(TENTHS * point // self.points, TENTHS - 1)
+        return self.parts * point // self.points
+
+    def first_of(self, tenth):
+        """The first point of a tenth."""
+        return -(-tenth * self.points // self.parts)
 
     def carry(self, tenth):
         """Goes on to a tenth with what is held."""
         while len(self.lows) <= tenth:
-            self.lows.append((self.held, -(-len(self.lows) * self.points // TENTHS)))
+            self.lows.append((self.held, self.first_of(len(self.lows))))
 
     def change(self, point, more):
         """At a point so much more is held."""
@@ -128,7 +132,7 @@ class Lows:
 
     def growth(self):
         """The greatest rise from a tenth to a later one: by how much, from where, and to which tenth."""
-        self.carry(TENTHS - 1)
+        self.carry(self.parts - 1)
         best, least = (0, 0, 0), self.lows[0]
         for tenth, low in enumerate(self.lows):
             best = max(best, (low[0] - least[0], least[1], tenth))
@@ -136,20 +140,31 @@ class Lows:
         return best
 
 
-def grown_most(log):
-    """The site whose lows grow most, in words."""
-    sites = {}
+def growth_of(log, sites):
+    """The greatest growth of some sites, with its point and tenth; the site; its lows."""
+    lows = {site: Lows(len(log.rows)) for site in sites}
     for point, changes in enumerate(log.changes):
         for at in range(0, len(changes), CHANGE):
-            sites.setdefault(changes[at], Lows(len(log.rows))).change(point, changes[at + 1])
-    if not sites:
+            if changes[at] in lows:
+                lows[changes[at]].change(point, changes[at + 1])
+    best = max((low.growth(), -site) for site, low in lows.items())
+    return *best[0], -best[1], lows[-best[1]]
+
+
+def grown_most(log):
+    """The site whose lows grow most, in words. No site grows by more than it ever held, so few have to be looked at."""
+    order, count = sorted(range(len(log.locations)), key=lambda site: -log.most[site]), 100
+    if not order:
         return "Nothing."
-    (grown, point, tenth), site = max((lows.growth(), -site) for site, lows in sites.items())
+    grown, point, tenth, site, lows = growth_of(log, order[:count])
+    while count < len(order) and grown <= log.most[order[count]]:
+        count *= 8
+        grown, point, tenth, site, lows = growth_of(log, order[:count])
     if not grown:
         return "Nothing: each site comes back to what it held."
-    low = next(value for value, at in sites[-site].lows if at == point)
-    first, last = (-(-edge * len(log.rows) // TENTHS) for edge in (tenth, tenth + 1))
-    return f"{log.name_of(log.locations[-site])}: from {counted(low, 'byte')} after line {log.rows[point][0]:,} to at least " \
+    low = next(value for value, at in lows.lows if at == point)
+    first, last = lows.first_of(tenth), lows.first_of(tenth + 1)
+    return f"{log.name_of(log.locations[site])}: from {counted(low, 'byte')} after line {log.rows[point][0]:,} to at least " \
         f"{low + grown:,} between lines {log.rows[first][0]:,} and {log.rows[last - 1][0]:,}."
 
 

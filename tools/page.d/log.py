@@ -10,7 +10,7 @@ from reports import ALREADY_HELD, HALF, NOT_A_LINE, NOT_HELD, REFUSED, STRAY, TO
 NIL = b"(nil)"
 # Numbers of a change: site, bytes and blocks held more, calls, bytes asked for, temporary blocks.
 CHANGE = 6
-# Counts of a site since the log began.
+# Counts of a site between two points.
 ASKED, CALLS, FREED, FREES, TEMPORARY = range(5)
 
 
@@ -28,7 +28,7 @@ class Numbers(dict):
 
 
 class Sites(dict):
-    """The counts of each site by its location; the empty one is that of lines without any."""
+    """What happened at each site since the last point, by its location; the empty one is that of lines without any."""
 
     def __missing__(self, location):
         counts = self[location] = [0, 0, 0, 0, 0]
@@ -74,7 +74,8 @@ class Reading:
         for line in lines:
             words = line.split()
             if len(words) == 4 and words[2] == b"-":
-                number, counts = free(words[3])
+                number, location = free(words[3])
+                counts = sites[location]
                 counts[2] += number
                 counts[3] += 1
                 if words[3] == last:
@@ -92,7 +93,7 @@ class Reading:
             counts = sites[location]
             counts[0] += number
             counts[1] += 1
-            held[address] = number, counts
+            held[address] = number, location
             last = address
         self.last = last
 
@@ -102,7 +103,8 @@ class Reading:
             self.taken = address
         if form == b"-" or form == b">":
             old = address if form == b"-" else self.taken
-            number, counts = self.held.pop(old)
+            number, location = self.held.pop(old)
+            counts = self.sites[location]
             counts[FREED] += number
             counts[FREES] += 1
             counts[TEMPORARY] += old == last
@@ -121,19 +123,13 @@ class Reading:
             self.take_whole([b" ".join([*place, b"+", *rest])])
 
 
-def snapshot(reading, indices, seen):
+def snapshot(reading, indices):
     """What has changed at each site since the snapshot before."""
     changes = array("q")
-    for location, counts in reading.sites.items():
+    for location, (asked, calls, freed, frees, temporary) in reading.sites.items():
         index = indices.setdefault(location, len(indices))
-        if index == len(seen):
-            seen.append((0, 0, 0, 0, 0))
-        before = seen[index]
-        if counts[CALLS] == before[CALLS] and counts[FREES] == before[FREES]:
-            continue
-        seen[index] = tuple(counts)
-        asked, calls, freed, frees, temporary = (now - then for now, then in zip(counts, before))
         changes.extend((index, asked - freed, calls - frees, calls, asked, temporary))
+    reading.sites.clear()
     return changes
 
 
@@ -167,7 +163,7 @@ def read_up_to(log, reading, number, point, faulty, bad):
 def read_log(path, points, found, progress):
     """The locations of a log in order of appearance, and for each point the changes since the one before: by site, and by power of
     two the calls and bytes."""
-    reading, indices, seen = Reading(), {}, []
+    reading, indices = Reading(), {}
     faulty = faulty_lines(found)
     bad = next(faulty)
     changes, powers = [], []
@@ -176,7 +172,7 @@ def read_log(path, points, found, progress):
         for before, point in zip([0, *points], points):
             progress.tell(f"{before:,} of {points[-1]:,} lines are read")
             bad = read_up_to(log, reading, before, point, faulty, bad)
-            changes.append(snapshot(reading, indices, seen))
+            changes.append(snapshot(reading, indices))
             powers.append([tuple(power) for power in reading.numbers.powers])
     gc.enable()
     return list(indices), changes, powers

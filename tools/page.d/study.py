@@ -12,7 +12,7 @@ from reports import Report, give_up
 from texts import shown, site_name
 
 # So many sites are told one by one, with so many bytes of names; and of the greatest of these so many changes between the points.
-MOST_SITES, MOST_TEXT, MOST_CHANGES = 5000, 700_000, 70_000
+MOST_SITES, MOST_TEXT, MOST_CHANGES = 5000, 800_000, 60_000
 MOST_DIAGNOSTICS = 500
 FRAME = re.compile(rb"(?:(.+):)?\[(0x[0-9a-f]+)\]", re.S)
 
@@ -122,7 +122,7 @@ class Study:
     def keep_greatest(self):
         """The greatest sites that are told one by one, and how many of them also between the points."""
         order = sorted(range(len(self.locations)), key=lambda site: (-self.most[site], -self.asked[site], self.locations[site]))
-        names = accumulate(12 + len(json.dumps(site_name(self.locations[site]))) for site in order)
+        names = accumulate(room_of(self.locations[site]) for site in order)
         self.kept = [site for site, text in zip(order[:MOST_SITES], names) if text <= MOST_TEXT]
         changes = accumulate(self.changed[site] for site in self.kept)
         self.followed = sum(count <= MOST_CHANGES for count in changes)
@@ -150,6 +150,12 @@ class Study:
     def name_of(self, location):
         """A site as it is shown."""
         return " < ".join(site_name(frame) for frame in self.frames_of(location))
+
+
+def room_of(location):
+    """About how many bytes a site takes on the page: of a stack the location and its frames."""
+    text, frames = len(json.dumps(site_name(location))), location.count(b"<")
+    return 2 * text + 8 * frames if frames else text + 16
 
 
 def plain_frames(location):
