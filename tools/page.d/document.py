@@ -242,7 +242,7 @@ def page_data(log, sites):
     return {"log": log.name, "lines": log.lines, "points": log.rows, "peak": [row[0] for row in log.rows].index(log.peak),
             "names": names, "sites": rows, "raw": raw, "all": len(log.locations), "followed": log.followed, "totals": totals_data(log), "top": [log.row_of(site) for site in sites],
             "changes": changes_data(log), "sizes": sizes_data(log), "leaks": leaks_data(log), "heaps": heaps,
-            "fit": log.fit, "diagnostics": [[line, shown(said)] for line, said in log.first_diagnostics],
+            "fit": log.fit, "step": log.step, "diagnostics": [[line, shown(said)] for line, said in log.first_diagnostics],
             "faulty": sum(log.kinds.values())}
 
 
@@ -259,11 +259,11 @@ def filled(template, parts):
 
 def write_document(folder, template, title, data, parts):
     """The file's text. Its policy lets no other script run than this one, and nothing be fetched."""
-    script = (folder / "page.js").read_text()
+    script = (folder / "page.js").read_text(encoding="utf-8")
     digest = base64.b64encode(hashlib.sha256(script.encode()).digest()).decode()
     policy = f"default-src 'none'; style-src 'unsafe-inline'; script-src 'sha256-{digest}'"
-    return filled((folder / template).read_text(), {
-        "policy": escaped(policy), "title": escaped(title), "style": STYLE + (folder / "page.css").read_text(), "script": script,
+    return filled((folder / template).read_text(encoding="utf-8"), {
+        "policy": escaped(policy), "title": escaped(title), "style": STYLE + (folder / "page.css").read_text(encoding="utf-8"), "script": script,
         "data": json_text(data), **parts})
 
 

@@ -42,9 +42,9 @@ class Progress:
         self.on = sys.stderr.isatty()
         self.told = 0.0
 
-    def tell(self, text):
-        """Writes a line over the one before, at most ten a second."""
-        if self.on and time.monotonic() - self.told >= 0.1:
+    def tell(self, text, often=False):
+        """Writes a line over the one before; of lines that come often at most ten a second."""
+        if self.on and not (often and time.monotonic() - self.told < 0.1):
             self.told = time.monotonic()
             print(f"\r\033[Ktlsf-page: {text}", end="", file=sys.stderr, flush=True)
 
@@ -170,7 +170,7 @@ def read_log(path, points, found, progress):
     gc.disable()
     with open(path, "rb", buffering=1 << 20) as log:
         for before, point in zip([0, *points], points):
-            progress.tell(f"{before:,} of {points[-1]:,} lines are read")
+            progress.tell(f"{before:,} of {points[-1]:,} lines are read", often=True)
             bad = read_up_to(log, reading, before, point, faulty, bad)
             changes.append(snapshot(reading, indices))
             powers.append([tuple(power) for power in reading.numbers.powers])

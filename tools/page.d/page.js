@@ -460,7 +460,7 @@ function showLog() {
   leakTable();
   blockTable(find("table-blocks-peak"), data.heaps[0], "Blocks at the peak");
   blockTable(find("table-blocks-end"), data.heaps[1], "Blocks at the end");
-  new Table(find("table-fit"), "How large a pool, and how many records: the report of fit", [{ name: "Of", text: true }, { name: "Number", text: true }])
+  new Table(find("table-fit"), `How large a pool, and how many records: the report of fit${data.step ? ` --step ${data.step}` : ""}`, [{ name: "Of", text: true }, { name: "Number", text: true }])
     .set(data.fit);
   find("faults").hidden = !data.faulty;
   new Table(find("table-diagnostics"), `The first ${told(data.diagnostics.length)} of ${counted(data.faulty, "diagnostic")}`,

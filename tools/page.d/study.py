@@ -58,6 +58,7 @@ class Study:
             self.locations, self.changes, self.powers = read_log(self.path, points, self.counted(first, end), self.progress)
         except (IndexError, KeyError, ValueError):
             give_up(f"{self.path} isn't what the reports say of it: did it change meanwhile?")
+        self.progress.tell("the pools that the log needs are tried")
         later.result()
         self.at_peak, self.at_end = reports.read_sites(sites.text())
         self.leaks = reports.read_leaks(leaks.text())
