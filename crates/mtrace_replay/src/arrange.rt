@@ -67,9 +67,9 @@ fn leave_held(keys: &mut Keys)
     keys.resize(held);
 }
 
-/// Whether the last of the held keys that are left is to stand at the last of the places that are left. It is where
-/// all places are left, or no more than keys. Else it is where one place less would be below the share of the keys
-/// that are left.
+/// Whether the last held key that is left goes to the last place that is left; else that place stays vacant. The key
+/// goes there where all places are left, or as many places as keys. It also goes there where the places in front are
+/// fewer than these keys' share of all places.
 fn is_its_place(left: usize, held: usize, end: usize, all: usize) -> bool
     requires some { 0 < end }
     requires all { end ≡ all → 0 < left }

@@ -9,7 +9,8 @@ use crate::diagnostic::{Diagnostic, Kind, Note};
 use arrayvec::ArrayVec;
 use std::marker::Model;
 
-/// At most two diagnostics. A `Note` of none still clears its room for two; of a line with nothing wrong this is no work.
+/// At most two diagnostics. To make a `Note` clears room for two, also where there is none. To make this, for a line
+/// with nothing wrong, clears nothing.
 #[derive(Drop)]
 pub(crate) struct Findings {
     first: Option<Diagnostic>,

@@ -26,7 +26,7 @@ pub record TouchesForRow (n : ℕ) (result : Option (Row × Cursor)) (old new : 
   pub bound : IfSome result (λ given. AtMost n old new)
   pub no_touch : IfNone result (new ≡ old)
 
--- malloc finds a block for each request of at most so many bytes, and for none of more
+-- malloc finds a block for each request of at most `bytes` bytes, and for none of more
 pub record IsLargestRequest (bytes : ℕ) (content : Content ℕ) : Type 0 where
   pub found : (slot n : ℕ) → n ≤ bytes → malloc slot n content ≢ Err NoFit
   pub no_fit : (slot n : ℕ) → bytes < n → malloc slot n content ≡ Err NoFit

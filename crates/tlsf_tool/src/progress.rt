@@ -52,8 +52,8 @@ impl Counts {
         }
     }
 
-    /// Counts the lines that end in a piece, which came in this second of the run. Answers what is to be told, in each
-    /// second but the first once.
+    /// Counts the lines that end in a piece, which came in this second of the run. Answers what is to be told: once in
+    /// each second, and nothing in the first.
     pub fn count(&mut self, bytes: &[u8], second: u64) -> Option<Progress>
         ensures { CountsPiece bytes.now second result self.old self.new }
     {
