@@ -103,8 +103,8 @@ def stacked(log):
 # ---- the head
 
 class Lows:
-    """The least that a site holds in each tenth of the points, or at each where they are fewer, with its point. Of the first tenth it is what is held at its end,
-    since what a program takes at its start is no growth."""
+    """The least that a site holds at the points of each tenth, with its point; they are single points where these are fewer. Of the
+    first tenth it is what is held at its end, since what a program takes at its start is no growth."""
 
     def __init__(self, points):
         self.points, self.parts, self.held, self.lows = points, min(TENTHS, points), 0, []
@@ -127,7 +127,7 @@ class Lows:
         tenth = self.tenth(point)
         self.carry(tenth)
         self.held += more
-        if tenth == 0 or self.held < self.lows[tenth][0]:
+        if tenth == 0 or point == self.first_of(tenth) or self.held < self.lows[tenth][0]:
             self.lows[tenth] = self.held, point
 
     def growth(self):
@@ -163,9 +163,9 @@ def grown_most(log):
     if not grown:
         return "Nothing: each site comes back to what it held."
     low = next(value for value, at in lows.lows if at == point)
-    first, last = lows.first_of(tenth), lows.first_of(tenth + 1)
+    first, last = log.rows[lows.first_of(tenth)][0], log.rows[lows.first_of(tenth + 1) - 1][0]
     return f"{log.name_of(log.locations[site])}: from {counted(low, 'byte')} after line {log.rows[point][0]:,} to at least " \
-        f"{low + grown:,} between lines {log.rows[first][0]:,} and {log.rows[last - 1][0]:,}."
+        f"{low + grown:,} " + (f"at each step from line {first:,} to {last:,}." if first < last else f"after line {first:,}.")
 
 
 def greatest(log, part):

@@ -22,6 +22,10 @@ def give_up(text, status=1):
     sys.exit(status)
 
 
+class Differs(Exception):
+    """The reports don't agree with each other, or with what was read beside them."""
+
+
 def program_beside(folder):
     """The program: as TLSF names it, or beside the installed command, or above the repository's tools."""
     if os.environ.get("TLSF"):
@@ -34,7 +38,7 @@ class Report:
     """One run of the program, which goes on beside others until its text is asked for."""
 
     def __init__(self, program, words, given=None):
-        self.words = words
+        self.words, self.stopped = words, False
         self.out, self.said = tempfile.TemporaryFile(), tempfile.TemporaryFile()
         try:
             self.run = subprocess.Popen([program, *words], stdin=given or subprocess.DEVNULL, stdout=self.out, stderr=self.said)
@@ -46,6 +50,8 @@ class Report:
         status = self.run.wait()
         self.out.seek(0)
         self.said.seek(0)
+        if self.stopped:
+            sys.exit(1)
         if status not in (0, 1):
             said = self.said.read().decode("utf-8", "replace").strip()
             give_up(f"`tlsf {self.words[0]}` ended with status {status}: {said}", 2 if status < 0 else status)
@@ -53,6 +59,7 @@ class Report:
 
     def stop(self):
         """Ends the run, where it goes on."""
+        self.stopped = True
         if self.run.poll() is None:
             self.run.kill()
             self.run.wait()
@@ -87,7 +94,7 @@ def kind_of(said):
     for kind, words in enumerate(KINDS):
         if said == words or words.startswith(b" ") and words in said:
             return kind
-    return give_up(f"a diagnostic of an unknown kind: {said.decode('utf-8', 'replace')}")
+    raise Differs(f"a diagnostic of an unknown kind: {said.decode('utf-8', 'replace')}")
 
 
 def split_lines(text):
@@ -110,7 +117,7 @@ def read_timeline(text):
     """Each row: line, bytes, blocks, reach, free, largest."""
     lines = body(text)
     if not lines or lines[0] != b"line bytes blocks reach free largest":
-        give_up("the timeline has no header")
+        raise Differs("the timeline has no header")
     return [tuple(map(int, line.split())) for line in lines[1:] if not line.startswith(b"refused: ")]
 
 
@@ -123,7 +130,7 @@ def read_sites(text):
         elif found := re.fullmatch(rb"(\d+) bytes in (\d+) blocks(?: at (.*))?", line, re.S):
             parts[-1][found[3] or b""] = int(found[1]), int(found[2])
     if len(parts) != 2:
-        give_up("the report of sites has no two parts")
+        raise Differs("the report of sites has no two parts")
     return parts
 
 
@@ -144,7 +151,7 @@ def read_walk(text):
             continue
         start, size, state = line.split()
         if int(start) != place:
-            give_up(f"the numbers differ: a block of the walk at {int(start)}, and not at {place}")
+            raise Differs(f"the numbers differ in the walk: a block at {int(start)}, and not at {place}")
         place += int(size)
         pools[-1][2].append(int(size) if state == b"used" else -int(size))
     return pools

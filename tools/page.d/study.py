@@ -8,7 +8,7 @@ from itertools import accumulate
 
 import reports
 from log import CHANGE, points_of, read_log
-from reports import Report, give_up
+from reports import Differs, Report, give_up
 from texts import shown, site_name
 
 # So many sites are told one by one, with so many bytes of names; and of the greatest of these so many changes between the points.
@@ -21,20 +21,27 @@ class Study:
     """One log, replayed on one heap."""
 
     def __init__(self, program, lines_tool, path, heap, count, progress):
-        self.path, self.name, self.heap = path, shown(os.fsencode(os.path.basename(path))), reports.heap_words(heap)
+        # A name that begins with a dash is no option, nor standard input.
+        self.path = os.path.join(".", path) if path.startswith("-") else path
+        self.name, self.heap = shown(os.fsencode(os.path.basename(path))), reports.heap_words(heap)
         self.program, self.progress = program, progress
         self.running = []
+        before = self.state()
         try:
-            before = os.stat(path)
             self.read(count)
-            if (before.st_size, before.st_mtime_ns) != (os.stat(path).st_size, os.stat(path).st_mtime_ns):
-                give_up(f"{path} changed while it was read: copy it first")
+            self.agree()
+        except Differs as told:
+            give_up(str(told) if self.state() == before else f"{path} changed while it was read: copy it first")
         finally:
             for report in self.running:
                 report.stop()
-        self.agree()
         self.keep_greatest()
         self.tell_lines(lines_tool)
+
+    def state(self):
+        """What tells whether the log has changed."""
+        told = os.stat(self.path)
+        return told.st_size, told.st_mtime_ns
 
     def report(self, *words, given=None):
         """Begins a run of the program on the log, or on what is given."""
@@ -56,8 +63,8 @@ class Study:
         later = ThreadPoolExecutor(1).submit(self.look_at_heap, timeline, points)
         try:
             self.locations, self.changes, self.powers = read_log(self.path, points, self.counted(first, end), self.progress)
-        except (IndexError, KeyError, ValueError):
-            give_up(f"{self.path} isn't what the reports say of it: did it change meanwhile?")
+        except (IndexError, KeyError, ValueError) as error:
+            raise Differs(f"{self.path} isn't what the reports say of it") from error
         self.progress.tell("the pools that the log needs are tried")
         later.result()
         self.at_peak, self.at_end = reports.read_sites(sites.text())
@@ -75,7 +82,7 @@ class Study:
         """The rows of the timeline, the heap at the peak and at the end, and the pools that the log needs."""
         self.rows = reports.read_timeline(timeline.text())
         if [row[0] for row in self.rows] != points:
-            give_up(f"the timeline has other lines than {', '.join(map(str, points[:9]))}..")
+            raise Differs(f"the timeline has other lines than {', '.join(map(str, points[:9]))}..")
         at_peak = next(row for row in self.rows if row[0] == self.peak)
         self.step = reports.coarse_step(self.lines, at_peak[2], at_peak[1])
         fit = self.report("fit", *(["--step", str(self.step)] if self.step else []))
@@ -186,8 +193,8 @@ def measures(pools):
 
 
 def expect_same(what, reckoned, told):
-    """Ends the page where both differ."""
+    """There is no page where both differ."""
     if reckoned != told:
         told_as = (f": {', '.join(map(str, told))} by the reports, {', '.join(map(str, reckoned))} as the page reckons"
                    if isinstance(told, tuple) else "")
-        give_up(f"the numbers differ {what}{told_as}")
+        raise Differs(f"the numbers differ {what}{told_as}")
