@@ -2,7 +2,7 @@
 
 ghost use Rattle.std.specs.Prelude.{◌≡◌, if◌then◌else◌};
 ghost use Rattle.mtrace_replay.specs.Asked.{class_asked, greater_class};
-ghost use Rattle.mtrace_replay.specs.Moment.{asked_size as size_asked};
+ghost use Rattle.mtrace_replay.specs.Moment.{asked_size};
 
 use crate::step::asked_size;
 use mtrace_log::{Event, LentLocation, LineFault};
@@ -16,12 +16,12 @@ pub(crate) struct Asked {
 }
 
 impl Asked {
-    ghost use Rattle.tlsf_heap.specs.Sizing.{class_size as size_of_class};
+    ghost use Rattle.tlsf_heap.specs.Sizing.{class_size};
 
     /// What the line asks for.
     #[inline(always)]
     pub(crate) fn of(event: &Result<Event<LentLocation<'_>>, LineFault>) -> Asked
-        ensures { size_of_class result.align (size_asked result.size) ≡ class_asked event.now }
+        ensures { class_size result.align (asked_size result.size) ≡ class_asked event.now }
     {
         match event {
             Ok(Event::Alloc { size, .. } | Event::New { size, .. }) => Asked {
@@ -39,7 +39,7 @@ impl Asked {
     /// The greater of a class size and of that which is asked for, in bytes, where the line is served; else the size.
     /// `None` where one of them is missing.
     pub(crate) fn greatest(self, size: Option<u32>, is_served: bool) -> Option<u32>
-        ensures { result ≡ (if is_served then greater_class size (size_of_class self.align (size_asked self.size)) else size) }
+        ensures { result ≡ (if is_served then greater_class size (class_size self.align (asked_size self.size)) else size) }
     {
         if !is_served {
             return size;

@@ -3,7 +3,7 @@
 ghost use Rattle.std.specs.Prelude.{◌≡◌, ◌<◌, ◌≤◌, ◌∷◌, ◌++◌, ◌==◌, [], length, option_to_list};
 ghost use Rattle.std.specs.List.{list_any};
 ghost use Rattle.arrayvec.specs.ArrayVec.{array_vec_len};
-ghost use Rattle.mtrace_replay.specs.Totals.{is_refusal as is_of_refusal};
+ghost use Rattle.mtrace_replay.specs.Totals.{is_refusal};
 
 use crate::diagnostic::{Diagnostic, Kind, Note};
 use arrayvec::ArrayVec;
@@ -28,14 +28,14 @@ impl Model for Findings {
 
 /// Whether the heap refused what a line asked for.
 fn is_refusal(kind: Kind) -> bool
-    ensures { result ≡ is_of_refusal kind }
+    ensures { result ≡ is_refusal kind }
 {
     matches!(kind, Kind::Refused(..))
 }
 
 /// Whether it is there and says that the heap refused what a line asked for.
 fn is_some_refusal(diagnostic: &Option<Diagnostic>) -> bool
-    ensures { result ≡ list_any (λ diagnostic. is_of_refusal diagnostic.kind) (option_to_list diagnostic.now) }
+    ensures { result ≡ list_any (λ diagnostic. is_refusal diagnostic.kind) (option_to_list diagnostic.now) }
 {
     match diagnostic {
         Some(diagnostic) => is_refusal(diagnostic.kind),
@@ -100,7 +100,7 @@ impl Findings {
 
     /// Whether the heap refused what a line asked for.
     pub(crate) fn has_refusal(&self) -> bool
-        ensures { result ≡ list_any (λ diagnostic. is_of_refusal diagnostic.kind) self.now }
+        ensures { result ≡ list_any (λ diagnostic. is_refusal diagnostic.kind) self.now }
     {
         is_some_refusal(&self.first) || is_some_refusal(&self.second)
     }

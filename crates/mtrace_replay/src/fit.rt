@@ -8,7 +8,7 @@ ghost use Rattle.mtrace_replay.specs.Moment.{ReadLine};
 ghost use Rattle.mtrace_replay.specs.Replay.{StandsFor};
 ghost use Rattle.mtrace_replay.specs.Saving.{PutsAndFlushes};
 ghost use Rattle.mtrace_replay.specs.Settings.{are_bad};
-ghost use Rattle.mtrace_replay.specs.Fit.{one_pool, greatest_settings, enough_records as enough_for, is_bad_step as is_bad, step_of as step_for, first_number, last_number as last_of, multiples, Verdict, fitted as fitted_by};
+ghost use Rattle.mtrace_replay.specs.Fit.{one_pool, greatest_settings, enough_records, is_bad_step, step_of, first_number, last_number, multiples, Verdict, fitted as fitted_by};
 ghost use Rattle.mtrace_replay.specs.RunFit.{IsTried, TriesLog, AreVerdicts, TriesRanges, TellsFit, ReadsAgain, FitFollows, RunsFit};
 
 use crate::fit_text::{fitted_text, untried_text};
@@ -39,7 +39,7 @@ fn greatest() -> Settings
 
 /// Whether a step isn't a whole number of units from one to the greatest size.
 fn is_bad_step(step: Option<u64>) -> bool
-    ensures { result ≡ is_bad step }
+    ensures { result ≡ is_bad_step step }
 {
     match step {
         Some(step) => step % UNIT != 0 || step < UNIT || step > GREATEST_POOL,
@@ -49,8 +49,8 @@ fn is_bad_step(step: Option<u64>) -> bool
 
 /// The step: where none is given, the least multiple of the unit from a 64th of the peak on, and at least the unit.
 fn step_of(step: Option<u64>, peak: u64) -> u64
-    requires { is_bad step ≡ false }
-    ensures value { result ≡ step_for step peak }
+    requires { is_bad_step step ≡ false }
+    ensures value { result ≡ step_of step peak }
     ensures some { UNIT ≤ result }
     ensures in_units { result % UNIT ≡ 0 }
 {
@@ -62,7 +62,7 @@ fn step_of(step: Option<u64>, peak: u64) -> u64
 
 /// The records that are enough where at most this many addresses are held.
 fn enough_records(most: u64) -> u32
-    ensures value { result ≡ enough_for most }
+    ensures value { result ≡ enough_records most }
     ensures some { 0 < result }
     ensures few { result ≤ MOST_RECORDS }
 {
@@ -145,7 +145,7 @@ fn try_range<R: Again>(
 /// The last number of a range that begins with the first: twice as many steps, or as many as the greatest size has.
 fn last_number(step: u64, first: u64) -> u64
     requires { 0 < step }
-    ensures value { result ≡ last_of step first }
+    ensures value { result ≡ last_number step first }
     ensures within { result ≤ greatest_size / step }
 {
     first.saturating_mul(2).min(GREATEST_POOL / step)
@@ -204,7 +204,7 @@ fn fit_text<R: Again, T: Watch>(
     step: Option<u64>,
     watch: &T,
 ) -> Result<LineText, Failed>
-    requires good { is_bad step ≡ false }
+    requires good { is_bad_step step ≡ false }
     requires records { replay.old.content.records ≡ most_records }
     ensures { ReadsAgain replay.old.totals.lines (λ text. (lines : List ReadLine) → StandsFor replay.old greatest_settings (reverse lines)
         → TellsFit step lines (R.whole reader.old) text.items) R.left R.whole R.trace result reader.old reader.new }
@@ -232,7 +232,7 @@ fn tell_fit<R: Again, W: Sink, T: Watch>(
     step: Option<u64>,
     watch: &T,
 ) -> Result<(), RunFault>
-    requires good { is_bad step ≡ false }
+    requires good { is_bad_step step ≡ false }
     requires records { replay.old.content.records ≡ most_records }
     ensures { (lines : List ReadLine) → StandsFor replay.old greatest_settings (reverse lines)
         → FitFollows step lines R.left R.whole R.trace W.taken W.trace result reader.old reader.new writer.old writer.new }

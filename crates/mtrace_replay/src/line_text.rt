@@ -5,7 +5,7 @@ ghost use Rattle.std.specs.Option.{option_copied};
 ghost use Rattle.arrayvec.specs.ArrayVec.{array_vec_len};
 ghost use Rattle.mtrace_log.specs.Address.{address_text};
 ghost use Rattle.mtrace_replay.specs.Appends.{Appends, IsShort};
-ghost use Rattle.mtrace_replay.specs.Texts.{count_line, refused_line, refusal_text as text_of_refusal, kind_text as text_of_kind, diagnostic_text as text_of_diagnostic, at_text as text_of_location, entry_text as text_of_entry, number_line, pair_line, spread_text as text_of_spread, count_lines, greatest_line, held_lines, free_lines, spread_line, peak_lines, peak_words as words_of_peak, site_text as text_of_site, use_text as text_of_use, row_text as text_of_row, column, point_text as text_of_point};
+ghost use Rattle.mtrace_replay.specs.Texts.{count_line, refused_line, refusal_text, kind_text, diagnostic_text, at_text, entry_text, number_line, pair_line, spread_text, count_lines, greatest_line, held_lines, free_lines, spread_line, peak_lines, peak_words, site_text, use_text, row_text, column, point_text};
 
 use crate::diagnostic::{Diagnostic, Kind};
 use crate::entry::Entry;
@@ -50,7 +50,7 @@ fn push_address(text: &mut LineText, address: Addr)
 
 /// A refusal in words.
 fn refusal_text(refusal: Refusal) -> &'static [u8]
-    ensures { IsShort (text_of_refusal refusal) 20 result.now }
+    ensures { IsShort (refusal_text refusal) 20 result.now }
 {
     match refusal {
         Refusal::ZeroSize => b"zero size",
@@ -69,7 +69,7 @@ fn refusal_text(refusal: Refusal) -> &'static [u8]
 /// Appends what is wrong with a line.
 fn push_kind(text: &mut LineText, kind: Kind)
     requires { array_vec_len text.old ≤ 100 }
-    ensures { Appends (text_of_kind kind) 60 text.old text.new }
+    ensures { Appends (kind_text kind) 60 text.old text.new }
 {
     match kind {
         Kind::TooLong => push_bytes(text, b"too long"),
@@ -94,7 +94,7 @@ fn push_kind(text: &mut LineText, kind: Kind)
 
 /// The line of a diagnostic.
 pub(crate) fn diagnostic_text(diagnostic: &Diagnostic) -> LineText
-    ensures { result.items ≡ text_of_diagnostic diagnostic.now }
+    ensures { result.items ≡ diagnostic_text diagnostic.now }
 {
     let mut text = ArrayVec::new();
     push_bytes(&mut text, b"line ");
@@ -108,7 +108,7 @@ pub(crate) fn diagnostic_text(diagnostic: &Diagnostic) -> LineText
 /// Appends ` at ` and the location, where there is one.
 fn push_location(text: &mut LineText, at: Option<&Location>)
     requires { array_vec_len text.old ≤ 130 }
-    ensures { Appends (text_of_location (option_copied at.entry)) (4 + LONGEST_LOCATION) text.old text.new }
+    ensures { Appends (at_text (option_copied at.entry)) (4 + LONGEST_LOCATION) text.old text.new }
 {
     if let Some(location) = at {
         push_bytes(text, b" at ");
@@ -118,7 +118,7 @@ fn push_location(text: &mut LineText, at: Option<&Location>)
 
 /// The line of a block that is held.
 pub(crate) fn entry_text(entry: &Entry) -> LineText
-    ensures { result.items ≡ text_of_entry entry.now }
+    ensures { result.items ≡ entry_text entry.now }
 {
     let mut text = ArrayVec::new();
     push_address(&mut text, entry.addr);
@@ -210,7 +210,7 @@ pub(crate) fn total_text(blocks: u64, bytes: u64) -> LineText
 
 /// The words above the sites of what was held after a line, that of the peak.
 pub(crate) fn peak_words(line: u64) -> LineText
-    ensures { result.items ≡ words_of_peak line }
+    ensures { result.items ≡ peak_words line }
 {
     let mut text = ArrayVec::new();
     push_bytes(&mut text, b"Held at the peak, line ");
@@ -229,7 +229,7 @@ pub(crate) fn section_text(blocks: u64, bytes: u64) -> LineText
 
 /// The line of what one location holds.
 pub(crate) fn site_text(site: &Site<'_>) -> LineText
-    ensures { result.items ≡ text_of_site site.now }
+    ensures { result.items ≡ site_text site.now }
 {
     let mut text = ArrayVec::new();
     push_number(&mut text, u128::from(site.bytes));
@@ -302,7 +302,7 @@ fn push_free(text: &mut LineText, survey: Survey)
 /// Appends the high place in thousandths of the peak, or that there is no peak.
 fn push_spread(text: &mut LineText, high: u64, peak: u64)
     requires { array_vec_len text.old + 40 ≤ LONGEST_TEXT }
-    ensures { Appends (text_of_spread high peak) 40 text.old text.new }
+    ensures { Appends (spread_text high peak) 40 text.old text.new }
 {
     if peak == 0 {
         push_bytes(text, b"-");
@@ -335,14 +335,14 @@ pub(crate) fn peak_text(totals: Totals, survey: Survey) -> LineText
 
 /// Whether a block is live, in words.
 fn use_text(used: bool) -> &'static [u8]
-    ensures { IsShort (text_of_use used) 5 result.now }
+    ensures { IsShort (use_text used) 5 result.now }
 {
     if used { b" used" } else { b" free" }
 }
 
 /// The line of a row.
 pub(crate) fn row_text(row: Row) -> LineText
-    ensures { result.items ≡ text_of_row row }
+    ensures { result.items ≡ row_text row }
 {
     let mut text = ArrayVec::new();
     let (place, size) = (u64::from(row.place), u64::from(row.size));
@@ -370,7 +370,7 @@ fn push_column(text: &mut LineText, number: u64)
 
 /// The line of a point.
 pub(crate) fn point_text(point: &Point) -> LineText
-    ensures { result.items ≡ text_of_point point.now }
+    ensures { result.items ≡ point_text point.now }
 {
     let mut text = ArrayVec::new();
     push_number(&mut text, u128::from(point.line));

@@ -1,6 +1,6 @@
 ghost use Rattle.std.specs.Prelude.{◌≡◌, ◌+◌, ◌≤◌, ◌++◌, length, if◌then◌else◌, [], option_to_list};
 ghost use Rattle.mtrace_replay.specs.Moment.{half, is_new};
-ghost use Rattle.mtrace_replay.specs.History.{old_address as address_of_old};
+ghost use Rattle.mtrace_replay.specs.History.{old_address};
 
 use crate::asked::Asked;
 use crate::diagnostic::{Diagnostic, Kind, Note};
@@ -30,7 +30,7 @@ const _: () = prove!(ReplayFault::BadSettings as u32 == 1 && ReplayFault::OutOfM
 
 /// The address of a line `<`.
 fn old_address(event: &Result<Event<LentLocation<'_>>, LineFault>) -> Option<Addr>
-    ensures { result ≡ address_of_old event.now }
+    ensures { result ≡ old_address event.now }
 {
     match event {
         Ok(Event::Old { addr, .. }) => Some(*addr),

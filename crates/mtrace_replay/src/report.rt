@@ -4,7 +4,7 @@ ghost use Rattle.std.specs.Prelude.{◌≡◌, ◌≢◌, false, [], flat_map};
 ghost use Rattle.mtrace_log.specs.Output.{Puts};
 ghost use Rattle.mtrace_replay.specs.Replay.{entries};
 ghost use Rattle.mtrace_replay.specs.Run.{PutsReport};
-ghost use Rattle.mtrace_replay.specs.Texts.{entry_text as text_of_entry, leaks_report, peak_report, report_text};
+ghost use Rattle.mtrace_replay.specs.Texts.{entry_text, leaks_report, peak_report, report_text};
 
 use crate::index::Entries;
 use crate::line_text::{entry_text, peak_text, total_text};
@@ -27,7 +27,7 @@ pub enum Report {
 
 /// Puts a line for each entry, in their order.
 fn put_entries<W: Sink>(writer: &mut W, held: Entries<'_>) -> Result<(), Failed>
-    ensures { Puts W.taken W.trace result (flat_map text_of_entry held.entry) writer.old writer.new }
+    ensures { Puts W.taken W.trace result (flat_map entry_text held.entry) writer.old writer.new }
 {
     for entry in held {
         put_all(writer, entry_text(entry).as_slice())?;

@@ -7,7 +7,7 @@ ghost use Rattle.mtrace_replay.specs.declared.settings.Settings.{Settings};
 ghost use Rattle.mtrace_replay.specs.Settings.{are_bad};
 ghost use Rattle.mtrace_replay.specs.Moment.{ReadLine};
 ghost use Rattle.mtrace_replay.specs.Replay.{StandsFor, entries};
-ghost use Rattle.mtrace_replay.specs.Texts.{site_text as text_of_site, section, peak_words as words_of_peak, end_words, refused_line};
+ghost use Rattle.mtrace_replay.specs.Texts.{site_text, section, peak_words, end_words, refused_line};
 ghost use Rattle.mtrace_replay.specs.Again.{FailsAgain, ReplaysFirst};
 ghost use Rattle.mtrace_replay.specs.RunSites.{Groups, HasMemory, SitesFollow, RunsSites};
 
@@ -28,7 +28,7 @@ use tlsf_heap::{Heap, Heaped};
 
 /// Puts a line for each site.
 fn put_sites<W: Sink>(writer: &mut W, sites: &[Site<'_>]) -> Result<(), Failed>
-    ensures { Puts W.taken W.trace result (flat_map text_of_site sites.now) writer.old writer.new }
+    ensures { Puts W.taken W.trace result (flat_map site_text sites.now) writer.old writer.new }
 {
     for site in sites {
         put_all(writer, site_text(site).as_slice())?;
@@ -98,7 +98,7 @@ fn put_both<W: Sink>(
     end_sum: Sum,
     end_sites: &[Site<'_>],
 ) -> Result<(), Failed>
-    ensures { Puts W.taken W.trace result (section (words_of_peak totals.peak_line) peak_sum.blocks peak_sum.bytes peak_sites.now
+    ensures { Puts W.taken W.trace result (section (peak_words totals.peak_line) peak_sum.blocks peak_sum.bytes peak_sites.now
         ++ section end_words end_sum.blocks end_sum.bytes end_sites.now ++ refused_line totals.refused) writer.old writer.new }
 {
     put_section(

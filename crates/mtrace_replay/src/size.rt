@@ -2,7 +2,7 @@
 
 ghost use Rattle.std.specs.Prelude.{◌≡◌, ◌++◌, ◌<◌, ◌^◌};
 ghost use Rattle.mtrace_replay.specs.Saving.{PutsAndFlushes};
-ghost use Rattle.mtrace_replay.specs.Size.{align_of as alignment_of, are_bad_bounds, blocks_bytes, size_text as text_of_size, RunsSize};
+ghost use Rattle.mtrace_replay.specs.Size.{align_of, are_bad_bounds, blocks_bytes, size_text, RunsSize};
 
 use crate::fit_text::{push_records, push_size_line};
 use crate::flush::put_and_flush;
@@ -28,7 +28,7 @@ pub struct Bounds {
 
 /// The alignment of the requests: 1 where none is told.
 fn align_of(bounds: Bounds) -> u64
-    ensures { result ≡ alignment_of bounds }
+    ensures { result ≡ align_of bounds }
 {
     bounds.align.unwrap_or(1)
 }
@@ -52,7 +52,7 @@ fn bytes_of(bounds: Bounds) -> u64
 
 /// The records with their table, and the pool that is always enough.
 fn size_text(bounds: Bounds) -> LineText
-    ensures { result.items ≡ text_of_size bounds }
+    ensures { result.items ≡ size_text bounds }
 {
     let blocks = u64::from(bounds.blocks);
     let sure = sure_pool(

@@ -2,7 +2,7 @@
 
 ghost use Rattle.std.specs.Prelude.{◌≡◌, ◌≤◌, false, OnOk, OnErr, IfOk};
 ghost use Rattle.tlsf_heap.specs.Bare.{bare};
-ghost use Rattle.tlsf_heap.specs.Pools.{created, add_pool as added};
+ghost use Rattle.tlsf_heap.specs.Pools.{created, add_pool};
 ghost use Rattle.mtrace_replay.specs.Settings.{are_bad};
 ghost use Rattle.mtrace_replay.specs.Started.{left_by, started};
 
@@ -12,7 +12,7 @@ use tlsf_heap::{Heap, Heaped, Refusal, StoreError};
 
 /// Adds a pool; a refusal but for want of memory changes nothing.
 fn add_pool<H: Heaped>(heap: &mut H, base: u64, bytes: u64) -> Result<(), AllocError>
-    ensures left { OnOk result (bare (H.content heap.new) ≡ left_by (bare (H.content heap.old)) (added base bytes (bare (H.content heap.old)))) }
+    ensures left { OnOk result (bare (H.content heap.new) ≡ left_by (bare (H.content heap.old)) (add_pool base bytes (bare (H.content heap.old)))) }
     ensures memory { OnErr result H.lacks }
 {
     match heap.add_pool(base, bytes) {

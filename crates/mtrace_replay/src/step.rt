@@ -5,9 +5,9 @@ ghost use Rattle.tlsf_class.specs.Classes.{greatest_size};
 ghost use Rattle.tlsf_heap.specs.Content.{blocks_of, size_at};
 ghost use Rattle.tlsf_heap.specs.Free.{is_live};
 ghost use Rattle.tlsf_heap.specs.Touches.{AtMost};
-ghost use Rattle.tlsf_heap.specs.Realloc.{realloc as reallocated};
+ghost use Rattle.tlsf_heap.specs.Realloc.{realloc};
 ghost use Rattle.mtrace_replay.specs.Index.{held_at, IsFound, TellsWhether};
-ghost use Rattle.mtrace_replay.specs.Moment.{asked_size as size_asked, rounded_bytes as bytes_rounded, asked_block, allocation, release as released, doing, move, renewal, plan};
+ghost use Rattle.mtrace_replay.specs.Moment.{asked_size, rounded_bytes, asked_block, allocation, release, doing, move, renewal, plan};
 ghost use Rattle.mtrace_replay.specs.Step.{found, all_given, Replays, AsksBlock, GivesBlock, Takes, IsUnder, AreLive};
 
 use crate::diagnostic::{Diagnostic, Kind};
@@ -21,14 +21,14 @@ use tlsf_heap::{Heaped, Ptr, Refusal};
 
 /// How many bytes are asked of the heap: for a block of no byte it is asked for one byte.
 pub(crate) fn asked_size(size: u64) -> u64
-    ensures { result ≡ size_asked size }
+    ensures { result ≡ asked_size size }
 {
     if size == 0 { 1 } else { size }
 }
 
 /// How many bytes the block for this many bytes has; 0 where no block has as many.
 pub(crate) fn rounded_bytes(size: u64) -> u64
-    ensures value { result ≡ bytes_rounded size }
+    ensures value { result ≡ rounded_bytes size }
     ensures small { result ≤ greatest_size }
 {
     match round(asked_size(size)) {
@@ -89,7 +89,7 @@ fn new_block<H: Heaped>(heap: &mut H, align: Option<Addr>, n: u64) -> Result<Blo
 /// The live block with room for `n` bytes, in its place or moved, and where it ends.
 fn realloc_block<H: Heaped>(heap: &mut H, ptr: Ptr, n: u64) -> Result<Block, Refusal>
     requires some { 0 < n }
-    ensures { GivesBlock H.content H.touches H.lacks 260 (λ slot. reallocated (λ a b. a == b) slot (Some (ptr.place, ptr.slot)) n (H.content heap.old))
+    ensures { GivesBlock H.content H.touches H.lacks 260 (λ slot. realloc (λ a b. a == b) slot (Some (ptr.place, ptr.slot)) n (H.content heap.old))
         (λ given. Some (given.place, given.slot)) (λ slot. slot ≡ ptr.slot) result heap.old heap.new }
 {
     heap.keeps_good();
@@ -175,7 +175,7 @@ fn release<H: Heaped>(
 ) -> Result<Option<u64>, AllocError>
     requires live { AreLive held.old.all (H.content heap.old) }
     requires none { findings.old ≡ [] }
-    ensures { Replays H.content H.touches H.lacks 2 96 (released number address (found (all_given held.old.all) address))
+    ensures { Replays H.content H.touches H.lacks 2 96 (release number address (found (all_given held.old.all) address))
         findings.new result heap.old heap.new held.old held.new }
 {
     let found = held.find_again(address);

@@ -6,7 +6,7 @@ ghost use Rattle.mtrace_log.specs.Output.{Puts};
 ghost use Rattle.mtrace_replay.specs.Settings.{are_bad};
 ghost use Rattle.mtrace_replay.specs.Moment.{ReadLine};
 ghost use Rattle.mtrace_replay.specs.Replay.{StandsFor};
-ghost use Rattle.mtrace_replay.specs.Texts.{point_text as text_of_point, timeline_words, timeline_text};
+ghost use Rattle.mtrace_replay.specs.Texts.{point_text, timeline_words, timeline_text};
 ghost use Rattle.mtrace_replay.specs.RunTimeline.{HasRoom, ReadsPoints, TimelineFollows, RunsTimeline};
 
 use crate::again::replay_up_to;
@@ -26,7 +26,7 @@ use tlsf_heap::Heap;
 
 /// Puts a line for each point.
 fn put_points<W: Sink>(writer: &mut W, points: &[Point]) -> Result<(), Failed>
-    ensures { Puts W.taken W.trace result (flat_map text_of_point points.now) writer.old writer.new }
+    ensures { Puts W.taken W.trace result (flat_map point_text points.now) writer.old writer.new }
 {
     for point in points {
         put_all(writer, point_text(point).as_slice())?;

@@ -2,14 +2,14 @@
 
 ghost use Rattle.std.specs.Prelude.{◌≡◌, ◌+◌, ◌<◌, ◌≤◌, [], max, vec_len, vec_capacity};
 ghost use Rattle.std.specs.List.Sorted.{IsStrictlyIncreasing};
-ghost use Rattle.mtrace_replay.specs.Timeline.{is_bad_parts as are_bad, end_of_part as line_of_part, AreTold, told_later};
+ghost use Rattle.mtrace_replay.specs.Timeline.{is_bad_parts, end_of_part, AreTold, told_later};
 
 /// In no more parts is a log cut.
 const MOST_PARTS: u32 = 10_000;
 
 /// Whether a log can't be cut in so many parts.
 pub(crate) fn is_bad_parts(parts: u32) -> bool
-    ensures { result ≡ are_bad parts }
+    ensures { result ≡ is_bad_parts parts }
 {
     parts == 0 || parts > MOST_PARTS
 }
@@ -18,7 +18,7 @@ pub(crate) fn is_bad_parts(parts: u32) -> bool
 fn end_of_part(lines: u64, parts: u32, part: u32) -> u64
     requires some { 0 < parts }
     requires within { part ≤ parts }
-    ensures { result ≡ line_of_part lines parts part }
+    ensures { result ≡ end_of_part lines parts part }
 {
     let end = (u128::from(part) * u128::from(lines)).div_ceil(u128::from(parts));
     u64::try_from(end).unwrap_or(lines)

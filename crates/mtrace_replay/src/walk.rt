@@ -3,7 +3,7 @@
 ghost use Rattle.std.specs.Prelude.{flat_map};
 ghost use Rattle.tlsf_heap.specs.Bare.{bare};
 ghost use Rattle.mtrace_replay.specs.Rows.{rows_at, PutsOf};
-ghost use Rattle.mtrace_replay.specs.Texts.{row_text as text_of_row, rows_text, walk_report};
+ghost use Rattle.mtrace_replay.specs.Texts.{row_text, rows_text, walk_report};
 
 use crate::line_text::{pool_text, row_text};
 use mtrace_log::{Failed, Sink, put_all};
@@ -12,7 +12,7 @@ use tlsf_heap::{Cursor, Heaped};
 /// Puts a line for each row from the cursor on.
 fn put_rows<H: Heaped, W: Sink>(writer: &mut W, heap: &mut H, cursor: Cursor) -> Result<(), Failed>
     requires { H.stands heap.old cursor }
-    ensures { PutsOf H.content W.taken W.trace result (flat_map text_of_row (H.rest heap.old cursor)) writer.old writer.new heap.old heap.new }
+    ensures { PutsOf H.content W.taken W.trace result (flat_map row_text (H.rest heap.old cursor)) writer.old writer.new heap.old heap.new }
 {
     let mut here = cursor;
     while let Some(next) = heap.row(here) {
@@ -24,7 +24,7 @@ fn put_rows<H: Heaped, W: Sink>(writer: &mut W, heap: &mut H, cursor: Cursor) ->
 
 /// Puts the rows of the pool that begins at the place `base`.
 fn put_rows_at<H: Heaped, W: Sink>(writer: &mut W, heap: &mut H, base: u64) -> Result<(), Failed>
-    ensures { PutsOf H.content W.taken W.trace result (flat_map text_of_row (rows_at (H.content heap.old).pools base)) writer.old writer.new heap.old heap.new }
+    ensures { PutsOf H.content W.taken W.trace result (flat_map row_text (rows_at (H.content heap.old).pools base)) writer.old writer.new heap.old heap.new }
 {
     match heap.first(base) {
         Ok(cursor) => put_rows(writer, heap, cursor),

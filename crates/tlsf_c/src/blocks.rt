@@ -7,12 +7,12 @@ ghost use Rattle.tlsf_heap.specs.Room.{HasRoom, HasRoomAligned};
 ghost use Rattle.tlsf_heap.specs.declared.refusal.Refusal.TheVariants.{BadAlign, BadPointer};
 ghost use Rattle.tlsf_heap.specs.Touches.{AtMost, malloc_touches, memalign_touches, free_touches, realloc_touches, block_size_touches};
 ghost use Rattle.tlsf_heap.specs.Counted.{IsUnchanged, Reads};
-ghost use Rattle.tlsf_heap.specs.Malloc.{malloc as served};
-ghost use Rattle.tlsf_heap.specs.Memalign.{memalign as aligned};
+ghost use Rattle.tlsf_heap.specs.Malloc.{malloc};
+ghost use Rattle.tlsf_heap.specs.Memalign.{memalign};
 ghost use Rattle.tlsf_heap.specs.Pointer.{free_ptr, realloc_ptr, block_size_ptr};
 ghost use Rattle.tlsf_c.specs.Answers.{Answers, AnswersBlock, pointer_of};
 ghost use Rattle.tlsf_c.specs.Given.{given};
-ghost use Rattle.tlsf_c.specs.Status.{status_of, number as number_of};
+ghost use Rattle.tlsf_c.specs.Status.{status_of, number};
 
 use crate::block::Block;
 use crate::handle::Handle;
@@ -23,7 +23,7 @@ use crate::status::{SERVED, number};
 /// The status is 0 or the number of `ZeroSize`, `NoFit` or `TableFull`.
 #[unsafe(no_mangle)]
 pub extern "C" fn tlsf_heap_malloc(handle: &mut Handle, bytes: u64, out: &mut Block) -> u32
-    ensures answer { AnswersBlock (λ slot. served slot bytes) result out.old out.new handle.old.value handle.new.value }
+    ensures answer { AnswersBlock (λ slot. malloc slot bytes) result out.old out.new handle.old.value handle.new.value }
     ensures room { HasRoom bytes handle.old.value.content → result ≡ 0 }
     ensures bound { AtMost malloc_touches handle.old.value.touches handle.new.value.touches }
 {
@@ -46,9 +46,9 @@ pub extern "C" fn tlsf_heap_memalign(
     bytes: u64,
     out: &mut Block,
 ) -> u32
-    ensures answer { AnswersBlock (λ slot. aligned slot align bytes) result out.old out.new handle.old.value handle.new.value }
+    ensures answer { AnswersBlock (λ slot. memalign slot align bytes) result out.old out.new handle.old.value handle.new.value }
     ensures multiple { result ≡ 0 → out.new.place % align ≡ 0 }
-    ensures room { HasRoomAligned align bytes handle.old.value.content → (result ≡ 0) ⊎ (result ≡ number_of BadAlign) }
+    ensures room { HasRoomAligned align bytes handle.old.value.content → (result ≡ 0) ⊎ (result ≡ number BadAlign) }
     ensures bound { AtMost memalign_touches handle.old.value.touches handle.new.value.touches }
 {
     match handle.heap().memalign(align, bytes) {
@@ -89,7 +89,7 @@ pub extern "C" fn tlsf_heap_realloc(
     ensures ok { result ≡ 0 → realloc_ptr (Some (pointer_of block)) bytes out.new.slot handle.old.value.content ≡ Ok (given bytes out.new.place out.new.slot, handle.new.value.content) }
     ensures slot_below { result ≡ 0 → bytes ≢ 0 → out.new.slot < handle.old.value.content.records }
     ensures slot_new { result ≡ 0 → bytes ≢ 0 → pointer_of block ≢ pointer_of out.new → slot_times out.new.slot (blocks_of handle.old.value.content.pools) ≡ 0 }
-    ensures room { HasRoom bytes handle.old.value.content → (result ≡ 0) ⊎ (result ≡ number_of BadPointer) }
+    ensures room { HasRoom bytes handle.old.value.content → (result ≡ 0) ⊎ (result ≡ number BadPointer) }
     ensures unchanged { result ≢ 0 → IsUnchanged handle.old.value handle.new.value }
     ensures out { (result ≢ 0) ⊎ (bytes ≡ 0) → out.new ≡ out.old }
     ensures bound { AtMost realloc_touches handle.old.value.touches handle.new.value.touches }

@@ -1,7 +1,7 @@
 //! Pools come and go.
 
 ghost use Rattle.tlsf_heap.specs.Touches.{AtMost, add_pool_touches, remove_pool_touches};
-ghost use Rattle.tlsf_heap.specs.Pools.{add_pool as added, remove_pool as removed};
+ghost use Rattle.tlsf_heap.specs.Pools.{add_pool, remove_pool};
 ghost use Rattle.tlsf_c.specs.Answers.{Answers};
 
 use crate::handle::Handle;
@@ -12,7 +12,7 @@ use crate::status::{SERVED, number};
 /// The status is 0 or the number of `BadPool`, `PoolsFull` or `TableFull`.
 #[unsafe(no_mangle)]
 pub extern "C" fn tlsf_heap_add_pool(handle: &mut Handle, base: u64, bytes: u64) -> u32
-    ensures answer { Answers (added base bytes) result handle.old.value handle.new.value }
+    ensures answer { Answers (add_pool base bytes) result handle.old.value handle.new.value }
     ensures bound { AtMost add_pool_touches handle.old.value.touches handle.new.value.touches }
 {
     match handle.heap().add_pool(base, bytes) {
@@ -26,7 +26,7 @@ pub extern "C" fn tlsf_heap_add_pool(handle: &mut Handle, base: u64, bytes: u64)
 /// The status is 0 or the number of `NoPool` or `PoolInUse`.
 #[unsafe(no_mangle)]
 pub extern "C" fn tlsf_heap_remove_pool(handle: &mut Handle, base: u64) -> u32
-    ensures answer { Answers (removed base) result handle.old.value handle.new.value }
+    ensures answer { Answers (remove_pool base) result handle.old.value handle.new.value }
     ensures bound { AtMost remove_pool_touches handle.old.value.touches handle.new.value.touches }
 {
     match handle.heap().remove_pool(base) {

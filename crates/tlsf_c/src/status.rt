@@ -1,8 +1,8 @@
 //! The numbers that C programs get for what a call answers.
 
 ghost use Rattle.std.specs.Prelude.{◌≡◌, ◌<◌, Result, Err};
-ghost use Rattle.tlsf_c.specs.Status.{number as number_of};
-ghost use Rattle.tlsf_c.specs.Saving.{fault_number as number_of_fault};
+ghost use Rattle.tlsf_c.specs.Status.{number};
+ghost use Rattle.tlsf_c.specs.Saving.{fault_number};
 
 use tlsf_heap::{ImageFault, Refusal};
 
@@ -20,7 +20,7 @@ pub(crate) const NO_ROOM: u32 = 14;
 
 /// The number of a refusal.
 pub(crate) fn number(refusal: Refusal) -> u32
-    ensures value { result ≡ number_of refusal }
+    ensures value { result ≡ number refusal }
     ensures positive { 0 < result }
 {
     refusal as u32
@@ -28,7 +28,7 @@ pub(crate) fn number(refusal: Refusal) -> u32
 
 /// The number of what keeps an image from being loaded or saved.
 pub(crate) fn fault_number(fault: ImageFault) -> u32
-    ensures value { result ≡ number_of_fault fault }
+    ensures value { result ≡ fault_number fault }
     ensures positive { 0 < result }
 {
     match fault {

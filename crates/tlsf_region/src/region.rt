@@ -32,22 +32,22 @@ impl Model for Region {
 
 impl Region {
     ghost use Rattle.std.specs.Prelude.{◌≡◌, ℕ, true, false, ◌+◌, ◌%◌, ◌<◌, ◌≤◌, ◌==◌, ◌⊎◌, ◌↔◌, map, replicate, length, Ok, Err, Some, IfOk, IfErr, IfSome, IfNone, IsOk, OnOk, OnErr};
-    ghost use Rattle.tlsf_heap.specs.Pools.{created, most_records, end_of_places, remove_pool as removed};
+    ghost use Rattle.tlsf_heap.specs.Pools.{created, most_records, end_of_places, remove_pool};
     ghost use Rattle.tlsf_heap.specs.Content.{blocks_of, size_at};
     ghost use Rattle.tlsf_heap.specs.GoodSlots.{HasGoodSlots};
     ghost use Rattle.tlsf_heap.specs.Served.{IsServed, IsMoved, Refuses};
     ghost use Rattle.tlsf_heap.specs.Readings.{FindsRows, GivesRow, TouchesForRow};
-    ghost use Rattle.tlsf_heap.specs.Malloc.{malloc as served};
+    ghost use Rattle.tlsf_heap.specs.Malloc.{malloc};
     ghost use Rattle.tlsf_heap.specs.Free.{is_live};
     ghost use Rattle.tlsf_heap.specs.Good.{IsGood};
-    ghost use Rattle.tlsf_heap.specs.BlockSize.{block_size as sized};
+    ghost use Rattle.tlsf_heap.specs.BlockSize.{block_size};
     ghost use Rattle.tlsf_heap.specs.Pointer.{Pointer, free_ptr, realloc_ptr, block_size_ptr};
     ghost use Rattle.tlsf_heap.specs.Rows.{rows_from};
     ghost use Rattle.tlsf_heap.specs.Cursors.{rows_behind, is_at_row};
     ghost use Rattle.tlsf_heap.specs.Counted.{range_of};
     ghost use Rattle.tlsf_heap.specs.Implied.{NoneFits, NoneFitsAligned, HasFewRecords, HasFewRecordsAndOne, IsLaidOut};
     ghost use Rattle.tlsf_heap.specs.Room.{HasRoom, HasRoomAligned};
-    ghost use Rattle.tlsf_heap.specs.Memalign.{memalign as aligned};
+    ghost use Rattle.tlsf_heap.specs.Memalign.{memalign};
     ghost use Rattle.tlsf_heap.specs.Walk.{IsWalk, walk_touches};
     ghost use Rattle.tlsf_heap.specs.declared.refusal.Refusal.TheVariants.{NoFit, TableFull, BadPointer, BadAlign};
     ghost use Rattle.tlsf_region.specs.Pools.{add_pool_within};
@@ -116,8 +116,8 @@ impl Region {
     ///
     /// `NoPool` where no pool begins there; `PoolInUse` unless the pool is one free block.
     pub fn remove_pool(&mut self, base: u64) -> Result<(), Refusal>
-        ensures ok { OnOk result (removed base self.old.content ≡ Ok self.new.content) }
-        ensures refused { Refuses result (λ refusal. removed base self.old.content ≡ Err refusal) (IsUnchanged self.old self.new) }
+        ensures ok { OnOk result (remove_pool base self.old.content ≡ Ok self.new.content) }
+        ensures refused { Refuses result (λ refusal. remove_pool base self.old.content ≡ Err refusal) (IsUnchanged self.old self.new) }
         ensures kept { KeepsBytes remove_pool_touches self.old self.new }
     {
         self.heap.remove_pool(base)
@@ -131,8 +131,8 @@ impl Region {
     /// `ZeroSize` for 0; `NoFit` where no list that may be searched has a block, or `n` is above the greatest size;
     /// `TableFull` where a rest would be left and each record is in use. It is served where there is room (`HasRoom`).
     pub fn malloc(&mut self, n: u64) -> Result<Ptr, Refusal>
-        ensures ok { IfOk result (λ ptr. IsServed (λ slot. served slot n) ptr self.old.content self.new.content) }
-        ensures refused { Refuses result (λ refusal. (slot : ℕ) → served slot n self.old.content ≡ Err refusal) (IsUnchanged self.old self.new) }
+        ensures ok { IfOk result (λ ptr. IsServed (λ slot. malloc slot n) ptr self.old.content self.new.content) }
+        ensures refused { Refuses result (λ refusal. (slot : ℕ) → malloc slot n self.old.content ≡ Err refusal) (IsUnchanged self.old self.new) }
         ensures no_fit { result ≡ Err NoFit → NoneFits n self.old.content }
         ensures table_full { result ≡ Err TableFull → HasFewRecords self.old.content }
         ensures room { HasRoom n self.old.content → IsOk result }
@@ -150,9 +150,9 @@ impl Region {
     /// that may be searched has a block, or `n` is above the greatest size; `TableFull` where the blocks in front and
     /// behind need more records than are left.
     pub fn memalign(&mut self, align: u64, n: u64) -> Result<Ptr, Refusal>
-        ensures ok { IfOk result (λ ptr. IsServed (λ slot. aligned slot align n) ptr self.old.content self.new.content) }
+        ensures ok { IfOk result (λ ptr. IsServed (λ slot. memalign slot align n) ptr self.old.content self.new.content) }
         ensures multiple { IfOk result (λ ptr. ptr.place % align ≡ 0) }
-        ensures refused { Refuses result (λ refusal. (slot : ℕ) → aligned slot align n self.old.content ≡ Err refusal) (IsUnchanged self.old self.new) }
+        ensures refused { Refuses result (λ refusal. (slot : ℕ) → memalign slot align n self.old.content ≡ Err refusal) (IsUnchanged self.old self.new) }
         ensures no_fit { result ≡ Err NoFit → NoneFitsAligned align n self.old.content }
         ensures table_full { result ≡ Err TableFull → HasFewRecordsAndOne self.old.content }
         ensures room { HasRoomAligned align n self.old.content → IfErr result (λ refusal. refusal ≡ BadAlign) }
@@ -218,7 +218,7 @@ impl Region {
     /// The size of the live block that the pointer names, which ends within the bytes; none where it names
     /// no live block. At most one touch.
     fn live_size(&mut self, ptr: Ptr) -> Option<u32>
-        ensures some { IfSome result (λ size. sized (λ slot. slot == ptr.slot) ptr.place self.old.content ≡ Ok size) }
+        ensures some { IfSome result (λ size. block_size (λ slot. slot == ptr.slot) ptr.place self.old.content ≡ Ok size) }
         ensures within { IfSome result (λ size. ptr.place + size ≤ length self.old.bytes) }
         ensures positive { IfSome result (λ size. 0 < size) }
         ensures none { IfNone result (is_live (λ slot. slot == ptr.slot) ptr.place (blocks_of self.old.content.pools) ≡ false) }
@@ -234,7 +234,7 @@ impl Region {
     /// How many bytes the pointer's block has, and 0 where it names no live block: no block is empty. At
     /// most one touch.
     fn lent_len(&mut self, ptr: Ptr) -> u32
-        ensures some { 0 < result → sized (λ slot. slot == ptr.slot) ptr.place self.old.content ≡ Ok result }
+        ensures some { 0 < result → block_size (λ slot. slot == ptr.slot) ptr.place self.old.content ≡ Ok result }
         ensures within { 0 < result → ptr.place + result ≤ length self.old.bytes }
         ensures none { result ≡ 0 → is_live (λ slot. slot == ptr.slot) ptr.place (blocks_of self.old.content.pools) ≡ false }
         ensures read { WasRead 1 self.old self.new }

@@ -1,7 +1,7 @@
 //! What the program opens for what it is asked, and what it does with that.
 
 ghost use Rattle.std.specs.Prelude.{◌≡◌};
-ghost use Rattle.tlsf_tool.specs.Plan.{is_dash, origin_of, is_told as is_to_tell, again_for, plan_for, PlansFor};
+ghost use Rattle.tlsf_tool.specs.Plan.{is_dash, origin_of, is_told, again_for, plan_for, PlansFor};
 
 use crate::asked::{Command, Name, ToolFault};
 use crate::words::command;
@@ -109,7 +109,7 @@ fn log_origin(log: String) -> Origin
 /// Whether it is told how far a run of this log is. It is where standard error is a terminal, but not of a log that is
 /// typed, as the terminal shows what is typed.
 fn is_told(terminals: Terminals, log: &Origin) -> bool
-    ensures { result ≡ is_to_tell terminals log.now }
+    ensures { result ≡ is_told terminals log.now }
 {
     match log {
         Origin::Standard => terminals.errors && !terminals.input,
