@@ -209,7 +209,7 @@ enum tlsf_status tlsf_heap_remove_pool(tlsf_heap *heap, uint64_t base);
 enum tlsf_status tlsf_heap_malloc(tlsf_heap *heap, uint64_t bytes, tlsf_heap_block *out);
 
 /* As tlsf_heap_malloc, at a place that is a multiple of align, a power of two from 1 to 2^29. At
- * most 42 touches.
+ * most 38 touches.
  * 0, TLSF_BAD_ALIGN, TLSF_ZERO_SIZE, TLSF_NO_FIT or TLSF_TABLE_FULL. */
 enum tlsf_status tlsf_heap_memalign(tlsf_heap *heap, uint64_t align, uint64_t bytes,
                                     tlsf_heap_block *out);

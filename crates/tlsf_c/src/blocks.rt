@@ -36,7 +36,7 @@ pub extern "C" fn tlsf_heap_malloc(handle: &mut Handle, bytes: u64, out: &mut Bl
     }
 }
 
-/// A live block of at least `bytes` bytes that begins at a multiple of `align`, which goes to `out`. At most 42 touches.
+/// A live block of at least `bytes` bytes that begins at a multiple of `align`, which goes to `out`. At most 38 touches.
 ///
 /// The status is 0 or the number of `BadAlign`, `ZeroSize`, `NoFit` or `TableFull`.
 #[unsafe(no_mangle)]

@@ -17,7 +17,7 @@ abbrev pub malloc_touches : ℕ
 malloc_touches = 23
 
 abbrev pub memalign_touches : ℕ
-memalign_touches = 42
+memalign_touches = 38
 
 abbrev pub free_touches : ℕ
 free_touches = 32

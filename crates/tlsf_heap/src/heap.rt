@@ -191,7 +191,7 @@ impl Heap {
     /// off a block that holds `n` bytes, rounded up, and for an alignment above the unit `align` less the unit more.
     /// That is the first block of the first list that isn't empty, from the least class whose blocks all hold as
     /// many. What is left in front of the live block and behind it are free blocks; the one in front enters its list
-    /// first. At most 42 touches.
+    /// first. At most 38 touches.
     ///
     /// # Errors
     ///

@@ -26,7 +26,7 @@ use tlsf_store::{Slot, State, Store};
 /// The greatest alignment, in bytes.
 const GREATEST_ALIGNMENT: u64 = 1 << 29;
 
-/// A live block of `n` bytes, rounded up to the unit, that begins at a multiple of the alignment. At most 42
+/// A live block of `n` bytes, rounded up to the unit, that begins at a multiple of the alignment. At most 38
 /// touches.
 ///
 /// # Errors

@@ -142,7 +142,7 @@ impl Region {
     }
 
     /// A live block of at least `n` bytes that begins at a multiple of `align`, as `Heap::memalign` gives it. Its
-    /// bytes are those that were there. At most 42 touches.
+    /// bytes are those that were there. At most 38 touches.
     ///
     /// # Errors
     ///

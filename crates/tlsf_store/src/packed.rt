@@ -139,13 +139,6 @@ impl Packed {
         self.next
     }
 
-    /// Writes the state alone.
-    pub(crate) fn set_state(&mut self, state: State)
-        ensures { self.new ≡ record self.old { state = state } }
-    {
-        self.size_word = self.size_word - self.size_word % UNIT + state as u32;
-    }
-
     /// Writes the size, a multiple of the unit, the state and the link `next` alone.
     pub(crate) fn set_block(&mut self, size: u32, state: State, next: Option<Slot>)
         requires in_units { size % unit ≡ 0 }

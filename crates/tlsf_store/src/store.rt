@@ -152,19 +152,6 @@ impl Store {
         self.table.edit(slot, |item| *item = Packed::pack(value));
     }
 
-    /// Makes a record that isn't vacant one of a free or of a live block. Two touches: the
-    /// word of size and state is read and written.
-    pub fn set_state(&mut self, slot: Slot, state: State)
-        requires within { slot < length self.old.cells.records }
-        requires used { (record_at self.old.cells.records slot).state ≢ Vacant }
-        requires new_used { state ≢ Vacant }
-        ensures left { LeavesAfter (with_record self.old.cells slot (record (record_at self.old.cells.records slot) { state = state })) 2 self.old self.new }
-    {
-        self.touches.tick();
-        self.touches.tick();
-        self.table.edit(slot, |item| item.set_state(state));
-    }
-
     /// Writes the size, the state and the link `next` of a record that isn't vacant. One touch: nothing
     /// is read.
     pub fn set_block(&mut self, slot: Slot, size: u32, state: State, next: Option<Slot>)

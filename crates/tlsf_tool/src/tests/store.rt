@@ -45,8 +45,6 @@ fn write(rt: &impl Abort, store: &mut Store, slot: Slot, value: Record) {
 fn write_parts(rt: &impl Abort, store: &mut Store, slot: Slot, other: Slot) {
     assert!(rt; u32::from(slot.0) < store.records() && u32::from(other.0) < store.records());
     assert!(rt; store.read(slot).state != State::Vacant);
-    store.set_state(slot, State::Live);
-    assert!(rt; store.read(slot).state != State::Vacant);
     store.set_block(slot, 48, State::Live, Some(other));
     assert!(rt; store.read(slot).state != State::Vacant);
     store.set_prev(slot, None);
