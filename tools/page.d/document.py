@@ -240,7 +240,8 @@ def page_data(log, sites):
     heaps = [{"name": name, "pools": [[base, size, [block // 16 for block in blocks]] for base, size, blocks in pools]}
              for name, pools in (("peak", log.walk_at_peak), ("end", log.walk_at_end))]
     return {"log": log.name, "lines": log.lines, "points": log.rows, "peak": [row[0] for row in log.rows].index(log.peak),
-            "names": names, "sites": rows, "raw": raw, "all": len(log.locations), "followed": log.followed, "totals": totals_data(log), "top": [log.row_of(site) for site in sites],
+            "names": names, "sites": rows, "raw": raw, "all": len(log.locations), "followed": log.followed, "totals": totals_data(log),
+            "top": [log.row_of(site) for site in sites],
             "changes": changes_data(log), "sizes": sizes_data(log), "leaks": leaks_data(log), "heaps": heaps,
             "fit": log.fit, "step": log.step, "diagnostics": [[line, shown(said)] for line, said in log.first_diagnostics],
             "faulty": sum(log.kinds.values())}
@@ -262,9 +263,9 @@ def write_document(folder, template, title, data, parts):
     script = (folder / "page.js").read_text(encoding="utf-8")
     digest = base64.b64encode(hashlib.sha256(script.encode()).digest()).decode()
     policy = f"default-src 'none'; style-src 'unsafe-inline'; script-src 'sha256-{digest}'"
+    style = STYLE + (folder / "page.css").read_text(encoding="utf-8")
     return filled((folder / template).read_text(encoding="utf-8"), {
-        "policy": escaped(policy), "title": escaped(title), "style": STYLE + (folder / "page.css").read_text(encoding="utf-8"), "script": script,
-        "data": json_text(data), **parts})
+        "policy": escaped(policy), "title": escaped(title), "style": style, "script": script, "data": json_text(data), **parts})
 
 
 def head_html(lines):
