@@ -181,16 +181,22 @@ def head_lines(log):
     kinds = ", ".join(f"{count:,} {KIND_NAMES[kind]}" for kind, count in sorted(log.kinds.items()))
     at_peak = next(row for row in log.rows if row[0] == log.peak)
     end = log.rows[-1]
-    fit = dict(log.fit)
     yield "Read", f"{log.name}: {counted(log.lines, 'line')}, {counted(len(log.locations), 'site')}, " + \
         (f"{counted(sum(log.kinds.values()), 'diagnostic')} ({kinds})." if kinds else "no diagnostic.")
     yield "Peak", f"{counted(at_peak[1], 'byte')} in {counted(at_peak[2], 'block')}, after line {log.peak:,}{greatest(log, log.at_peak)}."
     yield "Not freed", f"{counted(end[1], 'byte')} in {counted(end[2], 'block')}{greatest(log, log.at_end)}." if end[2] else \
         "Nothing: no memory leaks."
     yield "Grows most", grown_most(log)
-    yield "Pools to give", f"sure {told_pool(fit, 'sure pool')}, for any log that needs no more; safe {told_pool(fit, 'safe pool')}, for " \
-        f"this one; least {told_pool(fit, 'least pool')}; {told_number(fit['records'])} records" + \
-        (f" (tried in steps of {log.step:,})." if log.step else ".")
+    yield "Pools to give", pool_words(dict(log.fit), log.step)
+
+
+def pool_words(fit, step):
+    """What `fit` tells, in a line."""
+    sure, safe, least = (told_pool(fit, f"{name} pool") for name in ("sure", "safe", "least"))
+    tried = f", tried in steps of {step:,}" if step else ""
+    return (f"sure {sure}, for any log that needs no more; " if sure else "none is sure for each log that needs no more; ") + \
+        (f"safe {safe}, for this one; least {least}; {told_number(fit['records'])} records{tried}." if safe else
+         "none serves this log, as the greatest refuses lines.")
 
 
 def told_number(text):
@@ -199,9 +205,9 @@ def told_number(text):
 
 
 def told_pool(fit, name):
-    """A pool's bytes, or that there is none."""
+    """A pool's bytes, or nothing where there is none."""
     text = fit[name].removesuffix(" bytes")
-    return f"{int(text):,} bytes" if text.isdigit() else "none (-)"
+    return f"{int(text):,} bytes" if text.isdigit() else ""
 
 
 def heap_words(name, row, pools):
@@ -240,7 +246,8 @@ def page_data(log, sites):
     heaps = [{"name": name, "pools": [[base, size, [block // 16 for block in blocks]] for base, size, blocks in pools]}
              for name, pools in (("peak", log.walk_at_peak), ("end", log.walk_at_end))]
     return {"log": log.name, "lines": log.lines, "points": log.rows, "peak": [row[0] for row in log.rows].index(log.peak),
-            "names": names, "sites": rows, "raw": raw, "all": len(log.locations), "followed": log.followed, "totals": totals_data(log), "top": [log.row_of(site) for site in sites],
+            "names": names, "sites": rows, "raw": raw, "all": len(log.locations), "followed": log.followed, "totals": totals_data(log),
+            "top": [log.row_of(site) for site in sites],
             "changes": changes_data(log), "sizes": sizes_data(log), "leaks": leaks_data(log), "heaps": heaps,
             "fit": log.fit, "step": log.step, "diagnostics": [[line, shown(said)] for line, said in log.first_diagnostics],
             "faulty": sum(log.kinds.values())}
@@ -262,9 +269,9 @@ def write_document(folder, template, title, data, parts):
     script = (folder / "page.js").read_text(encoding="utf-8")
     digest = base64.b64encode(hashlib.sha256(script.encode()).digest()).decode()
     policy = f"default-src 'none'; style-src 'unsafe-inline'; script-src 'sha256-{digest}'"
+    style = STYLE + (folder / "page.css").read_text(encoding="utf-8")
     return filled((folder / template).read_text(encoding="utf-8"), {
-        "policy": escaped(policy), "title": escaped(title), "style": STYLE + (folder / "page.css").read_text(encoding="utf-8"), "script": script,
-        "data": json_text(data), **parts})
+        "policy": escaped(policy), "title": escaped(title), "style": style, "script": script, "data": json_text(data), **parts})
 
 
 def head_html(lines):

@@ -96,7 +96,8 @@ class Table {
     const at = this.sorted, column = this.columns[at], sign = this.falling ? -1 : 1;
     if (!column) return rows;
     const key = column.text ? (row) => this.cell(column, row[at]) : (row) => row[at];
-    return rows.map((row) => [key(row), row]).sort(([one], [other]) => sign * (one < other ? -1 : one > other ? 1 : 0)).map(([, row]) => row);
+    const compare = ([one], [other]) => sign * (one < other ? -1 : one > other ? 1 : 0);
+    return rows.map((row) => [key(row), row]).sort(compare).map(([, row]) => row);
   }
 
   line(row) {
@@ -116,23 +117,27 @@ const names = (data.sites || []).map((_, row) => frames(row).join(" < "));
 const siteName = (row) => row < 0 ? `${counted(-row, "other site")} together` : names[row];
 const SITE = { name: "Site", text: true, show: siteName, title: (row) => (row >= 0 && data.raw[row]) || "" };
 
+const NOTHING = { before: 0, after: 0, blocksBefore: 0, blocksAfter: 0, calls: 0, asked: 0, temporary: 0 };
+// The number of a site that is told, or below zero how many the others are.
+const rowOf = (row) => row < data.sites.length ? row : row - data.all;
+
 // What is told of each site between two points. Between the first and the last, or up to the peak, each has its numbers; else those
 // that aren't followed are one row, whose number is how many they are, below zero.
 function between(from, to) {
   if (from === 0 && to === data.points.length - 1) return data.totals.map((totals, row) => whole(totals, row));
   return data.changes.map((changes, row) => {
-    const sums = { row: row < data.followed ? row : row - data.all, before: 0, after: 0, blocksBefore: 0, blocksAfter: 0, calls: 0, asked: 0, temporary: 0 };
+    const sums = { row: row < data.followed ? row : row - data.all, ...NOTHING };
     for (let at = 0; at < changes.length && changes[at] <= to; at += 6) addChange(sums, changes, at, from);
     return sums;
   });
 }
 
 function whole([, , after, blocksAfter, calls, asked, temporary], row) {
-  return { row: row < data.sites.length ? row : row - data.all, before: 0, after, blocksBefore: 0, blocksAfter, calls, asked, temporary };
+  return { ...NOTHING, row: rowOf(row), after, blocksAfter, calls, asked, temporary };
 }
 
 function heldAtPeak() {
-  return data.totals.map(([after, blocksAfter], row) => ({ row: row < data.sites.length ? row : row - data.all, after, blocksAfter }));
+  return data.totals.map(([after, blocksAfter], row) => ({ row: rowOf(row), after, blocksAfter }));
 }
 
 function addChange(sums, changes, at, from) {
@@ -189,8 +194,8 @@ class Flame {
     this.root = treeOf(held);
     this.svg = draw("svg", { class: "flame", role: "group", "aria-label": title });
     this.told = make("p", { class: "told", "aria-live": "polite" });
-    home.append(make("p", { class: "hint" }, "The outermost frame is at the top. Click a frame, or press Enter, to see it alone; Escape shows all. Arrows move."),
-      this.svg, this.told);
+    const hint = "The outermost frame is at the top. Click a frame, or press Enter, to see it alone; Escape shows all. Arrows move.";
+    home.append(make("p", { class: "hint" }, hint), this.svg, this.told);
     this.svg.addEventListener("keydown", (event) => this.key(event));
     this.zoom(this.root);
   }
@@ -221,11 +226,13 @@ class Flame {
 
   place(node, x, width) {
     this.depth = Math.max(this.depth, node.depth);
-    const y = node.depth * FLAME_ROW, words = `${node.name}: ${counted(node.value, "byte")}, ${(100 * node.value / this.root.value).toFixed(1)} %`;
+    const y = node.depth * FLAME_ROW, part = 100 * node.value / this.root.value;
+    const words = `${node.name}: ${counted(node.value, "byte")}, ${part.toFixed(1)} %`;
     const letters = Math.floor((width - 6) / 7);
     const group = draw("g", { tabindex: -1, role: "img", "aria-label": words },
       draw("rect", { x, y, width, height: FLAME_ROW - 1, fill: `hsl(${hueOf(node.name)} 60% 72%)` }));
-    if (letters > 2) group.append(draw("text", { x: x + 3, y: y + 13 }, node.name.length > letters ? node.name.slice(0, letters - 1) + "…" : node.name));
+    const name = node.name.length > letters ? node.name.slice(0, letters - 1) + "…" : node.name;
+    if (letters > 2) group.append(draw("text", { x: x + 3, y: y + 13 }, name));
     group.addEventListener("click", () => { this.zoom(node); this.focus(node); });
     group.addEventListener("pointerenter", () => { this.told.textContent = words; });
     group.addEventListener("focus", () => { this.told.textContent = words; });
@@ -422,7 +429,7 @@ function blockTable(home, heap, title) {
 
 function leakTable() {
   const columns = [SITE, ...["Bytes", "Blocks", "First line", "Last line", "Least size", "Greatest size"].map(number)];
-  new Table(find("table-leaks"), "Not freed, by site", columns, 1).set(data.leaks.map(([row, ...rest]) => [row < data.sites.length ? row : row - data.all, ...rest]));
+  new Table(find("table-leaks"), "Not freed, by site", columns, 1).set(data.leaks.map(([row, ...rest]) => [rowOf(row), ...rest]));
 }
 
 function tablesOfRange() {
@@ -460,8 +467,9 @@ function showLog() {
   leakTable();
   blockTable(find("table-blocks-peak"), data.heaps[0], "Blocks at the peak");
   blockTable(find("table-blocks-end"), data.heaps[1], "Blocks at the end");
-  new Table(find("table-fit"), `How large a pool, and how many records: the report of fit${data.step ? ` --step ${data.step}` : ""}`, [{ name: "Of", text: true }, { name: "Number", text: true }])
-    .set(data.fit);
+  const step = data.step ? ` --step ${data.step}` : "";
+  new Table(find("table-fit"), `How large a pool, and how many records: the report of fit${step}`,
+    [{ name: "Of", text: true }, { name: "Number", text: true }]).set(data.fit);
   find("faults").hidden = !data.faulty;
   new Table(find("table-diagnostics"), `The first ${told(data.diagnostics.length)} of ${counted(data.faulty, "diagnostic")}`,
     [number("Line"), { name: "What is wrong", text: true }], 0, false).set(data.diagnostics);
