@@ -4,7 +4,8 @@
  * what differs. The heap behind it is proved; these calls, in tlsf.c, aren't: its head says what
  * they rely on. In short: a pointer is a multiple of 16; a block has at most 1,073,741,800 bytes; a
  * heap has at most eight pools. A call that can't be served answers a null pointer. A pointer that
- * is no live block's is refused and changes nothing.
+ * is no live block's is refused and changes nothing. A stale one can be that of a later block, and
+ * frees it.
  *
  * All memory is what the program hands in. It begins at a multiple of 8, and isn't used by the
  * program until the heap or the pool is gone. One call on a heap at a time.

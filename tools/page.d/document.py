@@ -6,6 +6,7 @@ import re
 
 from drawing import STYLE, chart_svg, draw_chart, heap_svg, reach_of, whole_picture
 from log import CHANGE
+from reports import REFUSED
 from texts import counted, escaped, shown, site_name
 
 TOP_SITES = 10
@@ -181,6 +182,9 @@ def head_lines(log):
     kinds = ", ".join(f"{count:,} {KIND_NAMES[kind]}" for kind, count in sorted(log.kinds.items()))
     at_peak = next(row for row in log.rows if row[0] == log.peak)
     end = log.rows[-1]
+    if log.first_refused is not None:
+        yield "Too little", f"{counted(log.kinds[REFUSED], 'line')} refused, the first is line {log.first_refused:,}: " \
+            "behind it each sum may be below what the program held."
     yield "Read", f"{log.name}: {counted(log.lines, 'line')}, {counted(len(log.locations), 'site')}, " + \
         (f"{counted(sum(log.kinds.values()), 'diagnostic')} ({kinds})." if kinds else "no diagnostic.")
     yield "Peak", f"{counted(at_peak[1], 'byte')} in {counted(at_peak[2], 'block')}, after line {log.peak:,}{greatest(log, log.at_peak)}."
@@ -296,7 +300,7 @@ def page_of(folder, log):
     """The page of one log."""
     sites, series = stacked(log)
     legend = "".join(f'<li><span class="key {name}"></span> {escaped(told)}</li>' for name, told in legend_entries(log, sites, series))
-    parts = {"head": head_html(head_lines(log)), "chart": chart_svg(draw_chart(log.rows, log.peak, series), chart_words(log)),
+    parts = {"head": head_html(head_lines(log)), "chart": chart_svg(draw_chart(log.rows, log.peak, log.first_refused, series), chart_words(log)),
              "legend": legend, "heaps": heaps_html(log)}
     return write_document(folder, "page.html", f"{log.name}: who holds its memory", page_data(log, sites), parts)
 
@@ -307,5 +311,5 @@ def picture_of(log):
     heaps = [(name, pools) for name, pools in (("The heap at the peak: used blocks by place", log.walk_at_peak),
                                                ("The heap at the end", log.walk_at_end))]
     return whole_picture(f"{log.name}: bytes held after each line, by site; dashed: the heap's reach",
-                         draw_chart(log.rows, log.peak, series), legend_entries(log, sites, series), heaps,
+                         draw_chart(log.rows, log.peak, log.first_refused, series), legend_entries(log, sites, series), heaps,
                          max(reach_of(pools) for _, pools in heaps))

@@ -130,14 +130,22 @@ def peak_mark(chart, line, value):
             f'text-anchor="{side}">peak, line {line:,}: {counted(value, "byte")}</text>')
 
 
-def draw_chart(rows, peak, series):
+def refused_mark(chart, line):
+    """A line where the heap first refused a block: what is drawn behind it is too little."""
+    x = chart.x(line)
+    side, shift = ("end", -6) if x > (LEFT + RIGHT) / 2 else ("start", 6)
+    return (f'<path class="mark" stroke-dasharray="2 3" d="M{number(x)} {TOP}V{BOTTOM}"/><text class="marked" x="{number(x + shift)}" '
+            f'y="{TOP + 28}" text-anchor="{side}">too little behind line {line:,}</text>')
+
+
+def draw_chart(rows, peak, refused, series):
     """Bytes held after each row's line, by site; the greatest end of a live block is a dashed line."""
     lines = [row[0] for row in rows]
     chart = Chart(lines[-1], int(1.08 * max(max(row[1], row[3]) for row in rows)))
     held = dict((row[0], row[1]) for row in rows)[peak]
     reach = f'<path class="reach" d="M{chart.steps(lines, [row[3] for row in rows])}"/>'
     axes = byte_ticks(chart) + line_ticks(chart) + below_axis("line of the log")
-    return axes + areas(chart, lines, series) + reach + (peak_mark(chart, peak, held) if held else "")
+    return axes + areas(chart, lines, series) + reach + (refused_mark(chart, refused) if refused else "") + (peak_mark(chart, peak, held) if held else "")
 
 
 def chart_svg(drawn, told):

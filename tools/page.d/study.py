@@ -59,6 +59,7 @@ class Study:
         sites, leaks = self.report("sites", *self.heap), self.report("leaks", *self.heap)
         self.kinds = Counter()
         self.first_diagnostics = []
+        self.first_refused = None
         points = points_of(self.lines, self.peak, count)
         later = ThreadPoolExecutor(1).submit(self.look_at_heap, timeline, points)
         try:
@@ -74,6 +75,8 @@ class Study:
         """The diagnostics, counted by kind as they are read; the first are kept."""
         for line, kind, said in reports.diagnostics(text, end):
             self.kinds[kind] += 1
+            if kind == reports.REFUSED and self.first_refused is None:
+                self.first_refused = line
             if len(self.first_diagnostics) < MOST_DIAGNOSTICS:
                 self.first_diagnostics.append((line, said))
             yield line, kind, said
