@@ -26,7 +26,6 @@ pub mod PackedPools
 pub mod PoolLemmas
 pub mod RangeLemmas
 pub mod ReadBack
-pub mod RecordLemmas
 pub mod RuleLemmas
 pub mod RulesBack
 pub mod SizeLemmas

@@ -2,7 +2,6 @@
 
 ghost use Rattle.std.specs.Prelude.{◌≡◌, ◌+◌, ◌%◌, ◌<◌, ◌≤◌, IfErr, IfOk, IfSome, None, Some, length};
 ghost use Rattle.tlsf_class.specs.Classes.{unit, classes};
-ghost use Rattle.tlsf_store.specs.Cells.{most_pools};
 ghost use Rattle.tlsf_heap.specs.Images.Image.{parts_in, state_of, record_start, record_in, head_in};
 ghost use Rattle.tlsf_heap.specs.Images.Rules.{first_broken, IsReadable};
 

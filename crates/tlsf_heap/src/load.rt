@@ -1,10 +1,10 @@
 //! A store that holds what an image describes.
 
-ghost use Rattle.std.specs.Prelude.{◌≡◌, ◌+◌, ◌*◌, ◌≤◌, length, IfOk, IfErr, None};
+ghost use Rattle.std.specs.Prelude.{◌≡◌, ◌+◌, ◌*◌, ◌≤◌, length, IfOk, IfErr};
 ghost use Rattle.tlsf_class.specs.Classes.{classes, levels};
 ghost use Rattle.tlsf_store.specs.declared.errors.StoreError.TheVariants.{OutOfMemory};
-ghost use Rattle.tlsf_store.specs.Records.{vacant_count, most_records};
-ghost use Rattle.tlsf_store.specs.Cells.{head_at, empty_cells, most_pools};
+ghost use Rattle.tlsf_store.specs.Records.{vacant_count};
+ghost use Rattle.tlsf_store.specs.Cells.{most_pools};
 ghost use Rattle.tlsf_heap.specs.Images.Described.{parts_of};
 ghost use Rattle.tlsf_heap.specs.Images.Bitmaps.{AreBitmapsOf};
 ghost use Rattle.tlsf_heap.specs.Inner.Loading.{CanBeStored, with_records, with_pools, HasNoHeads};

@@ -1,6 +1,6 @@
 //! A run of requests on a heap.
 
-ghost use Rattle.std.specs.Prelude.{◌≡◌, ◌≢◌, ◌+◌, ◌≤◌, All, IfOk, IfErr, OnErr};
+ghost use Rattle.std.specs.Prelude.{◌≡◌, ◌≢◌, All, IfOk, IfErr, OnErr};
 ghost use Rattle.tlsf_heap.specs.Touches.{AtMost};
 ghost use Rattle.tlsf_heap.specs.Run.{Step, Run, most_touches};
 

@@ -255,10 +255,6 @@ module _ {A : Type 0} where
   pub size_here : (p : ℕ) (content : Content A) (b : Block A) → IsGood content → Contains (blocks_of content.pools) b → b.place ≡ p → b.size ≡ size_at p (blocks_of content.pools)
   size_here p content b good has at = size_among 0 (blocks_of content.pools) b (Ascends-pools 0 content.pools good.pools_good) has ∙ ap (λ q. size_at q (blocks_of content.pools)) at
 
-  -- and ends so far behind its place
-  pub end_here : (p : ℕ) (content : Content A) (b : Block A) → IsGood content → Contains (blocks_of content.pools) b → b.place ≡ p → b.place + b.size ≡ p + size_at p (blocks_of content.pools)
-  end_here p content b good has at = omega (arith, at, size_here p content b good has at)
-
 module _ {A B : Type 0} (rename : A → B) where
   Ascends-renamed : (from : ℕ) (blocks : List (Block A)) → Ascends from blocks → Ascends from (map (renamed_block rename) blocks)
   Ascends-renamed from [] ascends = tt

@@ -1,13 +1,12 @@
 -- remove_pool keeps a content good.
-use Rattle.std.proofs.Common.{◌≡◌, ◌≢◌, ℕ, ◌+◌, ◌<◌, ◌≤◌, Bool, true, false, cond, not, List, [], ◌∷◌, ◌++◌, length, refl, sym, ap, ◌∙◌, subst, arith, count_by, filter, find, Option, Some, None, Ok, Err, inl, inr}
+use Rattle.std.proofs.Common.{◌≡◌, ◌≢◌, ℕ, ◌+◌, ◌<◌, ◌≤◌, Bool, true, false, cond, not, List, [], ◌∷◌, ◌++◌, length, refl, sym, ap, ◌∙◌, subst, arith, count_by, filter, find, Some, None, inl, inr}
 use Rattle.std.specs.Prelude.{◌==◌}
 use Rattle.std.specs.List.{AllByRecursion, list_all}
 use Rattle.std.proofs.lemmas.Bool.{cases_Bool, eq-eqb, eqb-true, ne_eqb, and_parts}
 use Rattle.tlsf_class.specs.Classes.{class}
 use Rattle.tlsf_class.proofs.ClassLaws.{class-lt}
-use Rattle.tlsf_heap.specs.declared.refusal.Refusal.TheVariants.{PoolInUse}
 use Rattle.tlsf_heap.specs.Content.{Block, Pool, Content, blocks_of, is_free}
-use Rattle.tlsf_heap.specs.Pools.{is_based, is_unused, without_pool, remove_found, remove_pool}
+use Rattle.tlsf_heap.specs.Pools.{is_based, is_unused, without_pool}
 use Rattle.tlsf_heap.specs.Good.{Covers, IsGoodPool, AreGoodPools, is_listed, IsGood}
 use Rattle.tlsf_heap.proofs.Counts.{one_if, count-cons, count_all}
 use Rattle.tlsf_heap.proofs.Content.FreeLists.{found_stands, listed_at, times-unlink, length-unlink}
@@ -136,21 +135,6 @@ module _ {A : Type 0} where
         ));
         blocks_few = omega (arith, good.blocks_few, gone.left all, count_all (blocks_of (others base content.pools)), count_all (blocks_of content.pools));
       })
-
-  -- remove_pool keeps a content good
-  pub remove_pool_is_good : (base : ℕ) (content new : Content A) → IsGood content → remove_pool base content ≡ Ok new → IsGood new
-  remove_pool_is_good base content new good e = of (find (is_based base) content.pools) refl e
-    where
-      of : (found : Option (Pool A)) → find (is_based base) content.pools ≡ found → remove_found found content ≡ Ok new → IsGood new
-      of None there e = absurd (cc)
-      of (Some pool) there e = elim (cases_Bool (is_unused pool)) [
-        | inr used ↦ let refused : remove_found (Some pool) content ≡ Err PoolInUse = rw used refl in absurd (cc)
-        | inl unused ↦
-            let gone : remove_found (Some pool) content ≡ Ok (without_pool pool content) = rw unused refl in
-            let same : without_pool pool content ≡ new = cc in
-            let P : Content A → Type 0 = λ x. IsGood x in
-            subst P same (without_pool_is_good base pool content good there unused)
-      ]
 
 -- and its live blocks are the same
 pub without_pool_slots : (base : ℕ) (pool : Pool ℕ) (content : Content ℕ) → IsGood content → find (is_based base) content.pools ≡ Some pool → HasGoodSlots content → HasGoodSlots (without_pool pool content)

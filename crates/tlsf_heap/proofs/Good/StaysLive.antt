@@ -294,16 +294,6 @@ module _ {A : Type 0} (same : A → A → Bool) (owner known : A) (place n : ℕ
           live_split (meant known) known (is_live_at (meant known) place) place m (size_with_next place content) (without_block next content.pools) (reflexive known)
           (λ block. and_left (is_at place block) (is_owned_by (meant known) block.owner)) (any_counts (is_live_at (meant known) place) (blocks_of (without_block next content.pools)) left)
 
-  -- it leaves one, unless none is asked for
-  pub moved_somewhere : (given : Option (ℕ × A)) (new : Content A) → n ≢ 0 → realloc same owner (Some (place, known)) n content ≡ Ok (given, new) → (q : ℕ) × (o : A) × (given ≡ Some (q, o))
-  moved_somewhere given new some e =
-      realloc_gave same owner known place n content (λ answer. (q : ℕ) × (o : A) × (answer.0 ≡ Some (q, o)))
-      (λ there nothing. absurd (some nothing))
-      (λ there others. (place, known, refl))
-      (λ m there others. (place, known, refl))
-      (λ served there others is. (served.0, owner, refl))
-      (given, new) e
-
 -- what passes a test passes a weaker one
 any_more : {X : Type 0} (test weaker : X → Bool) → ((x : X) → test x ≡ true → weaker x ≡ true) → (xs : List X) → list_any test xs ≡ true → list_any weaker xs ≡ true
 any_more test weaker implied [] any = any

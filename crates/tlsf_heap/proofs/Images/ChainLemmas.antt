@@ -30,10 +30,6 @@ was_found : (b : Bool) (one found : Tally) → (if b then Some one else None) �
 was_found true one found is = (refl, cc)
 was_found false one found is = absurd (cc)
 
-was_missed : (b : Bool) (one : Tally) → (if b then Some one else None) ≡ None → b ≡ false
-was_missed true one is = absurd (cc)
-was_missed false one is = refl
-
 module _ (parts : Parts) where
   abbrev next_of : ℕ → Option ℕ
   next_of slot = (at parts slot).next
@@ -176,10 +172,6 @@ module _ (parts : Parts) where
         let P : Tally → Type 0 = λ found. tally_with parts tally (Some pool ∷ pools) ≡ tally_with parts (both tally found) pools in
         subst P there.1 (both_on there.0)
 
-    -- one that is no chain
-    pub tally_off : chain_found parts pool ≡ None → tally_with parts tally (Some pool ∷ pools) ≡ None
-    tally_off is = rw (was_missed (is_chain parts pool) (tally_of pool) is) refl
-
   module _ (tally : Tally) (number : ℕ) where
     left_at : (pool : Option Pool) → number < length parts.pools → pool_at parts.pools number ≡ pool → tally_with parts tally (drop number parts.pools) ≡ tally_with parts tally (pool ∷ drop (number + 1) parts.pools)
     left_at pool within is =
@@ -188,9 +180,6 @@ module _ (parts : Parts) where
     -- the pool of the number has a chain, or a chain that is none; or there is no pool
     pub pool_on : (pool : Pool) (found : Tally) → number < length parts.pools → pool_at parts.pools number ≡ Some pool → chain_found parts pool ≡ Some found → tally_with parts tally (drop number parts.pools) ≡ tally_with parts (both tally found) (drop (number + 1) parts.pools)
     pool_on pool found within is chain = left_at (Some pool) within is ∙ tally_on tally pool (drop (number + 1) parts.pools) found chain
-
-    pub pool_off : (pool : Pool) → number < length parts.pools → pool_at parts.pools number ≡ Some pool → chain_found parts pool ≡ None → tally_with parts tally (drop number parts.pools) ≡ None
-    pool_off pool within is chain = left_at (Some pool) within is ∙ tally_off tally pool (drop (number + 1) parts.pools) chain
 
     pub pool_none : number < length parts.pools → pool_at parts.pools number ≡ None → tally_with parts tally (drop number parts.pools) ≡ tally_with parts tally (drop (number + 1) parts.pools)
     pool_none within is = left_at None within is

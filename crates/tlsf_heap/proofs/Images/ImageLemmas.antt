@@ -62,9 +62,6 @@ module _ (bytes : List ℕ) where
     counts : (nat_lt 0 (two_at count_at bytes) ≡ true) × ((nat_le (two_at pools_at bytes) most_pools && (are_zero zeros_at 4 bytes && (length bytes == record_start (two_at count_at bytes)))) ≡ true)
     counts = and_parts (nat_lt 0 (two_at count_at bytes)) (nat_le (two_at pools_at bytes) most_pools && (are_zero zeros_at 4 bytes && (length bytes == record_start (two_at count_at bytes)))) readable.length
 
-    pub some_records : 0 < two_at count_at bytes
-    some_records = ltb-true 0 (two_at count_at bytes) counts.0
-
     behind : (nat_le (two_at pools_at bytes) most_pools ≡ true) × ((are_zero zeros_at 4 bytes && (length bytes == record_start (two_at count_at bytes))) ≡ true)
     behind = and_parts (nat_le (two_at pools_at bytes) most_pools) (are_zero zeros_at 4 bytes && (length bytes == record_start (two_at count_at bytes))) counts.1
 

@@ -40,9 +40,6 @@ pub linked_end : (test : ℕ → Bool) (next back : ℕ → Option ℕ) (n : ℕ
 linked_end test next back zero before = refl
 linked_end test next back (suc n) before = refl
 
-pub linked_too_long : (test : ℕ → Bool) (next back : ℕ → Option ℕ) (before : Option ℕ) (slot : ℕ) → is_linked test next back 0 before (Some slot) ≡ false
-linked_too_long test next back before slot = refl
-
 pub follow_none : (n : ℕ) (next : ℕ → Option ℕ) → follow n next None ≡ []
 follow_none zero next = refl
 follow_none (suc n) next = refl

@@ -1,5 +1,5 @@
 -- What is found in lists, block after block.
-use Rattle.std.proofs.Common.{◌≡◌, ℕ, zero, suc, ◌+◌, ◌-◌, ◌<◌, ◌≤◌, Bool, true, false, ◌&&◌, ◌∷◌, ◌++◌, length, drop, Option, Some, None, refl, sym, ◌∙◌, subst, arith}
+use Rattle.std.proofs.Common.{◌≡◌, ℕ, suc, ◌+◌, ◌-◌, ◌<◌, ◌≤◌, Bool, true, false, ◌&&◌, ◌∷◌, ◌++◌, length, drop, Option, Some, None, refl, sym, ◌∙◌, subst, arith}
 use Rattle.std.specs.Prelude.{if◌then◌else◌, ◌==◌}
 use Rattle.std.specs.List.{flat_map}
 use Rattle.std.proofs.lemmas.Bool.{and_parts}
@@ -14,7 +14,7 @@ use Rattle.tlsf_heap.specs.Images.Image.{Parts}
 use Rattle.tlsf_heap.specs.Images.Links.{follow, is_linked}
 use Rattle.tlsf_heap.specs.Images.Rules.{at, is_used, is_list, slots_in_list, has_links, has_links_in, is_below}
 use Rattle.tlsf_heap.specs.Images.Findings.{list_found, lists_with, is_behind}
-use Rattle.tlsf_heap.proofs.Images.LinkLemmas.{linked_on, linked_not_on, linked_end, follow_none}
+use Rattle.tlsf_heap.proofs.Images.LinkLemmas.{linked_on, linked_end, follow_none}
 use Rattle.tlsf_heap.proofs.Images.ChainLemmas.{record_links, below}
 
 free_is_used : (state : State) → is_free_state state ≡ true → is_used state ≡ true
@@ -49,27 +49,12 @@ module _ (parts : Parts) where
         let one : blocks + suc (length (follow n next_of (next_of slot))) ≡ blocks + 1 + length (follow n next_of (next_of slot)) = omega arith in
         rw (whole, one) refl
 
-    stops_by : (n : ℕ) → is_behind before number (at parts slot) ≡ false → found_with number n blocks before (Some slot) ≡ None
-    stops_by zero off = refl
-    stops_by (suc n) off = rw (linked_not_on (λ slot. is_free_state (at parts slot).state && (class (at parts slot).size == number)) next_of (λ slot. (at parts slot).prev_free) n before slot off) refl
-
     -- a block behind the one before
     pub found_on : blocks < length parts.records → is_behind before number (at parts slot) ≡ true → rest_found number blocks before (Some slot) ≡ rest_found number (blocks + 1) (Some slot) (next_of slot)
     found_on few on =
         let P : ℕ → Type 0 = λ left. found_with number left blocks before (Some slot) ≡ found_with number (length parts.records - (blocks + 1)) (blocks + 1) (Some slot) (next_of slot) in
         let one : suc (length parts.records - (blocks + 1)) ≡ length parts.records - blocks = omega (arith, few) in
         subst P one (on_by (length parts.records - (blocks + 1)) on)
-
-    -- nothing that can stand behind it
-    pub found_off : is_behind before number (at parts slot) ≡ false → rest_found number blocks before (Some slot) ≡ None
-    found_off off = stops_by (length parts.records - blocks) off
-
-    -- more slots than records
-    pub found_more : length parts.records ≤ blocks → rest_found number blocks before (Some slot) ≡ None
-    found_more many =
-        let P : ℕ → Type 0 = λ left. found_with number left blocks before (Some slot) ≡ None in
-        let none : 0 ≡ length parts.records - blocks = omega (arith, many) in
-        subst P none refl
 
     -- the block behind one of the list is of the table
     pub next_below : has_links parts ≡ true → slot < length parts.records → is_behind before number (at parts slot) ≡ true → IsBelow (length parts.records) (next_of slot)
@@ -85,19 +70,6 @@ module _ (parts : Parts) where
       let P : Option ℕ → Type 0 = λ o. found_with number n blocks before o ≡ Some blocks in
       let none : blocks + 0 ≡ blocks = omega arith in
       subst P (sym is) (rw (linked_end (λ slot. is_free_state (at parts slot).state && (class (at parts slot).size == number)) next_of (λ slot. (at parts slot).prev_free) n before, follow_none n next_of, none) refl)
-
-  first_by : (number : ℕ) (first : Option ℕ) → found_with number (length parts.records) 0 None first ≡ list_found parts number first
-  first_by number first =
-      let slots = follow (length parts.records) next_of first in
-      let none : 0 + length slots ≡ length slots = omega arith in
-      rw none refl
-
-  -- all is left
-  pub found_first : (number : ℕ) (first : Option ℕ) → rest_found number 0 None first ≡ list_found parts number first
-  found_first number first =
-      let P : ℕ → Type 0 = λ left. found_with number left 0 None first ≡ list_found parts number first in
-      let all : length parts.records ≡ length parts.records - 0 = omega arith in
-      subst P all (first_by number first)
 
   -- ---- the lists of all classes
 

@@ -1,5 +1,5 @@
 -- A test of the numbers of a range, one after the other.
-use Rattle.std.proofs.Common.{◌≡◌, ℕ, suc, ◌+◌, ◌-◌, ◌<◌, ◌≤◌, Bool, true, false, ◌&&◌, refl, ap, ◌∙◌, subst, arith}
+use Rattle.std.proofs.Common.{◌≡◌, ℕ, suc, ◌+◌, ◌-◌, ◌<◌, Bool, true, false, ◌&&◌, refl, ap, ◌∙◌, subst, arith}
 use Rattle.std.specs.List.{list_all, range_with_len}
 
 module _ (test : ℕ → Bool) where
@@ -19,12 +19,3 @@ module _ (test : ℕ → Bool) where
 
     pub range_off : number < end → test number ≡ false → passes_from number end ≡ false
     range_off within is = one_more within ∙ ap (λ b. b && passes_from (number + 1) end) is
-
-    pub range_end : end ≤ number → passes_from number end ≡ true
-    range_end all =
-        let P : ℕ → Type 0 = λ left. list_all test (range_with_len number left) ≡ true in
-        let none : 0 ≡ end - number = omega (arith, all) in
-        subst P none refl
-
-  pub range_all : (from count : ℕ) → passes_from from (from + count) ≡ list_all test (range_with_len from count)
-  range_all from count = let same : from + count - from ≡ count = omega arith in ap (λ n. list_all test (range_with_len from n)) same

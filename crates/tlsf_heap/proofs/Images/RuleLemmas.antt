@@ -28,9 +28,6 @@ module _ (parts : Parts) where
       let there = was_found (has_links parts) (record { all = count_by (λ r. is_used r.state) parts.records; free = count_by (λ r. is_free_state r.state) parts.records }) blocks is in
       (there.0, (ap (λ (b : Blocks). b.all) (sym there.1), ap (λ (b : Blocks). b.free) (sym there.1)))
 
-  pub links_arent : links_found parts ≡ None → has_links parts ≡ false
-  links_arent is = was_missed (has_links parts) (record { all = count_by (λ r. is_used r.state) parts.records; free = count_by (λ r. is_free_state r.state) parts.records }) is
-
   abbrev all_tally : Tally
   all_tally = record { blocks = 0 + length (flat_map (chain_of parts) (entries_of parts.pools)); covers = has_cover parts; is_merged = has_merged parts }
 
@@ -39,9 +36,6 @@ module _ (parts : Parts) where
       let there = was_found (has_chains parts) all_tally tally is in
       let none : 0 + length (flat_map (chain_of parts) (entries_of parts.pools)) ≡ length (flat_map (chain_of parts) (entries_of parts.pools)) = omega arith in
       (there.0, (ap (λ (t : Tally). t.blocks) (sym there.1) ∙ none, (ap (λ (t : Tally). t.covers) (sym there.1), ap (λ (t : Tally). t.is_merged) (sym there.1))))
-
-  pub chains_arent : chains_found parts ≡ None → has_chains parts ≡ false
-  chains_arent is = was_missed (has_chains parts) all_tally is
 
   pub lists_are : (listed : ℕ) → lists_found parts ≡ Some listed → (has_lists parts ≡ true) × (listed ≡ length (flat_map (slots_in_list parts) parts.heads))
   lists_are listed is =

@@ -2,8 +2,8 @@
 use Rattle.std.proofs.Common.{◌≡◌, ℕ, ◌+◌, ◌%◌, ◌<◌, eqb, Bool, true, false, not, ◌&&◌, ◌||◌, List, [], ◌∷◌, length, refl, sym, ap, ◌∙◌, subst, arith, inl, inr, Option, Some, None}
 use Rattle.std.specs.Prelude.{nat_lt, nat_le, ◌==◌, is_none, if◌then◌else◌}
 use Rattle.std.specs.List.{list_all, list_any}
-use Rattle.std.proofs.lemmas.Bool.{and_parts, and_from, or_cases, cases_Bool, eqb-true}
-use Rattle.std.proofs.lemmas.List.Folds.{Any-from_list_any}
+use Rattle.std.proofs.lemmas.Bool.{and_parts, and_from, or_cases, cases_Bool, both_ways, eqb-true}
+use Rattle.std.proofs.lemmas.List.Folds.{Any-from_list_any, list_all_at}
 use Rattle.std.proofs.lemmas.List.Sums.{AllPass-from_list_all}
 use Rattle.tlsf_class.specs.Classes.{unit, classes}
 use Rattle.tlsf_store.specs.declared.records.State.{State}
@@ -11,11 +11,11 @@ use Rattle.tlsf_store.specs.declared.records.State.TheVariants.{Vacant, Free, Li
 use Rattle.tlsf_store.specs.declared.records.Record.{Record}
 use Rattle.tlsf_store.specs.declared.pools.Pool.{Pool as StoredPool}
 use Rattle.tlsf_store.specs.Records.{blank, IsBelow}
+use Rattle.tlsf_store.specs.Cells.{head_at}
 use Rattle.tlsf_store.specs.Ranges.{can_be_pool}
 use Rattle.tlsf_heap.specs.Images.Image.{Parts, parts_in, record_in, size_word}
 use Rattle.tlsf_heap.specs.Images.Rules.{is_pool, are_pools, at, is_used, is_below, has_links_in, covers, is_among, chain_of, has_links, has_cover, has_all_on_chains, first_broken}
 use Rattle.tlsf_heap.proofs.Images.ChainLemmas.{below, record_links}
-use Rattle.tlsf_heap.proofs.Images.RecordLemmas.{head_below}
 use Rattle.tlsf_heap.proofs.Images.SizeLemmas.{of_range}
 use Rattle.tlsf_heap.proofs.Images.ImageLemmas.{record_read, records_count, heads_count}
 use Rattle.tlsf_heap.proofs.Images.UnbrokenRules.{unbroken}
@@ -46,6 +46,14 @@ free_links Live count r used linked =
 other_one : (used rest : Bool) → used ≡ true → (not used || rest) ≡ true → rest ≡ true
 other_one true rest is e = e
 other_one false rest is e = absurd (cc)
+
+-- a head is none, or one of the records
+head_below : (parts : Parts) → has_links parts ≡ true → (number : ℕ) → number < length parts.heads → IsBelow (length parts.records) (head_at parts.heads number)
+head_below parts linked number within =
+    elim (cases_Bool (is_below (length parts.records) (head_at parts.heads number))) [
+      | inl e ↦ below (length parts.records) (head_at parts.heads number) e
+      | inr e ↦ absurd (both_ways _ (list_all_at (is_below (length parts.records)) parts.heads number None within e) (and_parts _ _ linked).0)
+    ]
 
 module _ (parts : Parts) (in_units : (slot : ℕ) → (at parts slot).size % unit ≡ 0) where
   places_in_units : (from to : ℕ) (slots : List ℕ) (slot : ℕ) → covers parts from to slots ≡ true → is_among slot slots ≡ true → from % unit ≡ 0 → (at parts slot).place % unit ≡ 0

@@ -10,7 +10,7 @@ use Rattle.tlsf_store.specs.declared.records.Record.{Record}
 use Rattle.tlsf_store.specs.declared.pools.Pool.{Pool}
 use Rattle.tlsf_store.specs.Records.{blank, record_at}
 use Rattle.tlsf_store.specs.Cells.{head_at as head_of, pool_at, most_pools}
-use Rattle.tlsf_heap.specs.Images.Image.{two_at, entry_at, head_at, record_start, Parts}
+use Rattle.tlsf_heap.specs.Images.Image.{entry_at, head_at, record_start, Parts}
 use Rattle.tlsf_heap.specs.Images.Writing.{entry_bytes, head_bytes, bytes_in, record_bytes, header_bytes, image_of}
 
 -- pieces of one length
@@ -61,10 +61,6 @@ behind : (front rest : List ℕ) (size at i : ℕ) → length front ≡ size →
 behind front rest size at i long is =
     let there : at ≡ length front + i = omega (arith, long, is) in
     ap (slice_index (front ++ rest)) there ∙ get_or-append-add front rest i 0
-
--- where two and four bytes of a list stand for those of another
-two_same : (xs ys : List ℕ) (i j : ℕ) → slice_index xs i ≡ slice_index ys j → slice_index xs (i + 1) ≡ slice_index ys (j + 1) → two_at i xs ≡ two_at j ys
-two_same xs ys i j first second = omega (arith, first, second)
 
 module _ (parts : Parts) (pools_count : length parts.pools ≡ most_pools) (heads_count : length parts.heads ≡ classes) where
   abbrev image : List ℕ

@@ -51,11 +51,3 @@ gapped_stands slot live bytes at cells slot_is node_state_is some stands =
       lists = cond (bytes == 0) at.lists (entered gap at.lists);
     }) in
     subst Q (sym node_state_is) (subst P (sym none) moved)
-
--- no bytes: nothing changes
-pub gapped_none : (cells : Cells) (slot : ℕ) (at : At) → StandsAt slot InUse cells at → StandsAt slot InUse cells (at_gapped slot 0 at)
-gapped_none cells slot at stands =
-    let P : ℕ → ℕ → ℕ → Type 0 = λ s p n. StandsAt slot InUse cells (record at { node = record at.node { slot = s; place = p; size = n } }) in
-    let place : at.node.place ≡ at.node.place + 0 = omega arith in
-    let size : at.node.size ≡ at.node.size - 0 = omega arith in
-    subst (λ n. P slot (at.node.place + 0) n) size (subst (λ p. P slot p at.node.size) place (subst (λ s. P s at.node.place at.node.size) stands.1.slot_is stands))

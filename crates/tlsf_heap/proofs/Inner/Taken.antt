@@ -12,7 +12,7 @@ use Rattle.tlsf_heap.specs.Inner.Nodes.{Layout, has_slot, nodes_of}
 use Rattle.tlsf_heap.specs.Inner.Represents.{pool_view, list_view, pool_views, list_views, uses_in, Represents}
 use Rattle.tlsf_heap.proofs.Counts.{one_if}
 use Rattle.tlsf_heap.proofs.Content.FreeLists.{times-cons}
-use Rattle.tlsf_heap.proofs.Inner.Chains.{uses_most, used_below, chains_same, index_same, listed_within}
+use Rattle.tlsf_heap.proofs.Inner.Chains.{chains_same, index_same, listed_within}
 
 -- what counts differently is another slot
 pub counted_apart : (count : ℕ → ℕ) (q slot : ℕ) → 1 ≤ count q → count slot ≡ 0 → q ≢ slot
@@ -48,12 +48,3 @@ slot_taken cells layout slot was within vacant =
     taken_otherwise cells layout slot (slot ∷ layout.taken) (blank_in Free) was within (omega (arith, was.chains.once slot, spare))
     (λ q apart. omega (arith, times-cons q slot layout.taken, ap one_if (ne_eqb slot q (λ e. apart (sym e)))))
     (omega (arith, was.chains.once slot, spare, times-cons slot slot layout.taken, ap one_if (eq-eqb slot slot refl)))
-
-pub slot_given : (cells : Cells) (layout : Layout) (slot : ℕ) → Represents cells (record layout { taken = slot ∷ layout.taken }) → Represents (with_record cells slot blank) layout
-slot_given cells layout slot was =
-    let here = times-cons slot slot layout.taken in
-    let own = ap one_if (eq-eqb slot slot refl) in
-    let once = was.chains.once slot in
-    taken_otherwise cells (record layout { taken = slot ∷ layout.taken }) slot layout.taken blank was (used_below cells.records slot (omega (arith, once, here, own))) (omega (arith, once, here, own, uses_most (record_at cells.records slot).state))
-    (λ q apart. omega (arith, times-cons q slot layout.taken, ap one_if (ne_eqb slot q (λ e. apart (sym e)))))
-    (omega (arith, once, here, own, uses_most (record_at cells.records slot).state))

@@ -1,11 +1,9 @@
 -- What the plain heap's free leaves.
-use Rattle.std.proofs.Common.{◌≡◌, ℕ, ◌+◌, Bool, true, cond, [], ◌∷◌, map, ap, ◌∙◌, subst, arith, Option}
-use Rattle.std.specs.Prelude.{Ok, Err}
-use Rattle.tlsf_heap.specs.declared.refusal.Refusal.TheVariants.{BadPointer}
+use Rattle.std.proofs.Common.{◌≡◌, ℕ, ◌+◌, Bool, true, [], ◌∷◌, map, ap, ◌∙◌, subst, arith, Option}
 use Rattle.tlsf_heap.specs.Content.{Block, Content, blocks_of, size_at}
 use Rattle.tlsf_heap.specs.Lists.{link}
 use Rattle.tlsf_heap.specs.Malloc.{replaced_in}
-use Rattle.tlsf_heap.specs.Free.{is_live, free_previous, free_next, unlink_block, size_of, start_of, free_block, without_block, after_free, free}
+use Rattle.tlsf_heap.specs.Free.{is_live, free_previous, free_next, unlink_block, size_of, start_of, free_block, without_block, after_free}
 use Rattle.tlsf_heap.specs.PlainHeap.{IsPlain, IsSize}
 use Rattle.tlsf_heap.proofs.Meaning.FreedIsGood.{freed_is_good, freed_size}
 use Rattle.tlsf_heap.proofs.Meaning.FreedSlots.{after_free_slots}
@@ -16,9 +14,6 @@ Plain = Content ℕ
 -- the plain heap keeps what it keeps where a live block is freed
 pub freed_is_plain : (is_meant : ℕ → Bool) (place : ℕ) (content : Plain) → IsPlain content → is_live is_meant place (blocks_of content.pools) ≡ true → IsPlain (after_free place content)
 freed_is_plain is_meant place content plain live = record { good = freed_is_good is_meant place content plain.good live; slots = after_free_slots place content plain.slots; records_few = plain.records_few }
-
-pub free_served : (is_meant : ℕ → Bool) (place : ℕ) (content : Plain) → is_live is_meant place (blocks_of content.pools) ≡ true → free is_meant place content ≡ Ok (after_free place content)
-free_served is_meant place content h = ap (λ b. cond b (Ok (after_free place content)) (Err BadPointer)) h
 
 -- the block that is left has a size that a block can have
 pub merged_size : (is_meant : ℕ → Bool) (place : ℕ) {front here back : ℕ} {previous next : Option (Block ℕ)} {content : Plain} → IsPlain content → is_live is_meant place (blocks_of content.pools) ≡ true

@@ -1,7 +1,6 @@
 //! The rules of an image's bytes, in front of what they describe.
 
-ghost use Rattle.std.specs.Prelude.{◌≡◌, ◌+◌, ◌*◌, ◌<◌, ◌≤◌, IsTrue, length};
-ghost use Rattle.tlsf_class.specs.Classes.{classes};
+ghost use Rattle.std.specs.Prelude.{◌≡◌, ◌+◌, ◌*◌, ◌<◌, ◌≤◌, length};
 ghost use Rattle.tlsf_store.specs.Cells.{most_pools};
 ghost use Rattle.tlsf_heap.specs.Images.Image.{record_start, two_at, count_at, pools_at, pool_in};
 ghost use Rattle.tlsf_heap.specs.Images.Rules.{has_magic, has_length, has_unused_pools, has_pools, has_state, has_states};

@@ -1,7 +1,7 @@
 //! The pools of a table.
 
-ghost use Rattle.std.specs.Prelude.{◌≡◌, ◌≤◌, length};
-ghost use Rattle.tlsf_heap.specs.Images.Rules.{is_pool, are_pools, has_packed_pools};
+ghost use Rattle.std.specs.Prelude.{◌≡◌};
+ghost use Rattle.tlsf_heap.specs.Images.Rules.{is_pool, has_packed_pools};
 ghost use Rattle.tlsf_heap.specs.Images.HasParts.{OnlyReads};
 
 use super::HasParts;

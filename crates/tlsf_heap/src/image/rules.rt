@@ -1,6 +1,6 @@
 //! The rules of what a table describes.
 
-ghost use Rattle.std.specs.Prelude.{◌≡◌, ◌≤◌, true};
+ghost use Rattle.std.specs.Prelude.{◌≡◌, true};
 ghost use Rattle.tlsf_heap.specs.Images.Rules.{first_of, has_ordered_pools, rules_of_parts, rules_of_table};
 ghost use Rattle.tlsf_heap.specs.Images.HasParts.{OnlyReads};
 

@@ -1,13 +1,13 @@
 //! An image is written.
 
-ghost use Rattle.std.specs.Prelude.{◌≡◌, ◌+◌, ◌*◌, ◌%◌, ◌≤◌, ◌<◌, ◌++◌, ℕ, length, drop};
+ghost use Rattle.std.specs.Prelude.{◌≡◌, ◌+◌, ◌*◌, ◌%◌, ◌≤◌, ◌<◌, length};
 ghost use Rattle.std.specs.List.{flat_map};
 ghost use Rattle.arrayvec.specs.ArrayVec.{array_vec_len};
 ghost use Rattle.tlsf_class.specs.Classes.{unit, classes};
 ghost use Rattle.tlsf_store.specs.Records.{most_records};
 ghost use Rattle.tlsf_store.specs.Cells.{most_pools};
 ghost use Rattle.mtrace_log.specs.Output.{Puts};
-ghost use Rattle.tlsf_heap.specs.Images.Writing.{Appends, two, four, word_of, block_bytes, record_bytes, entry_bytes, head_bytes, header_bytes, image_of};
+ghost use Rattle.tlsf_heap.specs.Images.Writing.{Appends, two, four, block_bytes, record_bytes, entry_bytes, head_bytes, header_bytes, image_of};
 ghost use Rattle.tlsf_heap.specs.Images.HasParts.{OnlyReads};
 ghost use Rattle.tlsf_heap.specs.Inner.Entries.{entries_of};
 
