@@ -8,7 +8,6 @@ pub mod Following
 pub mod At
 pub mod Entering
 pub mod Bitmaps
-pub mod Chains
 pub mod Edits
 pub mod Entries
 pub mod Loading

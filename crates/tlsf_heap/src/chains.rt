@@ -4,8 +4,7 @@ ghost use Rattle.std.specs.Prelude.{◌≡◌, ◌≢◌, ◌+◌, ◌%◌, ◌<
 ghost use Rattle.tlsf_class.specs.Classes.{unit};
 ghost use Rattle.tlsf_store.specs.declared.records.State.TheVariants.{Vacant};
 ghost use Rattle.tlsf_heap.specs.Pools.{end_of_places};
-ghost use Rattle.tlsf_heap.specs.Inner.Edits.{IsUsed};
-ghost use Rattle.tlsf_heap.specs.Inner.Chains.{with_prev, with_state};
+ghost use Rattle.tlsf_heap.specs.Inner.Edits.{IsUsed, with_prev, with_state};
 ghost use Rattle.tlsf_heap.specs.Inner.Spans.{IsRead, split_by, merged_behind_by};
 ghost use Rattle.tlsf_store.specs.CountedCells.{LeavesAfter};
 ghost use Rattle.tlsf_heap.specs.Inner.Answers.{Leaves};

@@ -1,18 +1,20 @@
 -- A listed node leaves its list and is in use, and the rest behind its first bytes is listed. What the steps need and
 -- leave.
-use Rattle.std.proofs.Common.{◌≡◌, ℕ, ◌+◌, ◌-◌, ◌%◌, ◌<◌, Bool, List, ◌∷◌, length, map, refl, ap, subst, arith, Option, Some, true, false, cond, [], ◌++◌, sym, count_by}
+use Rattle.std.proofs.Common.{◌≡◌, ℕ, ◌+◌, ◌-◌, ◌%◌, ◌<◌, ◌≤◌, ◌∙◌, Bool, List, ◌∷◌, length, map, refl, ap, subst, arith, Option, Some, true, false, cond, [], ◌++◌, sym, count_by}
 use Rattle.std.proofs.lemmas.Bool.{eq-eqb, ne_eqb}
-use Rattle.tlsf_class.specs.Classes.{unit, class}
+use Rattle.tlsf_class.specs.Classes.{unit, class, greatest_size}
 use Rattle.tlsf_store.specs.declared.records.State.TheVariants.{Free, Live}
+use Rattle.tlsf_store.specs.declared.records.Record.{Record}
 use Rattle.tlsf_store.specs.Records.{blank, record_at}
 use Rattle.tlsf_store.specs.Cells.{Cells, with_taken}
 use Rattle.tlsf_heap.specs.Good.{Covers}
-use Rattle.tlsf_heap.specs.Inner.Edits.{IsUsed, unlinked}
-use Rattle.tlsf_heap.specs.Inner.Chains.{split}
+use Rattle.tlsf_heap.specs.declared.span.Span.{Span}
+use Rattle.tlsf_heap.specs.Inner.Edits.{IsUsed, unlinked_by}
+use Rattle.tlsf_heap.specs.Inner.Spans.{IsRead, span_at, split_by}
 use Rattle.tlsf_heap.specs.Inner.Nodes.{NodeState, InUse, Listed, Loose, Node, turned, rest_node, block_of, is_listed, Layout, pool_of, nodes_of}
 use Rattle.tlsf_heap.specs.Inner.Merging.{is_loose}
 use Rattle.tlsf_heap.specs.Inner.Represents.{Represents}
-use Rattle.tlsf_heap.specs.Inner.At.{At, layout_at, StandsAt, at_unlisted, with_slot, at_split, AreCovered, at_split_off, at_split_rest}
+use Rattle.tlsf_heap.specs.Inner.At.{At, layout_at, StandsAt, at_unlisted, with_slot, at_turned, at_split, AreCovered, at_split_off, at_split_rest}
 use Rattle.tlsf_heap.proofs.Counts.{one_if, count-cons}
 use Rattle.tlsf_heap.proofs.Inner.Plugs.{count-filled}
 use Rattle.tlsf_heap.proofs.Content.FreeLists.{times-cons}
@@ -21,7 +23,8 @@ use Rattle.tlsf_heap.proofs.Inner.Used.{stands_used, next_used}
 use Rattle.tlsf_heap.proofs.Inner.Unlinked.{unlinked_laid, prev_free_used, next_free_used}
 use Rattle.tlsf_heap.proofs.Inner.Split.{split_laid}
 use Rattle.tlsf_heap.proofs.Inner.Taken.{slot_taken}
-use Rattle.tlsf_heap.proofs.Inner.Steps.{covered_turned}
+use Rattle.tlsf_heap.proofs.Inner.Steps.{size_read, whole_at, covered_turned}
+use Rattle.tlsf_heap.proofs.Inner.Spans.{span_is}
 use Rattle.tlsf_heap.proofs.Meaning.Covered.{covered_refilled}
 use Rattle.std.specs.Prelude.{◌==◌}
 use Rattle.tlsf_heap.specs.Inner.Positions.{filled}
@@ -33,22 +36,46 @@ module _ (cells : Cells) (slot : ℕ) (at : At) (stands : StandsAt slot Listed c
       let same : at.node ≡ turned Listed at.node = ap (λ s. turned s at.node) stands.1.node_state_is in
       subst P same stands.0
 
-  pub prev_used : IsUsed cells.records (record_at cells.records slot).prev_free
+  prev_used : IsUsed cells.records (record_at cells.records slot).prev_free
   prev_used =
       let P : ℕ → Type 0 = λ q. IsUsed cells.records (record_at cells.records q).prev_free in
       subst P stands.1.slot_is (prev_free_used cells at.count at.position (turned Listed at.node) at.nodes at.lists at.taken listed_was)
 
-  pub behind_used : IsUsed cells.records (record_at cells.records slot).next_free
+  behind_used : IsUsed cells.records (record_at cells.records slot).next_free
   behind_used =
       let P : ℕ → Type 0 = λ q. IsUsed cells.records (record_at cells.records q).next_free in
       subst P stands.1.slot_is (next_free_used cells at.count at.position (turned Listed at.node) at.nodes at.lists at.taken listed_was)
 
-  pub unlinked_stands : StandsAt slot Loose (unlinked (class at.node.size) slot cells) (at_unlisted at)
-  unlinked_stands =
-      let P : ℕ → Type 0 = λ q. Represents (unlinked (class at.node.size) q cells) (layout_at (at_unlisted at)) in (
-        subst P stands.1.slot_is (unlinked_laid cells at.count at.position (turned Listed at.node) at.nodes at.lists at.taken listed_was),
-        record { slot_is = stands.1.slot_is; node_state_is = refl; others_settled = stands.1.others_settled; covered = covered_turned cells slot Listed at stands Loose },
-      )
+-- what is known of a listed block whose record was read
+pub record ListedRead (cells : Cells) (block : Record) : Type 0 where
+  pub some : unit ≤ block.size
+  pub whole : block.size % unit ≡ 0
+  pub most : block.size ≤ greatest_size
+  pub prev_used : IsUsed cells.records block.prev_free
+  pub next_used : IsUsed cells.records block.next_free
+
+pub listed_read : (cells : Cells) (slot : ℕ) (block : Record) (at : At) → StandsAt slot Listed cells at → block ≡ record_at cells.records slot → ListedRead cells block
+listed_read cells slot block at stands read =
+    let all = whole_at cells slot Listed at stands in
+    let size = ap (λ (r : Record). r.size) read ∙ size_read cells slot Listed at stands in
+    let P : Option ℕ → Type 0 = λ o. IsUsed cells.records o in
+    record {
+      some = omega (arith, all.positive, all.in_units, size);
+      whole = ap (λ n. n % unit) size ∙ all.in_units;
+      most = omega (arith, all.at_most, size);
+      prev_used = subst P (ap (λ (r : Record). r.prev_free) (sym read)) (prev_used cells slot at stands);
+      next_used = subst P (ap (λ (r : Record). r.next_free) (sym read)) (behind_used cells slot at stands);
+    }
+
+-- and what stands once it left its list
+pub read_leaves : (old new : Cells) (slot number : ℕ) (block : Record) (at : At) → StandsAt slot Listed old at → block ≡ record_at old.records slot → number ≡ class block.size → new ≡ unlinked_by number block old → StandsAt slot Loose new (at_unlisted at)
+read_leaves old new slot number block at stands read number_is is =
+    let size = ap (λ (r : Record). r.size) read ∙ size_read old slot Listed at stands in
+    let P : ℕ → Type 0 = λ q. Represents (unlinked_by (class at.node.size) (record_at old.records q) old) (layout_at (at_unlisted at)) in
+    let left = subst P stands.1.slot_is (unlinked_laid old at.count at.position (turned Listed at.node) at.nodes at.lists at.taken (listed_was old slot at stands)) in (
+      subst (λ c. Represents c (layout_at (at_unlisted at))) (sym (is ∙ (λ i. unlinked_by ((number_is ∙ ap class size) i) (read i) old))) left,
+      record { slot_is = stands.1.slot_is; node_state_is = refl; others_settled = stands.1.others_settled; covered = covered_turned old slot Listed at stands Loose },
+    )
 
 -- a vacant record was taken meanwhile
 pub slot_stands : (old new : Cells) (result : Option ℕ) (slot rest : ℕ) (node_state : NodeState) (at : At) → StandsAt slot node_state old at → result ≡ Some rest → new ≡ with_taken old result → rest < length old.records → record_at old.records rest ≡ blank
@@ -72,44 +99,49 @@ module _ (cells : Cells) (slot rest : ℕ) (node_state : NodeState) (at : At) (s
       let P : ℕ → Type 0 = λ q. IsUsed cells.records (record_at cells.records q).next in
       subst P stands.1.slot_is (next_used cells.records at.position at.node at.nodes (rest ∷ at.taken) (at_node cells.records at.position at.node at.nodes (rest ∷ at.taken) stands.0.chains))
 
-module _ (cells : Cells) (slot rest : ℕ) (at : At) (stands : StandsAt slot InUse cells (with_slot rest at)) where
-  module _ (bytes : ℕ) (some : 0 < bytes) (less : bytes < at.node.size) (whole : bytes % unit ≡ 0) where
-    pub split_stands : StandsAt rest Loose (split slot rest Free bytes cells) (at_split rest bytes at)
-    split_stands =
-        let P : ℕ → Type 0 = λ q. Represents (split q rest Free bytes cells) (layout_at (at_split rest bytes at)) in
-        let loose : Node → Bool = λ n. is_loose n.state in
-        let first : Node = record at.node { size = bytes } in (
-          subst P stands.1.slot_is (split_laid cells at.count at.position at.node at.nodes at.lists rest Loose at.taken bytes stands.0 (ap is_listed stands.1.node_state_is) refl),
-          record {
-            slot_is = refl;
-            node_state_is = refl;
-            others_settled = omega (
-              arith,
-              stands.1.others_settled,
-              count-filled loose at.position at.nodes,
-              count-filled loose (record at.position { before = first ∷ at.position.before }) at.nodes,
-              count-cons loose first at.position.before,
-              ap (λ s. one_if (is_loose s)) stands.1.node_state_is,
-            );
-            covered = covered_refilled at.position (at.node ∷ at.nodes) (first ∷ rest_node rest bytes at.node ∷ at.nodes) (covers_split rest bytes at.node at.nodes some less whole) stands.1.covered;
-          },
-        )
+-- a block that was read, and was split into one in use and a loose one
+pub span_splits : (old new : Cells) (span : Span) (node_state : NodeState) (rest bytes : ℕ) (at : At) → is_listed node_state ≡ false → StandsAt span.slot node_state old (with_slot rest at) → IsRead span old.records → 0 < bytes → bytes < span.size → bytes % unit ≡ 0
+    → new ≡ split_by span Live rest Free bytes old → StandsAt rest Loose new (at_split rest bytes (at_turned InUse at))
+span_splits old new span node_state rest bytes at unlisted stands read some less whole is =
+    let loose : Node → Bool = λ n. is_loose n.state in
+    let first : Node = record at.node { size = bytes; state = InUse } in
+    let known : span ≡ span_at at = span_is old node_state (with_slot rest at) span stands read in
+    let size = ap (λ (s : Span). s.size) known in (
+      subst (λ c. Represents c (layout_at (at_split rest bytes (at_turned InUse at)))) (sym (is ∙ ap (λ s. split_by s Live rest Free bytes old) known))
+          (split_laid old at.count at.position at.node at.nodes at.lists rest InUse Loose at.taken bytes stands.0 (ap is_listed stands.1.node_state_is ∙ unlisted) refl refl),
+      record {
+        slot_is = refl;
+        node_state_is = refl;
+        others_settled = omega (
+          arith,
+          stands.1.others_settled,
+          count-filled loose at.position at.nodes,
+          count-filled loose (record at.position { before = first ∷ at.position.before }) at.nodes,
+          count-cons loose first at.position.before,
+        );
+        covered = covered_refilled at.position (at.node ∷ at.nodes) (first ∷ rest_node rest bytes at.node ∷ at.nodes) (covers_split rest bytes at.node at.nodes some (omega (arith, less, size)) whole) stands.1.covered;
+      },
+    )
 
 -- the node keeps its first bytes, and a live one of what is left stands behind it
 abbrev pub at_front : ℕ → ℕ → At → At
 at_front live bytes at = record at { node = record at.node { size = bytes }; nodes = turned InUse (rest_node live bytes at.node) ∷ at.nodes }
 
-pub front_stands : (cells : Cells) (slot live bytes : ℕ) (at : At) → StandsAt slot Loose cells (with_slot live at) → 0 < bytes → bytes < at.node.size → bytes % unit ≡ 0 → StandsAt slot Loose (split slot live Live bytes cells) (at_front live bytes at)
-front_stands cells slot live bytes at stands some less whole =
-    let P : ℕ → Type 0 = λ q. Represents (split q live Live bytes cells) (layout_at (at_front live bytes at)) in
+-- the same, where the first bytes become free and the rest is live
+pub span_gaps : (old new : Cells) (span : Span) (live bytes : ℕ) (at : At) → StandsAt span.slot InUse old (with_slot live at) → IsRead span old.records → 0 < bytes → bytes < span.size → bytes % unit ≡ 0
+    → new ≡ split_by span Free live Live bytes old → StandsAt span.slot Loose new (at_front live bytes (at_turned Loose at))
+span_gaps old new span live bytes at stands read some less whole is =
     let loose : Node → Bool = λ n. is_loose n.state in
-    let second : Node = turned InUse (rest_node live bytes at.node) in (
-      subst P stands.1.slot_is (split_laid cells at.count at.position at.node at.nodes at.lists live InUse at.taken bytes stands.0 (ap is_listed stands.1.node_state_is) refl),
+    let second : Node = turned InUse (rest_node live bytes at.node) in
+    let known : span ≡ span_at at = span_is old InUse (with_slot live at) span stands read in
+    let size = ap (λ (s : Span). s.size) known in (
+      subst (λ c. Represents c (layout_at (at_front live bytes (at_turned Loose at)))) (sym (is ∙ ap (λ s. split_by s Free live Live bytes old) known))
+          (split_laid old at.count at.position at.node at.nodes at.lists live Loose InUse at.taken bytes stands.0 (ap is_listed stands.1.node_state_is) refl refl),
       record {
         slot_is = stands.1.slot_is;
-        node_state_is = stands.1.node_state_is;
+        node_state_is = refl;
         others_settled = omega (arith, stands.1.others_settled, count-filled loose at.position at.nodes, count-filled loose at.position (second ∷ at.nodes), count-cons loose second at.nodes);
-        covered = covered_refilled at.position (at.node ∷ at.nodes) (record at.node { size = bytes } ∷ second ∷ at.nodes) (covers_split live bytes at.node at.nodes some less whole) stands.1.covered;
+        covered = covered_refilled at.position (at.node ∷ at.nodes) (record at.node { size = bytes; state = Loose } ∷ second ∷ at.nodes) (covers_split live bytes at.node at.nodes some (omega (arith, less, size)) whole) stands.1.covered;
       },
     )
 

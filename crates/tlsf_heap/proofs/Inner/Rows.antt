@@ -5,8 +5,9 @@ use Rattle.tlsf_store.specs.declared.records.State.TheVariants.{Free, Live}
 use Rattle.tlsf_store.specs.Cells.{Cells, empty_cells, with_taken}
 use Rattle.tlsf_store.specs.declared.pools.Pool.{Pool as StoredPool}
 use Rattle.tlsf_heap.specs.Content.{Content}
-use Rattle.tlsf_heap.specs.Inner.Edits.{linked, unlinked}
-use Rattle.tlsf_heap.specs.Inner.Chains.{with_state, split}
+use Rattle.tlsf_store.specs.Records.{record_at}
+use Rattle.tlsf_heap.specs.Inner.Edits.{linked, unlinked_by}
+use Rattle.tlsf_heap.specs.Inner.Spans.{span_of, split_by}
 use Rattle.tlsf_heap.specs.Inner.Entries.{pool_entered}
 use Rattle.tlsf_heap.specs.Free.{after_free}
 use Rattle.tlsf_heap.specs.Malloc.{malloc}
@@ -26,7 +27,10 @@ position before = record { areas_before = []; entry = entry; before = before; ar
 
 -- its first 112 bytes are taken
 abbrev first_split : Cells
-first_split = with_state 0 Live (linked 57 1 (split 0 1 Free 112 (unlinked 64 0 (with_taken (pool_entered entry (with_taken (empty_cells 4) (Some 0))) (Some 1)))))
+first_split =
+    let old = with_taken (pool_entered entry (with_taken (empty_cells 4) (Some 0))) (Some 1) in
+    let block = record_at old.records 0 in
+    linked 57 1 (split_by (span_of 0 block) Live 1 Free 112 (unlinked_by 64 block old))
 
 abbrev taken : Node
 taken = record { slot = 0; place = 0; size = 112; state = InUse }

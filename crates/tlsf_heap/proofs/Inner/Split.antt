@@ -1,5 +1,5 @@
 -- A block that is in no list keeps its first bytes, and a taken slot has the rest.
-use Rattle.std.proofs.Common.{◌≡◌, ◌≢◌, ℕ, ◌+◌, ◌-◌, ◌≤◌, Bool, false, ◌&&◌, List, ◌∷◌, set, refl, sym, ap, ◌∙◌, subst, arith, count_by, length, Option, Some}
+use Rattle.std.proofs.Common.{◌≡◌, ◌≢◌, ℕ, ◌+◌, ◌≤◌, Bool, false, ◌&&◌, List, ◌∷◌, set, refl, sym, ap, ◌∙◌, arith, count_by, length, Some}
 use Rattle.std.proofs.lemmas.Bool.{eq-eqb}
 use Rattle.std.proofs.lemmas.List.{length-set}
 use Rattle.tlsf_store.specs.declared.records.Record.{Record}
@@ -7,11 +7,11 @@ use Rattle.tlsf_store.specs.Records.{record_at}
 use Rattle.tlsf_store.specs.Cells.{Cells}
 use Rattle.tlsf_store.proofs.RecordLaws.{record_at-set_same, record_at-set_other}
 use Rattle.tlsf_heap.specs.Inner.Edits.{edited_in}
-use Rattle.tlsf_heap.specs.Inner.Chains.{rest_record, split}
+use Rattle.tlsf_heap.specs.Inner.Spans.{node_span, rest_of, split_by}
 use Rattle.tlsf_heap.specs.Good.{times}
 use Rattle.tlsf_heap.specs.Inner.Nodes.{NodeState, Node, turned, rest_node, has_slot, nodes_in, is_listed, is_listed_in}
 use Rattle.tlsf_heap.specs.Inner.Positions.{Position, laid, filled}
-use Rattle.tlsf_heap.specs.Inner.Represents.{InPool, pool_view, list_view, pool_views, list_views, in_pool, first_slot, state_of, uses_in, Represented, Represents}
+use Rattle.tlsf_heap.specs.Inner.Represents.{InPool, pool_view, list_view, pool_views, list_views, in_pool, first_slot, state_of, uses_in, Represents}
 use Rattle.tlsf_heap.proofs.Counts.{one_if, count-cons}
 use Rattle.tlsf_heap.proofs.Inner.Plugs.{around}
 use Rattle.tlsf_heap.proofs.Inner.Links.{linked_moved, first_stands}
@@ -19,19 +19,22 @@ use Rattle.tlsf_heap.proofs.Inner.Reads.{length-edited, edited_here, edited_apar
 use Rattle.tlsf_heap.proofs.Content.FreeLists.{times-cons}
 use Rattle.tlsf_heap.proofs.Inner.Chains.{uses_node, not_taken, unlisted, listed_within, AtNode, at_node, refilled}
 
-module _ (cells : Cells) (count : ℕ) (position : Position) (node : Node) (nodes : List Node) (lists : List (List Node)) (rest : ℕ) (back : NodeState) (taken : List ℕ) (bytes : ℕ)
-    (was : Represents cells (laid count position (node ∷ nodes) lists (rest ∷ taken))) (was_not : is_listed node.state ≡ false) (back_not : is_listed back ≡ false) where
-  abbrev old : Record
-  old = record_at cells.records node.slot
+module _ (cells : Cells) (count : ℕ) (position : Position) (node : Node) (nodes : List Node) (lists : List (List Node)) (rest : ℕ) (front back : NodeState) (taken : List ℕ) (bytes : ℕ)
+    (was : Represents cells (laid count position (node ∷ nodes) lists (rest ∷ taken))) (was_not : is_listed node.state ≡ false) (front_not : is_listed front ≡ false) (back_not : is_listed back ≡ false) where
+  abbrev left : Record
+  left = rest_of (state_of back) (node_span node nodes) bytes
 
-  abbrev kept : Record
-  kept = record old { size = bytes; next = Some rest }
+  abbrev kept : Record → Record
+  kept r = record r { size = bytes; state = state_of front; next = Some rest }
 
   abbrev moved : Record → Record
   moved r = record r { prev = Some rest }
 
+  abbrev one : List Record
+  one = set cells.records rest left
+
   abbrev two : List Record
-  two = set (set cells.records rest (rest_record (state_of back) node.slot bytes old)) node.slot kept
+  two = edited_in kept (Some node.slot) one
 
   abbrev new : List Record
   new = edited_in moved (first_slot nodes) two
@@ -46,7 +49,7 @@ module _ (cells : Cells) (count : ℕ) (position : Position) (node : Node) (node
   apart = here.taken_apart rest rest_counts
 
   same_count : length two ≡ length cells.records
-  same_count = length-set (set cells.records rest (rest_record (state_of back) node.slot bytes old)) node.slot kept ∙ length-set cells.records rest (rest_record (state_of back) node.slot bytes old)
+  same_count = length-edited kept (Some node.slot) one ∙ length-set cells.records rest left
 
   rest_apart : (q : ℕ) → 1 ≤ around (has_slot q) position + count_by (has_slot q) (node ∷ nodes) → q ≢ rest
   rest_apart q h = (not_taken q rest taken (omega (arith, h, here.most q))).0
@@ -55,48 +58,49 @@ module _ (cells : Cells) (count : ℕ) (position : Position) (node : Node) (node
   behind_rest_apart q h = rest_apart q (omega (arith, h, count-cons (has_slot q) node nodes))
 
   others : (q : ℕ) → q ≢ node.slot → q ≢ rest → record_at two q ≡ record_at cells.records q
-  others q a b = record_at-set_other (set cells.records rest (rest_record (state_of back) node.slot bytes old)) node.slot q kept a ∙ record_at-set_other cells.records rest q _ b
+  others q a b = record_at-set_other one node.slot q (kept (record_at one node.slot)) a ∙ record_at-set_other cells.records rest q left b
 
   not_first : (q : ℕ) → count_by (has_slot q) nodes ≡ 0 → record_at new q ≡ record_at two q
   not_first q none = edited_apart moved (first_slot nodes) two q (λ e. omega (arith, none, first_stands nodes q e))
 
-  at_slot : record_at new node.slot ≡ kept
+  still : record_at one node.slot ≡ record_at cells.records node.slot
+  still = record_at-set_other cells.records rest node.slot left (λ e. apart (sym e))
+
+  at_slot : record_at new node.slot ≡ kept (record_at cells.records node.slot)
   at_slot =
       not_first node.slot (omega (arith, here.most node.slot, count-cons (has_slot node.slot) node nodes, ap one_if (eq-eqb node.slot node.slot refl)))
-      ∙ record_at-set_same (set cells.records rest (rest_record (state_of back) node.slot bytes old)) node.slot kept (omega (arith, length-set cells.records rest (rest_record (state_of back) node.slot bytes old), here.below))
+      ∙ edited_here kept (Some node.slot) one node.slot (omega (arith, length-set cells.records rest left, here.below)) refl ∙ ap kept still
 
-  at_rest : record_at new rest ≡ rest_record (state_of back) node.slot bytes old
+  at_rest : record_at new rest ≡ left
   at_rest =
       not_first rest (omega (arith, here.most rest, rest_counts, count-cons (has_slot rest) node nodes))
-      ∙ record_at-set_other (set cells.records rest (rest_record (state_of back) node.slot bytes old)) node.slot rest kept apart ∙ record_at-set_same cells.records rest _ (here.taken_below rest rest_counts)
+      ∙ record_at-set_other one node.slot rest (kept (record_at one node.slot)) apart ∙ record_at-set_same cells.records rest left (here.taken_below rest rest_counts)
 
   -- what is seen alike of the block and what it was, and of what is read at the others' slots
-  seen : {V : Type 0} (view : Record → V) → ((r : Record) → view (moved r) ≡ view r) → view kept ≡ view old → (q : ℕ) → view (record_at (set cells.records rest (rest_record (state_of back) node.slot bytes old)) q) ≡ view (record_at cells.records q) → view (record_at new q) ≡ view (record_at cells.records q)
-  seen view same_moved same_kept q same =
-      edited_kept view moved same_moved (first_slot nodes) two q
-      ∙ set_kept view (set cells.records rest (rest_record (state_of back) node.slot bytes old)) node.slot kept (same_kept ∙ sym (ap view (record_at-set_other cells.records rest node.slot _ (λ e. apart (sym e))))) q ∙ same
+  seen : {V : Type 0} (view : Record → V) → ((r : Record) → view (moved r) ≡ view r) → view (kept (record_at one node.slot)) ≡ view (record_at one node.slot) → (q : ℕ) → view (record_at one q) ≡ view (record_at cells.records q) → view (record_at new q) ≡ view (record_at cells.records q)
+  seen view same_moved same_kept q same = edited_kept view moved same_moved (first_slot nodes) two q ∙ set_kept view one node.slot (kept (record_at one node.slot)) same_kept q ∙ same
 
   in_use : (q : ℕ) → uses_in (record_at new q).state ≡ uses_in (record_at cells.records q).state
   in_use q =
       let view : Record → ℕ = λ r. uses_in r.state in
       let rest_used : uses_in (state_of back) ≡ uses_in (record_at cells.records rest).state = omega (arith, uses_node back, here.once rest, rest_counts, here.most rest) in
-      seen view (λ r. refl) refl q (set_kept view cells.records rest (rest_record (state_of back) node.slot bytes old) rest_used q)
+      seen view (λ r. refl) (uses_node front ∙ sym (ap view still ∙ here.used)) q (set_kept view cells.records rest left rest_used q)
 
   listed_same : (number q : ℕ) → 1 ≤ count_by (has_slot q) (nodes_in number lists) → list_views new q ≡ list_views cells.records q
   listed_same number q h =
-      seen list_view (λ r. refl) refl q (ap list_view (record_at-set_other cells.records rest q _
+      seen list_view (λ r. refl) refl q (ap list_view (record_at-set_other cells.records rest q left
       (not_taken q rest taken (omega (arith, h, listed_within (filled position (node ∷ nodes)) lists was.agree number q, was.chains.once q, here.most q, here.once q))).0))
 
-  split_before : Represented new cells.heads cells.level_word cells.step_words cells.pools (laid count position (record node { size = bytes } ∷ turned back (rest_node rest bytes node) ∷ nodes) lists taken)
-  split_before =
-      let first : Node = record node { size = bytes } in
+  pub split_laid : Represents (split_by (node_span node nodes) (state_of front) rest (state_of back) bytes cells) (laid count position (record node { size = bytes; state = front } ∷ turned back (rest_node rest bytes node) ∷ nodes) lists taken)
+  split_laid =
+      let first : Node = record node { size = bytes; state = front } in
       let second : Node = turned back (rest_node rest bytes node) in
       refilled cells count position (node ∷ nodes) (first ∷ second ∷ nodes) lists (rest ∷ taken) taken new was (length-edited moved (first_slot nodes) two ∙ same_count)
       (λ q h. not_first q (omega (arith, h, here.most q, count-cons (has_slot q) node nodes)) ∙ others q (here.outside_apart q h) (rest_apart q (omega (arith, h))))
       refl (
-        ap pool_view at_slot ∙ ap (λ (v : InPool). record v { size = bytes; next = Some rest }) here.says,
+        ap pool_view at_slot ∙ ap (λ (v : InPool). record v { size = bytes; state = state_of front; next = Some rest }) here.says,
         (
-          ap pool_view at_rest ∙ ap (λ (v : InPool). record { place = v.place + bytes; size = v.size - bytes; state = state_of back; prev = Some node.slot; next = v.next }) here.says,
+          ap pool_view at_rest,
           linked_moved in_pool (pool_views cells.records) (pool_views new) (λ v. record v { prev = Some rest }) (Some node.slot) (Some rest) (λ other next. refl) nodes here.behind_once
               (λ q is.
               let h = first_stands nodes q is in
@@ -109,10 +113,4 @@ module _ (cells : Cells) (count : ℕ) (position : Position) (node : Node) (node
       listed_same
       (λ number test.
       let listed : Node → Bool = λ other. is_listed_in number other && test other in
-      omega (arith, count-cons listed node nodes, count-cons listed first (second ∷ nodes), count-cons listed second nodes, unlisted number test node was_not, unlisted number test first was_not, unlisted number test second back_not))
-
-  pub split_laid : Represents (split node.slot rest (state_of back) bytes cells) (laid count position (record node { size = bytes } ∷ turned back (rest_node rest bytes node) ∷ nodes) lists taken)
-  split_laid =
-      let P : Option ℕ → Type 0 = λ next.
-      Represented (edited_in moved next two) cells.heads cells.level_word cells.step_words cells.pools (laid count position (record node { size = bytes } ∷ turned back (rest_node rest bytes node) ∷ nodes) lists taken) in
-      subst P (sym (ap (λ (v : InPool). v.next) here.says)) split_before
+      omega (arith, count-cons listed node nodes, count-cons listed first (second ∷ nodes), count-cons listed second nodes, unlisted number test node was_not, unlisted number test first front_not, unlisted number test second back_not))

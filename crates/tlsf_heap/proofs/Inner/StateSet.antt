@@ -4,8 +4,7 @@ use Rattle.std.proofs.lemmas.Bool.{cases_eq}
 use Rattle.tlsf_store.specs.declared.records.Record.{Record}
 use Rattle.tlsf_store.specs.Records.{record_at}
 use Rattle.tlsf_store.specs.Cells.{Cells}
-use Rattle.tlsf_heap.specs.Inner.Edits.{edited_in}
-use Rattle.tlsf_heap.specs.Inner.Chains.{with_state}
+use Rattle.tlsf_heap.specs.Inner.Edits.{edited_in, with_state}
 use Rattle.tlsf_heap.specs.Inner.Nodes.{NodeState, Node, turned, has_slot, is_listed, is_listed_in}
 use Rattle.tlsf_heap.specs.Inner.Positions.{Position, laid}
 use Rattle.tlsf_heap.specs.Inner.Represents.{InPool, pool_view, list_view, pool_views, state_of, in_pool, uses_in, Represents}

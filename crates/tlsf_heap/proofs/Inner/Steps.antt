@@ -3,11 +3,10 @@ use Rattle.std.proofs.Common.{◌≡◌, ℕ, false, ◌∷◌, map, refl, sym, 
 use Rattle.tlsf_class.specs.Classes.{class}
 use Rattle.tlsf_store.specs.Records.{record_at}
 use Rattle.tlsf_store.specs.Cells.{Cells, head_at}
-use Rattle.tlsf_heap.specs.Inner.Edits.{IsUsed, linked}
-use Rattle.tlsf_heap.specs.Inner.Chains.{with_state}
+use Rattle.tlsf_heap.specs.Inner.Edits.{IsUsed, linked, with_state}
 use Rattle.tlsf_heap.specs.Inner.At.{AreCovered}
 use Rattle.tlsf_heap.specs.Inner.Nodes.{NodeState, Listed, Loose, Node, turned, block_of, pool_of, is_listed}
-use Rattle.tlsf_heap.specs.Inner.Represents.{InPool, state_of, Represents}
+use Rattle.tlsf_heap.specs.Inner.Represents.{InPool, state_of, first_slot, Represents}
 use Rattle.tlsf_heap.specs.Inner.At.{At, areas_at, layout_at, StandsAt, at_turned, at_listed}
 use Rattle.tlsf_heap.proofs.Good.Calls.{IsWhole}
 use Rattle.tlsf_heap.proofs.Inner.Chains.{AtNode, at_node}
@@ -30,6 +29,16 @@ module _ (cells : Cells) (slot : ℕ) (node_state : NodeState) (at : At) (stands
 
   pub place_read : (record_at cells.records slot).place ≡ at.node.place
   place_read = ap (λ q. (record_at cells.records q).place) (sym stands.1.slot_is) ∙ ap (λ (v : InPool). v.place) here.says
+
+  pub prev_is : (record_at cells.records slot).prev ≡ first_slot at.position.before
+  prev_is = ap (λ q. (record_at cells.records q).prev) (sym stands.1.slot_is) ∙ ap (λ (v : InPool). v.prev) here.says
+
+  pub next_is : (record_at cells.records slot).next ≡ first_slot at.nodes
+  next_is = ap (λ q. (record_at cells.records q).next) (sym stands.1.slot_is) ∙ ap (λ (v : InPool). v.next) here.says
+
+  -- the state that its record says
+  pub state_read : (record_at cells.records slot).state ≡ state_of node_state
+  state_read = ap (λ q. (record_at cells.records q).state) (sym stands.1.slot_is) ∙ ap (λ (v : InPool). v.state) here.says ∙ ap state_of stands.1.node_state_is
 
   pub whole_at : IsWhole (block_of at.node)
   whole_at = node_whole at.position at.node at.nodes stands.1.covered

@@ -9,7 +9,7 @@ use Rattle.tlsf_store.specs.Records.{record_at}
 use Rattle.tlsf_store.specs.Cells.{Cells, with_head, with_level_word, with_step_word, head_at}
 use Rattle.tlsf_heap.specs.Images.Bitmaps.{AreBitmapsOf, head_bit}
 use Rattle.tlsf_heap.specs.Inner.Entries.{padded}
-use Rattle.tlsf_heap.specs.Inner.Edits.{edited_in, without_bit, IsUsed, with_prev_free, with_behind, with_level_cleared, unlinked}
+use Rattle.tlsf_heap.specs.Inner.Edits.{edited_in, without_bit, IsUsed, with_prev_free, with_behind, with_level_cleared, unlinked_by}
 use Rattle.tlsf_heap.specs.Inner.Nodes.{Node, Area, Listed, Loose, turned, nodes_of, has_slot, nodes_in, is_listed_in, without_slot, left}
 use Rattle.tlsf_heap.specs.Inner.Positions.{plug, Position, laid, filled}
 use Rattle.tlsf_heap.specs.Inner.Represents.{InList, pool_view, list_view, pool_views, list_views, in_list, first_slot, AreLinked, AreChains, Agree, Represented, Represents}
@@ -199,7 +199,7 @@ module _ (cells : Cells) (count : ℕ) (position : Position) (node : Node) (node
       (ap (λ heads. set heads (class node.size) None) was.index.heads_are) (length-set cells.step_words (class node.size / steps) word)
       (bits_cleared cells.heads cells.step_words cells.level_word (class node.size) (heads_count [] item [] whole own) was.index.words_count (class-lt node.size) was.index.bitmaps (ap head_bit (head_is [] item [] whole own))))
 
-  pub unlinked_laid : Represents (unlinked (class node.size) node.slot cells) (laid count position (turned Loose node ∷ nodes) (left node lists) taken)
+  pub unlinked_laid : Represents (unlinked_by (class node.size) (record_at cells.records node.slot) cells) (laid count position (turned Loose node ∷ nodes) (left node lists) taken)
   unlinked_laid =
       let at : FirstPassing (has_slot node.slot) list = first_passing (has_slot node.slot) list stands in
       let own : at.item.slot ≡ node.slot = eqb-true at.item.slot node.slot at.passes in

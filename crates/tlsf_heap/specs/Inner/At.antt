@@ -1,10 +1,7 @@
 -- A node at a position of a layout, and the steps of free there.
-use Rattle.std.specs.Prelude.{◌≡◌, ℕ, ◌+◌, ◌%◌, ◌^◌, ◌<◌, ◌≤◌, List, [], ◌∷◌, length, map, count_by, Some, ⊤, ◌-◌, ◌++◌}
-use Rattle.tlsf_class.specs.Classes.{unit, greatest_size}
-use Rattle.tlsf_store.specs.declared.records.Record.{Record}
-use Rattle.tlsf_store.specs.Records.{record_at}
+use Rattle.std.specs.Prelude.{◌≡◌, ℕ, ◌+◌, ◌≤◌, List, [], ◌∷◌, map, count_by, ⊤, ◌-◌, ◌++◌}
+use Rattle.tlsf_class.specs.Classes.{greatest_size}
 use Rattle.tlsf_store.specs.Cells.{Cells}
-use Rattle.tlsf_heap.specs.Inner.Edits.{IsUsed}
 use Rattle.tlsf_heap.specs.Content.{Pool}
 use Rattle.tlsf_heap.specs.Good.{Covers}
 use Rattle.tlsf_heap.specs.Pools.{end_of_places}
@@ -108,17 +105,3 @@ without_area at = record { count = at.count; areas = plug at.position.areas_befo
 -- the cells represent the layout, and the node has this slot and this state
 abbrev pub StandsAt : ℕ → NodeState → Cells → At → Type 0
 StandsAt slot node_state cells at = Represents cells (layout_at at) × IsAt slot node_state at
-
--- one of two neighbours, the listed one of this size, can leave its list. The two can then be merged.
--- out: the records once the listed one left
-pub record IsMergeable (front behind listed size : ℕ) (records out : List Record) : Type 0 where
-  pub some : 0 < size
-  pub whole : size % unit ≡ 0
-  pub most : size ≤ greatest_size
-  pub within : listed < length records
-  pub prev_used : IsUsed records (record_at records listed).prev_free
-  pub next_used : IsUsed records (record_at records listed).next_free
-  pub front_used : IsUsed out (Some front)
-  pub behind_used : IsUsed out (Some behind)
-  pub last_used : IsUsed out (record_at out behind).next
-  pub fits : (record_at out front).size + (record_at out behind).size < 2 ^ 32

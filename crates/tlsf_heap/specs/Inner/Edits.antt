@@ -1,10 +1,11 @@
--- Edits of a store's cells: links of the class lists, heads and bitmap words.
+-- Edits of a store's cells: links, states, heads and bitmap words.
 use Rattle.std.specs.Prelude.{◌≢◌, ℕ, ◌<◌, ◌/◌, ◌%◌, ◌^◌, ◌==◌, if◌then◌else◌, List, length, Option, Some, None, slice_index, slice_set}
 use Rattle.std.specs.Int.{bit_not, w32}
 use Rattle.std.specs.Int.RustNames.{bit_or}
 use lib.Bits.{bit_and}
 use Rattle.tlsf_class.specs.Classes.{steps}
 use Rattle.tlsf_store.specs.declared.records.Record.{Record}
+use Rattle.tlsf_store.specs.declared.records.State.{State}
 use Rattle.tlsf_store.specs.declared.records.State.TheVariants.{Vacant}
 use Rattle.tlsf_store.specs.Records.{record_at}
 use Rattle.tlsf_store.specs.Cells.{Cells, with_head, with_level_word, with_step_word, head_at}
@@ -17,6 +18,14 @@ edited_in edit (Some slot) records = slice_set records slot (edit (record_at rec
 -- the same in the cells
 abbrev pub edited : (Record → Record) → Option ℕ → Cells → Cells
 edited edit slot cells = record cells { records = edited_in edit slot cells.records }
+
+-- the block in front of the slot in its pool
+abbrev pub with_prev : Option ℕ → Option ℕ → Cells → Cells
+with_prev slot prev cells = edited (λ r. record r { prev = prev }) slot cells
+
+-- whether the slot's block is live
+abbrev pub with_state : ℕ → State → Cells → Cells
+with_state slot state cells = edited (λ r. record r { state = state }) (Some slot) cells
 
 -- the block in front of the slot in its class's list
 abbrev pub with_prev_free : Option ℕ → Option ℕ → Cells → Cells
@@ -82,7 +91,3 @@ with_behind class (Some slot) next cells = with_next_free (Some slot) next cells
 -- the free block of this record leaves its class's list, wherever it stands in it
 abbrev pub unlinked_by : ℕ → Record → Cells → Cells
 unlinked_by class block cells = with_behind class block.prev_free block.next_free (with_prev_free block.next_free block.prev_free cells)
-
--- the slot's free block leaves its class's list
-abbrev pub unlinked : ℕ → ℕ → Cells → Cells
-unlinked class slot cells = unlinked_by class (record_at cells.records slot) cells

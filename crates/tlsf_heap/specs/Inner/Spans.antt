@@ -7,8 +7,8 @@ use Rattle.tlsf_store.specs.Records.{blank, record_at}
 use Rattle.tlsf_store.specs.Cells.{Cells, with_record}
 use Rattle.tlsf_heap.specs.declared.span.Span.{Span}
 use Rattle.tlsf_heap.specs.Pointer.{Pointer}
-use Rattle.tlsf_heap.specs.Inner.Edits.{edited, IsUsed, unlinked_by}
-use Rattle.tlsf_heap.specs.Inner.Chains.{with_prev}
+use Rattle.tlsf_heap.specs.Inner.Edits.{edited, IsUsed, with_prev, unlinked_by}
+use Rattle.tlsf_heap.specs.Inner.Nodes.{Node}
 use Rattle.tlsf_heap.specs.Inner.Represents.{first_slot}
 use Rattle.tlsf_heap.specs.Inner.At.{At}
 
@@ -33,13 +33,12 @@ pub record IsRecordOf (block : Record) (pointer : Pointer) (records : List Recor
 abbrev pub IsOfClass : ℕ → Record → Type 0
 IsOfClass number block = number ≡ class block.size
 
--- what is known of the block by the node
-pub record IsSpanOf (span : Span) (at : At) : Type 0 where
-  pub slot : span.slot ≡ at.node.slot
-  pub place : span.place ≡ at.node.place
-  pub size : span.size ≡ at.node.size
-  pub next : span.next ≡ first_slot at.nodes
-  pub in_units : span.place % unit ≡ 0
+-- the block of a node, which has these behind it
+abbrev pub node_span : Node → List Node → Span
+node_span node nodes = record { slot = node.slot; place = node.place; size = node.size; next = first_slot nodes }
+
+abbrev pub span_at : At → Span
+span_at at = node_span at.node at.nodes
 
 -- the slot's block has this size and state, and this one behind it
 abbrev pub with_block : ℕ → ℕ → State → Option ℕ → Cells → Cells

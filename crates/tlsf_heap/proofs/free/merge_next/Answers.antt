@@ -1,16 +1,15 @@
-use Rattle.std.proofs.Common.{◌≡◌, ℕ, ◌+◌, true, false, sym, ap, ◌∙◌, subst, arith, Some}
-use Rattle.tlsf_store.specs.declared.records.State.{State}
+use Rattle.std.proofs.Common.{◌≡◌, ℕ, ◌+◌, false, sym, ap, ◌∙◌, subst, arith, Some}
 use Rattle.tlsf_store.specs.declared.records.Record.{Record}
 use Rattle.tlsf_store.specs.Records.{record_at, is_free_state}
 use Rattle.tlsf_store.specs.Cells.{Cells}
 use Rattle.tlsf_heap.specs.declared.span.Span.{Span}
 use Rattle.tlsf_heap.specs.Inner.Edits.{IsUsed}
-use Rattle.tlsf_heap.specs.Inner.Nodes.{NodeState, is_listed}
+use Rattle.tlsf_heap.specs.Inner.Nodes.{NodeState}
 use Rattle.tlsf_heap.specs.Inner.At.{At, StandsAt, next_merged}
-use Rattle.tlsf_heap.specs.Inner.Spans.{IsRead}
-use Rattle.tlsf_heap.proofs.Inner.Mergeable.{Merges, next_merges, back_stays, back_is_live}
+use Rattle.tlsf_heap.specs.Inner.Spans.{IsRead, merged_by}
+use Rattle.tlsf_heap.proofs.Inner.Mergeable.{next_merges, back_stays, back_is_live}
 use Rattle.tlsf_heap.proofs.Inner.Steps.{slot_used}
-use Rattle.tlsf_heap.proofs.Inner.Spans.{back_used, merge_fits, merges_by, MergesBy}
+use Rattle.tlsf_heap.proofs.Inner.Spans.{is_read, back_used}
 use Rattle.tlsf_heap.proofs.free.merge_next.Goals as goal
 
 -- the slot behind is in use
@@ -25,7 +24,7 @@ read_used-next-requires-clause-used c = (in_use c.args.store.now.cells c.args.bl
 
 pub returns-in_default-clause-leads : goal.returns-in_default-clause-leads
 returns-in_default-clause-leads c node_state at unlisted stands =
-    let same = back_stays c.args.store.now.cells at c.args.block.slot node_state unlisted stands (sym c.requires.read.next ∙ c.in_default.is) in
+    let same = back_stays c.args.store.now.cells at c.args.block node_state unlisted stands (sym c.requires.read.next ∙ c.in_default.is) in
     subst (λ (a : At). StandsAt c.args.block.slot node_state c.args.store.now.cells a) (sym same) stands
 
 pub returns-then-not-is_free-clause-leads : goal.returns-then-not-is_free-clause-leads
@@ -33,46 +32,30 @@ returns-then-not-is_free-clause-leads c node_state at unlisted stands =
     let old : Cells = c.args.store.now.cells in
     let live : is_free_state (record_at old.records c.in-Some.next_slot).state ≡ false = sym (ap (λ (r : Record). is_free_state r.state) c.read_used-next.ensures.value) ∙ sym c.is_free.ensures ∙ c.if-not-is_free.true in
     rw c.read_used-next.ensures.left.cells
-    (subst (λ (a : At). StandsAt c.args.block.slot node_state old a) (sym (back_is_live old at c.args.block.slot node_state unlisted stands c.in-Some.next_slot (sym c.requires.read.next ∙ c.in-Some.is) live)) stands)
-
--- the two that merge
-merging : (old : Cells) (span : Span) (n : ℕ) (node_state : NodeState) (at : At) (next : Record) → is_listed node_state ≡ false → StandsAt span.slot node_state old at → IsRead span old.records → span.next ≡ Some n → next ≡ record_at old.records n → is_free_state next.state ≡ true
-    → Merges span.slot n n next.size span.slot node_state old (next_merged at)
-merging old span n node_state at next unlisted stands read link is free =
-    next_merges old at span.slot node_state unlisted stands n next.size (sym read.next ∙ link) (sym (ap (λ (r : Record). is_free_state r.state) is) ∙ free) (ap (λ (r : Record). r.size) is)
-
--- what merge needs and leaves
-merging_by : (old : Cells) (span : Span) (state : State) (n : ℕ) (node_state : NodeState) (at : At) (next : Record) → is_listed node_state ≡ false → StandsAt span.slot node_state old at → IsRead span old.records → span.next ≡ Some n → next ≡ record_at old.records n → is_free_state next.state ≡ true → state ≡ (record_at old.records span.slot).state
-    → MergesBy (record span { size = span.size + next.size; next = next.next }) state n next node_state old (next_merged at)
-merging_by old span state n node_state at next unlisted stands read link is free same =
-    merges_by old (record span { size = span.size + next.size; next = next.next }) state n n next node_state (next_merged at) (merging old span n node_state at next unlisted stands read link is free) is
-    read.place (omega (arith, ap (λ (r : Record). r.size) is, read.size)) (ap (λ (r : Record). r.next) is) read.in_units same
+    (subst (λ (a : At). StandsAt c.args.block.slot node_state old a) (sym (back_is_live old at c.args.block node_state unlisted stands c.in-Some.next_slot (sym c.requires.read.next ∙ c.in-Some.is) live)) stands)
 
 pub overflow_add-merged : goal.overflow_add-merged
 overflow_add-merged c =
-    let old : Cells = c.args.store.now.cells in
-    omega (
-      arith,
-      merge_fits old c.args.block.slot c.in-Some.next_slot c.in-Some.next_slot c.read_used-next.result.size c.args.block.slot c.requires.stands.0 (next_merged c.requires.stands.1)
-          (merging old c.args.block c.in-Some.next_slot c.requires.stands.0 c.requires.stands.1 c.read_used-next.result c.requires.stands.2 c.requires.stands.3 c.requires.read c.in-Some.is c.read_used-next.ensures.value (sym c.is_free.ensures ∙ c.if-not-is_free.false)),
-      ap (λ (r : Record). r.size) c.read_used-next.ensures.value,
-      c.requires.read.size,
-    )
+    let merges = next_merges c.args.store.now.cells c.requires.stands.1 c.args.block c.requires.stands.0 c.requires.stands.2 c.requires.stands.3 c.in-Some.next_slot c.args.state c.read_used-next.result c.requires.read c.requires.state c.in-Some.is c.read_used-next.ensures.value (sym c.is_free.ensures ∙ c.if-not-is_free.false) in
+    omega (arith, merges.fits)
 
 pub merge-requires-clause-can : goal.merge-requires-clause-can
 merge-requires-clause-can c =
     rw c.read_used-next.ensures.left.cells
-    (merging_by c.args.store.now.cells c.args.block c.args.state c.in-Some.next_slot c.requires.stands.0 c.requires.stands.1 c.read_used-next.result c.requires.stands.2 c.requires.stands.3 c.requires.read c.in-Some.is c.read_used-next.ensures.value (sym c.is_free.ensures ∙ c.if-not-is_free.false) c.requires.state).ready
+    (next_merges c.args.store.now.cells c.requires.stands.1 c.args.block c.requires.stands.0 c.requires.stands.2 c.requires.stands.3 c.in-Some.next_slot c.args.state c.read_used-next.result c.requires.read c.requires.state c.in-Some.is c.read_used-next.ensures.value (sym c.is_free.ensures ∙ c.if-not-is_free.false)).ready
 
 pub returns-clause-leads : goal.returns-clause-leads
 returns-clause-leads c node_state at unlisted stands =
     rw (c.merge.ensures.cells, c.read_used-next.ensures.left.cells)
-    (merging_by c.args.store.now.cells c.args.block c.args.state c.in-Some.next_slot node_state at c.read_used-next.result unlisted stands c.requires.read c.in-Some.is c.read_used-next.ensures.value (sym c.is_free.ensures ∙ c.if-not-is_free.false) c.requires.state).leads
+    (next_merges c.args.store.now.cells at c.args.block node_state unlisted stands c.in-Some.next_slot c.args.state c.read_used-next.result c.requires.read c.requires.state c.in-Some.is c.read_used-next.ensures.value (sym c.is_free.ensures ∙ c.if-not-is_free.false)).leads
 
 pub returns-clause-read : goal.returns-clause-read
 returns-clause-read c =
+    let old : Cells = c.args.store.now.cells in
+    let merged : Span = record c.args.block { size = c.args.block.size + c.read_used-next.result.size; next = c.read_used-next.result.next } in
+    let merges = next_merges c.args.store.now.cells c.requires.stands.1 c.args.block c.requires.stands.0 c.requires.stands.2 c.requires.stands.3 c.in-Some.next_slot c.args.state c.read_used-next.result c.requires.read c.requires.state c.in-Some.is c.read_used-next.ensures.value (sym c.is_free.ensures ∙ c.if-not-is_free.false) in
     rw (c.merge.ensures.cells, c.read_used-next.ensures.left.cells)
-    (merging_by c.args.store.now.cells c.args.block c.args.state c.in-Some.next_slot c.requires.stands.0 c.requires.stands.1 c.read_used-next.result c.requires.stands.2 c.requires.stands.3 c.requires.read c.in-Some.is c.read_used-next.ensures.value (sym c.is_free.ensures ∙ c.if-not-is_free.false) c.requires.state).read
+    (is_read (merged_by merged c.args.state c.in-Some.next_slot c.read_used-next.result old) c.requires.stands.0 (next_merged c.requires.stands.1) merged merges.leads merges.is c.requires.read.in_units)
 
 pub merge-requires-clause-new_used : goal.merge-requires-clause-new_used
 merge-requires-clause-new_used c e = (slot_used c.args.store.now.cells c.args.block.slot c.requires.stands.0 c.requires.stands.1 c.requires.stands.3).1 (sym c.requires.state ∙ e)

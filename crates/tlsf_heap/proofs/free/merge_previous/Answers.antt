@@ -1,5 +1,4 @@
-use Rattle.std.proofs.Common.{◌≡◌, ℕ, ◌+◌, ◌%◌, true, false, sym, ap, ◌∙◌, subst, arith, Option, Some}
-use Rattle.tlsf_class.specs.Classes.{unit}
+use Rattle.std.proofs.Common.{◌≡◌, ℕ, ◌+◌, false, sym, ap, ◌∙◌, subst, arith, Option, Some}
 use Rattle.tlsf_store.specs.declared.records.Record.{Record}
 use Rattle.tlsf_store.specs.Records.{record_at, is_free_state}
 use Rattle.tlsf_store.specs.Cells.{Cells}
@@ -7,9 +6,9 @@ use Rattle.tlsf_heap.specs.declared.span.Span.{Span}
 use Rattle.tlsf_heap.specs.Inner.Edits.{IsUsed}
 use Rattle.tlsf_heap.specs.Inner.Nodes.{Loose}
 use Rattle.tlsf_heap.specs.Inner.At.{At, StandsAt, previous_merged}
-use Rattle.tlsf_heap.specs.Inner.Spans.{IsRead}
-use Rattle.tlsf_heap.proofs.Inner.Mergeable.{Merges, previous_merges, front_stays, front_is_live}
-use Rattle.tlsf_heap.proofs.Inner.Spans.{front_used, merge_fits, merges_by, MergesBy}
+use Rattle.tlsf_heap.specs.Inner.Spans.{merged_by}
+use Rattle.tlsf_heap.proofs.Inner.Mergeable.{previous_merges, front_stays, front_is_live}
+use Rattle.tlsf_heap.proofs.Inner.Spans.{is_read, front_used}
 use Rattle.tlsf_heap.proofs.free.merge_previous.Goals as goal
 
 -- the slot in front is in use
@@ -24,7 +23,7 @@ read_used-front-requires-clause-used c = (in_use c.args.store.now.cells c.args.b
 
 pub returns-in_default-clause-leads : goal.returns-in_default-clause-leads
 returns-in_default-clause-leads c at stands =
-    let same = front_stays c.args.store.now.cells at c.args.block.slot stands (sym c.requires.previous ∙ c.in_default.is) in
+    let same = front_stays c.args.store.now.cells at c.args.block stands (sym c.requires.previous ∙ c.in_default.is) in
     subst (λ (a : At). StandsAt c.args.block.slot Loose c.args.store.now.cells a) (sym same) stands
 
 pub returns-then-not-is_free-clause-leads : goal.returns-then-not-is_free-clause-leads
@@ -32,46 +31,31 @@ returns-then-not-is_free-clause-leads c at stands =
     let old : Cells = c.args.store.now.cells in
     let live : is_free_state (record_at old.records c.in-Some.previous_slot).state ≡ false = sym (ap (λ (r : Record). is_free_state r.state) c.read_used-front.ensures.value) ∙ sym c.is_free.ensures ∙ c.if-not-is_free.true in
     rw c.read_used-front.ensures.left.cells
-    (subst (λ (a : At). StandsAt c.args.block.slot Loose old a) (sym (front_is_live old at c.args.block.slot stands c.in-Some.previous_slot (sym c.requires.previous ∙ c.in-Some.is) live)) stands)
-
--- the two that merge
-merging : (old : Cells) (slot p : ℕ) (at : At) (previous : Option ℕ) (front : Record) → StandsAt slot Loose old at → previous ≡ (record_at old.records slot).prev → previous ≡ Some p → front ≡ record_at old.records p → is_free_state front.state ≡ true
-    → Merges p slot p front.size p Loose old (previous_merged at)
-merging old slot p at previous front stands previous_is link is free =
-    previous_merges old at slot stands p front.size (sym previous_is ∙ link) (sym (ap (λ (r : Record). is_free_state r.state) is) ∙ free) (ap (λ (r : Record). r.size) is)
-
--- what merge needs and leaves
-merging_by : (old : Cells) (span : Span) (p : ℕ) (at : At) (previous : Option ℕ) (front : Record) → StandsAt span.slot Loose old at → IsRead span old.records → previous ≡ (record_at old.records span.slot).prev → previous ≡ Some p → front ≡ record_at old.records p → is_free_state front.state ≡ true → front.place % unit ≡ 0
-    → MergesBy (record { slot = p; place = front.place; size = front.size + span.size; next = span.next }) front.state span.slot front Loose old (previous_merged at)
-merging_by old span p at previous front stands read previous_is link is free in_units =
-    merges_by old (record { slot = p; place = front.place; size = front.size + span.size; next = span.next }) front.state span.slot p front Loose (previous_merged at) (merging old span.slot p at previous front stands previous_is link is free) is
-    (ap (λ (r : Record). r.place) is) (omega (arith, ap (λ (r : Record). r.size) is, read.size)) read.next in_units (ap (λ (r : Record). r.state) is)
+    (subst (λ (a : At). StandsAt c.args.block.slot Loose old a) (sym (front_is_live old at c.args.block stands c.in-Some.previous_slot (sym c.requires.previous ∙ c.in-Some.is) live)) stands)
 
 pub overflow_add-merged : goal.overflow_add-merged
 overflow_add-merged c =
-    let old : Cells = c.args.store.now.cells in
-    omega (
-      arith,
-      merge_fits old c.in-Some.previous_slot c.args.block.slot c.in-Some.previous_slot c.read_used-front.result.size c.in-Some.previous_slot Loose (previous_merged c.requires.stands.0)
-          (merging old c.args.block.slot c.in-Some.previous_slot c.requires.stands.0 c.args.previous c.read_used-front.result c.requires.stands.1 c.requires.previous c.in-Some.is c.read_used-front.ensures.value (sym c.is_free.ensures ∙ c.if-not-is_free.false)),
-      ap (λ (r : Record). r.size) c.read_used-front.ensures.value,
-      c.requires.read.size,
-    )
+    let merges = previous_merges c.args.store.now.cells c.requires.stands.0 c.args.block c.requires.stands.1 c.in-Some.previous_slot c.read_used-front.result c.requires.read (sym c.requires.previous ∙ c.in-Some.is) c.read_used-front.ensures.value (sym c.is_free.ensures ∙ c.if-not-is_free.false) in
+    omega (arith, merges.fits)
 
 pub merge-requires-clause-can : goal.merge-requires-clause-can
 merge-requires-clause-can c =
     rw c.read_used-front.ensures.left.cells
-    (merging_by c.args.store.now.cells c.args.block c.in-Some.previous_slot c.requires.stands.0 c.args.previous c.read_used-front.result c.requires.stands.1 c.requires.read c.requires.previous c.in-Some.is c.read_used-front.ensures.value (sym c.is_free.ensures ∙ c.if-not-is_free.false) c.read_used-front.ensures.kept.place).ready
+    (previous_merges c.args.store.now.cells c.requires.stands.0 c.args.block c.requires.stands.1 c.in-Some.previous_slot c.read_used-front.result c.requires.read (sym c.requires.previous ∙ c.in-Some.is) c.read_used-front.ensures.value (sym c.is_free.ensures ∙ c.if-not-is_free.false)).ready
 
 pub returns-clause-leads : goal.returns-clause-leads
 returns-clause-leads c at stands =
     rw (c.merge.ensures.cells, c.read_used-front.ensures.left.cells)
-    (merging_by c.args.store.now.cells c.args.block c.in-Some.previous_slot at c.args.previous c.read_used-front.result stands c.requires.read c.requires.previous c.in-Some.is c.read_used-front.ensures.value (sym c.is_free.ensures ∙ c.if-not-is_free.false) c.read_used-front.ensures.kept.place).leads
+    (previous_merges c.args.store.now.cells at c.args.block stands c.in-Some.previous_slot c.read_used-front.result c.requires.read (sym c.requires.previous ∙ c.in-Some.is) c.read_used-front.ensures.value (sym c.is_free.ensures ∙ c.if-not-is_free.false)).leads
 
 pub returns-clause-read : goal.returns-clause-read
 returns-clause-read c =
+    let old : Cells = c.args.store.now.cells in
+    let front : Record = c.read_used-front.result in
+    let merged : Span = record { slot = c.in-Some.previous_slot; place = front.place; size = front.size + c.args.block.size; next = c.args.block.next } in
+    let merges = previous_merges c.args.store.now.cells c.requires.stands.0 c.args.block c.requires.stands.1 c.in-Some.previous_slot c.read_used-front.result c.requires.read (sym c.requires.previous ∙ c.in-Some.is) c.read_used-front.ensures.value (sym c.is_free.ensures ∙ c.if-not-is_free.false) in
     rw (c.merge.ensures.cells, c.read_used-front.ensures.left.cells)
-    (merging_by c.args.store.now.cells c.args.block c.in-Some.previous_slot c.requires.stands.0 c.args.previous c.read_used-front.result c.requires.stands.1 c.requires.read c.requires.previous c.in-Some.is c.read_used-front.ensures.value (sym c.is_free.ensures ∙ c.if-not-is_free.false) c.read_used-front.ensures.kept.place).read
+    (is_read (merged_by merged front.state c.args.block.slot front old) Loose (previous_merged c.requires.stands.0) merged merges.leads merges.is c.read_used-front.ensures.kept.place)
 
 pub merge-requires-clause-new_used : goal.merge-requires-clause-new_used
 merge-requires-clause-new_used c e =

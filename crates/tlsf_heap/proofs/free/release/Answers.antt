@@ -4,13 +4,12 @@ use Rattle.tlsf_store.specs.declared.records.Record.{Record}
 use Rattle.tlsf_store.specs.Cells.{Cells}
 use Rattle.tlsf_class.specs.Classes.{unit}
 use Rattle.tlsf_heap.specs.declared.span.Span.{Span}
-use Rattle.tlsf_heap.specs.Inner.Chains.{with_state}
+use Rattle.tlsf_heap.specs.Inner.Edits.{with_state}
 use Rattle.tlsf_heap.specs.Inner.Nodes.{InUse, Loose}
 use Rattle.tlsf_heap.specs.Inner.At.{At, StandsAt, at_turned, previous_merged, next_merged}
 use Rattle.tlsf_heap.specs.Inner.Spans.{span_of}
-use Rattle.tlsf_heap.proofs.Inner.Steps.{slot_used, size_read, whole_at, turned_stands}
-use Rattle.tlsf_heap.proofs.Inner.Mergeable.{prev_is}
-use Rattle.tlsf_heap.proofs.Inner.Spans.{read_of, by_node, by_record, back_used, state_read}
+use Rattle.tlsf_heap.proofs.Inner.Steps.{slot_used, size_read, prev_is, state_read, whole_at, turned_stands}
+use Rattle.tlsf_heap.proofs.Inner.Spans.{read_of, read_stays, back_used}
 use Rattle.tlsf_heap.proofs.free.release.Goals as goal
 
 pub turn-requires-clause-used : goal.turn-requires-clause-used
@@ -42,9 +41,8 @@ merge_previous-merged-requires-clause-stands c =
 pub merge_previous-merged-requires-clause-read : goal.merge_previous-merged-requires-clause-read
 merge_previous-merged-requires-clause-read c =
     let at : At = c.requires.stands.0 in
-    let known = by_node c.args.store.now.cells InUse at (span_of c.args.slot c.args.block.now) c.requires.stands.1 (read_of c.args.store.now.cells.records c.args.slot c.args.block.now c.requires.read c.requires.in_units) in
-    rw c.of-whole.ensures (by_record c.turn.new.store.cells Loose (at_turned Loose at) (span_of c.args.slot c.args.block.now) (loose c.args.store.now.cells c.turn.new.store.cells c.args.slot at c.requires.stands.1 (turned c.args.store.now.cells c.turn.new.store.cells c.of-whole.result c.args.slot c.args.block.now c.of-whole.ensures c.turn.ensures.cells))
-    (record { slot = known.slot; place = known.place; size = known.size; next = known.next; in_units = known.in_units }))
+    rw c.of-whole.ensures (read_stays c.args.store.now.cells c.turn.new.store.cells (span_of c.args.slot c.args.block.now) InUse Loose at (at_turned Loose at) c.requires.stands.1 (loose c.args.store.now.cells c.turn.new.store.cells c.args.slot at c.requires.stands.1 (turned c.args.store.now.cells c.turn.new.store.cells c.of-whole.result c.args.slot c.args.block.now c.of-whole.ensures c.turn.ensures.cells))
+    refl (read_of c.args.store.now.cells.records c.args.slot c.args.block.now c.requires.read c.requires.in_units))
 
 pub merge_previous-merged-requires-clause-previous : goal.merge_previous-merged-requires-clause-previous
 merge_previous-merged-requires-clause-previous c =
@@ -52,8 +50,8 @@ merge_previous-merged-requires-clause-previous c =
     let mid : Cells = c.turn.new.store.cells in
     rw c.of-whole.ensures (
     ap (λ (r : Record). r.prev) c.requires.read
-    ∙ prev_is c.args.store.now.cells at c.args.slot InUse c.requires.stands.1
-    ∙ sym (prev_is mid (at_turned Loose at) c.args.slot Loose (loose c.args.store.now.cells mid c.args.slot at c.requires.stands.1 (turned c.args.store.now.cells c.turn.new.store.cells c.of-whole.result c.args.slot c.args.block.now c.of-whole.ensures c.turn.ensures.cells)))
+    ∙ prev_is c.args.store.now.cells c.args.slot InUse at c.requires.stands.1
+    ∙ sym (prev_is mid c.args.slot Loose (at_turned Loose at) (loose c.args.store.now.cells mid c.args.slot at c.requires.stands.1 (turned c.args.store.now.cells c.turn.new.store.cells c.of-whole.result c.args.slot c.args.block.now c.of-whole.ensures c.turn.ensures.cells)))
     )
 
 pub merge_next-all-requires-clause-stands : goal.merge_next-all-requires-clause-stands

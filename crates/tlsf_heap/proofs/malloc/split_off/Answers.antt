@@ -7,8 +7,7 @@ use Rattle.tlsf_heap.specs.Inner.Nodes.{NodeState, InUse, Loose}
 use Rattle.tlsf_heap.specs.Inner.At.{At, StandsAt, with_slot, at_turned, at_split}
 use Rattle.tlsf_heap.specs.Inner.Spans.{IsRead}
 use Rattle.tlsf_heap.proofs.Inner.Steps.{slot_used, size_read, place_read, whole_at, first_used, listed_stands}
-use Rattle.tlsf_heap.proofs.Inner.Allotted.{rest_used, last_used}
-use Rattle.tlsf_heap.proofs.Inner.Spans.{span_splits}
+use Rattle.tlsf_heap.proofs.Inner.Allotted.{rest_used, last_used, span_splits}
 use Rattle.tlsf_heap.proofs.malloc.split_off.Goals as goal
 
 pub split-requires-clause-slot_used : goal.split-requires-clause-slot_used

@@ -6,7 +6,7 @@ use Rattle.tlsf_heap.specs.Inner.At.{At, StandsAt, with_slot, at_turned, at_spli
 use Rattle.tlsf_heap.specs.Inner.Spans.{IsRead}
 use Rattle.tlsf_heap.proofs.Inner.Steps.{size_read}
 use Rattle.tlsf_heap.proofs.Inner.Allotted.{slot_stands, rest_split_none, rest_split_stands}
-use Rattle.tlsf_heap.proofs.Inner.Spans.{by_node, by_record}
+use Rattle.tlsf_heap.proofs.Inner.Spans.{read_stays}
 use Rattle.tlsf_heap.proofs.malloc.split_rest.Goals as goal
 
 -- the size that was read is the node's
@@ -31,10 +31,9 @@ split_off-requires-clause-stands c =
 pub split_off-requires-clause-read : goal.split_off-requires-clause-read
 split_off-requires-clause-read c =
     let at : At = c.requires.stands.0 in
-    let known = by_node c.args.store.now.cells InUse at c.args.block.now c.requires.stands.1 c.requires.read in
-    by_record c.take_vacant.new.self.cells InUse (with_slot c.in-Some.rest at) c.args.block.now
+    read_stays c.args.store.now.cells c.take_vacant.new.self.cells c.args.block.now InUse InUse at (with_slot c.in-Some.rest at) c.requires.stands.1
     (slot_stands c.args.store.now.cells c.take_vacant.new.self.cells c.take_vacant.result c.args.block.now.slot c.in-Some.rest InUse at c.requires.stands.1 c.in-Some.is c.take_vacant.ensures.left.cells c.in-Some.ensures.within c.in-Some.ensures.vacant)
-    (record { slot = known.slot; place = known.place; size = known.size; next = known.next; in_units = known.in_units })
+    refl c.requires.read
 
 pub returns-clause-leads : goal.returns-clause-leads
 returns-clause-leads c at stands =

@@ -2,7 +2,8 @@ use Rattle.std.proofs.Common.{refl}
 use Rattle.tlsf_heap.specs.Inner.Nodes.{Listed, Loose}
 use Rattle.tlsf_heap.specs.Inner.At.{At, StandsAt, with_slot, at_unlisted}
 use Rattle.tlsf_heap.specs.Inner.Spans.{span_of}
-use Rattle.tlsf_heap.proofs.Inner.Spans.{listed_read, read_leaves, read_of, by_node, by_record}
+use Rattle.tlsf_heap.proofs.Inner.Allotted.{listed_read, read_leaves}
+use Rattle.tlsf_heap.proofs.Inner.Spans.{read_of, read_stays}
 use Rattle.tlsf_heap.proofs.malloc.take_split.Goals as goal
 
 pub unlink-requires-clause-prev_used : goal.unlink-requires-clause-prev_used
@@ -21,8 +22,7 @@ pub split_off-requires-clause-read : goal.split_off-requires-clause-read
 split_off-requires-clause-read c =
     let at : At = with_slot c.args.rest c.requires.stands.0 in
     let left : StandsAt c.args.slot Loose c.unlink.new.store.cells (at_unlisted at) = read_leaves c.args.store.now.cells c.unlink.new.store.cells c.args.slot c.args.class c.args.block.now at c.requires.stands.1 c.requires.read c.requires.of_class c.unlink.ensures.cells in
-    let known = by_node c.args.store.now.cells Listed at (span_of c.args.slot c.args.block.now) c.requires.stands.1 (read_of c.args.store.now.cells.records c.args.slot c.args.block.now c.requires.read c.requires.in_units) in
-    rw c.of-whole.ensures (by_record c.unlink.new.store.cells Loose (at_unlisted at) (span_of c.args.slot c.args.block.now) left (record { slot = known.slot; place = known.place; size = known.size; next = known.next; in_units = known.in_units }))
+    rw c.of-whole.ensures (read_stays c.args.store.now.cells c.unlink.new.store.cells (span_of c.args.slot c.args.block.now) Listed Loose at (at_unlisted at) c.requires.stands.1 left refl (read_of c.args.store.now.cells.records c.args.slot c.args.block.now c.requires.read c.requires.in_units))
 
 pub returns-clause-leads : goal.returns-clause-leads
 returns-clause-leads c at stands =

@@ -8,7 +8,8 @@ use Rattle.tlsf_heap.specs.Inner.Nodes.{InUse, Listed, Loose}
 use Rattle.tlsf_heap.specs.Inner.At.{At, StandsAt, at_unlisted}
 use Rattle.tlsf_heap.specs.Inner.Spans.{span_of, IsRead}
 use Rattle.tlsf_heap.proofs.Inner.Steps.{slot_used, turned_stands}
-use Rattle.tlsf_heap.proofs.Inner.Spans.{listed_read, read_leaves, read_of, by_node, by_record, back_used}
+use Rattle.tlsf_heap.proofs.Inner.Allotted.{listed_read, read_leaves}
+use Rattle.tlsf_heap.proofs.Inner.Spans.{read_of, read_stays, back_used}
 use Rattle.tlsf_heap.proofs.malloc.take_whole.Goals as goal
 
 pub unlink-requires-clause-prev_used : goal.unlink-requires-clause-prev_used
@@ -20,9 +21,7 @@ unlink-requires-clause-next_used c = (listed_read c.args.store.now.cells c.args.
 -- the block as it is known once it left its list
 known : (old new : Cells) (slot number : ℕ) (block : Record) (at : At) → StandsAt slot Listed old at → block ≡ record_at old.records slot → block.place % unit ≡ 0 → number ≡ class block.size → new ≡ unlinked_by number block old → IsRead (span_of slot block) new.records
 known old new slot number block at stands read in_units number_is left =
-    let of = by_node old Listed at (span_of slot block) stands (read_of old.records slot block read in_units) in
-    by_record new Loose (at_unlisted at) (span_of slot block) (read_leaves old new slot number block at stands read number_is left)
-    (record { slot = of.slot; place = of.place; size = of.size; next = of.next; in_units = of.in_units })
+    read_stays old new (span_of slot block) Listed Loose at (at_unlisted at) stands (read_leaves old new slot number block at stands read number_is left) refl (read_of old.records slot block read in_units)
 
 pub turn-requires-clause-used : goal.turn-requires-clause-used
 turn-requires-clause-used c =

@@ -1,4 +1,4 @@
-use Rattle.std.proofs.Common.{◌≡◌, ℕ, ◌%◌, ◌<◌, length, sym, ap, ◌∙◌, subst, arith, Option, Some}
+use Rattle.std.proofs.Common.{◌≡◌, refl, ℕ, ◌%◌, ◌<◌, length, sym, ap, ◌∙◌, subst, arith, Option, Some}
 use Rattle.tlsf_store.specs.Records.{blank, record_at}
 use Rattle.tlsf_store.specs.declared.records.State.TheVariants.{Free, Live}
 use Rattle.tlsf_store.specs.Cells.{Cells, with_taken}
@@ -9,16 +9,14 @@ use Rattle.tlsf_heap.specs.Inner.Spans.{IsRead, split_by}
 use Rattle.tlsf_heap.specs.Inner.Nodes.{InUse, Loose}
 use Rattle.tlsf_heap.specs.Inner.At.{At, StandsAt, with_slot, at_turned}
 use Rattle.tlsf_heap.proofs.Inner.Steps.{slot_used, size_read, place_read, whole_at}
-use Rattle.tlsf_heap.proofs.Inner.Allotted.{slot_stands, last_used, at_front}
-use Rattle.tlsf_heap.proofs.Inner.Spans.{by_node, by_record, span_gaps}
+use Rattle.tlsf_heap.proofs.Inner.Allotted.{slot_stands, last_used, at_front, span_gaps}
+use Rattle.tlsf_heap.proofs.Inner.Spans.{read_stays}
 use Rattle.tlsf_heap.proofs.Inner.Gapped.{gapped_stands}
 use Rattle.tlsf_heap.proofs.memalign.leave_gap.Goals as goal
 
 -- the block as it is known, once a record was taken
 known : (old new : Cells) (span : Span) (rest : ℕ) (at : At) → StandsAt span.slot InUse old at → StandsAt span.slot InUse new (with_slot rest at) → IsRead span old.records → IsRead span new.records
-known old new span rest at was stands read =
-    let of = by_node old InUse at span was read in
-    by_record new InUse (with_slot rest at) span stands (record { slot = of.slot; place = of.place; size = of.size; next = of.next; in_units = of.in_units })
+known old new span rest at was stands read = read_stays old new span InUse InUse at (with_slot rest at) was stands refl read
 
 pub split-requires-clause-slot_used : goal.split-requires-clause-slot_used
 split-requires-clause-slot_used c =

@@ -8,17 +8,16 @@ use Rattle.tlsf_heap.specs.Content.{Content}
 use Rattle.tlsf_heap.specs.Lists.{pick}
 use Rattle.tlsf_heap.specs.Memalign.{gap_records, size_asked, memalign_picked, memalign_rounded}
 use Rattle.tlsf_class.specs.Classes.{unit}
-use Rattle.tlsf_store.specs.declared.records.Record.{Record}
 use Rattle.tlsf_heap.specs.declared.span.Span.{Span}
 use Rattle.tlsf_heap.specs.Inner.Nodes.{InUse, Listed}
-use Rattle.tlsf_heap.specs.Inner.Spans.{span_of, IsSpanOf}
+use Rattle.tlsf_heap.specs.Inner.Spans.{span_of, span_at}
 use Rattle.tlsf_heap.specs.Inner.Following.{Stands, content_of}
-use Rattle.tlsf_heap.specs.Inner.At.{At, StandsAt, at_taken, at_gapped, at_split_rest}
+use Rattle.tlsf_heap.specs.Inner.At.{StandsAt, at_taken, at_gapped, at_split_rest}
 use Rattle.tlsf_heap.proofs.Inner.Followed.{records_are}
 use Rattle.tlsf_heap.proofs.Inner.Steps.{slot_used, size_read}
 use Rattle.tlsf_heap.proofs.Inner.Served.{slot_new}
 use Rattle.tlsf_heap.proofs.Inner.Live.{free_at}
-use Rattle.tlsf_heap.proofs.Inner.Spans.{read_of, by_node, by_record}
+use Rattle.tlsf_heap.proofs.Inner.Spans.{read_of, span_is, is_read, read_stays}
 use Rattle.tlsf_heap.proofs.Inner.SplitAligned.{known, gap_of_some, split_aligned_full, split_aligned_stands, vacant_new, vacant_taken, vacant_after}
 use Rattle.tlsf_heap.proofs.memalign.split_aligned.Goals as goal
 
@@ -65,12 +64,6 @@ take_whole-requires-clause-stands c = let k = known c.args.store.now.cells c.req
 pub take_whole-requires-clause-read : goal.take_whole-requires-clause-read
 take_whole-requires-clause-read c = rw (c.vacant.ensures.left.cells, c.read_used-block.ensures.left.cells) c.read_used-block.ensures.value
 
--- the block as it is known once it was taken
-taken_known : (old new : Cells) (slot : ℕ) (at : At) (block : Record) → StandsAt slot Listed old at → StandsAt slot InUse new (at_taken at) → block ≡ record_at old.records slot → block.place % unit ≡ 0 → IsSpanOf (span_of slot block) (at_taken at)
-taken_known old new slot at block was stands read in_units =
-    let known = by_node old Listed at (span_of slot block) was (read_of old.records slot block read in_units) in
-    record { slot = known.slot; place = known.place; size = known.size; next = known.next; in_units = known.in_units }
-
 pub leave_gap-live-requires-clause-stands : goal.leave_gap-live-requires-clause-stands
 leave_gap-live-requires-clause-stands c =
     let k = known c.args.store.now.cells c.requires.stands c.args.slot c.args.align c.args.asked c.requires.is c.requires.some c.requires.whole c.requires.free c.requires.found c.read_used-block.result c.read_used-block.ensures.value in
@@ -81,8 +74,8 @@ pub leave_gap-live-requires-clause-read : goal.leave_gap-live-requires-clause-re
 leave_gap-live-requires-clause-read c =
     let k = known c.args.store.now.cells c.requires.stands c.args.slot c.args.align c.args.asked c.requires.is c.requires.some c.requires.whole c.requires.free c.requires.found c.read_used-block.result c.read_used-block.ensures.value in
     let taken : StandsAt c.args.slot InUse c.take_whole.new.store.cells (at_taken k.by.at) = c.take_whole.ensures.leads k.by.at (rw (c.vacant.ensures.left.cells, c.read_used-block.ensures.left.cells) k.by.stands) in
-    rw c.of-whole.ensures (by_record c.take_whole.new.store.cells InUse (at_taken k.by.at) (span_of c.args.slot c.read_used-block.result) taken
-    (taken_known c.args.store.now.cells c.take_whole.new.store.cells c.args.slot k.by.at c.read_used-block.result k.by.stands taken c.read_used-block.ensures.value c.read_used-block.ensures.kept.place))
+    rw c.of-whole.ensures (read_stays c.args.store.now.cells c.take_whole.new.store.cells (span_of c.args.slot c.read_used-block.result) Listed InUse k.by.at (at_taken k.by.at) k.by.stands taken refl
+    (read_of c.args.store.now.cells.records c.args.slot c.read_used-block.result c.read_used-block.ensures.value c.read_used-block.ensures.kept.place))
 
 pub leave_gap-live-requires-clause-less : goal.leave_gap-live-requires-clause-less
 leave_gap-live-requires-clause-less c =
@@ -107,19 +100,15 @@ pub split_rest-requires-clause-read : goal.split_rest-requires-clause-read
 split_rest-requires-clause-read c =
     let k = known c.args.store.now.cells c.requires.stands c.args.slot c.args.align c.args.asked c.requires.is c.requires.some c.requires.whole c.requires.free c.requires.found c.read_used-block.result c.read_used-block.ensures.value in
     let taken : StandsAt c.args.slot InUse c.take_whole.new.store.cells (at_taken k.by.at) = c.take_whole.ensures.leads k.by.at (rw (c.vacant.ensures.left.cells, c.read_used-block.ensures.left.cells) k.by.stands) in
-    let known_there = taken_known c.args.store.now.cells c.take_whole.new.store.cells c.args.slot k.by.at c.read_used-block.result k.by.stands taken c.read_used-block.ensures.value c.read_used-block.ensures.kept.place in
+    let there : span_of c.args.slot c.read_used-block.result ≡ span_at k.by.at = span_is c.args.store.now.cells Listed k.by.at (span_of c.args.slot c.read_used-block.result) k.by.stands (read_of c.args.store.now.cells.records c.args.slot c.read_used-block.result c.read_used-block.ensures.value c.read_used-block.ensures.kept.place) in
+    let place : c.start_of-start.result ≡ k.by.at.node.place + (c.start_of-start.result - c.read_used-block.result.place) = omega (arith, ap (λ (s : Span). s.place) there, k.begins, c.start_of-start.ensures) in
     let gap : ℕ = c.start_of-start.result - c.read_used-block.result.place in
     let gapped = c.leave_gap-live.ensures.leads (at_taken k.by.at) (rw c.of-whole.ensures taken) in
     let whole : (c.start_of-start.result - c.read_used-block.result.place) % unit ≡ 0 = ap (λ s. (s - c.read_used-block.result.place) % unit) c.start_of-start.ensures ∙ k.gap_whole in
-    by_record c.leave_gap-live.new.store.cells InUse (at_gapped c.leave_gap-live.result gap (at_taken k.by.at))
+    is_read c.leave_gap-live.new.store.cells InUse (at_gapped c.leave_gap-live.result gap (at_taken k.by.at))
     (record { slot = c.leave_gap-live.result; place = c.start_of-start.result; size = c.read_used-block.result.size - gap; next = c.read_used-block.result.next }) gapped
-    (record {
-      slot = refl;
-      place = omega (arith, known_there.place, k.begins, c.start_of-start.ensures);
-      size = ap (λ n. n - gap) k.size_is;
-      next = known_there.next;
-      in_units = omega (arith, whole, c.read_used-block.ensures.kept.place, k.begins, c.start_of-start.ensures);
-    })
+    (λ i. record { slot = c.leave_gap-live.result; place = place i; size = k.size_is i - gap; next = ap (λ (s : Span). s.next) there i })
+    (omega (arith, whole, c.read_used-block.ensures.kept.place, k.begins, c.start_of-start.ensures))
 
 pub split_rest-requires-clause-most : goal.split_rest-requires-clause-most
 split_rest-requires-clause-most c =

@@ -5,8 +5,7 @@ use Rattle.tlsf_heap.specs.Realloc.{resized}
 use Rattle.tlsf_heap.specs.Inner.Following.{Stands, content_of}
 use Rattle.tlsf_heap.specs.Inner.Nodes.{InUse}
 use Rattle.tlsf_heap.specs.Inner.At.{next_merged}
-use Rattle.tlsf_heap.proofs.Inner.Steps.{size_read}
-use Rattle.tlsf_heap.proofs.Inner.Spans.{state_read}
+use Rattle.tlsf_heap.proofs.Inner.Steps.{size_read, state_read}
 use Rattle.tlsf_heap.proofs.Inner.Live.{live_at}
 use Rattle.tlsf_heap.proofs.Inner.Resizing.{merged_holds, resized_stands}
 use Rattle.tlsf_heap.proofs.realloc.resize_in_place.Goals as goal

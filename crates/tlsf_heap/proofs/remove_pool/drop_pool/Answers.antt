@@ -3,7 +3,7 @@ use Rattle.tlsf_store.specs.Cells.{Cells}
 use Rattle.tlsf_heap.specs.Inner.Nodes.{InUse}
 use Rattle.tlsf_heap.specs.Inner.At.{at_taken}
 use Rattle.tlsf_heap.proofs.Inner.Steps.{slot_used}
-use Rattle.tlsf_heap.proofs.Inner.Spans.{listed_read}
+use Rattle.tlsf_heap.proofs.Inner.Allotted.{listed_read}
 use Rattle.tlsf_heap.proofs.Inner.Removed.{pools_stay, area_leaves}
 use Rattle.tlsf_heap.proofs.remove_pool.drop_pool.Goals as goal
 
