@@ -1,7 +1,7 @@
 -- The first of some blocks, where it is free, and the blocks without it; and blocks in front of others.
-use Rattle.std.proofs.Common.{◌≡◌, ℕ, ◌+◌, ◌<◌, ◌≤◌, Bool, true, false, cond, not, ◌&&◌, List, [], ◌∷◌, length, refl, sym, ap, ◌∙◌, subst, arith, count_by, IsTrue, Option, Some, None, inl, inr}
+use Rattle.std.proofs.Common.{◌≡◌, ℕ, ◌+◌, ◌<◌, ◌≤◌, Bool, true, false, cond, not, ◌&&◌, List, [], ◌∷◌, ◌++◌, length, refl, sym, ap, ◌∙◌, subst, arith, count_by, IsTrue, Option, Some, None, inl, inr}
 use Rattle.std.specs.Prelude.{◌==◌, if◌then◌else◌}
-use Rattle.std.proofs.lemmas.Bool.{cases_Bool, eq-eqb, false≢true}
+use Rattle.std.proofs.lemmas.Bool.{cases_Bool, eq-eqb}
 use Rattle.tlsf_class.specs.Classes.{classes, class}
 use Rattle.tlsf_heap.specs.Content.{Block, Pool, Content, is_free, is_at, blocks_of}
 use Rattle.tlsf_heap.specs.Lists.{list_of}
@@ -18,12 +18,6 @@ use Rattle.tlsf_heap.proofs.Content.Blocks.{Ascends-pools}
 pub length-plug : {X : Type 0} (front behind : List X) → length (plug front behind) ≡ length front + length behind
 length-plug [] behind = omega arith
 length-plug (x ∷ front) behind = omega (arith, length-plug front (x ∷ behind))
-
-swap : (a b : Bool) → IsTrue (not (a && b)) → IsTrue (not (b && a))
-swap true true h = h
-swap true false h = refl
-swap false true h = refl
-swap false false h = refl
 
 module _ {A : Type 0} where
   -- the blocks without the first, where it is free
@@ -44,22 +38,6 @@ module _ {A : Type 0} where
   listed_of q p None = 0
   listed_of q p (Some block) = listed_at q p block.place block.size
 
-  -- blocks of which no two free ones are neighbours, in parts
-  pub not_both : (blocks : List (Block A)) (was : Bool) → NoFreeNeighbours was blocks → IsTrue (not (was && is_first_free blocks))
-  not_both [] true n = refl
-  not_both [] false n = refl
-  not_both (block ∷ blocks) was n = n.0
-
-  pub apart_parts : (front blocks : List (Block A)) → NoFreeNeighbours false (plug front blocks) → NoFreeNeighbours (is_first_free blocks) front × NoFreeNeighbours (is_first_free front) blocks
-  apart_parts [] blocks n = (tt, n)
-  apart_parts (f ∷ front) blocks n =
-      let parts = apart_parts front (f ∷ blocks) n in
-      ((swap (is_free f) (is_first_free blocks) (not_both blocks (is_free f) parts.1.1), parts.0), parts.1.1)
-
-  pub apart_plugged : (front blocks : List (Block A)) → NoFreeNeighbours (is_first_free blocks) front → NoFreeNeighbours (is_first_free front) blocks → NoFreeNeighbours false (plug front blocks)
-  apart_plugged [] blocks before n = n
-  apart_plugged (f ∷ front) blocks before n = apart_plugged front (f ∷ blocks) before.1 (swap (is_free f) (is_first_free front) (not_both front (is_free f) before.1), n)
-
   -- no free one is left beside the block
   pub past_apart : (blocks : List (Block A)) → NoFreeNeighbours false blocks → NoFreeNeighbours true (past_free blocks)
   past_apart [] n = tt
@@ -68,12 +46,23 @@ module _ {A : Type 0} where
     | inr live ↦ rw live (let P : Bool → Type 0 = λ b. IsTrue (not b) × NoFreeNeighbours b blocks in subst P (sym live) (let Q : Bool → Type 0 = λ b. NoFreeNeighbours b blocks in (refl, subst Q live n.1)))
   ]
 
-  pub past_live : (blocks : List (Block A)) → NoFreeNeighbours true blocks → is_first_free blocks ≡ false
-  past_live [] n = refl
-  past_live (block ∷ blocks) n = elim (cases_Bool (is_free block)) [
-    | inl free ↦ absurd (let P : Bool → Type 0 = λ b. IsTrue (not b) in false≢true (subst P free n.0))
-    | inr live ↦ live
-  ]
+  -- the first of the blocks, where it is free, as the only one
+  abbrev pub lead : List (Block A) → List (Block A)
+  lead [] = []
+  lead (block ∷ blocks) = if is_free block then block ∷ [] else []
+
+  pub lead_plug : (before others : List (Block A)) → plug before others ≡ plug (past_free before) (lead before ++ others)
+  lead_plug [] others = refl
+  lead_plug (f ∷ before) others = elim (is_free f) as (λ b. plug (f ∷ before) others ≡ plug (cond b before (f ∷ before)) (cond b (f ∷ []) [] ++ others)) [ true ↦ refl | false ↦ refl ]
+
+  pub count_lead : (q p : ℕ) (blocks : List (Block A)) → count_by (is_listed q p) (lead blocks) ≡ listed_of q p (free_first blocks)
+  count_lead q p [] = refl
+  count_lead q p (block ∷ blocks) =
+      let P : Bool → Type 0 = λ f. count_by (is_listed q p) (cond f (block ∷ []) []) ≡ listed_of q p (cond f (Some block) None) in
+      elim (cases_Bool (is_free block)) [
+        | inl free ↦ subst P (sym free) (omega (arith, count-cons (is_listed q p) block [], ap (λ b. one_if (b && (is_at p block && (class block.size == q)))) free))
+        | inr live ↦ subst P (sym live) refl
+      ]
 
   pub count_past : (q p : ℕ) (blocks : List (Block A)) → count_by (is_listed q p) (past_free blocks) + listed_of q p (free_first blocks) ≡ count_by (is_listed q p) blocks
   count_past q p [] = refl
@@ -105,6 +94,20 @@ module _ {A : Type 0} where
     | true ↦ omega (arith, count-cons kind block blocks)
     | false ↦ omega arith
   ]
+
+  -- the block still begins where no other does
+  pub once_past : (position : BlockPosition A) (block : Block A) (blocks : List (Block A)) → ((place : ℕ) → count_by (is_at place) (blocks_of (filled_pools position (block ∷ blocks))) ≤ 1)
+      → (place : ℕ) → count_by (is_at place) (blocks_of (filled_pools position (block ∷ past_free blocks))) ≤ 1
+  once_past position block blocks once place =
+      omega (
+        arith,
+        once place,
+        count-filled_pools (is_at place) position (block ∷ blocks),
+        count-filled_pools (is_at place) position (block ∷ past_free blocks),
+        count-cons (is_at place) block blocks,
+        count-cons (is_at place) block (past_free blocks),
+        few_past (is_at place) blocks,
+      )
 
   -- a free first block stands once at its place in its class's list
   pub free_stands : (blocks : List (Block A)) (block : Block A) → free_first blocks ≡ Some block → (1 ≤ count_by (is_listed (class block.size) block.place) blocks) × (1 ≤ count_by (is_at block.place) blocks)

@@ -1,5 +1,5 @@
 -- free by the block's neighbours keeps a content good.
-use Rattle.std.proofs.Common.{◌≡◌, ℕ, ◌+◌, ◌%◌, ◌<◌, ◌≤◌, Bool, true, false, cond, not, ◌&&◌, List, [], ◌∷◌, length, map, refl, sym, ap, ◌∙◌, subst, arith, count_by, IsTrue, Option, Some, None, inl, inr}
+use Rattle.std.proofs.Common.{◌≡◌, ℕ, ◌+◌, ◌%◌, ◌<◌, ◌≤◌, Bool, true, false, cond, not, ◌&&◌, List, [], ◌∷◌, ◌++◌, length, map, refl, sym, ap, ◌∙◌, subst, arith, count_by, IsTrue, Option, Some, None, inl, inr}
 use Rattle.tlsf_class.proofs.ClassLaws.{class-lt}
 use Rattle.std.specs.Prelude.{is_none, ◌==◌}
 use Rattle.std.proofs.lemmas.Bool.{cases_eq, ne_eqb, eqb-true, and_parts, false≢true}
@@ -7,16 +7,17 @@ use Rattle.tlsf_class.specs.Classes.{unit, greatest_size, classes, class}
 use Rattle.tlsf_heap.specs.Content.{Block, Pool, Content, blocks_of, is_free, is_at, size_at}
 use Rattle.tlsf_heap.specs.Lists.{list_of, link}
 use Rattle.tlsf_heap.specs.Malloc.{replaced_in}
-use Rattle.tlsf_heap.specs.Good.{Covers, NoFreeNeighbours, IsGoodPool, AreGoodPools, times, is_listed, AreLists, IsGood}
+use Rattle.tlsf_heap.specs.Good.{Covers, NoFreeNeighbours, AreGoodPools, times, is_listed, IsGood}
 use Rattle.tlsf_heap.specs.Free.{is_owned_by, is_live, if_free, free_previous, free_next, unlink_block, size_of, start_of}
 use Rattle.tlsf_heap.specs.Free.{free_block, without_block, after_free}
 use Rattle.tlsf_heap.specs.Inner.Positions.{plug}
 use Rattle.tlsf_heap.proofs.Content.Blocks.{Ascends-pools}
 use Rattle.tlsf_heap.proofs.Content.FreeLists.{times-link, length-link}
 use Rattle.tlsf_heap.proofs.Good.Calls.{Covers-le}
-use Rattle.tlsf_heap.proofs.Counts.{one_if, count-cons, count_all, any_counts}
+use Rattle.tlsf_heap.proofs.Counts.{one_if, count-cons, count-append, count_all, any_counts}
 use Rattle.tlsf_heap.proofs.Meaning.BlockPositions.{BlockPosition, pool_at, filled_pools, around_blocks, count-filled_pools, LocatedBlock, located_block, at_most_one, IsAlone, block_alone, replaced_at, front_at, back_at, size_here}
-use Rattle.tlsf_heap.proofs.Meaning.FreeFirst.{length-plug, past_free, free_first, listed_of, apart_parts, apart_plugged, past_apart, past_live, count_past, listed_once, next_once, few_past, free_stands, times-unlink_block, length-unlink_block, covers_plug, pools_plug, merged_of, covers_behind, without_next}
+use Rattle.tlsf_heap.proofs.Meaning.FreeFirst.{past_free, free_first, is_first_free, listed_of, lead, lead_plug, count_lead, past_apart, count_past, listed_once, next_once, few_past, once_past, free_stands, times-unlink_block, length-unlink_block, merged_of, covers_behind, without_next}
+use Rattle.tlsf_heap.proofs.Meaning.Refilled.{refilled_is_good}
 
 module _ {A : Type 0} where
   pub good_behind : (from : ℕ) (front pools : List (Pool A)) → AreGoodPools from (plug front pools) → (place : ℕ) × AreGoodPools place pools
@@ -28,27 +29,41 @@ module _ {A : Type 0} where
   within_plug [] blocks from to c = (from, omega arith, c)
   within_plug (block ∷ front) blocks from to c = let rest = within_plug front (block ∷ blocks) from to c in (rest.0 + block.size, omega (arith, rest.1), rest.2.3)
 
-  covers_merged : (before : List (Block A)) (block : Block A) (blocks : List (Block A)) (from to : ℕ) → Covers from to (plug before (block ∷ blocks)) → Covers from to (plug (past_free before) (merged_of (free_first before) block (free_first blocks) ∷ past_free blocks))
-  covers_merged [] block blocks from to c =
-      let P : ℕ → Type 0 = λ n. Covers from to (free_block block.place n ∷ past_free blocks) in
-      let same : block.size + size_of (free_first blocks) ≡ 0 + block.size + size_of (free_first blocks) = omega arith in
-      subst P same (covers_behind block blocks from to c)
-  covers_merged (f ∷ before) block blocks from to c =
-      let one = covers_plug to (f ∷ before) (block ∷ blocks) (free_block block.place (block.size + size_of (free_first blocks)) ∷ past_free blocks) (λ place. covers_behind block blocks place to) from c in
-      let P : Bool → Type 0 = λ t.
-      Covers from to (plug (cond t before (f ∷ before)) (merged_of (cond t (Some f) None) block (free_first blocks) ∷ past_free blocks)) in
-      elim (is_free f) as P [
-        | true ↦
-            covers_plug to before (f ∷ free_block block.place (block.size + size_of (free_first blocks)) ∷ past_free blocks) (merged_of (Some f) block (free_first blocks) ∷ past_free blocks)
-            (λ place d.
-            let Q : ℕ → Type 0 = λ n. Covers n to (past_free blocks) in
-            let same : (place + f.size) + (block.size + size_of (free_first blocks)) ≡ place + (f.size + block.size + size_of (free_first blocks)) = omega arith in
-            (d.0, omega (arith, d.1), omega (arith, d.2, d.3.2), subst Q same d.3.3)) from one
-        | false ↦
-            let Q : ℕ → Type 0 = λ n. Covers from to (plug (f ∷ before) (free_block block.place n ∷ past_free blocks)) in
-            let same : block.size + size_of (free_first blocks) ≡ 0 + block.size + size_of (free_first blocks) = omega arith in
-            subst Q same one
+  covers_merged : (before : List (Block A)) (block : Block A) (blocks : List (Block A)) (from to : ℕ) → Covers from to (lead before ++ block ∷ blocks) → Covers from to (merged_of (free_first before) block (free_first blocks) ∷ past_free blocks)
+  covers_merged before block blocks from to c = of before c
+    where
+      alone : Covers from to (block ∷ blocks) → Covers from to (merged_of None block (free_first blocks) ∷ past_free blocks)
+      alone d =
+          let P : ℕ → Type 0 = λ n. Covers from to (free_block block.place n ∷ past_free blocks) in
+          let same : block.size + size_of (free_first blocks) ≡ 0 + block.size + size_of (free_first blocks) = omega arith in
+          subst P same (covers_behind block blocks from to d)
+
+      of : (before : List (Block A)) → Covers from to (lead before ++ block ∷ blocks) → Covers from to (merged_of (free_first before) block (free_first blocks) ∷ past_free blocks)
+      of [] = alone
+      of (f ∷ before) = elim (is_free f) as (λ t. Covers from to (cond t (f ∷ []) [] ++ block ∷ blocks) → Covers from to (merged_of (cond t (Some f) None) block (free_first blocks) ∷ past_free blocks)) [
+        | true ↦ (λ d.
+            let e = covers_behind block blocks (from + f.size) to d.3 in
+            let P : ℕ → Type 0 = λ n. Covers n to (past_free blocks) in
+            let same : (from + f.size) + (block.size + size_of (free_first blocks)) ≡ from + (f.size + block.size + size_of (free_first blocks)) = omega arith in
+            (d.0, omega (arith, d.1), omega (arith, d.2, e.2), subst P same e.3))
+        | false ↦ alone
       ]
+
+  apart_merged : (before : List (Block A)) (block : Block A) (blocks : List (Block A)) → is_free block ≡ false → NoFreeNeighbours (is_first_free (past_free before)) (lead before ++ block ∷ blocks)
+      → NoFreeNeighbours (is_first_free (past_free before)) (merged_of (free_first before) block (free_first blocks) ∷ past_free blocks)
+  apart_merged before block blocks live n = of before n
+    where
+      behind : NoFreeNeighbours (is_free block) blocks → NoFreeNeighbours true (past_free blocks)
+      behind m = past_apart blocks (subst (λ b. NoFreeNeighbours b blocks) live m)
+
+      beside : (f : Block A) (before : List (Block A)) (t : Bool) → is_free f ≡ t → NoFreeNeighbours (is_first_free (cond t before (f ∷ before))) (cond t (f ∷ []) [] ++ block ∷ blocks)
+          → NoFreeNeighbours (is_first_free (cond t before (f ∷ before))) (merged_of (cond t (Some f) None) block (free_first blocks) ∷ past_free blocks)
+      beside f before true free m = (subst (λ b. IsTrue (not (is_first_free before && b))) free m.0, behind m.1.1)
+      beside f before false kept m = (subst (λ b. IsTrue (not (b && true))) (sym kept) refl, behind m.1)
+
+      of : (before : List (Block A)) → NoFreeNeighbours (is_first_free (past_free before)) (lead before ++ block ∷ blocks) → NoFreeNeighbours (is_first_free (past_free before)) (merged_of (free_first before) block (free_first blocks) ∷ past_free blocks)
+      of [] m = (refl, behind m.1)
+      of (f ∷ before) m = beside f before (is_free f) refl m
 
   module _ (records : ℕ) (position : BlockPosition A) (block : Block A) (blocks : List (Block A)) (lists : List (List ℕ)) (good : IsGood (record { records = records; pools = filled_pools position (block ∷ blocks); lists = lists })) (live : is_free block ≡ false) where
     abbrev old : Content A
@@ -114,76 +129,36 @@ module _ {A : Type 0} where
     full_back : length (unlink_block back (unlink_block front lists)) ≡ classes
     full_back = length-unlink_block (unlink_block front lists) full_front back
 
-    listed_after : AreLists (blocks_of (filled_pools past_position (merged ∷ past_free blocks))) new_lists
-    listed_after q p within =
-        omega (
-          arith,
-          times-link (unlink_block back (unlink_block front lists)) full_back q p merged.place merged.size,
-          times-unlink_block (unlink_block front lists) full_front back back_once q p,
-          times-unlink_block lists good.lists_count front front_once q p,
-          good.listed q p within,
-          counts (is_listed q p),
-          counts_after (is_listed q p),
-          not_listed q p,
-          count_past q p position.before,
-          count_past q p blocks,
-        )
-
-    pool_good : IsGoodPool (pool_at position (block ∷ blocks)) → IsGoodPool (pool_at past_position (merged ∷ past_free blocks))
-    pool_good g =
-        let parts = apart_parts position.before (block ∷ blocks) g.merged in
-        let P : Bool → Type 0 = λ b. NoFreeNeighbours b position.before in
-        let Q : Bool → Type 0 = λ b. NoFreeNeighbours b blocks in
-        let before : NoFreeNeighbours true (past_free position.before) = past_apart position.before (subst P live parts.0) in
-        let R : Bool → Type 0 = λ b. IsTrue (not (b && true)) × NoFreeNeighbours true (past_free blocks) in
-        record {
-          base_in_units = g.base_in_units;
-          bytes_in_units = g.bytes_in_units;
-          least_bytes = g.least_bytes;
-          most_bytes = g.most_bytes;
-          ends = g.ends;
-          covered = covers_merged position.before block blocks position.base (position.base + position.bytes) g.covered;
-          merged = apart_plugged (past_free position.before) (merged ∷ past_free blocks) before (subst R (sym (past_live (past_free position.before) before)) (refl, past_apart blocks (subst Q live parts.1.1)));
-        }
-
-    pools_good : AreGoodPools 0 (filled_pools past_position (merged ∷ past_free blocks))
-    pools_good =
-        pools_plug position.pools_before (pool_at position (block ∷ blocks) ∷ position.pools_behind) (pool_at past_position (merged ∷ past_free blocks) ∷ position.pools_behind) (λ from g. (g.0, pool_good g.1, g.2)) 0 good.pools_good
+    blocks_fit : length (blocks_of new.pools) ≤ records
+    blocks_fit =
+        let all : Block A → Bool = λ b. true in
+        omega (arith, good.blocks_few, count_all (blocks_of old.pools), count_all (blocks_of new.pools), counts all, counts_after all, few_past all position.before, few_past all blocks)
 
     new_is_good : IsGood new
-    new_is_good = record {
-      pools_few = omega (arith, good.pools_few, length-plug position.pools_before (pool_at position (block ∷ blocks) ∷ position.pools_behind), length-plug position.pools_before (pool_at past_position (merged ∷ past_free blocks) ∷ position.pools_behind));
-      pools_good = pools_good;
-      lists_count = length-link (unlink_block back (unlink_block front lists)) full_back merged.place merged.size;
-      listed = listed_after;
-      blocks_few = (let all : Block A → Bool = λ b. true in
-          omega (
+    new_is_good =
+        let of : List (Block A) → Content A = λ bs. record { records = records; pools = plug position.pools_before (record { base = position.base; bytes = position.bytes; blocks = bs } ∷ position.pools_behind); lists = lists } in
+        let was : IsGood (of (plug past_position.before (lead position.before ++ block ∷ blocks))) = subst (λ bs. IsGood (of bs)) (lead_plug position.before (block ∷ blocks)) good in
+        refilled_is_good records past_position (lead position.before ++ block ∷ blocks) (merged ∷ past_free blocks) lists new_lists (record {
+          covers = covers_merged position.before block blocks;
+          apart = apart_merged position.before block blocks live;
+          full = length-link (unlink_block back (unlink_block front lists)) full_back merged.place merged.size;
+          listed = (λ q p within. omega (
             arith,
-            good.blocks_few,
-            count_all (blocks_of (filled_pools position (block ∷ blocks))),
-            count_all (blocks_of (filled_pools past_position (merged ∷ past_free blocks))),
-            counts all,
-            counts_after all,
-            few_past all position.before,
-            few_past all blocks,
+            times-link (unlink_block back (unlink_block front lists)) full_back q p merged.place merged.size,
+            times-unlink_block (unlink_block front lists) full_front back back_once q p,
+            times-unlink_block lists good.lists_count front front_once q p,
+            not_listed q p,
+            count_lead q p position.before,
+            count_past q p blocks,
+            count-append (is_listed q p) (lead position.before) (block ∷ blocks),
+            count-cons (is_listed q p) block blocks,
+            count-cons (is_listed q p) merged (past_free blocks),
           ));
-    }
+        }) blocks_fit was
 
     -- what free leaves
-    once_past : (place : ℕ) → count_by (is_at place) (blocks_of (filled_pools past_position (block ∷ blocks))) ≤ 1
-    once_past place = omega (arith, once place, counts (is_at place), count-filled_pools (is_at place) past_position (block ∷ blocks), count-cons (is_at place) block blocks, few_past (is_at place) position.before)
-
-    once_both : (place : ℕ) → count_by (is_at place) (blocks_of (filled_pools past_position (block ∷ past_free blocks))) ≤ 1
-    once_both place =
-        omega (
-          arith,
-          once_past place,
-          count-filled_pools (is_at place) past_position (block ∷ blocks),
-          count-filled_pools (is_at place) past_position (block ∷ past_free blocks),
-          count-cons (is_at place) block blocks,
-          count-cons (is_at place) block (past_free blocks),
-          few_past (is_at place) blocks,
-        )
+    once_alone : (place : ℕ) → count_by (is_at place) (blocks_of (filled_pools past_position (block ∷ blocks))) ≤ 1
+    once_alone place = omega (arith, once place, counts (is_at place), count-filled_pools (is_at place) past_position (block ∷ blocks), count-cons (is_at place) block blocks, few_past (is_at place) position.before)
 
     without_front : without_block front (filled_pools position (block ∷ blocks)) ≡ filled_pools past_position (block ∷ blocks)
     without_front = go position.before once
@@ -198,7 +173,7 @@ module _ {A : Type 0} where
             ]
 
     without_back : without_block back (filled_pools past_position (block ∷ blocks)) ≡ filled_pools past_position (block ∷ past_free blocks)
-    without_back = without_next past_position block blocks once_past
+    without_back = without_next past_position block blocks once_alone
 
     -- the content, where these are the neighbours and this is the size
     abbrev after : Option (Block A) → Option (Block A) → ℕ → Content A
@@ -214,7 +189,7 @@ module _ {A : Type 0} where
         let b_is : free_next block.place old ≡ back = ap if_free (back_at position block blocks alone) in
         let by_pools : (after front back block.size).pools ≡ new.pools =
         ap (map (replaced_in block.place (merged ∷ []))) (ap (without_block back) without_front ∙ without_back)
-        ∙ replaced_at past_position block (past_free blocks) (block_alone past_position block (past_free blocks) once_both) (merged ∷ []) in
+        ∙ replaced_at past_position block (past_free blocks) (block_alone past_position block (past_free blocks) (once_past past_position block blocks once_alone)) (merged ∷ []) in
         ap (λ x. after x (free_next block.place old) (size_at block.place (blocks_of old.pools))) f_is
         ∙ ap (λ y. after front y (size_at block.place (blocks_of old.pools))) b_is
         ∙ ap (after front back) (size_here position block blocks alone)
@@ -222,7 +197,7 @@ module _ {A : Type 0} where
 
     pub merged_size : (0 < merged.size) × (merged.size % unit ≡ 0) × (merged.size ≤ greatest_size)
     merged_size =
-        let pool = (good_behind 0 position.pools_before (pool_at past_position (merged ∷ past_free blocks) ∷ position.pools_behind) pools_good).1.1 in
+        let pool = (good_behind 0 position.pools_before (pool_at past_position (merged ∷ past_free blocks) ∷ position.pools_behind) new_is_good.pools_good).1.1 in
         let at = within_plug (past_free position.before) (merged ∷ past_free blocks) past_position.base (past_position.base + past_position.bytes) pool.covered in
         (at.2.1, at.2.2, omega (arith, at.1, Covers-le (at.0 + merged.size) (past_position.base + past_position.bytes) (past_free blocks) at.2.3, pool.most_bytes))
 
@@ -243,28 +218,29 @@ module _ {A : Type 0} where
   owned_is_live is_meant None owned = absurd (false≢true owned)
   owned_is_live is_meant (Some a) owned = refl
 
-  -- the content after the free of a live block is good
-  pub freed_is_good : (is_meant : A → Bool) (place : ℕ) (content : Content A) → IsGood content → is_live is_meant place (blocks_of content.pools) ≡ true → IsGood (after_free place content)
-  freed_is_good is_meant place content good live =
+  -- what holds of a live block at its position holds of it
+  pub at_live : (is_meant : A → Bool) (place : ℕ) (content : Content A) (Q : ℕ → Content A → Type 0) → IsGood content → is_live is_meant place (blocks_of content.pools) ≡ true
+      → ((position : BlockPosition A) (block : Block A) (blocks : List (Block A)) → is_owned_by is_meant block.owner ≡ true → IsGood (record content { pools = filled_pools position (block ∷ blocks) }) → Q block.place (record content { pools = filled_pools position (block ∷ blocks) }))
+      → Q place content
+  at_live is_meant place content Q good live holds =
       let test : Block A → Bool = λ block. is_at place block && is_owned_by is_meant block.owner in
       let at : LocatedBlock test content.pools = located_block test content.pools (any_counts test (blocks_of content.pools) live) in
       let parts = and_parts _ _ at.passes in
-      let P : List (Pool A) → Type 0 = λ pools. IsGood (record content { pools = pools }) → IsGood (after_free place (record content { pools = pools })) in
-      let Q : ℕ → Type 0 = λ p. IsGood (after_free p (record content { pools = filled_pools at.position (at.block ∷ at.blocks) })) in
-      subst P (sym at.whole) (λ g. subst Q (eqb-true at.block.place place parts.0) (after_is_good content.records at.position at.block at.blocks content.lists g (owned_is_live is_meant at.block.owner parts.1))) good
+      let P : List (Pool A) → Type 0 = λ pools. IsGood (record content { pools = pools }) → Q place (record content { pools = pools }) in
+      let R : ℕ → Type 0 = λ p. Q p (record content { pools = filled_pools at.position (at.block ∷ at.blocks) }) in
+      subst P (sym at.whole) (λ g. subst R (eqb-true at.block.place place parts.0) (holds at.position at.block at.blocks parts.1 g)) good
+
+  -- the content after the free of a live block is good
+  pub freed_is_good : (is_meant : A → Bool) (place : ℕ) (content : Content A) → IsGood content → is_live is_meant place (blocks_of content.pools) ≡ true → IsGood (after_free place content)
+  freed_is_good is_meant place content good live =
+      at_live is_meant place content (λ p x. IsGood (after_free p x)) good live (λ position block blocks owned g. after_is_good content.records position block blocks content.lists g (owned_is_live is_meant block.owner owned))
 
   -- the block that is left has a size that a block can have
   pub freed_size : (is_meant : A → Bool) (place : ℕ) (content : Content A) → IsGood content → is_live is_meant place (blocks_of content.pools) ≡ true
       → let size = size_of (free_previous place content) + size_at place (blocks_of content.pools) + size_of (free_next place content) in (0 < size) × (size % unit ≡ 0) × (size ≤ greatest_size)
   freed_size is_meant place content good live =
-      let test : Block A → Bool = λ block. is_at place block && is_owned_by is_meant block.owner in
-      let at : LocatedBlock test content.pools = located_block test content.pools (any_counts test (blocks_of content.pools) live) in
-      let parts = and_parts _ _ at.passes in
-      let Sized : ℕ → Content A → Type 0 = λ p x.
-      let size = size_of (free_previous p x) + size_at p (blocks_of x.pools) + size_of (free_next p x) in (0 < size) × (size % unit ≡ 0) × (size ≤ greatest_size) in
-      let P : List (Pool A) → Type 0 = λ pools. IsGood (record content { pools = pools }) → Sized place (record content { pools = pools }) in
-      let Q : ℕ → Type 0 = λ p. Sized p (record content { pools = filled_pools at.position (at.block ∷ at.blocks) }) in
-      let R : ℕ → Type 0 = λ n. (0 < n) × (n % unit ≡ 0) × (n ≤ greatest_size) in
-      subst P (sym at.whole) (λ g.
-      let live_one = owned_is_live is_meant at.block.owner parts.1 in
-      subst Q (eqb-true at.block.place place parts.0) (subst R (sym (sizes_are content.records at.position at.block at.blocks content.lists g live_one)) (merged_size content.records at.position at.block at.blocks content.lists g live_one))) good
+      let IsSize : ℕ → Type 0 = λ n. (0 < n) × (n % unit ≡ 0) × (n ≤ greatest_size) in
+      at_live is_meant place content (λ p x. IsSize (size_of (free_previous p x) + size_at p (blocks_of x.pools) + size_of (free_next p x))) good live
+      (λ position block blocks owned g.
+      let live_one = owned_is_live is_meant block.owner owned in
+      subst IsSize (sym (sizes_are content.records position block blocks content.lists g live_one)) (merged_size content.records position block blocks content.lists g live_one))

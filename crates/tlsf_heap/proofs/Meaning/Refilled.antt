@@ -1,26 +1,26 @@
 -- Other blocks of the same bytes at a position keep a content good.
-use Rattle.std.proofs.Common.{◌≡◌, ℕ, ◌+◌, ◌<◌, ◌≤◌, Bool, false, List, [], ◌∷◌, length, arith, count_by}
+use Rattle.std.proofs.Common.{◌≡◌, ℕ, ◌+◌, ◌<◌, ◌≤◌, false, List, [], ◌∷◌, length, arith, count_by}
 use Rattle.tlsf_class.specs.Classes.{classes}
-use Rattle.tlsf_heap.specs.Content.{Block, blocks_of, is_free}
+use Rattle.tlsf_heap.specs.Content.{Block, blocks_of}
 use Rattle.tlsf_heap.specs.Lists.{list_of}
 use Rattle.tlsf_heap.specs.Good.{Covers, NoFreeNeighbours, IsGoodPool, times, is_listed, IsGood}
 use Rattle.tlsf_heap.specs.Inner.Positions.{plug}
 use Rattle.tlsf_heap.proofs.Meaning.BlockPositions.{BlockPosition, pool_at, filled_pools, count-filled_pools}
-use Rattle.tlsf_heap.proofs.Meaning.FreeFirst.{length-plug, covers_plug, pools_plug}
+use Rattle.tlsf_heap.proofs.Meaning.FreeFirst.{length-plug, is_first_free, covers_plug, pools_plug}
 
 module _ {A : Type 0} where
-  apart_plug : (front olds news : List (Block A)) → ((was : Bool) → NoFreeNeighbours was olds → NoFreeNeighbours was news) → (was : Bool) → NoFreeNeighbours was (plug front olds) → NoFreeNeighbours was (plug front news)
+  apart_plug : (front olds news : List (Block A)) → (NoFreeNeighbours (is_first_free front) olds → NoFreeNeighbours (is_first_free front) news) → NoFreeNeighbours false (plug front olds) → NoFreeNeighbours false (plug front news)
   apart_plug [] olds news apart = apart
-  apart_plug (f ∷ front) olds news apart = apart_plug front (f ∷ olds) (f ∷ news) (λ was n. (n.0, apart (is_free f) n.1))
+  apart_plug (f ∷ front) olds news apart = apart_plug front (f ∷ olds) (f ∷ news) (λ n. (n.0, apart n.1))
 
-  -- what the blocks that come must have in common with those that go
-  pub record IsRefill (olds news : List (Block A)) (lists new_lists : List (List ℕ)) : Type 0 where
+  -- what the blocks that come behind others must have in common with those that go
+  pub record IsRefill (before olds news : List (Block A)) (lists new_lists : List (List ℕ)) : Type 0 where
     pub covers : (from to : ℕ) → Covers from to olds → Covers from to news
-    pub apart : (was : Bool) → NoFreeNeighbours was olds → NoFreeNeighbours was news
+    pub apart : NoFreeNeighbours (is_first_free before) olds → NoFreeNeighbours (is_first_free before) news
     pub full : length new_lists ≡ classes
     pub listed : (q p : ℕ) → q < classes → times p (list_of q new_lists) + count_by (is_listed q p) olds ≡ times p (list_of q lists) + count_by (is_listed q p) news
 
-  pub refilled_is_good : (records : ℕ) (position : BlockPosition A) (olds news : List (Block A)) (lists new_lists : List (List ℕ)) → IsRefill olds news lists new_lists
+  pub refilled_is_good : (records : ℕ) (position : BlockPosition A) (olds news : List (Block A)) (lists new_lists : List (List ℕ)) → IsRefill position.before olds news lists new_lists
       → length (blocks_of (filled_pools position news)) ≤ records
       → IsGood (record { records = records; pools = filled_pools position olds; lists = lists }) → IsGood (record { records = records; pools = filled_pools position news; lists = new_lists })
   refilled_is_good records position olds news lists new_lists is few good = record {
@@ -39,5 +39,5 @@ module _ {A : Type 0} where
         most_bytes = g.most_bytes;
         ends = g.ends;
         covered = covers_plug (position.base + position.bytes) position.before olds news (λ from. is.covers from (position.base + position.bytes)) position.base g.covered;
-        merged = apart_plug position.before olds news is.apart false g.merged;
+        merged = apart_plug position.before olds news is.apart g.merged;
       }

@@ -2,7 +2,7 @@
 use Rattle.std.proofs.Common.{◌≡◌, ℕ, ◌+◌, ◌-◌, ◌%◌, ◌<◌, ◌≤◌, Bool, true, false, ◌&&◌, List, ◌∷◌, ◌++◌, length, map, refl, ap, ◌∙◌, subst, arith, count_by, Option, Some, ◌≢◌, cond, sym, None, inl, inr, length-append, []}
 use Rattle.std.specs.Prelude.{◌==◌, ◌||◌, is_some, nat_lt, nat_le}
 use Rattle.tlsf_class.specs.Classes.{unit, classes, class, greatest_size}
-use Rattle.tlsf_heap.specs.Content.{Block, Content, blocks_of, is_free, is_at, size_at, Pool}
+use Rattle.tlsf_heap.specs.Content.{Block, Content, blocks_of, is_free, is_at, size_at}
 use Rattle.tlsf_heap.specs.Lists.{list_of}
 use Rattle.tlsf_heap.specs.Malloc.{link_gap, split, replaced_in}
 use Rattle.tlsf_heap.specs.Free.{if_free, free_next, unlink_block, without_block, size_of, is_owned_by, is_live}
@@ -12,13 +12,13 @@ use Rattle.tlsf_heap.proofs.Good.Calls.{Covers-le}
 use Rattle.tlsf_heap.specs.Good.{Covers, NoFreeNeighbours, times, is_listed, IsGood}
 use Rattle.tlsf_heap.proofs.Content.Blocks.{Ascends-pools}
 use Rattle.tlsf_heap.proofs.Content.FreeLists.{count_listed-split, times-link_gap, length-link_gap}
-use Rattle.tlsf_heap.proofs.Counts.{one_if, count-cons, count-append, count_all, any_counts}
-use Rattle.tlsf_heap.proofs.Meaning.BlockPositions.{BlockPosition, pool_at, filled_pools, count-filled_pools, at_most_one, IsAlone, block_alone, replaced_at, back_at, size_here, LocatedBlock, located_block}
-use Rattle.tlsf_heap.proofs.Meaning.FreeFirst.{past_free, free_first, few_past, past_apart, count_past, times-unlink_block, length-unlink_block, covers_behind, without_next, next_once}
+use Rattle.tlsf_heap.proofs.Counts.{one_if, count-cons, count-append, count_all}
+use Rattle.tlsf_heap.proofs.Meaning.BlockPositions.{BlockPosition, pool_at, filled_pools, count-filled_pools, at_most_one, IsAlone, block_alone, replaced_at, back_at, size_here}
+use Rattle.tlsf_heap.proofs.Meaning.FreeFirst.{past_free, free_first, is_first_free, few_past, once_past, past_apart, count_past, times-unlink_block, length-unlink_block, covers_behind, without_next, next_once}
 use Rattle.tlsf_heap.proofs.Meaning.Gaps.{covers_split, apart_split, length-split_most}
 use Rattle.tlsf_heap.proofs.Meaning.Refilled.{refilled_is_good}
-use Rattle.std.proofs.lemmas.Bool.{cases_Bool, eqb-true, and_parts, or_cases, ltb-true, ltb-false, leb-true}
-use Rattle.tlsf_heap.proofs.Meaning.FreedIsGood.{owned_is_live, good_behind, within_plug}
+use Rattle.std.proofs.lemmas.Bool.{cases_Bool, eqb-true, or_cases, ltb-true, ltb-false, leb-true}
+use Rattle.tlsf_heap.proofs.Meaning.FreedIsGood.{owned_is_live, at_live, good_behind, within_plug}
 use Rattle.tlsf_heap.specs.GoodSlots.{is_slot, HasGoodSlots}
 use Rattle.tlsf_heap.proofs.Good.Slots.{slot_times-append, slot_times-split, slots_fewer}
 
@@ -67,18 +67,6 @@ module _ {A : Type 0} where
       once_here : (place : ℕ) → count_by (is_at place) (blocks_of (filled_pools position (block ∷ blocks))) ≤ 1
       once_here = at_most_one 0 (blocks_of (filled_pools position (block ∷ blocks))) (Ascends-pools 0 (filled_pools position (block ∷ blocks)) good.pools_good)
 
-      once_past : (place : ℕ) → count_by (is_at place) (blocks_of (filled_pools position (block ∷ past_free blocks))) ≤ 1
-      once_past place =
-          omega (
-            arith,
-            once_here place,
-            count-filled_pools (is_at place) position (block ∷ blocks),
-            count-filled_pools (is_at place) position (block ∷ past_free blocks),
-            count-cons (is_at place) block blocks,
-            count-cons (is_at place) block (past_free blocks),
-            few_past (is_at place) blocks,
-          )
-
       -- the content, where this is the next block and this is the size
       abbrev after : Option (Block A) → ℕ → Content A
       after o n = record old {
@@ -92,7 +80,7 @@ module _ {A : Type 0} where
           let next_is : free_next block.place old ≡ next = ap if_free (back_at position block blocks alone) in
           let by_pools : (after next block.size).pools ≡ new.pools =
           ap (map (replaced_in block.place (split owner block.place m size))) (without_next position block blocks once_here)
-          ∙ replaced_at position block (past_free blocks) (block_alone position block (past_free blocks) once_past) (split owner block.place m size) in
+          ∙ replaced_at position block (past_free blocks) (block_alone position block (past_free blocks) (once_past position block blocks once_here)) (split owner block.place m size) in
           ap (λ o. after o (size_at block.place (blocks_of old.pools))) next_is
           ∙ ap (after next) (size_here position block blocks alone)
           ∙ ap (λ pools. record new { pools = pools }) by_pools
@@ -101,7 +89,7 @@ module _ {A : Type 0} where
       new_is_good fits few =
           refilled_is_good records position (block ∷ blocks) news lists new_lists (record {
             covers = covers fits;
-            apart = apart;
+            apart = apart (is_first_free position.before);
             full = length-link_gap (unlink_block next lists) (length-unlink_block lists good.lists_count next) (block.place + m) (size - m);
             listed = (λ q p within. listed good.lists_count (next_once records position block blocks lists good) q p);
           }) few good
@@ -159,18 +147,12 @@ module _ {A : Type 0} where
   pub resized_is_good : (is_meant : A → Bool) (owner : A) (place m : ℕ) (content : Content A) → IsGood content → is_live is_meant place (blocks_of content.pools) ≡ true → 0 < m → m % unit ≡ 0
       → fits_in_place place m content ≡ true → m ≢ size_at place (blocks_of content.pools) → IsGood (resized owner place m content)
   resized_is_good is_meant owner place m content good live some whole fits other =
-      let test : Block A → Bool = λ block. is_at place block && is_owned_by is_meant block.owner in
-      let at : LocatedBlock test content.pools = located_block test content.pools (any_counts test (blocks_of content.pools) live) in
-      let parts = and_parts _ _ at.passes in
-      let of : List (Pool A) → Content A = λ pools. record content { pools = pools } in
-      let P : List (Pool A) → Type 0 = λ pools. IsGood (of pools) → fits_in_place place m (of pools) ≡ true → m ≢ size_at place (blocks_of pools) → IsGood (resized owner place m (of pools)) in
-      let Q : ℕ → Type 0 = λ p. fits_in_place p m (of (filled_pools at.position (at.block ∷ at.blocks))) ≡ true → m ≢ size_at p (blocks_of (filled_pools at.position (at.block ∷ at.blocks))) → IsGood (resized owner p m (of (filled_pools at.position (at.block ∷ at.blocks)))) in
-      let here : IsGood (of (filled_pools at.position (at.block ∷ at.blocks))) → Q at.block.place = λ g f o.
-      let size_is : size_at at.block.place (blocks_of (filled_pools at.position (at.block ∷ at.blocks))) ≡ at.block.size =
-      size_here at.position at.block at.blocks (block_alone at.position at.block at.blocks (at_most_one 0 (blocks_of (filled_pools at.position (at.block ∷ at.blocks))) (Ascends-pools 0 (filled_pools at.position (at.block ∷ at.blocks)) g.pools_good))) in
-      let room = fits_room owner m at.block at.blocks content.lists (owned_is_live is_meant at.block.owner parts.1) some whole content.records at.position g f (λ e. o (e ∙ sym size_is)) in
-      resized_good owner m at.block at.blocks content.lists (owned_is_live is_meant at.block.owner parts.1) some whole content.records at.position g room.0 room.1 in
-      subst P (sym at.whole) (λ g. subst Q (eqb-true at.block.place place parts.0) (here g)) good fits other
+      let Q : ℕ → Content A → Type 0 = λ p x. fits_in_place p m x ≡ true → m ≢ size_at p (blocks_of x.pools) → IsGood (resized owner p m x) in
+      at_live is_meant place content Q good live (λ position block blocks owned g f o.
+      let live_one = owned_is_live is_meant block.owner owned in
+      let alone : IsAlone position block blocks = block_alone position block blocks (at_most_one 0 (blocks_of (filled_pools position (block ∷ blocks))) (Ascends-pools 0 (filled_pools position (block ∷ blocks)) g.pools_good)) in
+      let room = fits_room owner m block blocks content.lists live_one some whole content.records position g f (λ e. o (e ∙ sym (size_here position block blocks alone))) in
+      resized_good owner m block blocks content.lists live_one some whole content.records position g room.0 room.1) fits other
 
   -- the bytes of a block at its position and the free one behind it
   module _ (records : ℕ) (position : BlockPosition A) (block : Block A) (blocks : List (Block A)) (lists : List (List ℕ)) (good : IsGood (record { records = records; pools = filled_pools position (block ∷ blocks); lists = lists })) where
@@ -195,47 +177,34 @@ module _ {A : Type 0} where
   pub size_with_next_whole : (is_meant : A → Bool) (place : ℕ) (content : Content A) → IsGood content → is_live is_meant place (blocks_of content.pools) ≡ true
       → (size_with_next place content % unit ≡ 0) × (size_with_next place content ≤ greatest_size) × (place + size_with_next place content ≤ end_of_places)
   size_with_next_whole is_meant place content good live =
-      let test : Block A → Bool = λ block. is_at place block && is_owned_by is_meant block.owner in
-      let at : LocatedBlock test content.pools = located_block test content.pools (any_counts test (blocks_of content.pools) live) in
-      let of : List (Pool A) → Content A = λ pools. record content { pools = pools } in
-      let all : List (Pool A) = filled_pools at.position (at.block ∷ at.blocks) in
-      let Whole : ℕ → Content A → Type 0 = λ p x. (size_with_next p x % unit ≡ 0) × (size_with_next p x ≤ greatest_size) × (p + size_with_next p x ≤ end_of_places) in
-      let P : List (Pool A) → Type 0 = λ pools. IsGood (of pools) → Whole place (of pools) in
-      let Q : ℕ → Type 0 = λ p. Whole p (of all) in
-      let R : ℕ → Type 0 = λ n. (n % unit ≡ 0) × (n ≤ greatest_size) × (at.block.place + n ≤ end_of_places) in
-      let here : IsGood (of all) → Q at.block.place = λ g. subst R (sym (both_is content.records at.position at.block at.blocks content.lists g)) (both_there content.records at.position at.block at.blocks content.lists g) in
-      subst P (sym at.whole) (λ g. subst Q (eqb-true at.block.place place (and_parts _ _ at.passes).0) (here g)) good
+      at_live is_meant place content (λ p x. (size_with_next p x % unit ≡ 0) × (size_with_next p x ≤ greatest_size) × (p + size_with_next p x ≤ end_of_places)) good live (λ position block blocks owned g.
+      let R : ℕ → Type 0 = λ n. (n % unit ≡ 0) × (n ≤ greatest_size) × (block.place + n ≤ end_of_places) in
+      subst R (sym (both_is content.records position block blocks content.lists g)) (both_there content.records position block blocks content.lists g))
 
 -- a live block keeps its slot in place
 pub resized_slots : (known place m : ℕ) (content : Content ℕ) → IsGood content → is_live (λ owner. owner == known) place (blocks_of content.pools) ≡ true → 0 < m → m % unit ≡ 0 → HasGoodSlots content → HasGoodSlots (resized known place m content)
 resized_slots known place m content good live some whole slots =
-    let test : Block ℕ → Bool = λ block. is_at place block && is_owned_by (λ owner. owner == known) block.owner in
-    let at : LocatedBlock test content.pools = located_block test content.pools (any_counts test (blocks_of content.pools) live) in
-    let parts = and_parts _ _ at.passes in
-    let of : List (Pool ℕ) → Content ℕ = λ pools. record content { pools = pools } in
-    let all : List (Pool ℕ) = filled_pools at.position (at.block ∷ at.blocks) in
-    let P : List (Pool ℕ) → Type 0 = λ pools. IsGood (of pools) → HasGoodSlots (of pools) → HasGoodSlots (resized known place m (of pools)) in
-    let Q : ℕ → Type 0 = λ p. HasGoodSlots (resized known p m (of all)) in
-    let here : IsGood (of all) → HasGoodSlots (of all) → Q at.block.place = λ g s.
-    let is = resized_is known m at.block at.blocks content.lists (owned_is_live (λ owner. owner == known) at.block.owner parts.1) some whole content.records at.position g in
-    let R : Content ℕ → Type 0 = λ x. HasGoodSlots x in
-    let news : List (Block ℕ) = split known at.block.place m (at.block.size + size_of (free_first at.blocks)) ++ past_free at.blocks in
-    let own : at.block.owner ≡ Some known = owner_is at.block.owner parts.1 in
-    subst R (sym is)
-    (slots_fewer (of all) (record { records = content.records; pools = filled_pools at.position news; lists = new_lists known m at.block at.blocks content.lists (owned_is_live (λ owner. owner == known) at.block.owner parts.1) some whole }) refl
+    let meant : ℕ → Bool = λ owner. owner == known in
+    at_live meant place content (λ p x. HasGoodSlots x → HasGoodSlots (resized known p m x)) good live (λ position block blocks owned g s.
+    let live_one = owned_is_live meant block.owner owned in
+    let is = resized_is known m block blocks content.lists live_one some whole content.records position g in
+    let parts = split known block.place m (block.size + size_of (free_first blocks)) in
+    let news : List (Block ℕ) = parts ++ past_free blocks in
+    let own : block.owner ≡ Some known = owner_is block.owner owned in
+    subst (λ (x : Content ℕ). HasGoodSlots x) (sym is)
+    (slots_fewer (record content { pools = filled_pools position (block ∷ blocks) }) (record { records = content.records; pools = filled_pools position news; lists = new_lists known m block blocks content.lists live_one some whole }) refl
     (λ slot.
-    let has : Block ℕ → Bool = λ block. is_slot slot block.owner in
+    let has : Block ℕ → Bool = λ other. is_slot slot other.owner in
     omega (
       arith,
-      count-filled_pools has at.position (at.block ∷ at.blocks),
-      count-filled_pools has at.position news,
-      count-cons has at.block at.blocks,
+      count-filled_pools has position (block ∷ blocks),
+      count-filled_pools has position news,
+      count-cons has block blocks,
       ap (λ o. one_if (is_slot slot o)) own,
-      slot_times-append slot (split known at.block.place m (at.block.size + size_of (free_first at.blocks))) (past_free at.blocks),
-      slot_times-split slot known at.block.place m (at.block.size + size_of (free_first at.blocks)),
-      few_past has at.blocks,
-    )) s) in
-    subst P (sym at.whole) (λ g s. subst Q (eqb-true at.block.place place parts.0) (here g s)) good slots
+      slot_times-append slot parts (past_free blocks),
+      slot_times-split slot known block.place m (block.size + size_of (free_first blocks)),
+      few_past has blocks,
+    )) s)) slots
   where
     owner_is : (owner : Option ℕ) → is_owned_by (λ o. o == known) owner ≡ true → owner ≡ Some known
     owner_is None h = absurd (cc)

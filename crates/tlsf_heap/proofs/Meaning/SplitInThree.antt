@@ -15,6 +15,7 @@ use Rattle.tlsf_heap.proofs.Counts.{count-cons, count-append}
 use Rattle.std.proofs.Math.Nat.{sub-zero}
 use Rattle.tlsf_heap.proofs.Meaning.BlockPositions.{BlockPosition, filled_pools, LocatedBlock, located_block, at_most_one, IsAlone, block_alone, replaced_at, size_here}
 use Rattle.tlsf_heap.proofs.Meaning.Gaps.{covers_gap, covers_split, apart_split}
+use Rattle.tlsf_heap.proofs.Meaning.FreeFirst.{is_first_free}
 use Rattle.tlsf_heap.proofs.Meaning.Refilled.{IsRefill, refilled_is_good}
 
 module _ {A : Type 0} where
@@ -87,10 +88,10 @@ module _ {A : Type 0} where
           count_listed-split owner q p start m (block.size - front),
         )
 
-    refill : times block.place (list_of (class block.size) lists) ≡ 1 → length lists ≡ classes → IsRefill (block ∷ blocks) news lists new_lists
-    refill once full = record {
+    refill : times block.place (list_of (class block.size) lists) ≡ 1 → length lists ≡ classes → (before : List (Block A)) → IsRefill before (block ∷ blocks) news lists new_lists
+    refill once full before = record {
       covers = covers;
-      apart = apart;
+      apart = apart (is_first_free before);
       full = (let out_full = length-unlink lists full block.place block.size in
           length-link_gap (link_gap block.place front (unlink block.place block.size lists)) (length-link_gap (unlink block.place block.size lists) out_full block.place front) (start + m) rest);
       listed = (λ q p within. listed once full q p);
@@ -106,7 +107,7 @@ module _ {A : Type 0} where
         let is = replaced_at position block blocks alone (split_in_three owner start m block.place block.size) in
         let P : List (Pool A) → Type 0 = λ pools. IsGood (record { records = records; pools = pools; lists = new_lists }) in
         let fits : length (blocks_of (filled_pools position news)) ≤ records = omega (arith, few, ap (λ pools. length (blocks_of pools)) is) in
-        subst P (sym is) (refilled_is_good records position (block ∷ blocks) news lists new_lists (refill once good.lists_count) fits good)
+        subst P (sym is) (refilled_is_good records position (block ∷ blocks) news lists new_lists (refill once good.lists_count position.before) fits good)
 
   -- to split a listed block in three keeps the content good
   pub aligned_is_good : (owner : A) (start m place : ℕ) (content : Content A) → IsGood content → times place (list_of (class (size_at place (blocks_of content.pools))) content.lists) ≡ 1
