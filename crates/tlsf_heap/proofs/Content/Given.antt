@@ -16,7 +16,8 @@ module _ {A : Type 0} (owner : A) (content : Content A) where
   abbrev split_there : ℕ → ℕ → ℕ × Content A
   split_there m place = (place, allocated owner place m (size_at place (blocks_of content.pools)) content)
 
-  rounded_gave : (m : Option ℕ) (given : ℕ × Content A) → malloc_rounded owner m content ≡ Ok given → (asked place : ℕ) × (m ≡ Some asked) × (pick asked content.lists ≡ Some place) × (split_there asked place ≡ given)
+  -- the block that was picked, split
+  pub rounded_gave : (m : Option ℕ) (given : ℕ × Content A) → malloc_rounded owner m content ≡ Ok given → (asked place : ℕ) × (m ≡ Some asked) × (pick asked content.lists ≡ Some place) × (split_there asked place ≡ given)
   rounded_gave None given e = absurd (cc)
   rounded_gave (Some m) given e = of (pick m content.lists) refl e
     where
@@ -39,14 +40,20 @@ module _ {A : Type 0} (same : A → A → Bool) (owner known : A) (place n : ℕ
   abbrev IsLiveThere : Type 0
   IsLiveThere = is_live (λ other. same other known) place (blocks_of content.pools) ≡ true
 
-  module _ (P : Option (ℕ × A) × Content A → Type 0) (kept : IsLiveThere → n ≢ 0 → P (Some (place, known), content)) (in_place : (m : ℕ) → IsLiveThere → n ≢ 0 → P (Some (place, known), resized known place m content))
+  -- these are the bytes asked for, others than the block has, and it can have them in its place
+  pub record IsInPlace (m : ℕ) : Type 0 where
+    pub rounds : round n ≡ Some m
+    pub fits : fits_in_place place m content ≡ true
+    pub other : m ≢ size_at place (blocks_of content.pools)
+
+  module _ (P : Option (ℕ × A) × Content A → Type 0) (kept : IsLiveThere → n ≢ 0 → P (Some (place, known), content)) (in_place : (m : ℕ) → IsLiveThere → n ≢ 0 → IsInPlace m → P (Some (place, known), resized known place m content))
       (elsewhere : (given : ℕ × Content A) → IsLiveThere → n ≢ 0 → malloc owner n content ≡ Ok given → P (Some (given.0, owner), after_free place given.1)) (live : IsLiveThere) (some : n ≢ 0) where
     moved_gave : (answer : Option (ℕ × A) × Content A) (served : Result (ℕ × Content A) Refusal) → malloc owner n content ≡ served → moved owner place served ≡ Ok answer → P answer
     moved_gave answer (Err why) is e = absurd (cc)
     moved_gave answer (Ok given) is e = let there : (Some (given.0, owner), after_free place given.1) ≡ answer = cc in subst P there (elsewhere given live some is)
 
-    sized_gave : (m : ℕ) → malloc owner n content ≡ malloc_rounded owner (Some m) content → (answer : Option (ℕ × A) × Content A) → realloc_sized owner place known m content ≡ Ok answer → P answer
-    sized_gave m asked answer e =
+    sized_gave : (m : ℕ) → round n ≡ Some m → malloc owner n content ≡ malloc_rounded owner (Some m) content → (answer : Option (ℕ × A) × Content A) → realloc_sized owner place known m content ≡ Ok answer → P answer
+    sized_gave m rounds asked answer e =
         let size : ℕ = size_at place (blocks_of content.pools) in
         let stays : (Some (place, known), content) ≡ answer → P answer = λ is. subst P is (kept live some) in
         elim (cases_Bool (m == size)) [
@@ -57,7 +64,7 @@ module _ {A : Type 0} (same : A → A → Bool) (owner known : A) (place n : ℕ
             | inl fits ↦
                 let there : realloc_sized owner place known m content ≡ Ok (Some (place, known), resized known place m content) = rw (other, fits) refl in
                 let is : (Some (place, known), resized known place m content) ≡ answer = cc in
-                subst P is (in_place m live some)
+                subst P is (in_place m live some (record { rounds = rounds; fits = fits; other = eqb-false m size other }))
             | inr beyond ↦ elim (cases_Bool (nat_lt m size)) [
               | inl less ↦
                   let there : realloc_sized owner place known m content ≡ Ok (Some (place, known), content) = rw (other, beyond, less) refl in
@@ -69,17 +76,17 @@ module _ {A : Type 0} (same : A → A → Bool) (owner known : A) (place n : ℕ
           ]
         ]
 
-    resized_gave : (rounded : Option ℕ) → malloc owner n content ≡ malloc_rounded owner rounded content → (answer : Option (ℕ × A) × Content A) → realloc_rounded owner place known rounded content ≡ Ok answer → P answer
-    resized_gave None asked answer e = absurd (cc)
-    resized_gave (Some m) asked answer e = sized_gave m asked answer e
+    resized_gave : (rounded : Option ℕ) → round n ≡ rounded → malloc owner n content ≡ malloc_rounded owner rounded content → (answer : Option (ℕ × A) × Content A) → realloc_rounded owner place known rounded content ≡ Ok answer → P answer
+    resized_gave None rounds asked answer e = absurd (cc)
+    resized_gave (Some m) rounds asked answer e = sized_gave m rounds asked answer e
 
-  pub realloc_gave : (P : Option (ℕ × A) × Content A → Type 0)
+  pub realloc_left : (P : Option (ℕ × A) × Content A → Type 0)
       → (IsLiveThere → n ≡ 0 → P (None, after_free place content))
       → (IsLiveThere → n ≢ 0 → P (Some (place, known), content))
-      → ((m : ℕ) → IsLiveThere → n ≢ 0 → P (Some (place, known), resized known place m content))
+      → ((m : ℕ) → IsLiveThere → n ≢ 0 → IsInPlace m → P (Some (place, known), resized known place m content))
       → ((given : ℕ × Content A) → IsLiveThere → n ≢ 0 → malloc owner n content ≡ Ok given → P (Some (given.0, owner), after_free place given.1))
       → (answer : Option (ℕ × A) × Content A) → realloc same owner (Some (place, known)) n content ≡ Ok answer → P answer
-  realloc_gave P freed kept in_place elsewhere answer e =
+  realloc_left P freed kept in_place elsewhere answer e =
       elim (cases_Bool (is_live (λ other. same other known) place (blocks_of content.pools))) [
         | inr stale ↦ let refused : realloc same owner (Some (place, known)) n content ≡ Err BadPointer = rw stale refl in absurd (cc)
         | inl live ↦ elim (cases_Bool (n == 0)) [
@@ -90,6 +97,15 @@ module _ {A : Type 0} (same : A → A → Bool) (owner known : A) (place n : ℕ
           | inr some ↦
               let there : realloc same owner (Some (place, known)) n content ≡ realloc_rounded owner place known (round n) content = rw (live, some) refl in
               let asked : malloc owner n content ≡ malloc_rounded owner (round n) content = rw some refl in
-              resized_gave P kept in_place elsewhere live (eqb-false n 0 some) (round n) asked answer (sym there ∙ e)
+              resized_gave P kept in_place elsewhere live (eqb-false n 0 some) (round n) refl asked answer (sym there ∙ e)
         ]
       ]
+
+  -- the same, whatever bytes it has in its place
+  pub realloc_gave : (P : Option (ℕ × A) × Content A → Type 0)
+      → (IsLiveThere → n ≡ 0 → P (None, after_free place content))
+      → (IsLiveThere → n ≢ 0 → P (Some (place, known), content))
+      → ((m : ℕ) → IsLiveThere → n ≢ 0 → P (Some (place, known), resized known place m content))
+      → ((given : ℕ × Content A) → IsLiveThere → n ≢ 0 → malloc owner n content ≡ Ok given → P (Some (given.0, owner), after_free place given.1))
+      → (answer : Option (ℕ × A) × Content A) → realloc same owner (Some (place, known)) n content ≡ Ok answer → P answer
+  realloc_gave P freed kept in_place elsewhere = realloc_left P freed kept (λ m live some is. in_place m live some) elsewhere

@@ -1,25 +1,27 @@
 -- Which live blocks a good content has after a call.
-use Rattle.std.proofs.Common.{◌≡◌, ◌≢◌, ℕ, ◌+◌, ◌-◌, ◌≤◌, Bool, true, false, ◌&&◌, ◌||◌, List, [], ◌∷◌, map, refl, sym, ap, ◌∙◌, subst, arith, count_by, Option, Some, None, option_map, Ok, Err, inl, inr}
-use Rattle.std.specs.Prelude.{is_none}
-use Rattle.std.specs.Option.{option_or}
+use Rattle.std.proofs.Common.{◌≡◌, ◌≢◌, ℕ, ◌+◌, ◌≤◌, Bool, true, false, not, ◌&&◌, ◌||◌, List, [], ◌∷◌, map, refl, sym, ap, ◌∙◌, subst, arith, count_by, Option, Some, None, option_map, Ok, Err, inl, inr}
+use Rattle.std.specs.Prelude.{is_none, ◌==◌}
 use Rattle.std.specs.List.{list_any}
-use Rattle.std.proofs.lemmas.Bool.{cases_Bool, eq-eqb, ne_eqb, eqb-true, and_left, or_right}
-use Rattle.tlsf_heap.specs.declared.refusal.Refusal.TheVariants.{BadPointer}
-use Rattle.tlsf_heap.specs.Content.{Block, Pool, Content, blocks_of, is_free, is_at, size_at}
+use Rattle.std.proofs.lemmas.Bool.{cases_Bool, eq-eqb, ne_eqb, eqb-true, and_left, and_right, or_right}
+use Rattle.tlsf_class.specs.Rounding.{round}
+use Rattle.tlsf_heap.specs.declared.refusal.Refusal.TheVariants.{BadPointer, ZeroSize}
+use Rattle.tlsf_heap.specs.Content.{Block, Content, blocks_of, is_free, is_at, size_at}
 use Rattle.tlsf_heap.specs.Lists.{pick}
-use Rattle.tlsf_heap.specs.Malloc.{gap, replaced, replaced_in, split, malloc}
-use Rattle.tlsf_heap.specs.Free.{is_owned_by, is_live, previous_of, next_of, if_free, first_in_pools, free_previous, free_next, size_of, start_of, free_block, without_block, after_free, free}
-use Rattle.tlsf_heap.specs.Realloc.{size_with_next, resized, realloc}
+use Rattle.tlsf_heap.specs.Malloc.{replaced, replaced_in, split, malloc_rounded, malloc}
+use Rattle.tlsf_heap.specs.Free.{is_owned_by, is_live, after_free, free}
+use Rattle.tlsf_heap.specs.Realloc.{resized, realloc}
 use Rattle.tlsf_heap.specs.Good.{IsGood}
 use Rattle.tlsf_heap.specs.Bare.{renamed_block, renamed, bare}
-use Rattle.tlsf_heap.proofs.Counts.{one_if, count-cons, count-append, count_apart, any_counts, counts_any, any-map}
+use Rattle.tlsf_heap.proofs.Counts.{one_if, count-cons, count-append, count_apart, count_and, any_counts, counts_any, any-map}
 use Rattle.tlsf_heap.proofs.Content.Blocks.{Found, Ascends-pools}
-use Rattle.tlsf_heap.proofs.Content.Replacing.{replaced-here, blocks_of-replaced}
+use Rattle.tlsf_heap.proofs.Content.Replacing.{replaced-here, blocks_of-replaced, count_by-replaced}
 use Rattle.tlsf_heap.proofs.Content.BareSteps.{blocks_of-renamed}
-use Rattle.tlsf_heap.proofs.Content.Given.{malloc_gave, realloc_gave}
+use Rattle.tlsf_heap.proofs.Content.Given.{rounded_gave, realloc_gave}
 use Rattle.tlsf_heap.proofs.Meaning.BlockPositions.{at_most_one}
+use Rattle.tlsf_heap.proofs.Meaning.Gaps.{FailsOnFree, split_counts}
+use Rattle.tlsf_heap.proofs.Meaning.FreedIsGood.{freed_counts}
+use Rattle.tlsf_heap.proofs.Meaning.ResizedIsGood.{resized_counts}
 use Rattle.tlsf_heap.proofs.Good.Calls.{picked, malloc_is_good}
-use Rattle.tlsf_heap.proofs.Good.Realloc.{live_still}
 
 -- whether a free block begins at the place
 abbrev pub is_free_at : {A : Type 0} → ℕ → Block A → Bool
@@ -35,53 +37,12 @@ same_pointer one other is = cc
 same_place : {A : Type 0} (one other : ℕ × A) → Some one ≡ Some other → one.0 ≡ other.0
 same_place {A = A} one other is = ap (λ (pointer : ℕ × A). pointer.0) (same_pointer one other is)
 
+-- after a call that gave a block whatever fails on free blocks is counted as before, and that block
+pub record Gives {A : Type 0} (owner : A) (place : ℕ) (old new : Content A) : Type 0 where
+  pub size : ℕ
+  pub counts : (test : Block A → Bool) → FailsOnFree test → count_by test (blocks_of new.pools) ≡ count_by test (blocks_of old.pools) + one_if (test (record { place = place; size = size; owner = Some owner }))
+
 module _ {A : Type 0} where
-  -- a neighbour is one of the blocks
-  previous_stands : (kind : Block A → Bool) (place : ℕ) (blocks : List (Block A)) (found : Block A) → kind found ≡ true → previous_of place blocks ≡ Some found → 1 ≤ count_by kind blocks
-  previous_stands kind place [] found passes is = absurd (cc)
-  previous_stands kind place (block ∷ []) found passes is = absurd (cc)
-  previous_stands kind place (block ∷ next ∷ blocks) found passes is = elim (cases_Bool (is_at place next)) [
-    | inl here ↦
-        let first : previous_of place (block ∷ next ∷ blocks) ≡ Some block = rw here refl in
-        let same : block ≡ found = cc in
-        omega (arith, count-cons kind block (next ∷ blocks), ap (λ b. one_if (kind b)) same, ap one_if passes)
-    | inr elsewhere ↦
-        let rest : previous_of place (block ∷ next ∷ blocks) ≡ previous_of place (next ∷ blocks) = rw elsewhere refl in
-        omega (arith, count-cons kind block (next ∷ blocks), previous_stands kind place (next ∷ blocks) found passes (sym rest ∙ is))
-  ]
-
-  next_stands : (kind : Block A → Bool) (place : ℕ) (blocks : List (Block A)) (found : Block A) → kind found ≡ true → next_of place blocks ≡ Some found → 1 ≤ count_by kind blocks
-  next_stands kind place [] found passes is = absurd (cc)
-  next_stands kind place (block ∷ []) found passes is = absurd (cc)
-  next_stands kind place (block ∷ next ∷ blocks) found passes is = elim (cases_Bool (is_at place block)) [
-    | inl here ↦
-        let first : next_of place (block ∷ next ∷ blocks) ≡ Some next = rw here refl in
-        let same : next ≡ found = cc in
-        omega (arith, count-cons kind block (next ∷ blocks), count-cons kind next blocks, ap (λ b. one_if (kind b)) same, ap one_if passes)
-    | inr elsewhere ↦
-        let rest : next_of place (block ∷ next ∷ blocks) ≡ next_of place (next ∷ blocks) = rw elsewhere refl in
-        omega (arith, count-cons kind block (next ∷ blocks), next_stands kind place (next ∷ blocks) found passes (sym rest ∙ is))
-  ]
-
-  told_stands : (tell : List (Block A) → Option (Block A)) (kind : Block A → Bool) (found : Block A) → ((blocks : List (Block A)) → tell blocks ≡ Some found → 1 ≤ count_by kind blocks)
-      → (pools : List (Pool A)) → first_in_pools tell pools ≡ Some found → 1 ≤ count_by kind (blocks_of pools)
-  told_stands tell kind found stands [] is = absurd (cc)
-  told_stands tell kind found stands (pool ∷ pools) is = of (λ rest. told_stands tell kind found stands pools rest) (tell pool.blocks) refl is
-    where
-      of : (first_in_pools tell pools ≡ Some found → 1 ≤ count_by kind (blocks_of pools)) → (told : Option (Block A)) → tell pool.blocks ≡ told → option_or told (first_in_pools tell pools) ≡ Some found → 1 ≤ count_by kind (blocks_of (pool ∷ pools))
-      of behind None e is = omega (arith, count-append kind pool.blocks (blocks_of pools), behind is)
-      of behind (Some block) e is = omega (arith, count-append kind pool.blocks (blocks_of pools), stands pool.blocks (e ∙ is))
-
-  free_told : (told : Option (Block A)) (found : Block A) → if_free told ≡ Some found → (told ≡ Some found) × (is_free found ≡ true)
-  free_told None found is = absurd (cc)
-  free_told (Some block) found is = elim (cases_Bool (is_free block)) [
-    | inl free ↦
-        let told : if_free (Some block) ≡ Some block = rw free refl in
-        let same : block ≡ found = cc in
-        (ap (λ b. Some b) same, ap (λ (b : Block A). is_free b) (sym same) ∙ free)
-    | inr used ↦ let none : if_free (Some block) ≡ None = rw used refl in absurd (cc)
-  ]
-
   free_at_own : (block : Block A) → is_free block ≡ true → is_free_at block.place block ≡ true
   free_at_own block free = ap (λ b. b && is_free block) (eq-eqb block.place block.place refl) ∙ free
 
@@ -107,123 +68,100 @@ module _ {A : Type 0} where
         omega (arith, ap (count_by test) left, count-cons test block (replaced place others blocks), rest)
   ]
 
-  -- what stands elsewhere is kept
-  kept_replaced : (test : Block A → Bool) (place : ℕ) (others blocks : List (Block A)) → ((block : Block A) → is_at place block ≡ true → test block ≡ false) → count_by test blocks ≤ count_by test (replaced place others blocks)
-  kept_replaced test place others [] apart = omega arith
-  kept_replaced test place others (block ∷ blocks) apart =
-      let rest = kept_replaced test place others blocks apart in
-      elim (cases_Bool (is_at place block)) [
-        | inl here ↦ omega (
-          arith,
-          count-cons test block blocks,
-          ap one_if (apart block here),
-          ap (count_by test) (replaced-here place others block blocks here),
-          count-append test others (replaced place others blocks),
-          rest,
-        )
-        | inr elsewhere ↦
-            let left : replaced place others (block ∷ blocks) ≡ block ∷ replaced place others blocks = rw elsewhere refl in
-            omega (arith, count-cons test block blocks, ap (count_by test) left, count-cons test block (replaced place others blocks), rest)
-      ]
+  -- others come in where a free block was picked
+  pub picked_counts : (m place : ℕ) (others : List (Block A)) (content : Content A) → IsGood content → pick m content.lists ≡ Some place → (test : Block A → Bool) → FailsOnFree test
+      → count_by test (blocks_of (map (replaced_in place others) content.pools)) ≡ count_by test (blocks_of content.pools) + count_by test others
+  picked_counts m place others content good is test fails =
+      let there = picked m place content good is in
+      omega (arith, ap (count_by test) (blocks_of-replaced place others content.pools), count_by-replaced place others (blocks_of content.pools) test there.found, ap one_if (fails there.found.block there.free))
+
+  rounded_gives : (owner : A) (m : Option ℕ) (content : Content A) (given : ℕ × Content A) → IsGood content → malloc_rounded owner m content ≡ Ok given → Gives owner given.0 content given.1
+  rounded_gives owner m content given good e =
+      let gave = rounded_gave owner content m given e in
+      let size : ℕ = size_at gave.1 (blocks_of content.pools) in
+      subst (λ (g : ℕ × Content A). Gives owner g.0 content g.1) gave.4 (record {
+        size = gave.0;
+        counts = (λ test fails. omega (arith, picked_counts gave.0 gave.1 (split owner gave.1 gave.0 size) content good gave.3 test fails, split_counts test fails owner gave.1 gave.0 size));
+      })
+
+  malloc_gives : (owner : A) (n place : ℕ) (content new : Content A) → IsGood content → malloc owner n content ≡ Ok (place, new) → Gives owner place content new
+  malloc_gives owner n place content new good e = elim (cases_Bool (n == 0)) [
+    | inl nothing ↦ let refused : malloc owner n content ≡ Err ZeroSize = rw nothing refl in absurd (cc)
+    | inr some ↦ let asked : malloc owner n content ≡ malloc_rounded owner (round n) content = rw some refl in rounded_gives owner (round n) content (place, new) good (sym asked ∙ e)
+  ]
 
 module _ {A : Type 0} (is_meant : A → Bool) where
-  pub one_kind : (here : Bool) (owner : Option A) → one_if (here && is_owned_by is_meant owner) + one_if (here && is_none owner) ≤ one_if here
-  one_kind true None = omega arith
-  one_kind true (Some owner) = elim (is_meant owner) as (λ b. one_if b + 0 ≤ 1) [ true ↦ omega arith | false ↦ omega arith ]
-  one_kind false owner = omega arith
+  not_owned : (owner : Option A) → is_none owner ≡ true → is_owned_by is_meant owner ≡ false
+  not_owned None free = refl
+  not_owned (Some owner) free = absurd (cc)
 
-  -- a free block stands where no live one does
-  pub apart_from_free : (place other : ℕ) (content : Content A) → IsGood content → is_live is_meant place (blocks_of content.pools) ≡ true → 1 ≤ count_by (is_free_at other) (blocks_of content.pools) → place ≢ other
-  apart_from_free place other content good live some same =
-      let blocks : List (Block A) = blocks_of content.pools in
-      let P : ℕ → Type 0 = λ at. 1 ≤ count_by (is_free_at at) blocks in
+  fails_on_free : (place : ℕ) → FailsOnFree (is_live_at is_meant place)
+  fails_on_free place block free = and_right (is_at place block) _ (not_owned block.owner free)
+
+  fails_elsewhere : (place other : ℕ) → place ≢ other → (block : Block A) → is_at other block ≡ true → is_live_at is_meant place block ≡ false
+  fails_elsewhere place other apart block here = and_left (is_at place block) (is_owned_by is_meant block.owner) (ne_eqb block.place place (λ e. apart (sym e ∙ eqb-true block.place other here)))
+
+  -- the block given is live
+  pub given_is_live : (owner : A) (place : ℕ) (old new : Content A) → Gives owner place old new → is_meant owner ≡ true → is_live is_meant place (blocks_of new.pools) ≡ true
+  given_is_live owner place old new gives meant =
+      let test : Block A → Bool = is_live_at is_meant place in
+      let passes : test (record { place = place; size = gives.size; owner = Some owner }) ≡ true = ap (λ b. b && is_meant owner) (eq-eqb place place refl) ∙ meant in
+      counts_any test (blocks_of new.pools) (omega (arith, gives.counts test (fails_on_free place), ap one_if passes))
+
+  -- a live block is live still
+  pub live_still : (owner : A) (p place : ℕ) (old new : Content A) → Gives owner place old new → is_live is_meant p (blocks_of old.pools) ≡ true → is_live is_meant p (blocks_of new.pools) ≡ true
+  live_still owner p place old new gives live =
+      let test : Block A → Bool = is_live_at is_meant p in
+      counts_any test (blocks_of new.pools) (omega (arith, gives.counts test (fails_on_free p), any_counts test (blocks_of old.pools) live))
+
+  -- and the block given is another: two would begin at one place
+  pub given_apart : (owner : A) (p place : ℕ) (old new : Content A) → Gives owner place old new → IsGood new → is_live is_meant p (blocks_of old.pools) ≡ true → place ≢ p
+  given_apart owner p place old new gives good live same =
+      let used : Block A → Bool = λ block. not (is_free block) in
+      let test : Block A → Bool = λ block. used block && is_at p block in
+      let passes : test (record { place = place; size = gives.size; owner = Some owner }) ≡ true = eq-eqb place p same in
       omega (
         arith,
-        subst P (sym same) some,
-        any_counts (is_live_at is_meant place) blocks live,
-        count_apart (is_live_at is_meant place) (is_free_at place) (is_at place) (λ block. one_kind (is_at place block) block.owner) blocks,
-        at_most_one 0 blocks (Ascends-pools 0 content.pools good.pools_good) place,
-      )
-
-  previous_apart : (place other : ℕ) (content : Content A) → IsGood content → is_live is_meant place (blocks_of content.pools) ≡ true → (found : Block A) → free_previous other content ≡ Some found → place ≢ found.place
-  previous_apart place other content good live found is =
-      let told = free_told (first_in_pools (previous_of other) content.pools) found is in
-      let own = free_at_own found told.1 in
-      apart_from_free place found.place content good live
-      (told_stands (previous_of other) (is_free_at found.place) found (λ blocks here. previous_stands (is_free_at found.place) other blocks found own here) content.pools told.0)
-
-  next_apart : (place other : ℕ) (content : Content A) → IsGood content → is_live is_meant place (blocks_of content.pools) ≡ true → (found : Block A) → free_next other content ≡ Some found → place ≢ found.place
-  next_apart place other content good live found is =
-      let told = free_told (first_in_pools (next_of other) content.pools) found is in
-      let own = free_at_own found told.1 in
-      apart_from_free place found.place content good live
-      (told_stands (next_of other) (is_free_at found.place) found (λ blocks here. next_stands (is_free_at found.place) other blocks found own here) content.pools told.0)
-
-  -- a live block is live still where blocks give way elsewhere
-  pub live_replaced : (place other : ℕ) (others : List (Block A)) (pools : List (Pool A)) → place ≢ other → is_live is_meant place (blocks_of pools) ≡ true → is_live is_meant place (blocks_of (map (replaced_in other others) pools)) ≡ true
-  live_replaced place other others pools apart live =
-      let test : Block A → Bool = is_live_at is_meant place in
-      let elsewhere : (block : Block A) → is_at other block ≡ true → test block ≡ false = λ block here.
-      and_left (is_at place block) (is_owned_by is_meant block.owner) (ne_eqb block.place place (λ e. apart (sym e ∙ eqb-true block.place other here))) in
-      counts_any test (blocks_of (map (replaced_in other others) pools))
-      (omega (arith, any_counts test (blocks_of pools) live, kept_replaced test other others (blocks_of pools) elsewhere, ap (count_by test) (blocks_of-replaced other others pools)))
-
-  live_without : (place : ℕ) (gone : Option (Block A)) (pools : List (Pool A)) → ((found : Block A) → gone ≡ Some found → place ≢ found.place) → is_live is_meant place (blocks_of pools) ≡ true
-      → is_live is_meant place (blocks_of (without_block gone pools)) ≡ true
-  live_without place None pools apart live = live
-  live_without place (Some found) pools apart live = live_replaced place found.place [] pools (apart found refl) live
-
-  live_past_free : (place freed : ℕ) (content : Content A) → IsGood content → is_live is_meant place (blocks_of content.pools) ≡ true → place ≢ freed → is_live is_meant place (blocks_of (after_free freed content).pools) ≡ true
-  live_past_free place freed content good live apart =
-      let previous = free_previous freed content in
-      let next = free_next freed content in
-      let merged : Block A = free_block (start_of previous freed) (size_of previous + size_at freed (blocks_of content.pools) + size_of next) in
-      live_replaced place freed (merged ∷ []) (without_block next (without_block previous content.pools)) apart
-      (live_without place next (without_block previous content.pools) (next_apart place freed content good live)
-      (live_without place previous content.pools (previous_apart place freed content good live) live))
-
-  live_past_resized : (owner : A) (place other m : ℕ) (content : Content A) → IsGood content → is_live is_meant place (blocks_of content.pools) ≡ true → place ≢ other
-      → is_live is_meant place (blocks_of (resized owner other m content).pools) ≡ true
-  live_past_resized owner place other m content good live apart =
-      let next = free_next other content in
-      live_replaced place other (split owner other m (size_with_next other content)) (without_block next content.pools) apart (live_without place next content.pools (next_apart place other content good live) live)
-
-  -- a block that was split off for an owner who is meant is live
-  live_split : (owner : A) (kind : Block A → Bool) (place m size : ℕ) (pools : List (Pool A)) → is_meant owner ≡ true → ((block : Block A) → is_at place block ≡ false → kind block ≡ false) → 1 ≤ count_by kind (blocks_of pools)
-      → is_live is_meant place (blocks_of (map (replaced_in place (split owner place m size)) pools)) ≡ true
-  live_split owner kind place m size pools meant there some =
-      let test : Block A → Bool = is_live_at is_meant place in
-      let block : Block A = record { place = place; size = m; owner = Some owner } in
-      let passes : test block ≡ true = ap (λ b. b && is_meant owner) (eq-eqb place place refl) ∙ meant in
-      counts_any test (blocks_of (map (replaced_in place (split owner place m size)) pools)) (omega (
-        arith,
-        ap (count_by test) (blocks_of-replaced place (split owner place m size) pools),
-        given_replaced test kind place (split owner place m size) (blocks_of pools) there some,
-        count-cons test block (gap (place + m) (size - m)),
+        any_counts (is_live_at is_meant p) (blocks_of old.pools) live,
+        count_apart (is_live_at is_meant p) (λ block. false) test (λ block. less (is_at p block) block.owner) (blocks_of old.pools),
+        gives.counts test (λ block free. ap (λ b. not b && is_at p block) free),
         ap one_if passes,
-      ))
+        count_and used (is_at p) (blocks_of new.pools),
+        at_most_one 0 (blocks_of new.pools) (Ascends-pools 0 new.pools good.pools_good) p,
+      )
+    where
+      less : (here : Bool) (owner : Option A) → one_if (here && is_owned_by is_meant owner) + 0 ≤ one_if (not (is_none owner) && here)
+      less true None = omega arith
+      less true (Some owner) = elim (is_meant owner) as (λ b. one_if b + 0 ≤ 1) [ true ↦ omega arith | false ↦ omega arith ]
+      less false None = omega arith
+      less false (Some owner) = omega arith
 
-  -- the block that malloc gave is live
+  -- malloc
+  pub live_after : (owner : A) (m p : ℕ) (content : Content A) (given : ℕ × Content A) → IsGood content → is_live is_meant p (blocks_of content.pools) ≡ true → malloc_rounded owner (Some m) content ≡ Ok given → is_live is_meant p (blocks_of given.1.pools) ≡ true
+  live_after owner m p content given good live e = live_still owner p given.0 content given.1 (rounded_gives owner (Some m) content given good e) live
+
   pub live_given : (owner : A) (n place : ℕ) (content new : Content A) → IsGood content → malloc owner n content ≡ Ok (place, new) → is_meant owner ≡ true → is_live is_meant place (blocks_of new.pools) ≡ true
-  live_given owner n place content new good e meant =
-      let gave = malloc_gave owner content n (place, new) e in
-      let P : ℕ × Content A → Type 0 = λ given. is_live is_meant given.0 (blocks_of given.1.pools) ≡ true in
-      subst P gave.4 (live_split owner (is_free_at gave.1) gave.1 gave.0 (size_at gave.1 (blocks_of content.pools)) content.pools meant (λ block. and_left (is_at gave.1 block) (is_free block)) (picked_stands gave.0 gave.1 content good gave.3))
+  live_given owner n place content new good e meant = given_is_live owner place content new (malloc_gives owner n place content new good e) meant
 
-  -- a live block is live after malloc, which gave a block elsewhere
   pub live_through_malloc : (owner : A) (p n place : ℕ) (content new : Content A) → IsGood content → is_live is_meant p (blocks_of content.pools) ≡ true → malloc owner n content ≡ Ok (place, new)
       → is_live is_meant p (blocks_of new.pools) ≡ true
-  live_through_malloc owner p n place content new good live e =
-      let gave = malloc_gave owner content n (place, new) e in
-      let P : ℕ × Content A → Type 0 = λ given. is_live is_meant p (blocks_of given.1.pools) ≡ true in
-      subst P gave.4 (live_still is_meant owner gave.0 p gave.1 content good gave.3 live)
+  live_through_malloc owner p n place content new good live e = live_still owner p place content new (malloc_gives owner n place content new good e) live
 
   pub given_elsewhere : (owner : A) (p n place : ℕ) (content new : Content A) → IsGood content → is_live is_meant p (blocks_of content.pools) ≡ true → malloc owner n content ≡ Ok (place, new) → place ≢ p
-  given_elsewhere owner p n place content new good live e =
-      let gave = malloc_gave owner content n (place, new) e in
-      let P : ℕ × Content A → Type 0 = λ given. given.0 ≢ p in
-      subst P gave.4 (λ same. apart_from_free p gave.1 content good live (picked_stands gave.0 gave.1 content good gave.3) (sym same))
+  given_elsewhere owner p n place content new good live e = given_apart owner p place content new (malloc_gives owner n place content new good e) (malloc_is_good owner n content (place, new) good e) live
 
+  -- a live block is live where another becomes free
+  live_past_free : (is_other : A → Bool) (p freed : ℕ) (content : Content A) → IsGood content → is_live is_meant p (blocks_of content.pools) ≡ true → is_live is_other freed (blocks_of content.pools) ≡ true → p ≢ freed
+      → is_live is_meant p (blocks_of (after_free freed content).pools) ≡ true
+  live_past_free is_other p freed content good live there apart =
+      let test : Block A → Bool = is_live_at is_meant p in
+      counts_any test (blocks_of (after_free freed content).pools) (omega (
+        arith,
+        any_counts test (blocks_of content.pools) live,
+        freed_counts is_other freed content good there test (fails_on_free p) (fails_elsewhere p freed apart),
+      ))
+
+module _ {A : Type 0} (is_meant : A → Bool) where
   -- free of a live block
   pub free_of_live : (place : ℕ) (content : Content A) → is_live is_meant place (blocks_of content.pools) ≡ true → free is_meant place content ≡ Ok (after_free place content)
   free_of_live place content live = rw live refl
@@ -236,7 +174,7 @@ module _ {A : Type 0} (is_meant : A → Bool) where
         let freed : free is_other place content ≡ Ok (after_free place content) = rw there refl in
         let same : after_free place content ≡ new = cc in
         let P : Content A → Type 0 = λ left. is_live is_meant p (blocks_of left.pools) ≡ true in
-        subst P same (live_past_free p place content good live apart)
+        subst P same (live_past_free is_meant is_other p place content good live there apart)
     | inr stale ↦ let refused : free is_other place content ≡ Err BadPointer = rw stale refl in absurd (cc)
   ]
 
@@ -244,11 +182,19 @@ module _ {A : Type 0} (is_meant : A → Bool) where
   pub live_through_realloc : (same : A → A → Bool) (owner known : A) (p place n : ℕ) (given : Option (ℕ × A)) (content new : Content A) → IsGood content → is_live is_meant p (blocks_of content.pools) ≡ true → p ≢ place
       → realloc same owner (Some (place, known)) n content ≡ Ok (given, new) → is_live is_meant p (blocks_of new.pools) ≡ true
   live_through_realloc same owner known p place n given content new good live apart e =
+      let meant : A → Bool = λ other. same other known in
       realloc_gave same owner known place n content (λ answer. is_live is_meant p (blocks_of answer.1.pools) ≡ true)
-      (λ there nothing. live_past_free p place content good live apart)
+      (λ there nothing. live_past_free is_meant meant p place content good live there apart)
       (λ there some. live)
-      (λ m there some. live_past_resized known p place m content good live apart)
-      (λ served there some is. live_past_free p place served.1 (malloc_is_good owner n content served good is) (live_through_malloc owner p n served.0 content served.1 good live is) apart)
+      (λ m there some.
+      let test : Block A → Bool = is_live_at is_meant p in
+      let fails : test (record { place = place; size = m; owner = Some known }) ≡ false = fails_elsewhere is_meant p place apart (record { place = place; size = m; owner = Some known }) (eq-eqb place place refl) in
+      counts_any test (blocks_of (resized known place m content).pools) (omega (
+        arith,
+        any_counts test (blocks_of content.pools) live,
+        resized_counts meant known place m content good there test false (fails_on_free is_meant p) (λ block here owned. fails_elsewhere is_meant p place apart block here) fails,
+      )))
+      (λ served there some is. live_past_free is_meant meant p place served.1 (malloc_is_good owner n content served good is) (live_through_malloc is_meant owner p n served.0 content served.1 good live is) (live_through_malloc meant owner place n served.0 content served.1 good there is) apart)
       (given, new) e
 
   pub moved_elsewhere : (same : A → A → Bool) (owner known : A) (p place n q : ℕ) (o : A) (given : Option (ℕ × A)) (content new : Content A) → IsGood content → is_live is_meant p (blocks_of content.pools) ≡ true → p ≢ place
@@ -258,7 +204,7 @@ module _ {A : Type 0} (is_meant : A → Bool) where
       (λ there nothing is. absurd (cc))
       (λ there some is here. apart (sym here ∙ sym (same_place (place, known) (q, o) is)))
       (λ m there some is here. apart (sym here ∙ sym (same_place (place, known) (q, o) is)))
-      (λ served there some is now here. given_elsewhere owner p n served.0 content served.1 good live is (same_place (served.0, owner) (q, o) now ∙ here))
+      (λ served there some is now here. given_elsewhere is_meant owner p n served.0 content served.1 good live is (same_place (served.0, owner) (q, o) now ∙ here))
       (given, new) e
 
 -- where realloc leaves a block, it is live
@@ -277,8 +223,9 @@ module _ {A : Type 0} (same : A → A → Bool) (owner known : A) (place n : ℕ
       (λ there some. by place known content there)
       (λ m there some. by place known (resized known place m content) (grown m there))
       (λ served there some is. by served.0 owner (after_free place served.1)
-      (live_past_free (meant owner) served.0 place served.1 (malloc_is_good owner n content served good is)
+      (live_past_free (meant owner) (meant known) served.0 place served.1 (malloc_is_good owner n content served good is)
       (live_given (meant owner) owner n served.0 content served.1 good is (reflexive owner))
+      (live_through_malloc (meant known) owner place n served.0 content served.1 good there is)
       (given_elsewhere (meant known) owner place n served.0 content served.1 good there is)))
       (Some (q, o), new) e q o refl
     where
@@ -289,10 +236,13 @@ module _ {A : Type 0} (same : A → A → Bool) (owner known : A) (place n : ℕ
 
       grown : (m : ℕ) → is_live (meant known) place (blocks_of content.pools) ≡ true → is_live (meant known) place (blocks_of (resized known place m content).pools) ≡ true
       grown m there =
-          let next = free_next place content in
-          let left = live_without (meant known) place next content.pools (next_apart (meant known) place place content good there) there in
-          live_split (meant known) known (is_live_at (meant known) place) place m (size_with_next place content) (without_block next content.pools) (reflexive known)
-          (λ block. and_left (is_at place block) (is_owned_by (meant known) block.owner)) (any_counts (is_live_at (meant known) place) (blocks_of (without_block next content.pools)) left)
+          let test : Block A → Bool = is_live_at (meant known) place in
+          let passes : test (record { place = place; size = m; owner = Some known }) ≡ true = ap (λ b. b && same known known) (eq-eqb place place refl) ∙ reflexive known in
+          counts_any test (blocks_of (resized known place m content).pools) (omega (
+            arith,
+            any_counts test (blocks_of content.pools) there,
+            resized_counts (meant known) known place m content good there test true (fails_on_free (meant known) place) (λ block here owned. ap (λ b. b && is_owned_by (meant known) block.owner) here ∙ owned) passes,
+          ))
 
 -- what passes a test passes a weaker one
 any_more : {X : Type 0} (test weaker : X → Bool) → ((x : X) → test x ≡ true → weaker x ≡ true) → (xs : List X) → list_any test xs ≡ true → list_any weaker xs ≡ true

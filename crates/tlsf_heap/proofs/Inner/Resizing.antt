@@ -72,7 +72,7 @@ module _ (cells : Cells) (stands : Stands cells) (place slot : ℕ) (by : NodeAt
   resized_stands new m rest live fits other some whole after =
       let is : content_by (layout_at (at_split_rest rest m (next_merged by.at))) ≡ resized slot place m (content_of cells) =
       ap (λ s. content_by (layout_at (at_split_rest rest m (next_merged (record by.at { node = turned s by.at.node }))))) by.stands.1.node_state_is
-      ∙ rest_split_is by.at.count by.at.position by.at.node by.at.nodes by.at.lists by.at.taken agreed none_loose (node_good cells stands place slot InUse by) rest m by.at.taken some whole
+      ∙ rest_split_is by.at.count by.at.position by.at.node by.at.nodes by.at.lists by.at.taken agreed none_loose (node_good cells stands place slot InUse by) rest m by.at.taken
       ∙ ap (λ s. resized s by.at.node.place m (content_by (layout_at (record by.at { node = turned InUse by.at.node })))) by.stands.1.slot_is
       ∙ ap (λ p. resized slot p m (content_by (layout_at (record by.at { node = turned InUse by.at.node })))) by.place_is
       ∙ ap (resized slot place m) (sym (node_stood cells stands place slot InUse by)) in

@@ -12,6 +12,7 @@ use Rattle.tlsf_heap.specs.Inner.Positions.{plug}
 use Rattle.tlsf_heap.proofs.Content.FreeLists.{listed_at, times-unlink, length-unlink}
 use Rattle.tlsf_heap.proofs.Counts.{one_if, count-cons}
 use Rattle.tlsf_heap.proofs.Meaning.BlockPositions.{first_of, BlockPosition, filled_pools, count-filled_pools, at_most_one, block_alone, replaced_at}
+use Rattle.tlsf_heap.proofs.Meaning.Gaps.{FailsOnFree}
 use Rattle.tlsf_class.proofs.ClassLaws.{class-lt}
 use Rattle.tlsf_heap.proofs.Content.Blocks.{Ascends-pools}
 
@@ -93,6 +94,14 @@ module _ {A : Type 0} where
   few_past kind (block ∷ blocks) = elim (is_free block) as (λ b. count_by kind (cond b blocks (block ∷ blocks)) ≤ count_by kind (block ∷ blocks)) [
     | true ↦ omega (arith, count-cons kind block blocks)
     | false ↦ omega arith
+  ]
+
+  -- a test that no free block passes
+  pub kept_past : (test : Block A → Bool) → FailsOnFree test → (blocks : List (Block A)) → count_by test (past_free blocks) ≡ count_by test blocks
+  kept_past test fails [] = refl
+  kept_past test fails (block ∷ blocks) = elim (cases_Bool (is_free block)) [
+    | inl free ↦ rw free (omega (arith, count-cons test block blocks, ap one_if (fails block free)))
+    | inr live ↦ rw live refl
   ]
 
   -- the block still begins where no other does

@@ -2,7 +2,7 @@
 use Rattle.std.proofs.Common.{◌≡◌, ℕ, ◌+◌, ◌%◌, ◌<◌, ◌≤◌, Bool, true, false, cond, not, ◌&&◌, List, [], ◌∷◌, ◌++◌, length, map, refl, sym, ap, ◌∙◌, subst, arith, count_by, IsTrue, Option, Some, None, inl, inr}
 use Rattle.tlsf_class.proofs.ClassLaws.{class-lt}
 use Rattle.std.specs.Prelude.{is_none, ◌==◌}
-use Rattle.std.proofs.lemmas.Bool.{cases_eq, ne_eqb, eqb-true, and_parts, false≢true}
+use Rattle.std.proofs.lemmas.Bool.{cases_eq, eq-eqb, ne_eqb, eqb-true, and_parts, false≢true}
 use Rattle.tlsf_class.specs.Classes.{unit, greatest_size, classes, class}
 use Rattle.tlsf_heap.specs.Content.{Block, Pool, Content, blocks_of, is_free, is_at, size_at}
 use Rattle.tlsf_heap.specs.Lists.{list_of, link}
@@ -16,7 +16,8 @@ use Rattle.tlsf_heap.proofs.Content.FreeLists.{times-link, length-link}
 use Rattle.tlsf_heap.proofs.Good.Calls.{Covers-le}
 use Rattle.tlsf_heap.proofs.Counts.{one_if, count-cons, count-append, count_all, any_counts}
 use Rattle.tlsf_heap.proofs.Meaning.BlockPositions.{BlockPosition, pool_at, filled_pools, around_blocks, count-filled_pools, LocatedBlock, located_block, at_most_one, IsAlone, block_alone, replaced_at, front_at, back_at, size_here}
-use Rattle.tlsf_heap.proofs.Meaning.FreeFirst.{past_free, free_first, is_first_free, listed_of, lead, lead_plug, count_lead, past_apart, count_past, listed_once, next_once, few_past, once_past, free_stands, times-unlink_block, length-unlink_block, merged_of, covers_behind, without_next}
+use Rattle.tlsf_heap.proofs.Meaning.FreeFirst.{past_free, free_first, is_first_free, listed_of, lead, lead_plug, count_lead, past_apart, count_past, listed_once, next_once, few_past, kept_past, once_past, free_stands, times-unlink_block, length-unlink_block, merged_of, covers_behind, without_next}
+use Rattle.tlsf_heap.proofs.Meaning.Gaps.{FailsOnFree}
 use Rattle.tlsf_heap.proofs.Meaning.Refilled.{refilled_is_good}
 
 module _ {A : Type 0} where
@@ -195,6 +196,11 @@ module _ {A : Type 0} where
         ∙ ap (after front back) (size_here position block blocks alone)
         ∙ ap (λ pools. record new { pools = pools }) by_pools
 
+    -- of what no free block passes only the block itself is gone
+    pub counts_freed : (test : Block A → Bool) → FailsOnFree test → count_by test (blocks_of (after_free block.place old).pools) + one_if (test block) ≡ count_by test (blocks_of old.pools)
+    counts_freed test fails =
+        omega (arith, ap (λ (x : Content A). count_by test (blocks_of x.pools)) after_is, counts test, counts_after test, ap one_if (fails merged refl), kept_past test fails position.before, kept_past test fails blocks)
+
     pub merged_size : (0 < merged.size) × (merged.size % unit ≡ 0) × (merged.size ≤ greatest_size)
     merged_size =
         let pool = (good_behind 0 position.pools_before (pool_at past_position (merged ∷ past_free blocks) ∷ position.pools_behind) new_is_good.pools_good).1.1 in
@@ -244,3 +250,14 @@ module _ {A : Type 0} where
       (λ position block blocks owned g.
       let live_one = owned_is_live is_meant block.owner owned in
       subst IsSize (sym (sizes_are content.records position block blocks content.lists g live_one)) (merged_size content.records position block blocks content.lists g live_one))
+
+  -- what stands elsewhere and is not free is counted as before
+  pub freed_counts : (is_meant : A → Bool) (place : ℕ) (content : Content A) → IsGood content → is_live is_meant place (blocks_of content.pools) ≡ true
+      → (test : Block A → Bool) → FailsOnFree test → ((block : Block A) → is_at place block ≡ true → test block ≡ false) → count_by test (blocks_of (after_free place content).pools) ≡ count_by test (blocks_of content.pools)
+  freed_counts is_meant place content good live test fails apart =
+      at_live is_meant place content (λ p x. ((block : Block A) → is_at p block ≡ true → test block ≡ false) → count_by test (blocks_of (after_free p x).pools) ≡ count_by test (blocks_of x.pools)) good live
+      (λ position block blocks owned g elsewhere. omega (
+        arith,
+        counts_freed content.records position block blocks content.lists g (owned_is_live is_meant block.owner owned) test fails,
+        ap one_if (elsewhere block (eq-eqb block.place block.place refl)),
+      )) apart

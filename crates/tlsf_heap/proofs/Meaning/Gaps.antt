@@ -1,11 +1,12 @@
--- A gap, or a live block with one behind it, in front of other blocks: what they cover, and their free neighbours.
-use Rattle.std.proofs.Common.{◌≡◌, ℕ, suc, ◌+◌, ◌-◌, ◌%◌, ◌<◌, ◌≤◌, Bool, true, false, cond, not, ◌&&◌, List, [], ◌∷◌, ◌++◌, length, refl, sym, subst, arith, IsTrue, None, inl, inr}
+-- A gap, or a live block with one behind it: what they cover in front of other blocks, their free neighbours, what is counted.
+use Rattle.std.proofs.Common.{◌≡◌, ℕ, suc, ◌+◌, ◌-◌, ◌%◌, ◌<◌, ◌≤◌, Bool, true, false, cond, not, ◌&&◌, List, [], ◌∷◌, ◌++◌, length, refl, sym, count_by, ap, subst, arith, IsTrue, Some, None, inl, inr}
 use Rattle.std.specs.Prelude.{◌==◌}
 use Rattle.std.proofs.lemmas.Bool.{cases_Bool, eqb-true, eqb-false}
 use Rattle.tlsf_class.specs.Classes.{unit}
-use Rattle.tlsf_heap.specs.Content.{Block}
+use Rattle.tlsf_heap.specs.Content.{Block, is_free}
 use Rattle.tlsf_heap.specs.Malloc.{gap, split}
 use Rattle.tlsf_heap.specs.Good.{Covers, NoFreeNeighbours}
+use Rattle.tlsf_heap.proofs.Counts.{one_if, count-cons}
 
 module _ {A : Type 0} where
   -- blocks that cover what is behind the gap cover it with the gap
@@ -44,6 +45,19 @@ module _ {A : Type 0} where
 
   pub apart_split : (owner : A) (place m size : ℕ) (was : Bool) (blocks : List (Block A)) → NoFreeNeighbours true blocks → NoFreeNeighbours was (split owner place m size ++ blocks)
   apart_split owner place m size was blocks n = (elim was as (λ w. IsTrue (not (w && false))) [ true ↦ refl | false ↦ refl ], apart_gap (place + m) (size - m) blocks n)
+
+  -- a test that no free block passes
+  abbrev pub FailsOnFree : (Block A → Bool) → Type 0
+  FailsOnFree test = (block : Block A) → is_free block ≡ true → test block ≡ false
+
+  module _ (test : Block A → Bool) (fails : FailsOnFree test) where
+    pub gap_counts : (place size : ℕ) → count_by test (gap place size) ≡ 0
+    gap_counts place size =
+        let rest : Block A = record { place = place; size = size; owner = None } in
+        elim (size == 0) as (λ b. count_by test (cond b [] (rest ∷ [])) ≡ 0) [ true ↦ refl | false ↦ omega (arith, count-cons test rest [], ap one_if (fails rest refl)) ]
+
+    pub split_counts : (owner : A) (place m size : ℕ) → count_by test (split owner place m size) ≡ one_if (test (record { place = place; size = m; owner = Some owner }))
+    split_counts owner place m size = omega (arith, count-cons test (record { place = place; size = m; owner = Some owner }) (gap (place + m) (size - m)), gap_counts (place + m) (size - m))
 
   -- they are two at most
   pub length-split : (owner : A) (place m size : ℕ) → length (split owner place m size) ≡ cond ((size - m) == 0) 1 2

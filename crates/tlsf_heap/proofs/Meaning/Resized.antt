@@ -1,6 +1,6 @@
 -- What a layout stands for after the node at a position got another size in its place.
-use Rattle.std.proofs.Common.{◌≡◌, ℕ, ◌+◌, ◌-◌, ◌%◌, ◌<◌, List, [], ◌∷◌, ◌++◌, length, map, refl, sym, ap, ◌∙◌, arith, Option, Some, None, option_map, subst, true, false, cond}
-use Rattle.tlsf_class.specs.Classes.{unit, classes}
+use Rattle.std.proofs.Common.{◌≡◌, ℕ, ◌+◌, ◌-◌, List, [], ◌∷◌, ◌++◌, length, map, refl, sym, ap, ◌∙◌, arith, Option, Some, None, option_map, subst, true, false, cond}
+use Rattle.tlsf_class.specs.Classes.{classes}
 use Rattle.tlsf_heap.specs.Content.{Block, Content}
 use Rattle.tlsf_heap.specs.Lists.{link}
 use Rattle.tlsf_heap.specs.Malloc.{gap, link_gap, split}
@@ -45,13 +45,13 @@ module _ (count : ℕ) (position : Position) (node : Node) (nodes : List Node) (
     lists = link_gap (node.place + m) ((node.size + size_of o) - m) (unlink_block o (by_places lists));
   }
 
-  resized_by : (m : ℕ) → 0 < m → m % unit ≡ 0 → resized node.slot node.place m (content_by (laid count position (turned InUse node ∷ nodes) lists taken)) ≡ after m (option_map block_of next) (map block_of (past nodes))
-  resized_by m some whole =
+  resized_by : (m : ℕ) → resized node.slot node.place m (content_by (laid count position (turned InUse node ∷ nodes) lists taken)) ≡ after m (option_map block_of next) (map block_of (past nodes))
+  resized_by m =
       let P : Content ℕ → Type 0 = λ x. IsGood x in
       let old : Content ℕ = record { records = count; pools = filled_pools (block_position position) (block_of (turned InUse node) ∷ map block_of nodes); lists = by_places lists } in
       let is : content_by (laid count position (turned InUse node ∷ nodes) lists taken) ≡ old = ap (λ pools. record { records = count; pools = pools; lists = by_places lists }) (pools_are position (turned InUse node ∷ nodes)) in
       ap (resized node.slot node.place m) is
-      ∙ resized_is node.slot m (block_of (turned InUse node)) (map block_of nodes) (by_places lists) refl some whole count (block_position position) (subst P is good)
+      ∙ resized_is node.slot m (block_of (turned InUse node)) (map block_of nodes) (by_places lists) count (block_position position) (subst P is good)
       ∙ ap (λ o. after m o (past_free (map block_of nodes))) (listed_is_free nodes settled)
       ∙ ap (after m (option_map block_of next)) (past_is nodes settled)
 
@@ -76,9 +76,9 @@ module _ (count : ℕ) (position : Position) (node : Node) (nodes : List Node) (
       λ i. record { records = count; pools = by_pools i; lists = by_lists i }
 
   -- the node with the listed one behind it, where one is, keeps its first bytes
-  pub rest_split_is : (rest m : ℕ) (kept : List ℕ) → 0 < m → m % unit ≡ 0 → content_by (layout_at (at_split_rest rest m (next_merged (record { count = count; position = position; node = turned InUse node; nodes = nodes; lists = lists; taken = kept }))))
+  pub rest_split_is : (rest m : ℕ) (kept : List ℕ) → content_by (layout_at (at_split_rest rest m (next_merged (record { count = count; position = position; node = turned InUse node; nodes = nodes; lists = lists; taken = kept }))))
       ≡ resized node.slot node.place m (content_by (laid count position (turned InUse node ∷ nodes) lists taken))
-  rest_split_is rest m kept some whole = go next (past nodes) (left_by next lists) (full_front position (turned InUse node) nodes lists agreed next) (lists_back position (turned InUse node) nodes lists agreed None) ∙ sym (resized_by m some whole)
+  rest_split_is rest m kept = go next (past nodes) (left_by next lists) (full_front position (turned InUse node) nodes lists agreed next) (lists_back position (turned InUse node) nodes lists agreed None) ∙ sym (resized_by m)
     where
       go : (o : Option Node) (others : List Node) (left : List (List Node)) → length left ≡ classes → by_places left ≡ unlink_block (option_map block_of o) (by_places lists)
           → content_by (layout_at (at_split_rest rest m (record { count = count; position = position; node = merged_with_behind o (turned InUse node); nodes = others; lists = left; taken = kept })))

@@ -14,16 +14,16 @@ use Rattle.tlsf_heap.proofs.Content.Blocks.{Ascends-pools}
 use Rattle.tlsf_heap.proofs.Content.FreeLists.{count_listed-split, times-link_gap, length-link_gap}
 use Rattle.tlsf_heap.proofs.Counts.{one_if, count-cons, count-append, count_all}
 use Rattle.tlsf_heap.proofs.Meaning.BlockPositions.{BlockPosition, pool_at, filled_pools, count-filled_pools, at_most_one, IsAlone, block_alone, replaced_at, back_at, size_here}
-use Rattle.tlsf_heap.proofs.Meaning.FreeFirst.{past_free, free_first, is_first_free, few_past, once_past, past_apart, count_past, times-unlink_block, length-unlink_block, covers_behind, without_next, next_once}
-use Rattle.tlsf_heap.proofs.Meaning.Gaps.{covers_split, apart_split, length-split_most}
+use Rattle.tlsf_heap.proofs.Meaning.FreeFirst.{past_free, free_first, is_first_free, few_past, kept_past, once_past, past_apart, count_past, times-unlink_block, length-unlink_block, covers_behind, without_next, next_once}
+use Rattle.tlsf_heap.proofs.Meaning.Gaps.{FailsOnFree, split_counts, covers_split, apart_split, length-split_most}
 use Rattle.tlsf_heap.proofs.Meaning.Refilled.{refilled_is_good}
-use Rattle.std.proofs.lemmas.Bool.{cases_Bool, eqb-true, or_cases, ltb-true, ltb-false, leb-true}
+use Rattle.std.proofs.lemmas.Bool.{cases_Bool, eq-eqb, eqb-true, or_cases, ltb-true, ltb-false, leb-true}
 use Rattle.tlsf_heap.proofs.Meaning.FreedIsGood.{owned_is_live, at_live, good_behind, within_plug}
 use Rattle.tlsf_heap.specs.GoodSlots.{is_slot, HasGoodSlots}
 use Rattle.tlsf_heap.proofs.Good.Slots.{slot_times-append, slot_times-split, slots_fewer}
 
 module _ {A : Type 0} where
-  module _ (owner : A) (m : ℕ) (block : Block A) (blocks : List (Block A)) (lists : List (List ℕ)) (live : is_free block ≡ false) (some : 0 < m) (whole : m % unit ≡ 0) where
+  module _ (owner : A) (m : ℕ) (block : Block A) (blocks : List (Block A)) (lists : List (List ℕ)) where
     abbrev next : Option (Block A)
     next = free_first blocks
 
@@ -36,15 +36,15 @@ module _ {A : Type 0} where
     abbrev new_lists : List (List ℕ)
     new_lists = link_gap (block.place + m) (size - m) (unlink_block next lists)
 
-    covers : m ≤ size → (from to : ℕ) → Covers from to (block ∷ blocks) → Covers from to news
-    covers fits from to c = let one = covers_behind block blocks from to c in covers_split owner from to block.place m size (past_free blocks) c.0 some whole fits one.2 one.3
+    covers : 0 < m → m % unit ≡ 0 → m ≤ size → (from to : ℕ) → Covers from to (block ∷ blocks) → Covers from to news
+    covers some whole fits from to c = let one = covers_behind block blocks from to c in covers_split owner from to block.place m size (past_free blocks) c.0 some whole fits one.2 one.3
 
-    apart : (was : Bool) → NoFreeNeighbours was (block ∷ blocks) → NoFreeNeighbours was news
-    apart was n = let P : Bool → Type 0 = λ f. NoFreeNeighbours f blocks in apart_split owner block.place m size was (past_free blocks) (past_apart blocks (subst P live n.1))
+    apart : is_free block ≡ false → (was : Bool) → NoFreeNeighbours was (block ∷ blocks) → NoFreeNeighbours was news
+    apart live was n = let P : Bool → Type 0 = λ f. NoFreeNeighbours f blocks in apart_split owner block.place m size was (past_free blocks) (past_apart blocks (subst P live n.1))
 
-    listed : length lists ≡ classes → ((other : Block A) → next ≡ Some other → times other.place (list_of (class other.size) lists) ≡ 1) → (q p : ℕ)
+    listed : is_free block ≡ false → length lists ≡ classes → ((other : Block A) → next ≡ Some other → times other.place (list_of (class other.size) lists) ≡ 1) → (q p : ℕ)
         → times p (list_of q new_lists) + count_by (is_listed q p) (block ∷ blocks) ≡ times p (list_of q lists) + count_by (is_listed q p) news
-    listed full once q p =
+    listed live full once q p =
         let kind : Block A → Bool = is_listed q p in
         omega (
           arith,
@@ -85,13 +85,27 @@ module _ {A : Type 0} where
           ∙ ap (after next) (size_here position block blocks alone)
           ∙ ap (λ pools. record new { pools = pools }) by_pools
 
-      new_is_good : m ≤ size → length (blocks_of (filled_pools position news)) ≤ records → IsGood new
-      new_is_good fits few =
+      -- of what no free block passes the block itself is gone, and the resized one came
+      pub counts_resized : (test : Block A → Bool) → FailsOnFree test → count_by test (blocks_of (resized owner block.place m old).pools) + one_if (test block) ≡ count_by test (blocks_of old.pools) + one_if (test (record { place = block.place; size = m; owner = Some owner }))
+      counts_resized test fails =
+          omega (
+            arith,
+            ap (λ (x : Content A). count_by test (blocks_of x.pools)) resized_is,
+            count-filled_pools test position (block ∷ blocks),
+            count-filled_pools test position news,
+            count-cons test block blocks,
+            count-append test (split owner block.place m size) (past_free blocks),
+            split_counts test fails owner block.place m size,
+            kept_past test fails blocks,
+          )
+
+      new_is_good : is_free block ≡ false → 0 < m → m % unit ≡ 0 → m ≤ size → length (blocks_of (filled_pools position news)) ≤ records → IsGood new
+      new_is_good live some whole fits few =
           refilled_is_good records position (block ∷ blocks) news lists new_lists (record {
-            covers = covers fits;
-            apart = apart (is_first_free position.before);
+            covers = covers some whole fits;
+            apart = apart live (is_first_free position.before);
             full = length-link_gap (unlink_block next lists) (length-unlink_block lists good.lists_count next) (block.place + m) (size - m);
-            listed = (λ q p within. listed good.lists_count (next_once records position block blocks lists good) q p);
+            listed = (λ q p within. listed live good.lists_count (next_once records position block blocks lists good) q p);
           }) few good
 
       -- as many blocks as before, or one more where no free one is behind and a record is left
@@ -114,8 +128,8 @@ module _ {A : Type 0} where
             | inr left ↦ omega (arith, before, behind, parts, old_count, new_count, both, past, length-split_most owner block.place m size, count_all (block ∷ blocks), ltb-true (length (blocks_of old.pools)) records left)
           ]
 
-      resized_good : m ≤ size → (is_some next || nat_lt (length (blocks_of old.pools)) records) ≡ true → IsGood (resized owner block.place m old)
-      resized_good fits room = let P : Content A → Type 0 = λ x. IsGood x in subst P (sym resized_is) (new_is_good fits (few_after room))
+      resized_good : is_free block ≡ false → 0 < m → m % unit ≡ 0 → m ≤ size → (is_some next || nat_lt (length (blocks_of old.pools)) records) ≡ true → IsGood (resized owner block.place m old)
+      resized_good live some whole fits room = let P : Content A → Type 0 = λ x. IsGood x in subst P (sym resized_is) (new_is_good live some whole fits (few_after room))
 
       -- where it fits in place, there is room for it
       fits_room : fits_in_place block.place m old ≡ true → m ≢ block.size → (m ≤ size) × ((is_some next || nat_lt (length (blocks_of old.pools)) records) ≡ true)
@@ -149,10 +163,19 @@ module _ {A : Type 0} where
   resized_is_good is_meant owner place m content good live some whole fits other =
       let Q : ℕ → Content A → Type 0 = λ p x. fits_in_place p m x ≡ true → m ≢ size_at p (blocks_of x.pools) → IsGood (resized owner p m x) in
       at_live is_meant place content Q good live (λ position block blocks owned g f o.
-      let live_one = owned_is_live is_meant block.owner owned in
       let alone : IsAlone position block blocks = block_alone position block blocks (at_most_one 0 (blocks_of (filled_pools position (block ∷ blocks))) (Ascends-pools 0 (filled_pools position (block ∷ blocks)) g.pools_good)) in
-      let room = fits_room owner m block blocks content.lists live_one some whole content.records position g f (λ e. o (e ∙ sym (size_here position block blocks alone))) in
-      resized_good owner m block blocks content.lists live_one some whole content.records position g room.0 room.1) fits other
+      let room = fits_room owner m block blocks content.lists content.records position g f (λ e. o (e ∙ sym (size_here position block blocks alone))) in
+      resized_good owner m block blocks content.lists content.records position g (owned_is_live is_meant block.owner owned) some whole room.0 room.1) fits other
+
+  -- where the block and the resized one pass a test alike, or fail, as much is counted as before
+  pub resized_counts : (is_meant : A → Bool) (owner : A) (place m : ℕ) (content : Content A) → IsGood content → is_live is_meant place (blocks_of content.pools) ≡ true
+      → (test : Block A → Bool) (passes : Bool) → FailsOnFree test → ((block : Block A) → is_at place block ≡ true → is_owned_by is_meant block.owner ≡ true → test block ≡ passes) → test (record { place = place; size = m; owner = Some owner }) ≡ passes
+      → count_by test (blocks_of (resized owner place m content).pools) ≡ count_by test (blocks_of content.pools)
+  resized_counts is_meant owner place m content good live test passes fails before after =
+      let Q : ℕ → Content A → Type 0 = λ p x. ((block : Block A) → is_at p block ≡ true → is_owned_by is_meant block.owner ≡ true → test block ≡ passes) → test (record { place = p; size = m; owner = Some owner }) ≡ passes
+      → count_by test (blocks_of (resized owner p m x).pools) ≡ count_by test (blocks_of x.pools) in
+      at_live is_meant place content Q good live (λ position block blocks owned g old new.
+      omega (arith, counts_resized owner m block blocks content.lists content.records position g test fails, ap one_if (old block (eq-eqb block.place block.place refl) owned), ap one_if new)) before after
 
   -- the bytes of a block at its position and the free one behind it
   module _ (records : ℕ) (position : BlockPosition A) (block : Block A) (blocks : List (Block A)) (lists : List (List ℕ)) (good : IsGood (record { records = records; pools = filled_pools position (block ∷ blocks); lists = lists })) where
@@ -182,17 +205,16 @@ module _ {A : Type 0} where
       subst R (sym (both_is content.records position block blocks content.lists g)) (both_there content.records position block blocks content.lists g))
 
 -- a live block keeps its slot in place
-pub resized_slots : (known place m : ℕ) (content : Content ℕ) → IsGood content → is_live (λ owner. owner == known) place (blocks_of content.pools) ≡ true → 0 < m → m % unit ≡ 0 → HasGoodSlots content → HasGoodSlots (resized known place m content)
-resized_slots known place m content good live some whole slots =
+pub resized_slots : (known place m : ℕ) (content : Content ℕ) → IsGood content → is_live (λ owner. owner == known) place (blocks_of content.pools) ≡ true → HasGoodSlots content → HasGoodSlots (resized known place m content)
+resized_slots known place m content good live slots =
     let meant : ℕ → Bool = λ owner. owner == known in
     at_live meant place content (λ p x. HasGoodSlots x → HasGoodSlots (resized known p m x)) good live (λ position block blocks owned g s.
-    let live_one = owned_is_live meant block.owner owned in
-    let is = resized_is known m block blocks content.lists live_one some whole content.records position g in
+    let is = resized_is known m block blocks content.lists content.records position g in
     let parts = split known block.place m (block.size + size_of (free_first blocks)) in
     let news : List (Block ℕ) = parts ++ past_free blocks in
     let own : block.owner ≡ Some known = owner_is block.owner owned in
     subst (λ (x : Content ℕ). HasGoodSlots x) (sym is)
-    (slots_fewer (record content { pools = filled_pools position (block ∷ blocks) }) (record { records = content.records; pools = filled_pools position news; lists = new_lists known m block blocks content.lists live_one some whole }) refl
+    (slots_fewer (record content { pools = filled_pools position (block ∷ blocks) }) (record { records = content.records; pools = filled_pools position news; lists = new_lists known m block blocks content.lists }) refl
     (λ slot.
     let has : Block ℕ → Bool = λ other. is_slot slot other.owner in
     omega (

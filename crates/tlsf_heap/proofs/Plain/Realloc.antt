@@ -78,7 +78,7 @@ module _ (known place : ℕ) (content : Plain) (plain : IsPlain content) (live :
     pub resized_is_plain : IsPlain (resized known place asked content)
     resized_is_plain = record {
       good = resized_is_good (λ slot. slot == known) known place asked content plain.good live some whole fits other;
-      slots = resized_slots known place asked content plain.good live some whole plain.slots;
+      slots = resized_slots known place asked content plain.good live plain.slots;
       records_few = plain.records_few;
     }
 

@@ -7,7 +7,7 @@ use Rattle.tlsf_heap.specs.Free.{is_live, after_free}
 use Rattle.tlsf_heap.specs.Realloc.{moved}
 use Rattle.tlsf_heap.specs.Good.{IsGood}
 use Rattle.tlsf_heap.specs.Inner.Following.{Stands, content_of}
-use Rattle.tlsf_heap.proofs.Good.Realloc.{live_after}
+use Rattle.tlsf_heap.proofs.Good.StaysLive.{live_after}
 use Rattle.tlsf_heap.proofs.Inner.Followed.{stood_for}
 use Rattle.tlsf_heap.specs.Inner.Nodes.{InUse}
 use Rattle.tlsf_heap.proofs.Inner.Steps.{slot_used}

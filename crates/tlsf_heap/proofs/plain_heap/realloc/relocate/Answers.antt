@@ -1,5 +1,5 @@
 use Rattle.std.specs.Prelude.{◌==◌}
-use Rattle.tlsf_heap.proofs.Good.Realloc.{live_after}
+use Rattle.tlsf_heap.proofs.Good.StaysLive.{live_after}
 use Rattle.tlsf_heap.proofs.plain_heap.realloc.relocate.Goals as goal
 
 pub freed-requires-clause-live : goal.freed-requires-clause-live
