@@ -258,19 +258,15 @@ module _ (cells : Cells) (stands : Stands cells) where
 
   -- ---- links
 
-  head_below : (number : ℕ) (d : Option ℕ) → number < length cells.heads → is_below (length cells.records) (slice_index_or cells.heads number d) ≡ true
-  head_below number d within = ap (is_below (length cells.records)) (head_is number d within) ∙ by (nodes_in number stands.layout.lists) refl
-    where
-      by : (nodes : List Node) → nodes_in number stands.layout.lists ≡ nodes → is_below (length cells.records) (first_slot nodes) ≡ true
-      by [] is = refl
-      by (node ∷ nodes) is =
-          lt-ltb node.slot (length cells.records) (
-          slot_below cells stands node.slot
-          (omega (arith, first_stands (node ∷ nodes) node.slot refl, ap (count_by (has_slot node.slot)) is, listed_within areas stands.layout.lists stands.represented.agree number node.slot))
-          )
-
   listed_below : (number slot : ℕ) → 1 ≤ count_by (has_slot slot) (nodes_in number stands.layout.lists) → slot < length cells.records
   listed_below number slot some = slot_below cells stands slot (omega (arith, some, listed_within areas stands.layout.lists stands.represented.agree number slot))
+
+  first_is : (nodes : List Node) → ((q : ℕ) → 1 ≤ count_by (has_slot q) nodes → q < length cells.records) → is_below (length cells.records) (first_slot nodes) ≡ true
+  first_is [] below = refl
+  first_is (node ∷ nodes) below = lt-ltb node.slot (length cells.records) (below node.slot (first_stands (node ∷ nodes) node.slot refl))
+
+  head_below : (number : ℕ) (d : Option ℕ) → number < length cells.heads → is_below (length cells.records) (slice_index_or cells.heads number d) ≡ true
+  head_below number d within = ap (is_below (length cells.records)) (head_is number d within) ∙ first_is (nodes_in number stands.layout.lists) (listed_below number)
 
   -- both neighbours in a list
   links_listed : (number slot : ℕ) → 1 ≤ count_by (has_slot slot) (nodes_in number stands.layout.lists) → (is_below (length cells.records) (at parts slot).prev_free && is_below (length cells.records) (at parts slot).next_free) ≡ true
@@ -286,10 +282,6 @@ module _ (cells : Cells) (stands : Stands cells) where
       and_from (is_below (length cells.records) (at parts slot).prev_free) (is_below (length cells.records) (at parts slot).next_free)
       (ap (λ (v : InList). is_below (length cells.records) v.prev) says ∙ first_is item_at.front (λ q h. listed_below number q (omega (arith, h, count q))))
       (ap (λ (v : InList). is_below (length cells.records) v.next) says ∙ first_is item_at.behind (λ q h. listed_below number q (omega (arith, h, count q))))
-    where
-      first_is : (nodes : List Node) → ((q : ℕ) → 1 ≤ count_by (has_slot q) nodes → q < length cells.records) → is_below (length cells.records) (first_slot nodes) ≡ true
-      first_is [] below = refl
-      first_is (node ∷ nodes) below = lt-ltb node.slot (length cells.records) (below node.slot (first_stands (node ∷ nodes) node.slot refl))
 
   module _ (alone : LiveAlone cells.records) where
     links_in : (slot : ℕ) (state : State) → (at parts slot).state ≡ state → has_links_in state (length cells.records) (at parts slot) ≡ true

@@ -87,54 +87,37 @@ pools content = map {B = ℕ × ℕ} (λ area. (area.base, area.bytes)) content.
 abbrev from_create : ℕ → List Request → After
 from_create records asked = requests 0 asked (created records)
 
-first_split-answers : (from_create 4 (pool 0 1024 ∷ malloc_of 100 ∷ [])).answers ≡ done ∷ given 0 ∷ []
-unfolding class need low rounded
-first_split-answers = refl
+-- what a run answers, and the rows that it leaves
+abbrev told : After → List Answer × List (ℕ × ℕ × Bool)
+told after = (after.answers, rows after.content)
 
-first_split-rows : rows (from_create 4 (pool 0 1024 ∷ malloc_of 100 ∷ [])).content ≡ (0, 112, true) ∷ (112, 912, false) ∷ []
-unfolding class need low rounded
-first_split-rows = refl
+abbrev first_split : After
+first_split = from_create 4 (pool 0 1024 ∷ malloc_of 100 ∷ [])
 
-first_split-list : list_of 57 (from_create 4 (pool 0 1024 ∷ malloc_of 100 ∷ [])).content.lists ≡ 112 ∷ []
+first_split-told : told first_split ≡ (done ∷ given 0 ∷ [], (0, 112, true) ∷ (112, 912, false) ∷ [])
+unfolding class need low rounded
+first_split-told = refl
+
+first_split-list : list_of 57 first_split.content.lists ≡ 112 ∷ []
 unfolding class need low rounded
 first_split-list = refl
 
--- reuse-without-split, up to its free
-reuse : (from_create 4 (pool 0 1024 ∷ malloc_of 100 ∷ malloc_of 1 ∷ [])).answers ≡ done ∷ given 0 ∷ given 112 ∷ []
-unfolding class need low rounded
-reuse = refl
-
 -- lower-class-not-taken
-lower_class-answers : (from_create 2 (pool 0 1040 ∷ malloc_of 1040 ∷ malloc_of 1024 ∷ [])).answers ≡ done ∷ refused NoFit ∷ given 0 ∷ []
+lower_class : told (from_create 2 (pool 0 1040 ∷ malloc_of 1040 ∷ malloc_of 1024 ∷ [])) ≡ (done ∷ refused NoFit ∷ given 0 ∷ [], (0, 1024, true) ∷ (1024, 16, false) ∷ [])
 unfolding class need low rounded
-lower_class-answers = refl
-
-lower_class-rows : rows (from_create 2 (pool 0 1040 ∷ malloc_of 1040 ∷ malloc_of 1024 ∷ [])).content ≡ (0, 1024, true) ∷ (1024, 16, false) ∷ []
-unfolding class need low rounded
-lower_class-rows = refl
+lower_class = refl
 
 -- greatest-class
-greatest-answers : (from_create 2 (pool 0 1073741808 ∷ malloc_of 1056964609 ∷ malloc_of 1056964608 ∷ [])).answers ≡ done ∷ refused NoFit ∷ given 0 ∷ []
-unfolding class need low rounded
-greatest-answers = refl
+abbrev greatest : After
+greatest = from_create 2 (pool 0 1073741808 ∷ malloc_of 1056964609 ∷ malloc_of 1056964608 ∷ [])
 
-greatest-rows : rows (from_create 2 (pool 0 1073741808 ∷ malloc_of 1056964609 ∷ malloc_of 1056964608 ∷ [])).content ≡ (0, 1056964608, true) ∷ (1056964608, 16777200, false) ∷ []
+greatest-told : told greatest ≡ (done ∷ refused NoFit ∷ given 0 ∷ [], (0, 1056964608, true) ∷ (1056964608, 16777200, false) ∷ [])
 unfolding class need low rounded
-greatest-rows = refl
+greatest-told = refl
 
-greatest-list : list_of 511 (from_create 2 (pool 0 1073741808 ∷ malloc_of 1056964608 ∷ [])).content.lists ≡ 1056964608 ∷ []
+greatest-list : list_of 511 greatest.content.lists ≡ 1056964608 ∷ []
 unfolding class need low rounded
 greatest-list = refl
-
--- pools-never-merged, up to its malloc, and one that needs both pools
-never_merged : (from_create 4 (pool 0 64 ∷ pool 64 64 ∷ malloc_of 128 ∷ malloc_of 0 ∷ [])).answers ≡ done ∷ done ∷ refused NoFit ∷ refused ZeroSize ∷ []
-unfolding class need low rounded
-never_merged = refl
-
--- full-table, its malloc
-full_table : (from_create 1 (pool 0 64 ∷ malloc_of 8 ∷ malloc_of 64 ∷ [])).answers ≡ done ∷ refused TableFull ∷ given 0 ∷ []
-unfolding class need low rounded
-full_table = refl
 
 -- pool-limits, its add_pool
 pool_limits : (from_create 4 (pool 4294967232 64 ∷ pool 4294967240 64 ∷ pool 4 64 ∷ pool 0 0 ∷ pool 4294967168 72 ∷ pool 8 64 ∷ pool 4294967248 64 ∷ pool 4294967168 80 ∷ [])).answers
@@ -143,25 +126,31 @@ unfolding class need low rounded
 pool_limits = refl
 
 -- pools-in-order
-in_order : (from_create 3 (pool 128 64 ∷ pool 0 64 ∷ pool 64 64 ∷ pool 192 64 ∷ pool 32 64 ∷ [])).answers ≡ done ∷ done ∷ done ∷ refused TableFull ∷ refused BadPool ∷ []
-unfolding class need low rounded
-in_order = refl
+abbrev in_order : After
+in_order = from_create 3 (pool 128 64 ∷ pool 0 64 ∷ pool 64 64 ∷ pool 192 64 ∷ pool 32 64 ∷ [])
 
-in_order-pools : pools (from_create 3 (pool 128 64 ∷ pool 0 64 ∷ pool 64 64 ∷ [])).content ≡ (0, 64) ∷ (64, 64) ∷ (128, 64) ∷ []
+in_order-answers : in_order.answers ≡ done ∷ done ∷ done ∷ refused TableFull ∷ refused BadPool ∷ []
+unfolding class need low rounded
+in_order-answers = refl
+
+in_order-pools : pools in_order.content ≡ (0, 64) ∷ (64, 64) ∷ (128, 64) ∷ []
 unfolding class need low rounded
 in_order-pools = refl
 
--- reuse-without-split, whole: the slot of a live block is the number of its request
-reuse_whole : (from_create 4 (pool 0 1024 ∷ malloc_of 100 ∷ malloc_of 1 ∷ free_of 0 1 ∷ malloc_of 100 ∷ [])).answers ≡ done ∷ given 0 ∷ given 112 ∷ done ∷ given 0 ∷ []
+-- reuse-without-split: the slot of a live block is the number of its request
+reuse : (from_create 4 (pool 0 1024 ∷ malloc_of 100 ∷ malloc_of 1 ∷ free_of 0 1 ∷ malloc_of 100 ∷ [])).answers ≡ done ∷ given 0 ∷ given 112 ∷ done ∷ given 0 ∷ []
 unfolding class need low rounded
-reuse_whole = refl
+reuse = refl
 
 -- merge-both-sides
-both_sides : rows (from_create 4 (pool 0 1024 ∷ malloc_of 100 ∷ malloc_of 1 ∷ free_of 0 1 ∷ free_of 112 2 ∷ [])).content ≡ (0, 1024, false) ∷ []
-unfolding class need low rounded
-both_sides = refl
+abbrev both_sides : Held
+both_sides = (from_create 4 (pool 0 1024 ∷ malloc_of 100 ∷ malloc_of 1 ∷ free_of 0 1 ∷ free_of 112 2 ∷ [])).content
 
-both_sides-lists : list_of 64 (from_create 4 (pool 0 1024 ∷ malloc_of 100 ∷ malloc_of 1 ∷ free_of 0 1 ∷ free_of 112 2 ∷ [])).content.lists ≡ 0 ∷ []
+both_sides-rows : rows both_sides ≡ (0, 1024, false) ∷ []
+unfolding class need low rounded
+both_sides-rows = refl
+
+both_sides-lists : list_of 64 both_sides.lists ≡ 0 ∷ []
 unfolding class need low rounded
 both_sides-lists = refl
 
@@ -172,10 +161,10 @@ newest_first : (from_create 8 (pool 0 128 ∷ malloc_of 8 ∷ malloc_of 8 ∷ ma
 unfolding class need low rounded
 newest_first = refl
 
--- pools-never-merged, whole
-never_merged_whole : (from_create 4 (pool 0 64 ∷ pool 64 64 ∷ malloc_of 64 ∷ free_of 64 2 ∷ malloc_of 128 ∷ malloc_of 0 ∷ [])).answers ≡ done ∷ done ∷ given 64 ∷ done ∷ refused NoFit ∷ refused ZeroSize ∷ []
+-- pools-never-merged
+never_merged : (from_create 4 (pool 0 64 ∷ pool 64 64 ∷ malloc_of 64 ∷ free_of 64 2 ∷ malloc_of 128 ∷ malloc_of 0 ∷ [])).answers ≡ done ∷ done ∷ given 64 ∷ done ∷ refused NoFit ∷ refused ZeroSize ∷ []
 unfolding class need low rounded
-never_merged_whole = refl
+never_merged = refl
 
 -- a second free of the block, and one by its place alone
 free_twice : (from_create 4 (pool 0 1024 ∷ malloc_of 100 ∷ free_of 0 9 ∷ free_of 16 1 ∷ free_of 0 1 ∷ free_of 0 1 ∷ [])).answers ≡ done ∷ given 0 ∷ refused BadPointer ∷ refused BadPointer ∷ done ∷ refused BadPointer ∷ []
@@ -186,16 +175,16 @@ free_twice = refl
 abbrev two_blocks : List (Block ℕ)
 two_blocks = record { place = 0; size = 112; owner = Some 1 } ∷ record { place = 112; size = 912; owner = None } ∷ []
 
-first_split-blocks : blocks_of (from_create 4 (pool 0 1024 ∷ malloc_of 100 ∷ [])).content.pools ≡ two_blocks
+first_split-blocks : blocks_of first_split.content.pools ≡ two_blocks
 unfolding class need low rounded
 first_split-blocks = refl
 
-first_split-aligned : HasAlignedBlocks (from_create 4 (pool 0 1024 ∷ malloc_of 100 ∷ [])).content
+first_split-aligned : HasAlignedBlocks first_split.content
 first_split-aligned =
     let P : List (Block ℕ) → Type 0 = λ blocks. All IsAligned blocks in
     subst P (sym first_split-blocks) (All-from_recursion IsAligned two_blocks ((refl, refl), ((refl, refl), tt)))
 
-first_split-disjoint : HasDisjointBlocks (from_create 4 (pool 0 1024 ∷ malloc_of 100 ∷ [])).content
+first_split-disjoint : HasDisjointBlocks first_split.content
 first_split-disjoint =
     let P : List (Block ℕ) → Type 0 = λ blocks. AllPairs AreDisjoint blocks in
     let last : Block ℕ = record { place = 112; size = 912; owner = None } in
@@ -203,11 +192,11 @@ first_split-disjoint =
     subst P (sym first_split-blocks)
     (AllPairs-cons AreDisjoint (record { place = 0; size = 112; owner = Some 1 }) (last ∷ []) (All-from_recursion (AreDisjoint (record { place = 0; size = 112; owner = Some 1 })) (last ∷ []) (inl (omega arith), tt)) none_behind)
 
-first_split-once : times 112 (list_of (class 912) (from_create 4 (pool 0 1024 ∷ malloc_of 100 ∷ [])).content.lists) ≡ 1
+first_split-once : times 112 (list_of (class 912) first_split.content.lists) ≡ 1
 unfolding class need low rounded
 first_split-once = refl
 
-first_split-live : live_blocks (from_create 4 (pool 0 1024 ∷ malloc_of 100 ∷ [])).content ≡ 1
+first_split-live : live_blocks first_split.content ≡ 1
 unfolding class need low rounded
 first_split-live = refl
 
@@ -250,22 +239,14 @@ unfolding class need low rounded
 not_full few = omega (arith, few)
 
 -- memalign-gap-and-rest
-gap_and_rest : (from_create 4 (pool 16 256 ∷ memalign_of 64 32 ∷ memalign_of 3 0 ∷ memalign_of 1073741824 8 ∷ memalign_of 8 0 ∷ [])).answers ≡ done ∷ given 64 ∷ refused BadAlign ∷ refused BadAlign ∷ refused ZeroSize ∷ []
+gap_and_rest : told (from_create 4 (pool 16 256 ∷ memalign_of 64 32 ∷ memalign_of 3 0 ∷ memalign_of 1073741824 8 ∷ memalign_of 8 0 ∷ [])) ≡ (done ∷ given 64 ∷ refused BadAlign ∷ refused BadAlign ∷ refused ZeroSize ∷ [], (16, 48, false) ∷ (64, 32, true) ∷ (96, 176, false) ∷ [])
 unfolding class need low rounded
 gap_and_rest = refl
 
-gap_and_rest-rows : rows (from_create 4 (pool 16 256 ∷ memalign_of 64 32 ∷ [])).content ≡ (16, 48, false) ∷ (64, 32, true) ∷ (96, 176, false) ∷ []
-unfolding class need low rounded
-gap_and_rest-rows = refl
-
 -- memalign-needs-records: the gap alone takes the one that is vacant
-needs_records : (from_create 2 (pool 16 256 ∷ memalign_of 64 32 ∷ memalign_of 64 200 ∷ [])).answers ≡ done ∷ refused TableFull ∷ given 64 ∷ []
+needs_records : told (from_create 2 (pool 16 256 ∷ memalign_of 64 32 ∷ memalign_of 64 200 ∷ [])) ≡ (done ∷ refused TableFull ∷ given 64 ∷ [], (16, 48, false) ∷ (64, 208, true) ∷ [])
 unfolding class need low rounded
 needs_records = refl
-
-needs_records-rows : rows (from_create 2 (pool 16 256 ∷ memalign_of 64 32 ∷ memalign_of 64 200 ∷ [])).content ≡ (16, 48, false) ∷ (64, 208, true) ∷ []
-unfolding class need low rounded
-needs_records-rows = refl
 
 -- the gap enters its list before the rest, where both are of one class
 gap_first : list_of 3 (from_create 3 (pool 16 128 ∷ memalign_of 64 32 ∷ [])).content.lists ≡ 96 ∷ 16 ∷ []
@@ -277,31 +258,23 @@ alignments : map is_alignment (0 ∷ 1 ∷ 2 ∷ 3 ∷ 536870912 ∷ 536870913 �
 alignments = refl
 
 -- grow-and-shrink-in-place
-grown_in_place : (from_create 4 (pool 0 1024 ∷ malloc_of 100 ∷ realloc_of (Some (0, 1)) 200 ∷ realloc_of (Some (0, 1)) 8 ∷ [])).answers ≡ done ∷ given 0 ∷ moved (Some (0, 1)) ∷ moved (Some (0, 1)) ∷ []
+grown_in_place : told (from_create 4 (pool 0 1024 ∷ malloc_of 100 ∷ realloc_of (Some (0, 1)) 200 ∷ [])) ≡ (done ∷ given 0 ∷ moved (Some (0, 1)) ∷ [], (0, 208, true) ∷ (208, 816, false) ∷ [])
 unfolding class need low rounded
 grown_in_place = refl
 
-grown_in_place-rows : rows (from_create 4 (pool 0 1024 ∷ malloc_of 100 ∷ realloc_of (Some (0, 1)) 200 ∷ [])).content ≡ (0, 208, true) ∷ (208, 816, false) ∷ []
+shrunk_in_place : told (from_create 4 (pool 0 1024 ∷ malloc_of 100 ∷ realloc_of (Some (0, 1)) 200 ∷ realloc_of (Some (0, 1)) 8 ∷ [])) ≡ (done ∷ given 0 ∷ moved (Some (0, 1)) ∷ moved (Some (0, 1)) ∷ [], (0, 16, true) ∷ (16, 1008, false) ∷ [])
 unfolding class need low rounded
-grown_in_place-rows = refl
-
-shrunk_in_place-rows : rows (from_create 4 (pool 0 1024 ∷ malloc_of 100 ∷ realloc_of (Some (0, 1)) 200 ∷ realloc_of (Some (0, 1)) 8 ∷ [])).content ≡ (0, 16, true) ∷ (16, 1008, false) ∷ []
-unfolding class need low rounded
-shrunk_in_place-rows = refl
+shrunk_in_place = refl
 
 -- realloc-moves
-moves : (from_create 4 (pool 0 1024 ∷ malloc_of 100 ∷ malloc_of 1 ∷ realloc_of (Some (0, 1)) 200 ∷ [])).answers ≡ done ∷ given 0 ∷ given 112 ∷ moved (Some (128, 3)) ∷ []
+moves : told (from_create 4 (pool 0 1024 ∷ malloc_of 100 ∷ malloc_of 1 ∷ realloc_of (Some (0, 1)) 200 ∷ [])) ≡ (done ∷ given 0 ∷ given 112 ∷ moved (Some (128, 3)) ∷ [], (0, 112, false) ∷ (112, 16, true) ∷ (128, 208, true) ∷ (336, 688, false) ∷ [])
 unfolding class need low rounded
 moves = refl
 
-moves-rows : rows (from_create 4 (pool 0 1024 ∷ malloc_of 100 ∷ malloc_of 1 ∷ realloc_of (Some (0, 1)) 200 ∷ [])).content ≡ (0, 112, false) ∷ (112, 16, true) ∷ (128, 208, true) ∷ (336, 688, false) ∷ []
+-- full-table
+full_table : (from_create 1 (pool 0 64 ∷ malloc_of 8 ∷ malloc_of 64 ∷ realloc_of (Some (0, 2)) 8 ∷ size_of 0 2 ∷ [])).answers ≡ done ∷ refused TableFull ∷ given 0 ∷ moved (Some (0, 2)) ∷ sized 64 ∷ []
 unfolding class need low rounded
-moves-rows = refl
-
--- full-table, whole
-full_table_whole : (from_create 1 (pool 0 64 ∷ malloc_of 8 ∷ malloc_of 64 ∷ realloc_of (Some (0, 2)) 8 ∷ size_of 0 2 ∷ [])).answers ≡ done ∷ refused TableFull ∷ given 0 ∷ moved (Some (0, 2)) ∷ sized 64 ∷ []
-unfolding class need low rounded
-full_table_whole = refl
+full_table = refl
 
 -- double-free-and-realloc-to-zero
 to_zero : (from_create 4 (pool 0 1024 ∷ malloc_of 100 ∷ free_of 0 1 ∷ free_of 0 1 ∷ realloc_of None 0 ∷ malloc_of 100 ∷ realloc_of (Some (0, 5)) 0 ∷ size_of 0 5 ∷ [])).answers
@@ -327,10 +300,6 @@ unfolding class need low rounded
 pool_limits_whole = refl
 
 -- realloc-grows-over-freed
-grows_over_freed : (from_create 3 (pool 0 64 ∷ malloc_of 8 ∷ malloc_of 8 ∷ free_of 16 2 ∷ realloc_of (Some (0, 1)) 64 ∷ [])).answers ≡ done ∷ given 0 ∷ given 16 ∷ done ∷ moved (Some (0, 1)) ∷ []
+grows_over_freed : told (from_create 3 (pool 0 64 ∷ malloc_of 8 ∷ malloc_of 8 ∷ free_of 16 2 ∷ realloc_of (Some (0, 1)) 64 ∷ [])) ≡ (done ∷ given 0 ∷ given 16 ∷ done ∷ moved (Some (0, 1)) ∷ [], (0, 64, true) ∷ [])
 unfolding class need low rounded
 grows_over_freed = refl
-
-grows_over_freed-rows : rows (from_create 3 (pool 0 64 ∷ malloc_of 8 ∷ malloc_of 8 ∷ free_of 16 2 ∷ realloc_of (Some (0, 1)) 64 ∷ [])).content ≡ (0, 64, true) ∷ []
-unfolding class need low rounded
-grows_over_freed-rows = refl
