@@ -1,6 +1,6 @@
 -- Each live block after a call was one before it, or begins where the call gave one; and the live block that a test tells.
 use Rattle.std.proofs.Common.{◌≡◌, ℕ, ◌+◌, ◌-◌, ◌≤◌, Bool, true, false, ◌&&◌, List, [], ◌∷◌, map, refl, sym, ap, ◌∙◌, subst, arith, Option, Some, None, Ok, Err, ◌⊎◌, inl, inr}
-use Rattle.std.specs.Prelude.{◌==◌, is_none}
+use Rattle.std.specs.Prelude.{◌==◌}
 use Rattle.std.specs.Int.{next_multiple_of}
 use Rattle.std.specs.List.{Contains, list_any}
 use Rattle.std.proofs.lemmas.Bool.{cases_Bool, eq-eqb, ne_eqb, eqb-true, and_parts}
@@ -19,6 +19,7 @@ use Rattle.tlsf_heap.proofs.Content.Given.{malloc_gave, realloc_gave}
 use Rattle.tlsf_heap.proofs.Content.MemalignCases.{IsPicked, memalign_given}
 use Rattle.tlsf_heap.proofs.Content.BareSteps.{blocks_of-renamed, size_at-renamed}
 use Rattle.tlsf_heap.proofs.Good.StaysLive.{live_bare}
+use Rattle.tlsf_heap.proofs.Meaning.FreedIsGood.{owned_is_live}
 
 module _ {A : Type 0} where
   -- no block stands in an empty list
@@ -218,10 +219,6 @@ module _ {A : Type 0} where
         let found = stands_where_any test blocks (sym rest ∙ any) in
         (found.0, stands_later block found.0 blocks found.1, found.2)
   ]
-
-  owned_is_live : (meant : A → Bool) (owner : Option A) → is_owned_by meant owner ≡ true → is_none owner ≡ false
-  owned_is_live meant None owned = absurd (cc)
-  owned_is_live meant (Some owner) owned = refl
 
   -- a live block at a place is one of the blocks
   pub live_here : (meant : A → Bool) (p : ℕ) (content : Content A) → is_live meant p (blocks_of content.pools) ≡ true → (b : Block A) × Contains (blocks_of content.pools) b × (b.place ≡ p) × (is_free b ≡ false)

@@ -13,11 +13,11 @@ use Rattle.tlsf_heap.specs.Realloc.{resized, realloc}
 use Rattle.tlsf_heap.specs.Good.{IsGood}
 use Rattle.tlsf_heap.specs.Bare.{renamed_block, renamed, bare}
 use Rattle.tlsf_heap.proofs.Counts.{one_if, count-cons, count-append, count_apart, count_and, any_counts, counts_any, any-map}
-use Rattle.tlsf_heap.proofs.Content.Blocks.{Found, Ascends-pools}
+use Rattle.tlsf_heap.proofs.Content.Blocks.{Found}
 use Rattle.tlsf_heap.proofs.Content.Replacing.{replaced-here, blocks_of-replaced, count_by-replaced}
 use Rattle.tlsf_heap.proofs.Content.BareSteps.{blocks_of-renamed}
 use Rattle.tlsf_heap.proofs.Content.Given.{rounded_gave, realloc_gave}
-use Rattle.tlsf_heap.proofs.Meaning.BlockPositions.{at_most_one}
+use Rattle.tlsf_heap.proofs.Meaning.FreeFirst.{begins_once}
 use Rattle.tlsf_heap.proofs.Meaning.Gaps.{FailsOnFree, split_counts}
 use Rattle.tlsf_heap.proofs.Meaning.FreedIsGood.{freed_counts}
 use Rattle.tlsf_heap.proofs.Meaning.ResizedIsGood.{resized_counts}
@@ -127,7 +127,7 @@ module _ {A : Type 0} (is_meant : A → Bool) where
         gives.counts test (λ block free. ap (λ b. not b && is_at p block) free),
         ap one_if passes,
         count_and used (is_at p) (blocks_of new.pools),
-        at_most_one 0 (blocks_of new.pools) (Ascends-pools 0 new.pools good.pools_good) p,
+        begins_once new good p,
       )
     where
       less : (here : Bool) (owner : Option A) → one_if (here && is_owned_by is_meant owner) + 0 ≤ one_if (not (is_none owner) && here)

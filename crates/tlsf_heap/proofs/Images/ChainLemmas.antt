@@ -8,6 +8,8 @@ use Rattle.std.proofs.lemmas.List.Folds.{list_all_at}
 use Rattle.std.proofs.lemmas.List.{length-append, at_drop_more, at_drop_all}
 use Rattle.tlsf_store.specs.Cells.{pool_at}
 use Rattle.tlsf_store.specs.declared.pools.Pool.{Pool}
+use Rattle.tlsf_store.specs.declared.records.State.{State}
+use Rattle.tlsf_store.specs.declared.records.State.TheVariants.{Vacant, Free, Live}
 use Rattle.tlsf_store.specs.Records.{IsBelow, blank, is_free_state}
 use Rattle.tlsf_heap.specs.declared.image.chains.Tally.{Tally}
 use Rattle.tlsf_heap.specs.declared.image.chains.Front.{Front}
@@ -18,9 +20,15 @@ use Rattle.tlsf_heap.specs.Images.Findings.{chain_found, tally_with, both, front
 use Rattle.tlsf_heap.proofs.Images.LinkLemmas.{linked_on, linked_not_on, linked_end, follow_none}
 use Rattle.tlsf_heap.specs.Inner.Entries.{entries_of}
 
-of_used : (used rest : Bool) → used ≡ true → (not used || rest) ≡ true → rest ≡ true
+-- what holds of a used one, where it is used
+pub of_used : (used rest : Bool) → used ≡ true → (not used || rest) ≡ true → rest ≡ true
 of_used true rest is e = e
 of_used false rest is e = absurd (cc)
+
+pub free_is_used : (state : State) → is_free_state state ≡ true → is_used state ≡ true
+free_is_used Vacant e = absurd (cc)
+free_is_used Free e = refl
+free_is_used Live e = absurd (cc)
 
 pub below : (count : ℕ) (link : Option ℕ) → is_below count link ≡ true → IsBelow count link
 below count None e = tt

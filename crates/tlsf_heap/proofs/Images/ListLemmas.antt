@@ -12,15 +12,10 @@ use Rattle.tlsf_store.specs.declared.records.State.TheVariants.{Vacant, Free, Li
 use Rattle.tlsf_store.specs.declared.records.Record.{Record}
 use Rattle.tlsf_heap.specs.Images.Image.{Parts}
 use Rattle.tlsf_heap.specs.Images.Links.{follow, is_linked}
-use Rattle.tlsf_heap.specs.Images.Rules.{at, is_used, is_list, slots_in_list, has_links, has_links_in, is_below}
+use Rattle.tlsf_heap.specs.Images.Rules.{at, is_list, slots_in_list, has_links, has_links_in, is_below}
 use Rattle.tlsf_heap.specs.Images.Findings.{list_found, lists_with, is_behind}
 use Rattle.tlsf_heap.proofs.Images.LinkLemmas.{linked_on, linked_end, follow_none}
-use Rattle.tlsf_heap.proofs.Images.ChainLemmas.{record_links, below}
-
-free_is_used : (state : State) → is_free_state state ≡ true → is_used state ≡ true
-free_is_used Vacant e = absurd (cc)
-free_is_used Free e = refl
-free_is_used Live e = absurd (cc)
+use Rattle.tlsf_heap.proofs.Images.ChainLemmas.{record_links, below, free_is_used}
 
 free_links : (state : State) (count : ℕ) (r : Record) → is_free_state state ≡ true → has_links_in state count r ≡ true → is_below count r.next_free ≡ true
 free_links Vacant count r e linked = absurd (cc)

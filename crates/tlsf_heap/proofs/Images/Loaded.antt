@@ -1,5 +1,5 @@
 -- Cells that hold what an image describes, of which no rule is broken, stand for the content that it describes.
-use Rattle.std.proofs.Common.{◌≡◌, ℕ, zero, suc, ◌+◌, ◌-◌, ◌≤◌, ◌%◌, true, eqb, List, [], ◌∷◌, ◌++◌, length, map, replicate, refl, sym, ap, ◌∙◌, subst, arith, Option, Some, None, inl, inr}
+use Rattle.std.proofs.Common.{◌≡◌, ℕ, zero, suc, ◌+◌, ◌-◌, ◌≤◌, ◌%◌, true, eqb, List, ◌∷◌, ◌++◌, length, map, replicate, refl, sym, ap, ◌∙◌, subst, arith, Option, Some, None, inl, inr}
 use Rattle.std.specs.Prelude.{if◌then◌else◌, nat_lt}
 use Rattle.std.specs.List.{range_with_len}
 use Rattle.std.proofs.lemmas.Bool.{and_parts, cases_Bool, cases_lt, lt-ltb, le-ltb}
@@ -20,6 +20,8 @@ use Rattle.tlsf_heap.specs.Inner.Following.{content_from, content_of, Stands}
 use Rattle.tlsf_heap.specs.Inner.Imaged.{AreImaged, AreLoaded}
 use Rattle.tlsf_heap.proofs.Images.Standing.{imaged_stand}
 use Rattle.tlsf_heap.proofs.Images.Alike.{alike_stand, alike_content}
+use Rattle.tlsf_heap.proofs.Inner.EntryLists.{entries_of-none}
+use Rattle.tlsf_heap.proofs.Images.ImageLemmas.{records_count}
 
 -- entries up to a number, and none behind them
 module _ (pool : ℕ → StoredPool) (count : ℕ) where
@@ -33,10 +35,6 @@ module _ (pool : ℕ → StoredPool) (count : ℕ) where
   none_from from zero past = refl
   none_from from (suc n) past = rw (le-ltb from count past) (ap (λ rest. None ∷ rest) (none_from (from + 1) n (omega (arith, past))))
 
-  none_there : (n : ℕ) → entries_of (replicate n None) ≡ []
-  none_there zero = refl
-  none_there (suc n) = none_there n
-
   abbrev padded_to : ℕ → List (Option StoredPool) → List (Option StoredPool)
   padded_to n pools = map Some (entries_of pools) ++ replicate (n - length (entries_of pools)) None
 
@@ -49,7 +47,7 @@ module _ (pool : ℕ → StoredPool) (count : ℕ) where
     | inr past ↦
         let all : entries_from from (suc n) ≡ replicate (suc n) None = none_from from (suc n) past in
         let P : List (Option StoredPool) → Type 0 = λ pools. pools ≡ padded_to (suc n) pools in
-        let none : replicate (suc n) None ≡ padded_to (suc n) (replicate (suc n) None) = sym (ap (λ entries. map Some entries ++ replicate (suc n - length entries) None) (none_there (suc n)) ∙ ap (λ k. replicate k None) (let e : suc n - 0 ≡ suc n = omega arith in e)) in
+        let none : replicate (suc n) None ≡ padded_to (suc n) (replicate (suc n) None) = sym (ap (λ entries. map Some entries ++ replicate (suc n - length entries) None) (entries_of-none (suc n)) ∙ ap (λ k. replicate k None) (let e : suc n - 0 ≡ suc n = omega arith in e)) in
         subst P (sym all) none
   ]
 
@@ -63,15 +61,12 @@ record_units bytes slot = elim (cases_Bool (eqb (size_word bytes slot % unit) 0)
 ]
 
 module _ (bytes : List ℕ) where
-  count_is : length (parts_in bytes).records ≡ two_at count_at bytes
-  count_is = length-map-range_with_len (record_in bytes) 0 (two_at count_at bytes)
-
   pub in_units : (slot : ℕ) → (record_at (parts_in bytes).records slot).size % unit ≡ 0
   in_units slot = elim (cases_lt slot (two_at count_at bytes)) [
     | inl below ↦
         let same : 0 + slot ≡ slot = omega arith in
         ap (λ (r : Record). r.size % unit) (get_or-map-range_with_len (record_in bytes) 0 (two_at count_at bytes) slot slot blank below same) ∙ record_units bytes slot
-    | inr past ↦ ap (λ (r : Record). r.size % unit) (get_or_past (parts_in bytes).records slot blank (omega (arith, past, count_is)))
+    | inr past ↦ ap (λ (r : Record). r.size % unit) (get_or_past (parts_in bytes).records slot blank (omega (arith, past, records_count bytes)))
   ]
 
   module _ (sound : first_broken bytes ≡ None) where
@@ -88,7 +83,7 @@ module _ (bytes : List ℕ) where
     parts_hold = (holds_first (has_states bytes) States _ (holds_first (has_unused_pools bytes) UnusedPools _ pools_hold.1).1).1
 
     pub ordered : are_pools (length (parts_in bytes).records) 0 (entries_of (parts_in bytes).pools) ≡ true
-    ordered = ap (λ count. are_pools count 0 (entries_of (parts_in bytes).pools)) count_is ∙ (and_parts (are_pools (two_at count_at bytes) 0 (entries_of (parts_in bytes).pools)) _ pools_hold.0).0
+    ordered = ap (λ count. are_pools count 0 (entries_of (parts_in bytes).pools)) (records_count bytes) ∙ (and_parts (are_pools (two_at count_at bytes) 0 (entries_of (parts_in bytes).pools)) _ pools_hold.0).0
 
     module _ (cells : Cells) (loaded : AreLoaded bytes cells) where
       -- the cells with the records as they are read

@@ -5,18 +5,17 @@ use Rattle.std.specs.Option.{option_eq}
 use Rattle.std.specs.List.{list_any, flat_map}
 use Rattle.std.proofs.lemmas.Bool.{cases_Bool, cases_lt, and_parts, and_from, eqb-true, eq-eqb, both_ways}
 use Rattle.tlsf_class.specs.Classes.{class}
-use Rattle.tlsf_store.specs.declared.records.State.{State}
-use Rattle.tlsf_store.specs.declared.records.State.TheVariants.{Vacant, Free, Live}
 use Rattle.tlsf_store.specs.Cells.{head_at}
 use Rattle.tlsf_store.specs.Records.{is_free_state}
 use Rattle.tlsf_heap.specs.Images.Image.{Parts}
 use Rattle.tlsf_heap.specs.Images.Links.{ends_within, is_linked}
-use Rattle.tlsf_heap.specs.Images.Rules.{at, is_used, are_pools, chain_of, has_links, has_chains, has_cover, is_among, has_all_on_chains, slots_in_list, is_list, are_lists, has_lists, has_all_on_lists}
+use Rattle.tlsf_heap.specs.Images.Rules.{at, are_pools, chain_of, has_links, has_chains, has_cover, is_among, has_all_on_chains, slots_in_list, is_list, are_lists, has_lists, has_all_on_lists}
 use Rattle.tlsf_heap.proofs.Images.Counting.{one_if, times, times-append, any_counts}
 use Rattle.tlsf_heap.proofs.Images.LinkLemmas.{linked_on, linked_not_on, linked_end}
 use Rattle.tlsf_heap.proofs.Images.Distinct.{same_link}
 use Rattle.tlsf_heap.proofs.Images.Totals.{all_below, not_or, among_any, is_block, used_below, chains_once, on_chain_used, is_listed, list_once, listed_here, listed_from, first_list, other_lists}
 use Rattle.tlsf_heap.specs.Inner.Entries.{entries_of}
+use Rattle.tlsf_heap.proofs.Images.ChainLemmas.{free_is_used}
 
 -- what linked slots tell of the first one, and of those behind it
 pub record IsStep (test : ℕ → Bool) (next back : ℕ → Option ℕ) (n : ℕ) (before : Option ℕ) (slot : ℕ) : Type 0 where
@@ -44,11 +43,6 @@ as_often n false most needs gives = elim (cases_lt 0 n) [
   | inl some ↦ absurd (both_ways false refl (needs (omega (arith, some))))
   | inr none ↦ omega (arith, none)
 ]
-
-pub free_used : (state : State) → is_free_state state ≡ true → is_used state ≡ true
-free_used Vacant e = absurd (both_ways false refl e)
-free_used Free e = refl
-free_used Live e = absurd (both_ways false refl e)
 
 module _ (parts : Parts) where
   pub on_chain_once : has_links parts ≡ true → has_chains parts ≡ true → has_cover parts ≡ true → are_pools (length parts.records) 0 (entries_of parts.pools) ≡ true → has_all_on_chains parts ≡ true
@@ -104,6 +98,6 @@ module _ (parts : Parts) where
         (λ some. let free = listed_here parts number first list slot some in and_from _ _ free.0 (eq-eqb _ _ free.1))
         (λ listed.
         let both = and_parts (is_free_state (at parts slot).state) (eqb (class (at parts slot).size) number) listed in
-        let here = all_below (λ slot. not (is_free_state (at parts slot).state) || list_any (λ first. is_among slot (slots_in_list parts first)) parts.heads) (length parts.records) all slot (used_below parts slot (free_used (at parts slot).state both.0)) in
+        let here = all_below (λ slot. not (is_free_state (at parts slot).state) || list_any (λ first. is_among slot (slots_in_list parts first)) parts.heads) (length parts.records) all slot (used_below parts slot (free_is_used (at parts slot).state both.0)) in
         let some = any_counts (λ other. eqb other slot) (flat_map (slots_in_list parts) parts.heads) (among_any (slots_in_list parts) parts.heads slot ∙ not_or (is_free_state (at parts slot).state) _ here both.0) in
         in_own_list 0 number slot parts.heads lists (omega (arith, eqb-true (class (at parts slot).size) number both.1)) some)

@@ -14,7 +14,7 @@ use Rattle.tlsf_heap.specs.Images.Rules.{at, is_used, chain_of, are_lists, slots
 use Rattle.tlsf_heap.proofs.Images.LinkLemmas.{follow_none}
 use Rattle.tlsf_heap.proofs.Images.Counting.{one_if, times, times-filter, same_length}
 use Rattle.tlsf_heap.proofs.Images.Totals.{is_block, used_below, is_listed as is_listed_slot, first_list, other_lists}
-use Rattle.tlsf_heap.proofs.Images.Once.{linked_ends, free_used, on_chain_once, list_of_class, in_list_once}
+use Rattle.tlsf_heap.proofs.Images.Once.{linked_ends, on_chain_once, list_of_class, in_list_once}
 use Rattle.tlsf_heap.proofs.Images.UnbrokenRules.{IsUnbroken, unbroken}
 use Rattle.tlsf_heap.specs.Images.Described.{parts_of}
 use Rattle.tlsf_heap.specs.Inner.Entries.{padded, entries_of}
@@ -23,6 +23,7 @@ use Rattle.tlsf_heap.specs.Inner.Represents.{in_list, list_views, first_slot, Ar
 use Rattle.tlsf_heap.specs.Inner.Imaged.{AreImaged}
 use Rattle.tlsf_heap.proofs.Counts.{count-map}
 use Rattle.tlsf_heap.proofs.Images.ReadNodes.{node_at, layout_of, node_state_listed, first_followed, linked_followed, count_slots, nodes_of_areas, chains_are, entries_are}
+use Rattle.tlsf_heap.proofs.Images.ChainLemmas.{free_is_used}
 
 uses_one : (state : State) → one_if (is_used state) ≡ uses_in state
 uses_one Vacant = refl
@@ -66,7 +67,7 @@ module _ (cells : Cells) where
       ap (λ o. o ∷ heads) (sym here) ∙ ap (λ more. first_slot (map node (slots_in_list parts first)) ∷ more) (heads_from (from + 1) heads (other_lists parts from first heads lists))
 
   listed_used : (number slot : ℕ) → is_listed_slot parts number slot ≡ true → is_block parts slot ≡ true
-  listed_used number slot listed = free_used (at parts slot).state (and_parts (is_free_state (at parts slot).state) (eqb (class (at parts slot).size) number) listed).0
+  listed_used number slot listed = free_is_used (at parts slot).state (and_parts (is_free_state (at parts slot).state) (eqb (class (at parts slot).size) number) listed).0
 
   module _ (imaged : AreImaged cells) where
     rules : IsUnbroken parts

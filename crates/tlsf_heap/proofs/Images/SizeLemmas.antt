@@ -1,5 +1,5 @@
 -- Blocks that are on chains which cover their pools are no larger than these.
-use Rattle.std.proofs.Common.{◌≡◌, ℕ, ◌+◌, ◌<◌, ◌≤◌, Bool, true, false, not, ◌&&◌, ◌||◌, List, [], ◌∷◌, length, refl, ◌∙◌, subst, arith, inl, inr}
+use Rattle.std.proofs.Common.{◌≡◌, ℕ, ◌+◌, ◌<◌, ◌≤◌, Bool, true, not, ◌&&◌, ◌||◌, List, [], ◌∷◌, length, refl, ◌∙◌, subst, arith, inl, inr}
 use Rattle.std.specs.Prelude.{◌==◌, nat_le, nat_lt, ◌%◌}
 use Rattle.std.specs.List.{list_all, list_any, range_with_len}
 use Rattle.std.proofs.lemmas.Bool.{and_parts, and_from, or_cases, eqb-true, leb-true}
@@ -13,6 +13,7 @@ use Rattle.tlsf_store.specs.Ranges.{end_of_places}
 use Rattle.tlsf_heap.specs.Images.Rules.{is_pool, are_pools, at, is_used, covers, is_among, chain_of, has_cover, has_all_on_chains}
 use Rattle.tlsf_heap.specs.Images.Findings.{HasSizes}
 use Rattle.tlsf_heap.specs.Inner.Entries.{entries_of}
+use Rattle.tlsf_heap.proofs.Images.ChainLemmas.{of_used}
 
 -- what passes for a range passes for each of its numbers
 pub of_range : (test : ℕ → Bool) (count number : ℕ) → number < count → list_all test (range_with_len 0 count) ≡ true → test number ≡ true
@@ -31,10 +32,6 @@ pool_bytes count from (pool ∷ pools) e =
     let most = fourth (pool.base % unit == 0) (pool.bytes % unit == 0) (nat_le unit pool.bytes) (nat_le pool.bytes greatest_size) (nat_le (pool.base + pool.bytes) end_of_places) (nat_le from pool.base && nat_lt pool.first count) both.0 in
     and_from (nat_le pool.bytes greatest_size) (list_all (λ pool. nat_le pool.bytes greatest_size) pools) most (pool_bytes count (pool.base + pool.bytes) pools both.1)
 
-other_one : (used rest : Bool) → used ≡ true → (not used || rest) ≡ true → rest ≡ true
-other_one true rest is e = e
-other_one false rest is e = absurd (cc)
-
 module _ (parts : Parts) where
   covers_up : (from to : ℕ) (slots : List ℕ) → covers parts from to slots ≡ true → from ≤ to
   covers_up from to [] e = omega (arith, eqb-true from to e)
@@ -52,7 +49,7 @@ module _ (parts : Parts) where
   pub sizes : (count : ℕ) → are_pools count 0 (entries_of parts.pools) ≡ true → has_cover parts ≡ true → has_all_on_chains parts ≡ true → HasSizes parts
   sizes count pools covered on_chains slot within used =
       let on = of_range (λ slot. not (is_used (at parts slot).state) || list_any (λ pool. is_among slot (chain_of parts pool)) (entries_of parts.pools)) (length parts.records) slot within on_chains in
-      let some : list_any (λ pool. is_among slot (chain_of parts pool)) (entries_of parts.pools) ≡ true = other_one (is_used (at parts slot).state) _ used on in
+      let some : list_any (λ pool. is_among slot (chain_of parts pool)) (entries_of parts.pools) ≡ true = of_used (is_used (at parts slot).state) _ used on in
       let there = Any-from_list_any (λ pool. is_among slot (chain_of parts pool)) (entries_of parts.pools) some in
       let pool = there.1 in
       let covers_it = subst (λ p. covers parts p.base (p.base + p.bytes) (chain_of parts p) ≡ true) there.3 (AllPass-from_list_all (λ pool. covers parts pool.base (pool.base + pool.bytes) (chain_of parts pool)) (entries_of parts.pools) covered there.0 pool there.2) in

@@ -15,7 +15,7 @@ use Rattle.tlsf_store.specs.Cells.{head_at}
 use Rattle.tlsf_store.specs.Ranges.{can_be_pool}
 use Rattle.tlsf_heap.specs.Images.Image.{Parts, parts_in, record_in, size_word}
 use Rattle.tlsf_heap.specs.Images.Rules.{is_pool, are_pools, at, is_used, is_below, has_links_in, covers, is_among, chain_of, has_links, has_cover, has_all_on_chains, first_broken}
-use Rattle.tlsf_heap.proofs.Images.ChainLemmas.{below, record_links}
+use Rattle.tlsf_heap.proofs.Images.ChainLemmas.{below, record_links, of_used}
 use Rattle.tlsf_heap.proofs.Images.SizeLemmas.{of_range}
 use Rattle.tlsf_heap.proofs.Images.ImageLemmas.{record_read, records_count, heads_count}
 use Rattle.tlsf_heap.proofs.Images.UnbrokenRules.{unbroken}
@@ -43,10 +43,6 @@ free_links Live count r used linked =
     let both = and_parts (is_none r.prev_free) (is_none r.next_free) linked in
     (no_link count r.prev_free both.0, no_link count r.next_free both.1)
 
-other_one : (used rest : Bool) → used ≡ true → (not used || rest) ≡ true → rest ≡ true
-other_one true rest is e = e
-other_one false rest is e = absurd (cc)
-
 -- a head is none, or one of the records
 head_below : (parts : Parts) → has_links parts ≡ true → (number : ℕ) → number < length parts.heads → IsBelow (length parts.records) (head_at parts.heads number)
 head_below parts linked number within =
@@ -70,7 +66,7 @@ module _ (parts : Parts) (in_units : (slot : ℕ) → (at parts slot).size % uni
     place_in_units : (slot : ℕ) → slot < length parts.records → is_used (at parts slot).state ≡ true → (at parts slot).place % unit ≡ 0
     place_in_units slot within used =
         let on = of_range (λ slot. not (is_used (at parts slot).state) || list_any (λ pool. is_among slot (chain_of parts pool)) (entries_of parts.pools)) (length parts.records) slot within on_chains in
-        let some : list_any (λ pool. is_among slot (chain_of parts pool)) (entries_of parts.pools) ≡ true = other_one (is_used (at parts slot).state) _ used on in
+        let some : list_any (λ pool. is_among slot (chain_of parts pool)) (entries_of parts.pools) ≡ true = of_used (is_used (at parts slot).state) _ used on in
         let there = Any-from_list_any (λ pool. is_among slot (chain_of parts pool)) (entries_of parts.pools) some in
         let pool = there.1 in
         let covers_it = subst (λ p. covers parts p.base (p.base + p.bytes) (chain_of parts p) ≡ true) there.3 (AllPass-from_list_all (λ pool. covers parts pool.base (pool.base + pool.bytes) (chain_of parts pool)) (entries_of parts.pools) covered there.0 pool there.2) in

@@ -1,5 +1,5 @@
 -- Cells that stand, of which no live record has a neighbour in a list, break no rule.
-use Rattle.std.proofs.Common.{◌≡◌, ℕ, zero, suc, ◌+◌, ◌-◌, ◌<◌, ◌≤◌, ◌%◌, Bool, true, false, not, ◌&&◌, ◌||◌, eqb, List, [], ◌∷◌, ◌++◌, length, map, refl, sym, ap, ◌∙◌, subst, arith, count_by, replicate, Option, Some, None, inl, inr}
+use Rattle.std.proofs.Common.{◌≡◌, ℕ, zero, suc, ◌+◌, ◌<◌, ◌≤◌, ◌%◌, Bool, true, false, not, ◌&&◌, ◌||◌, eqb, List, [], ◌∷◌, ◌++◌, length, map, refl, sym, ap, ◌∙◌, subst, arith, count_by, Option, Some, None, inl, inr}
 use Rattle.std.specs.Prelude.{IsTrue, nat_le, nat_lt, nat_eq, is_none, slice_index_or}
 use Rattle.std.specs.Option.{option_eq}
 use Rattle.std.specs.List.{list_all, list_any, flat_map, AllByRecursion}
@@ -13,7 +13,7 @@ use Rattle.tlsf_store.specs.declared.records.State.{State}
 use Rattle.tlsf_store.specs.declared.records.State.TheVariants.{Vacant, Free, Live}
 use Rattle.tlsf_store.specs.declared.pools.Pool.{Pool as StoredPool}
 use Rattle.tlsf_store.specs.Records.{blank, IsBelow, is_free_state}
-use Rattle.tlsf_store.specs.Cells.{Cells, most_pools}
+use Rattle.tlsf_store.specs.Cells.{Cells}
 use Rattle.tlsf_heap.specs.Images.Image.{Parts}
 use Rattle.tlsf_store.specs.Ranges.{end_of_places, can_be_pool}
 use Rattle.tlsf_heap.specs.Images.Links.{follow, is_linked}
@@ -25,7 +25,7 @@ use Rattle.tlsf_heap.proofs.Images.UnbrokenRules.{IsUnbroken}
 use Rattle.tlsf_heap.specs.Images.Described.{parts_of}
 use Rattle.tlsf_heap.specs.Content.{is_free}
 use Rattle.tlsf_heap.specs.Good.{Covers, NoFreeNeighbours, IsGoodPool, AreGoodPools}
-use Rattle.tlsf_heap.specs.Inner.Entries.{padded, entries_of}
+use Rattle.tlsf_heap.specs.Inner.Entries.{entries_of}
 use Rattle.tlsf_heap.specs.Inner.Nodes.{NodeState, InUse, Listed, Loose, Node, Area, owner_of, block_of, pool_of, nodes_of, nodes_in, has_slot}
 use Rattle.tlsf_heap.specs.Inner.Represents.{InPool, InList, in_pool, in_list, pool_views, list_views, state_of, first_slot, AreLinked, IsChain, uses_in}
 use Rattle.tlsf_heap.specs.Inner.Following.{Stands}
@@ -36,6 +36,7 @@ use Rattle.tlsf_heap.proofs.Inner.Links.{first_stands, linked_parts}
 use Rattle.tlsf_heap.proofs.Inner.Chains.{listed_within}
 use Rattle.tlsf_heap.proofs.Inner.Followed.{follow_linked, few, list_few}
 use Rattle.tlsf_heap.proofs.Images.FoundNodes.{found, used_stands, slot_below, none_strange, free_stands}
+use Rattle.tlsf_heap.proofs.Inner.EntryLists.{entries_of-padded}
 
 link_same : (one other : Option ℕ) → one ≡ other → option_eq nat_eq one other ≡ true
 link_same one other same = let P : Option ℕ → Type 0 = λ o. option_eq nat_eq one o ≡ true in subst P same (itself one)
@@ -81,17 +82,6 @@ below_is : (count : ℕ) (link : Option ℕ) → IsBelow count link → is_below
 below_is count None below = refl
 below_is count (Some slot) below = lt-ltb slot count below
 
-pub present_padded : (entries : List StoredPool) → entries_of (padded entries) ≡ entries
-present_padded entries = present_on entries (most_pools - length entries)
-  where
-    nothing : (n : ℕ) → entries_of (replicate n None) ≡ []
-    nothing zero = refl
-    nothing (suc n) = nothing n
-
-    present_on : (entries : List StoredPool) (n : ℕ) → entries_of (map Some entries ++ replicate n None) ≡ entries
-    present_on [] n = nothing n
-    present_on (entry ∷ entries) n = ap (λ pools. entry ∷ pools) (present_on entries n)
-
 -- lists from a class on, each by its number
 lists_from : (parts : Parts) (from : ℕ) (heads : List (Option ℕ)) → ((number : ℕ) → number < length heads → is_list parts (from + number) (slice_index_or heads number None) ≡ true) → are_lists parts from heads ≡ true
 lists_from parts from [] all = refl
@@ -121,7 +111,7 @@ module _ (cells : Cells) (stands : Stands cells) where
   slots nodes = map (λ node. node.slot) nodes
 
   pools_are : entries_of cells.pools ≡ pools_of areas
-  pools_are = ap entries_of stands.represented.entries ∙ present_padded (map (λ (area : Area). area.entry) areas)
+  pools_are = ap entries_of stands.represented.entries ∙ entries_of-padded (map (λ (area : Area). area.entry) areas)
 
   none_vacant : (before : Option ℕ) (nodes : List Node) → AreLinked in_pool (pool_views cells.records) before nodes → count_by (λ node. not (used node.slot)) nodes ≡ 0
   none_vacant before [] linked = refl

@@ -9,13 +9,11 @@ use Rattle.tlsf_store.specs.Records.{most_records}
 use Rattle.tlsf_store.specs.Slots.{missing}
 use Rattle.tlsf_heap.specs.Images.Rules.{is_below, is_used, has_links_in, has_record_links}
 use Rattle.tlsf_heap.proofs.Images.ReadBack.{IsWritten, LinksFit}
-
-same_slot : (one other : ℕ) → Some one ≡ Some other → one ≡ other
-same_slot one other same = cc
+use Rattle.tlsf_heap.proofs.Inner.Links.{Some-same}
 
 pub below_written : (count : ℕ) (link : Option ℕ) → count ≤ most_records → is_below count link ≡ true → IsWritten link
 below_written count None few below = record { other = λ same. cc }
-below_written count (Some slot) few below = record { other = λ same. omega (arith, same_slot slot missing same, ltb-true slot count below, few) }
+below_written count (Some slot) few below = record { other = λ same. omega (arith, Some-same slot missing same, ltb-true slot count below, few) }
 
 none_written : (link : Option ℕ) → is_none link ≡ true → IsWritten link
 none_written None none = record { other = λ same. cc }

@@ -25,12 +25,12 @@ use Rattle.tlsf_heap.specs.Inner.Entries.{entries_of}
 use Rattle.tlsf_heap.specs.Inner.Nodes.{has_slot}
 use Rattle.tlsf_heap.specs.Inner.Represents.{InPool, pool_views, first_slot}
 use Rattle.tlsf_heap.specs.Inner.Following.{content_of, content_from, Stands}
-use Rattle.tlsf_heap.proofs.Inner.EntryLists.{length-padded}
+use Rattle.tlsf_heap.proofs.Inner.EntryLists.{length-padded, entries_of-padded}
 use Rattle.tlsf_heap.proofs.Inner.RowsRead.{few_entries, entry_at}
 use Rattle.tlsf_heap.proofs.Images.FoundNodes.{found, used_stands}
 use Rattle.tlsf_heap.proofs.Images.Told.{told_at, told_states, told_alike}
 use Rattle.tlsf_heap.proofs.Images.Saved.{told_unbroken, told_ordered, told_content}
-use Rattle.tlsf_heap.proofs.Images.Unbroken.{present_padded, uses_one}
+use Rattle.tlsf_heap.proofs.Images.Unbroken.{uses_one}
 
 nothing_told : (state : State) (r : Record) → is_used state ≡ false → told_in state r ≡ blank
 nothing_told Vacant r unused = refl
@@ -57,7 +57,7 @@ module _ (cells : Cells) (stands : Stands cells) (few : length cells.records ≤
   pools_count = ap length stands.represented.entries ∙ length-padded entries (few_entries cells stands)
 
   present_count : length (entries_of cells.pools) ≡ length entries
-  present_count = ap (λ ps. length (entries_of ps)) stands.represented.entries ∙ ap length (present_padded entries)
+  present_count = ap (λ ps. length (entries_of ps)) stands.represented.entries ∙ ap length (entries_of-padded entries)
 
   packed : (number : ℕ) → number < most_pools → is_some (pool_at cells.pools number) ≡ nat_lt number (length (entries_of cells.pools))
   packed number within = elim (cases_lt number (length entries)) [

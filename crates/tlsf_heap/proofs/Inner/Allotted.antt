@@ -18,8 +18,7 @@ use Rattle.tlsf_heap.specs.Inner.At.{At, layout_at, StandsAt, at_unlisted, with_
 use Rattle.tlsf_heap.proofs.Counts.{one_if, count-cons}
 use Rattle.tlsf_heap.proofs.Inner.Plugs.{count-filled}
 use Rattle.tlsf_heap.proofs.Content.FreeLists.{times-cons}
-use Rattle.tlsf_heap.proofs.Inner.Chains.{at_node}
-use Rattle.tlsf_heap.proofs.Inner.Used.{stands_used, next_used}
+use Rattle.tlsf_heap.proofs.Inner.Used.{stands_used}
 use Rattle.tlsf_heap.proofs.Inner.Unlinked.{unlinked_laid, prev_free_used, next_free_used}
 use Rattle.tlsf_heap.proofs.Inner.Split.{split_laid}
 use Rattle.tlsf_heap.proofs.Inner.Taken.{slot_taken}
@@ -93,11 +92,6 @@ covers_split rest bytes node nodes some less whole from to c =
 module _ (cells : Cells) (slot rest : ℕ) (node_state : NodeState) (at : At) (stands : StandsAt slot node_state cells (with_slot rest at)) where
   pub rest_used : IsUsed cells.records (Some rest)
   rest_used = stands_used cells (layout_at (with_slot rest at)) rest stands.0 (omega (arith, times-cons rest rest at.taken, ap one_if (eq-eqb rest rest refl)))
-
-  pub last_used : IsUsed cells.records (record_at cells.records slot).next
-  last_used =
-      let P : ℕ → Type 0 = λ q. IsUsed cells.records (record_at cells.records q).next in
-      subst P stands.1.slot_is (next_used cells.records at.position at.node at.nodes (rest ∷ at.taken) (at_node cells.records at.position at.node at.nodes (rest ∷ at.taken) stands.0.chains))
 
 -- a block that was read, and was split into one in use and a loose one
 pub span_splits : (old new : Cells) (span : Span) (node_state : NodeState) (rest bytes : ℕ) (at : At) → is_listed node_state ≡ false → StandsAt span.slot node_state old (with_slot rest at) → IsRead span old.records → 0 < bytes → bytes < span.size → bytes % unit ≡ 0

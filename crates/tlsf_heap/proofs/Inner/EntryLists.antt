@@ -37,16 +37,16 @@ entries_below_more count entries None all below = let P : List StoredPool → Ty
     append-none (e ∷ es) = ap (λ r. e ∷ r) (append-none es)
 entries_below_more count entries (Some pool) all below = All-push (FirstBelow count) entries (pool) all below
 
+pub entries_of-none : (n : ℕ) → entries_of (replicate n None) ≡ []
+entries_of-none zero = refl
+entries_of-none (suc n) = entries_of-none n
+
 -- the entries of what was written from them
 pub entries_of-padded : (entries : List StoredPool) → entries_of (padded entries) ≡ entries
 entries_of-padded entries = entries_of-append (map Some entries) (replicate (most_pools - length entries) None) ∙ whole entries (most_pools - length entries)
   where
-    nothing : (n : ℕ) → entries_of (replicate n None) ≡ []
-    nothing zero = refl
-    nothing (suc n) = nothing n
-
     whole : (es : List StoredPool) (n : ℕ) → entries_of (map Some es) ++ entries_of (replicate n None) ≡ es
-    whole [] n = nothing n
+    whole [] n = entries_of-none n
     whole (e ∷ es) n = ap (λ r. e ∷ r) (whole es n)
 
 pub length-padded : (entries : List StoredPool) → length entries ≤ most_pools → length (padded entries) ≡ most_pools

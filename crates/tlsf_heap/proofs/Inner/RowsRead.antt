@@ -31,6 +31,7 @@ use Rattle.tlsf_heap.proofs.Inner.Chains.{AtNode, at_node, linked_at}
 use Rattle.tlsf_heap.proofs.Inner.Followed.{few, follow_linked, blocks_read, stood_for}
 use Rattle.tlsf_heap.proofs.Inner.Located.{Located, located}
 use Rattle.tlsf_heap.proofs.Inner.Used.{stands_used as slot_used, is_used, node_is_used, next_used}
+use Rattle.tlsf_store.proofs.RecordLaws.{used_state}
 
 -- the entries begin at or above a place, each at or above the one before
 abbrev Rises : ℕ → List StoredPool → Type 0
@@ -94,11 +95,6 @@ rows_get records slot = elim (cases_lt slot (length records)) [
       ∙ sym (ap (λ (r : Record). cond (is_vacant r.state) [] (map (λ q. row_of (block_at records q)) (follow (length records) (λ q. (record_at records q).next) (Some slot)))) (get_or_past records slot blank past))
 ]
 
-not_vacant : (s : State) → s ≢ Vacant → is_vacant s ≡ false
-not_vacant Vacant used = absurd (used refl)
-not_vacant Free used = refl
-not_vacant Live used = refl
-
 module _ (records : List Record) where
   abbrev row_at : ℕ → Row
   row_at q = row_of (block_at records q)
@@ -107,7 +103,7 @@ module _ (records : List Record) where
   fore q = (record_at records q).next
 
   rows_used : (slot : ℕ) → (record_at records slot).state ≢ Vacant → rest_of (rows_by records) (Some slot) ≡ map row_at (follow (length records) fore (Some slot))
-  rows_used slot used = rows_get records slot ∙ ap (λ b. cond b [] (map row_at (follow (length records) fore (Some slot)))) (not_vacant (record_at records slot).state used)
+  rows_used slot used = rows_get records slot ∙ ap (λ b. cond b [] (map row_at (follow (length records) fore (Some slot)))) (used_state (record_at records slot).state used)
 
   rows_map : (slots : List ℕ) → map row_of (map (block_at records) slots) ≡ map row_at slots
   rows_map [] = refl

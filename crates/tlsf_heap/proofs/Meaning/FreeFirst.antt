@@ -84,10 +84,14 @@ module _ {A : Type 0} where
       one true true false = omega arith
       one true true true = omega arith
 
-  -- of a good content, a place that is listed stands once in its list
+  -- of a good content one block at most begins at a place
+  pub begins_once : (content : Content A) → IsGood content → (place : ℕ) → count_by (is_at place) (blocks_of content.pools) ≤ 1
+  begins_once content good = at_most_one 0 (blocks_of content.pools) (Ascends-pools 0 content.pools good.pools_good)
+
+  -- a place that is listed stands once in its list
   pub listed_once : (content : Content A) → IsGood content → (number place : ℕ) → number < classes → 1 ≤ count_by (is_listed number place) (blocks_of content.pools) → times place (list_of number content.lists) ≡ 1
   listed_once content good number place within some =
-      omega (arith, good.listed number place within, at_most_one 0 (blocks_of content.pools) (Ascends-pools 0 content.pools good.pools_good) place, listed_few number place (blocks_of content.pools), some)
+      omega (arith, good.listed number place within, begins_once content good place, listed_few number place (blocks_of content.pools), some)
 
   pub few_past : (kind : Block A → Bool) (blocks : List (Block A)) → count_by kind (past_free blocks) ≤ count_by kind blocks
   few_past kind [] = omega arith

@@ -11,12 +11,11 @@ use Rattle.tlsf_heap.specs.Good.{Covers, NoFreeNeighbours, AreGoodPools, times, 
 use Rattle.tlsf_heap.specs.Free.{is_owned_by, is_live, if_free, free_previous, free_next, unlink_block, size_of, start_of}
 use Rattle.tlsf_heap.specs.Free.{free_block, without_block, after_free}
 use Rattle.tlsf_heap.specs.Inner.Positions.{plug}
-use Rattle.tlsf_heap.proofs.Content.Blocks.{Ascends-pools}
 use Rattle.tlsf_heap.proofs.Content.FreeLists.{times-link, length-link}
 use Rattle.tlsf_heap.proofs.Good.Calls.{Covers-le}
 use Rattle.tlsf_heap.proofs.Counts.{one_if, count-cons, count-append, count_all, any_counts}
-use Rattle.tlsf_heap.proofs.Meaning.BlockPositions.{BlockPosition, pool_at, filled_pools, around_blocks, count-filled_pools, LocatedBlock, located_block, at_most_one, IsAlone, block_alone, replaced_at, front_at, back_at, size_here}
-use Rattle.tlsf_heap.proofs.Meaning.FreeFirst.{past_free, free_first, is_first_free, listed_of, lead, lead_plug, count_lead, past_apart, count_past, listed_once, next_once, few_past, kept_past, once_past, free_stands, times-unlink_block, length-unlink_block, merged_of, covers_behind, without_next}
+use Rattle.tlsf_heap.proofs.Meaning.BlockPositions.{BlockPosition, pool_at, filled_pools, around_blocks, count-filled_pools, LocatedBlock, located_block, IsAlone, block_alone, replaced_at, front_at, back_at, size_here}
+use Rattle.tlsf_heap.proofs.Meaning.FreeFirst.{past_free, free_first, is_first_free, listed_of, lead, lead_plug, count_lead, past_apart, count_past, begins_once, listed_once, next_once, few_past, kept_past, once_past, free_stands, times-unlink_block, length-unlink_block, merged_of, covers_behind, without_next}
 use Rattle.tlsf_heap.proofs.Meaning.Gaps.{FailsOnFree}
 use Rattle.tlsf_heap.proofs.Meaning.Refilled.{refilled_is_good}
 
@@ -89,7 +88,7 @@ module _ {A : Type 0} where
     new = record { records = records; pools = filled_pools past_position (merged ∷ past_free blocks); lists = new_lists }
 
     once : (place : ℕ) → count_by (is_at place) (blocks_of (filled_pools position (block ∷ blocks))) ≤ 1
-    once = at_most_one 0 (blocks_of (filled_pools position (block ∷ blocks))) (Ascends-pools 0 (filled_pools position (block ∷ blocks)) good.pools_good)
+    once = begins_once old good
 
     counts : (kind : Block A → Bool) → count_by kind (blocks_of (filled_pools position (block ∷ blocks))) ≡ around_blocks kind position + (one_if (kind block) + count_by kind blocks)
     counts kind = count-filled_pools kind position (block ∷ blocks) ∙ ap (λ n. around_blocks kind position + n) (count-cons kind block blocks)

@@ -10,11 +10,10 @@ use Rattle.tlsf_heap.specs.Realloc.{size_with_next, fits_in_place, resized}
 use Rattle.tlsf_heap.specs.Pools.{end_of_places}
 use Rattle.tlsf_heap.proofs.Good.Calls.{Covers-le}
 use Rattle.tlsf_heap.specs.Good.{Covers, NoFreeNeighbours, times, is_listed, IsGood}
-use Rattle.tlsf_heap.proofs.Content.Blocks.{Ascends-pools}
 use Rattle.tlsf_heap.proofs.Content.FreeLists.{count_listed-split, times-link_gap, length-link_gap}
 use Rattle.tlsf_heap.proofs.Counts.{one_if, count-cons, count-append, count_all}
-use Rattle.tlsf_heap.proofs.Meaning.BlockPositions.{BlockPosition, pool_at, filled_pools, count-filled_pools, at_most_one, IsAlone, block_alone, replaced_at, back_at, size_here}
-use Rattle.tlsf_heap.proofs.Meaning.FreeFirst.{past_free, free_first, is_first_free, few_past, kept_past, once_past, past_apart, count_past, times-unlink_block, length-unlink_block, covers_behind, without_next, next_once}
+use Rattle.tlsf_heap.proofs.Meaning.BlockPositions.{BlockPosition, pool_at, filled_pools, count-filled_pools, IsAlone, block_alone, replaced_at, back_at, size_here}
+use Rattle.tlsf_heap.proofs.Meaning.FreeFirst.{begins_once, past_free, free_first, is_first_free, few_past, kept_past, once_past, past_apart, count_past, times-unlink_block, length-unlink_block, covers_behind, without_next, next_once}
 use Rattle.tlsf_heap.proofs.Meaning.Gaps.{FailsOnFree, split_counts, covers_split, apart_split, length-split_most}
 use Rattle.tlsf_heap.proofs.Meaning.Refilled.{refilled_is_good}
 use Rattle.std.proofs.lemmas.Bool.{cases_Bool, eq-eqb, eqb-true, or_cases, ltb-true, ltb-false, leb-true}
@@ -65,7 +64,7 @@ module _ {A : Type 0} where
       new = record { records = records; pools = filled_pools position news; lists = new_lists }
 
       once_here : (place : ℕ) → count_by (is_at place) (blocks_of (filled_pools position (block ∷ blocks))) ≤ 1
-      once_here = at_most_one 0 (blocks_of (filled_pools position (block ∷ blocks))) (Ascends-pools 0 (filled_pools position (block ∷ blocks)) good.pools_good)
+      once_here = begins_once old good
 
       -- the content, where this is the next block and this is the size
       abbrev after : Option (Block A) → ℕ → Content A
@@ -163,7 +162,7 @@ module _ {A : Type 0} where
   resized_is_good is_meant owner place m content good live some whole fits other =
       let Q : ℕ → Content A → Type 0 = λ p x. fits_in_place p m x ≡ true → m ≢ size_at p (blocks_of x.pools) → IsGood (resized owner p m x) in
       at_live is_meant place content Q good live (λ position block blocks owned g f o.
-      let alone : IsAlone position block blocks = block_alone position block blocks (at_most_one 0 (blocks_of (filled_pools position (block ∷ blocks))) (Ascends-pools 0 (filled_pools position (block ∷ blocks)) g.pools_good)) in
+      let alone : IsAlone position block blocks = block_alone position block blocks (begins_once (record content { pools = filled_pools position (block ∷ blocks) }) g) in
       let room = fits_room owner m block blocks content.lists content.records position g f (λ e. o (e ∙ sym (size_here position block blocks alone))) in
       resized_good owner m block blocks content.lists content.records position g (owned_is_live is_meant block.owner owned) some whole room.0 room.1) fits other
 
@@ -184,8 +183,7 @@ module _ {A : Type 0} where
 
     both_is : size_with_next block.place (record { records = records; pools = filled_pools position (block ∷ blocks); lists = lists }) ≡ both
     both_is =
-        let once = at_most_one 0 (blocks_of (filled_pools position (block ∷ blocks))) (Ascends-pools 0 (filled_pools position (block ∷ blocks)) good.pools_good) in
-        let alone : IsAlone position block blocks = block_alone position block blocks once in
+        let alone : IsAlone position block blocks = block_alone position block blocks (begins_once (record { records = records; pools = filled_pools position (block ∷ blocks); lists = lists }) good) in
         omega (arith, size_here position block blocks alone, ap (λ o. size_of (if_free o)) (back_at position block blocks alone))
 
     both_there : (both % unit ≡ 0) × (both ≤ greatest_size) × (block.place + both ≤ end_of_places)

@@ -9,13 +9,12 @@ use Rattle.tlsf_heap.specs.Lists.{list_of, unlink}
 use Rattle.tlsf_heap.specs.Malloc.{gap, link_gap, split, replaced_in, allocated}
 use Rattle.tlsf_heap.specs.Memalign.{split_in_three, aligned}
 use Rattle.tlsf_heap.specs.Good.{Covers, NoFreeNeighbours, times, is_listed, IsGood}
-use Rattle.tlsf_heap.proofs.Content.Blocks.{Ascends-pools}
 use Rattle.tlsf_heap.proofs.Content.FreeLists.{times-unlink, times-link_gap, length-unlink, length-link_gap, count_listed-gap, count_listed-split, found_stands}
 use Rattle.tlsf_heap.proofs.Counts.{count-cons, count-append}
 use Rattle.std.proofs.Math.Nat.{sub-zero}
-use Rattle.tlsf_heap.proofs.Meaning.BlockPositions.{BlockPosition, filled_pools, LocatedBlock, located_block, at_most_one, IsAlone, block_alone, replaced_at, size_here}
+use Rattle.tlsf_heap.proofs.Meaning.BlockPositions.{BlockPosition, filled_pools, LocatedBlock, located_block, IsAlone, block_alone, replaced_at, size_here}
 use Rattle.tlsf_heap.proofs.Meaning.Gaps.{covers_gap, covers_split, apart_split}
-use Rattle.tlsf_heap.proofs.Meaning.FreeFirst.{is_first_free}
+use Rattle.tlsf_heap.proofs.Meaning.FreeFirst.{is_first_free, begins_once}
 use Rattle.tlsf_heap.proofs.Meaning.Refilled.{IsRefill, refilled_is_good}
 
 module _ {A : Type 0} where
@@ -102,7 +101,7 @@ module _ {A : Type 0} where
         → used_records (aligned owner start m block.place block.size (record { records = records; pools = filled_pools position (block ∷ blocks); lists = lists })) ≤ records
         → IsGood (aligned owner start m block.place block.size (record { records = records; pools = filled_pools position (block ∷ blocks); lists = lists }))
     split_in_three_at records position good once few =
-        let places = at_most_one 0 (blocks_of (filled_pools position (block ∷ blocks))) (Ascends-pools 0 (filled_pools position (block ∷ blocks)) good.pools_good) in
+        let places = begins_once (record { records = records; pools = filled_pools position (block ∷ blocks); lists = lists }) good in
         let alone : IsAlone position block blocks = block_alone position block blocks places in
         let is = replaced_at position block blocks alone (split_in_three owner start m block.place block.size) in
         let P : List (Pool A) → Type 0 = λ pools. IsGood (record { records = records; pools = pools; lists = new_lists }) in
@@ -123,7 +122,7 @@ module _ {A : Type 0} where
       let here : at.block.place ≡ place = eqb-true at.block.place place (and_parts _ _ parts.1).0 in
       let P : List (Pool A) → Type 0 = λ pools. IsGood (record content { pools = pools }) in
       let moved : P (filled_pools at.position (at.block ∷ at.blocks)) = subst P at.whole good in
-      let places = at_most_one 0 (blocks_of (filled_pools at.position (at.block ∷ at.blocks))) (Ascends-pools 0 (filled_pools at.position (at.block ∷ at.blocks)) moved.pools_good) in
+      let places = begins_once (record content { pools = filled_pools at.position (at.block ∷ at.blocks) }) moved in
       let alone : IsAlone at.position at.block at.blocks = block_alone at.position at.block at.blocks places in
       let sized : at.block.size ≡ size = sym (ap (λ pools. size_at place (blocks_of pools)) at.whole ∙ ap (λ p. size_at p (blocks_of (filled_pools at.position (at.block ∷ at.blocks)))) (sym here) ∙ size_here at.position at.block at.blocks alone) in
       let can : IsSplittable start m at.block = record {

@@ -7,8 +7,9 @@ use Rattle.tlsf_heap.specs.Inner.Nodes.{NodeState, InUse, Loose}
 use Rattle.tlsf_heap.specs.Inner.At.{At, StandsAt, with_slot, at_turned, at_split}
 use Rattle.tlsf_heap.specs.Inner.Spans.{IsRead}
 use Rattle.tlsf_heap.proofs.Inner.Steps.{slot_used, size_read, place_read, whole_at, first_used, listed_stands}
-use Rattle.tlsf_heap.proofs.Inner.Allotted.{rest_used, last_used, span_splits}
+use Rattle.tlsf_heap.proofs.Inner.Allotted.{rest_used, span_splits}
 use Rattle.tlsf_heap.proofs.malloc.split_off.Goals as goal
+use Rattle.tlsf_heap.proofs.Inner.Spans.{back_used}
 
 pub split-requires-clause-slot_used : goal.split-requires-clause-slot_used
 split-requires-clause-slot_used c = slot_used c.args.store.now.cells c.args.block.now.slot c.requires.stands.0 (with_slot c.args.rest c.requires.stands.1) c.requires.stands.3
@@ -19,7 +20,7 @@ split-requires-clause-rest_used c = rest_used c.args.store.now.cells c.args.bloc
 pub split-requires-clause-next_used : goal.split-requires-clause-next_used
 split-requires-clause-next_used c =
     let P : Option ℕ → Type 0 = λ o. IsUsed c.args.store.now.cells.records o in
-    subst P (sym c.requires.read.next) (last_used c.args.store.now.cells c.args.block.now.slot c.args.rest c.requires.stands.0 c.requires.stands.1 c.requires.stands.3)
+    subst P (sym c.requires.read.next) (back_used c.args.store.now.cells c.args.block.now.slot c.requires.stands.0 (with_slot c.args.rest c.requires.stands.1) c.requires.stands.3)
 
 -- the size and the end of a block as they were read
 whole : (cells : Cells) (span : Span) (rest : ℕ) (node_state : NodeState) (at : At) → StandsAt span.slot node_state cells (with_slot rest at) → IsRead span cells.records → (span.size % unit ≡ 0) × (span.size ≤ greatest_size) × (span.size ≡ at.node.size) × (span.place + span.size ≡ at.node.place + at.node.size)

@@ -9,8 +9,8 @@ use Rattle.tlsf_heap.specs.Inner.Spans.{IsRead, split_by}
 use Rattle.tlsf_heap.specs.Inner.Nodes.{InUse, Loose}
 use Rattle.tlsf_heap.specs.Inner.At.{At, StandsAt, with_slot, at_turned}
 use Rattle.tlsf_heap.proofs.Inner.Steps.{slot_used, size_read, place_read, whole_at}
-use Rattle.tlsf_heap.proofs.Inner.Allotted.{slot_stands, last_used, at_front, span_gaps}
-use Rattle.tlsf_heap.proofs.Inner.Spans.{read_stays}
+use Rattle.tlsf_heap.proofs.Inner.Allotted.{slot_stands, at_front, span_gaps}
+use Rattle.tlsf_heap.proofs.Inner.Spans.{read_stays, back_used}
 use Rattle.tlsf_heap.proofs.Inner.Gapped.{gapped_stands}
 use Rattle.tlsf_heap.proofs.memalign.leave_gap.Goals as goal
 
@@ -28,7 +28,7 @@ split-requires-clause-next_used c =
     let at : At = c.requires.stands.0 in
     let stands = slot_stands c.args.store.now.cells c.take_vacant.new.self.cells c.take_vacant.result c.args.block.now.slot c.in-Some.live InUse at c.requires.stands.1 c.in-Some.is c.take_vacant.ensures.left.cells c.in-Some.ensures.within c.in-Some.ensures.vacant in
     let P : Option ℕ → Type 0 = λ o. IsUsed c.take_vacant.new.self.cells.records o in
-    subst P (sym (known c.args.store.now.cells c.take_vacant.new.self.cells c.args.block.now c.in-Some.live at c.requires.stands.1 stands c.requires.read).next) (last_used c.take_vacant.new.self.cells c.args.block.now.slot c.in-Some.live InUse at stands)
+    subst P (sym (known c.args.store.now.cells c.take_vacant.new.self.cells c.args.block.now c.in-Some.live at c.requires.stands.1 stands c.requires.read).next) (back_used c.take_vacant.new.self.cells c.args.block.now.slot InUse (with_slot c.in-Some.live at) stands)
 
 pub split-requires-clause-size_in_units : goal.split-requires-clause-size_in_units
 split-requires-clause-size_in_units c =
