@@ -1,4 +1,4 @@
--- What malloc and realloc gave, where they weren't refused.
+-- What malloc, free and realloc gave, where they weren't refused.
 use Rattle.std.proofs.Common.{◌≡◌, ◌≢◌, ℕ, Bool, true, ◌&&◌, refl, sym, ◌∙◌, subst, Option, Some, None, Result, Ok, Err, inl, inr}
 use Rattle.std.specs.Prelude.{◌==◌, nat_lt, nat_le}
 use Rattle.std.proofs.lemmas.Bool.{cases_Bool, eqb-true, eqb-false}
@@ -8,7 +8,7 @@ use Rattle.tlsf_heap.specs.declared.refusal.Refusal.TheVariants.{ZeroSize, Table
 use Rattle.tlsf_heap.specs.Content.{Content, blocks_of, size_at, used_records}
 use Rattle.tlsf_heap.specs.Lists.{pick}
 use Rattle.tlsf_heap.specs.Malloc.{allocated, malloc_picked, malloc_rounded, malloc}
-use Rattle.tlsf_heap.specs.Free.{is_live, after_free}
+use Rattle.tlsf_heap.specs.Free.{is_live, after_free, free}
 use Rattle.tlsf_heap.specs.Realloc.{fits_in_place, resized, moved, realloc_sized, realloc_rounded, realloc}
 
 module _ {A : Type 0} (owner : A) (content : Content A) where
@@ -34,6 +34,13 @@ module _ {A : Type 0} (owner : A) (content : Content A) where
     | inl nothing ↦ let refused : malloc owner n content ≡ Err ZeroSize = rw nothing refl in absurd (cc)
     | inr some ↦ let asked : malloc owner n content ≡ malloc_rounded owner (round n) content = rw some refl in rounded_gave (round n) given (sym asked ∙ e)
   ]
+
+-- free was of a live block
+pub free_gave : {A : Type 0} (is_meant : A → Bool) (place : ℕ) (content new : Content A) → free is_meant place content ≡ Ok new → (is_live is_meant place (blocks_of content.pools) ≡ true) × (after_free place content ≡ new)
+free_gave is_meant place content new e = elim (cases_Bool (is_live is_meant place (blocks_of content.pools))) [
+  | inl live ↦ let is : free is_meant place content ≡ Ok (after_free place content) = rw live refl in (live, cc)
+  | inr stale ↦ let refused : free is_meant place content ≡ Err BadPointer = rw stale refl in absurd (cc)
+]
 
 -- realloc of a live block: what is known of all that it can give is known of what it gave
 module _ {A : Type 0} (same : A → A → Bool) (owner known : A) (place n : ℕ) (content : Content A) where

@@ -8,7 +8,7 @@ use Rattle.tlsf_class.specs.Classes.{unit, classes, greatest_size, class, need}
 use Rattle.tlsf_class.proofs.ClassLaws.{need_holds}
 use Rattle.tlsf_class.specs.Rounding.{round}
 use Rattle.tlsf_class.proofs.RoundingLaws.{round-Some}
-use Rattle.tlsf_heap.specs.declared.refusal.Refusal.TheVariants.{ZeroSize, TableFull, BadPool, PoolsFull}
+use Rattle.tlsf_heap.specs.declared.refusal.Refusal.TheVariants.{ZeroSize, TableFull}
 use Rattle.tlsf_heap.specs.Content.{Block, Pool, Content, blocks_of, is_free, size_at, used_records}
 use Rattle.tlsf_heap.specs.Lists.{list_of, first_of_lists, pick}
 use Rattle.tlsf_heap.specs.Malloc.{gap, split, allocated, allocate, malloc_picked, malloc_rounded, malloc}
@@ -23,6 +23,7 @@ use Rattle.tlsf_heap.proofs.Meaning.Gaps.{length-split, length-split_most}
 use Rattle.tlsf_heap.proofs.Meaning.SplitInThree.{aligned_is_good, aligned_here}
 use Rattle.tlsf_heap.specs.Memalign.{aligned}
 use Rattle.tlsf_heap.proofs.Content.FreeLists.{first_stands, times-link, length-link, count_listed-gap, listed_at}
+use Rattle.tlsf_heap.proofs.Content.PoolCases.{pool_added}
 
 and_then_some : {A B : Type 0} (f : A → Option B) (o : Option A) (b : B) → option_and_then f o ≡ Some b → (a : A) × (o ≡ Some a) × (f a ≡ Some b)
 and_then_some f None b h = absurd (cc)
@@ -253,21 +254,9 @@ module _ {A : Type 0} where
   -- add_pool keeps a content good
   pub add_pool_is_good : (base bytes : ℕ) (content new : Content A) → IsGood content → add_pool base bytes content ≡ Ok new → IsGood new
   add_pool_is_good base bytes content new good e =
-      elim (cases_Bool (can_be_pool base bytes && list_all (is_apart base bytes) content.pools)) [
-        | inr bad ↦ let refused : add_pool base bytes content ≡ Err BadPool = rw bad refl in absurd (cc)
-        | inl can ↦ elim (cases_Bool (nat_le most_pools (length content.pools))) [
-          | inl full ↦ let refused : add_pool base bytes content ≡ Err PoolsFull = rw (can, full) refl in absurd (cc)
-          | inr few ↦ elim (cases_Bool (nat_le content.records (used_records content))) [
-            | inl none_left ↦ let refused : add_pool base bytes content ≡ Err TableFull = rw (can, few, none_left) refl in absurd (cc)
-            | inr room ↦
-                let added : add_pool base bytes content ≡ Ok (with_pool base bytes content) = rw (can, few, room) refl in
-                let same : with_pool base bytes content ≡ new = cc in
-                let parts = and_parts _ _ can in
-                let P : Content A → Type 0 = λ x. IsGood x in
-                subst P same (with_pool_is_good base bytes content good parts.0 parts.1 (leb-false _ _ few) (leb-false _ _ room))
-          ]
-        ]
-      ]
+      let added = pool_added base bytes content new e in
+      let parts = and_parts _ _ added.can in
+      subst (λ (x : Content A). IsGood x) added.is (with_pool_is_good base bytes content good parts.0 parts.1 added.few added.room)
 
   -- a heap that was just created is good
   pub created_is_good : (records : ℕ) → IsGood (created {A = A} records)

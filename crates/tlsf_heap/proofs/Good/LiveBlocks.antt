@@ -1,11 +1,10 @@
 -- Each live block after a call was one before it, or begins where the call gave one; and the live block that a test tells.
-use Rattle.std.proofs.Common.{◌≡◌, ℕ, ◌+◌, ◌-◌, ◌≤◌, Bool, true, false, ◌&&◌, List, [], ◌∷◌, map, refl, sym, ap, ◌∙◌, subst, arith, Option, Some, None, Ok, Err, ◌⊎◌, inl, inr}
+use Rattle.std.proofs.Common.{◌≡◌, ℕ, ◌+◌, ◌-◌, ◌≤◌, Bool, true, false, ◌&&◌, List, [], ◌∷◌, map, refl, sym, ap, ◌∙◌, subst, arith, Option, Some, None, Ok, ◌⊎◌, inl, inr}
 use Rattle.std.specs.Prelude.{◌==◌}
 use Rattle.std.specs.Int.{next_multiple_of}
 use Rattle.std.specs.List.{Contains, list_any}
 use Rattle.std.proofs.lemmas.Bool.{cases_Bool, eq-eqb, ne_eqb, eqb-true, and_parts}
 use Rattle.std.proofs.lemmas.List.Elements.{Contains-append_left, Contains-append_right, Contains-append_cases, Contains-push, Contains-push_cases}
-use Rattle.tlsf_heap.specs.declared.refusal.Refusal.TheVariants.{BadPointer}
 use Rattle.tlsf_heap.specs.Content.{Block, Pool, Content, blocks_of, is_free, is_at, size_at}
 use Rattle.tlsf_heap.specs.Malloc.{gap, replaced, replaced_in, split, malloc}
 use Rattle.tlsf_heap.specs.Free.{is_owned_by, is_live, free_previous, free_next, size_of, start_of, free_block, without_block, after_free, free}
@@ -15,7 +14,7 @@ use Rattle.tlsf_heap.specs.Good.{IsGood}
 use Rattle.tlsf_heap.specs.Bare.{renamed_block, renamed, bare}
 use Rattle.tlsf_heap.proofs.Content.Blocks.{Ascends, Ascends-pools}
 use Rattle.tlsf_heap.proofs.Content.Replacing.{replaced-here, blocks_of-replaced}
-use Rattle.tlsf_heap.proofs.Content.Given.{malloc_gave, realloc_gave}
+use Rattle.tlsf_heap.proofs.Content.Given.{malloc_gave, free_gave, realloc_gave}
 use Rattle.tlsf_heap.proofs.Content.MemalignCases.{IsPicked, memalign_given}
 use Rattle.tlsf_heap.proofs.Content.BareSteps.{blocks_of-renamed, size_at-renamed}
 use Rattle.tlsf_heap.proofs.Good.StaysLive.{live_bare}
@@ -151,14 +150,9 @@ module _ {A : Type 0} where
 
   -- a live block after free was one before
   pub live_from_free : (meant : A → Bool) (place : ℕ) (content new : Content A) (b : Block A) → free meant place content ≡ Ok new → Contains (blocks_of new.pools) b → is_free b ≡ false → Contains (blocks_of content.pools) b
-  live_from_free meant place content new b e = elim (cases_Bool (is_live meant place (blocks_of content.pools))) [
-    | inl there ↦
-        let freed : free meant place content ≡ Ok (after_free place content) = rw there refl in
-        let same : after_free place content ≡ new = cc in
-        let P : Content A → Type 0 = λ left. Contains (blocks_of left.pools) b → is_free b ≡ false → Contains (blocks_of content.pools) b in
-        subst P same (live_from_after_free place content b)
-    | inr stale ↦ let refused : free meant place content ≡ Err BadPointer = rw stale refl in absurd (cc)
-  ]
+  live_from_free meant place content new b e =
+      let gave = free_gave meant place content new e in
+      subst (λ (left : Content A). Contains (blocks_of left.pools) b → is_free b ≡ false → Contains (blocks_of content.pools) b) gave.1 (live_from_after_free place content b)
 
   -- the place of a block that realloc leaves
   abbrev IsGivenAt : ℕ → Option (ℕ × A) → Type 0

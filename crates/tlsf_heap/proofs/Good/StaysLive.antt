@@ -1,13 +1,11 @@
 -- Which live blocks a good content has after a call.
-use Rattle.std.proofs.Common.{◌≡◌, ◌≢◌, ℕ, ◌+◌, ◌≤◌, Bool, true, false, not, ◌&&◌, ◌||◌, List, [], ◌∷◌, map, refl, sym, ap, ◌∙◌, subst, arith, count_by, Option, Some, None, option_map, Ok, Err, inl, inr}
-use Rattle.std.specs.Prelude.{is_none, ◌==◌}
+use Rattle.std.proofs.Common.{◌≡◌, ◌≢◌, ℕ, ◌+◌, ◌≤◌, Bool, true, false, not, ◌&&◌, ◌||◌, List, [], ◌∷◌, map, refl, sym, ap, ◌∙◌, subst, arith, count_by, Option, Some, None, option_map, Ok, inl, inr}
+use Rattle.std.specs.Prelude.{is_none}
 use Rattle.std.specs.List.{list_any}
 use Rattle.std.proofs.lemmas.Bool.{cases_Bool, eq-eqb, ne_eqb, eqb-true, and_left, and_right, or_right}
-use Rattle.tlsf_class.specs.Rounding.{round}
-use Rattle.tlsf_heap.specs.declared.refusal.Refusal.TheVariants.{BadPointer, ZeroSize}
 use Rattle.tlsf_heap.specs.Content.{Block, Content, blocks_of, is_free, is_at, size_at}
 use Rattle.tlsf_heap.specs.Lists.{pick}
-use Rattle.tlsf_heap.specs.Malloc.{replaced, replaced_in, split, malloc_rounded, malloc}
+use Rattle.tlsf_heap.specs.Malloc.{replaced, replaced_in, split, allocated, malloc_rounded, malloc}
 use Rattle.tlsf_heap.specs.Free.{is_owned_by, is_live, after_free, free}
 use Rattle.tlsf_heap.specs.Realloc.{resized, realloc}
 use Rattle.tlsf_heap.specs.Good.{IsGood}
@@ -16,7 +14,7 @@ use Rattle.tlsf_heap.proofs.Counts.{one_if, count-cons, count-append, count_apar
 use Rattle.tlsf_heap.proofs.Content.Blocks.{Found}
 use Rattle.tlsf_heap.proofs.Content.Replacing.{replaced-here, blocks_of-replaced, count_by-replaced}
 use Rattle.tlsf_heap.proofs.Content.BareSteps.{blocks_of-renamed}
-use Rattle.tlsf_heap.proofs.Content.Given.{rounded_gave, realloc_gave}
+use Rattle.tlsf_heap.proofs.Content.Given.{rounded_gave, malloc_gave, free_gave, realloc_gave}
 use Rattle.tlsf_heap.proofs.Meaning.FreeFirst.{begins_once}
 use Rattle.tlsf_heap.proofs.Meaning.Gaps.{FailsOnFree, split_counts}
 use Rattle.tlsf_heap.proofs.Meaning.FreedIsGood.{freed_counts}
@@ -75,20 +73,19 @@ module _ {A : Type 0} where
       let there = picked m place content good is in
       omega (arith, ap (count_by test) (blocks_of-replaced place others content.pools), count_by-replaced place others (blocks_of content.pools) test there.found, ap one_if (fails there.found.block there.free))
 
-  rounded_gives : (owner : A) (m : Option ℕ) (content : Content A) (given : ℕ × Content A) → IsGood content → malloc_rounded owner m content ≡ Ok given → Gives owner given.0 content given.1
-  rounded_gives owner m content given good e =
-      let gave = rounded_gave owner content m given e in
-      let size : ℕ = size_at gave.1 (blocks_of content.pools) in
-      subst (λ (g : ℕ × Content A). Gives owner g.0 content g.1) gave.4 (record {
-        size = gave.0;
-        counts = (λ test fails. omega (arith, picked_counts gave.0 gave.1 (split owner gave.1 gave.0 size) content good gave.3 test fails, split_counts test fails owner gave.1 gave.0 size));
-      })
+  -- the block picked was split
+  split_gives : (owner : A) (m place : ℕ) (content : Content A) → IsGood content → pick m content.lists ≡ Some place → Gives owner place content (allocated owner place m (size_at place (blocks_of content.pools)) content)
+  split_gives owner m place content good is =
+      let size : ℕ = size_at place (blocks_of content.pools) in
+      record {
+        size = m;
+        counts = (λ test fails. omega (arith, picked_counts m place (split owner place m size) content good is test fails, split_counts test fails owner place m size));
+      }
 
   malloc_gives : (owner : A) (n place : ℕ) (content new : Content A) → IsGood content → malloc owner n content ≡ Ok (place, new) → Gives owner place content new
-  malloc_gives owner n place content new good e = elim (cases_Bool (n == 0)) [
-    | inl nothing ↦ let refused : malloc owner n content ≡ Err ZeroSize = rw nothing refl in absurd (cc)
-    | inr some ↦ let asked : malloc owner n content ≡ malloc_rounded owner (round n) content = rw some refl in rounded_gives owner (round n) content (place, new) good (sym asked ∙ e)
-  ]
+  malloc_gives owner n place content new good e =
+      let gave = malloc_gave owner content n (place, new) e in
+      subst (λ (g : ℕ × Content A). Gives owner g.0 content g.1) gave.4 (split_gives owner gave.0 gave.1 content good gave.3)
 
 module _ {A : Type 0} (is_meant : A → Bool) where
   not_owned : (owner : Option A) → is_none owner ≡ true → is_owned_by is_meant owner ≡ false
@@ -138,7 +135,9 @@ module _ {A : Type 0} (is_meant : A → Bool) where
 
   -- malloc
   pub live_after : (owner : A) (m p : ℕ) (content : Content A) (given : ℕ × Content A) → IsGood content → is_live is_meant p (blocks_of content.pools) ≡ true → malloc_rounded owner (Some m) content ≡ Ok given → is_live is_meant p (blocks_of given.1.pools) ≡ true
-  live_after owner m p content given good live e = live_still owner p given.0 content given.1 (rounded_gives owner (Some m) content given good e) live
+  live_after owner m p content given good live e =
+      let gave = rounded_gave owner content (Some m) given e in
+      subst (λ (g : ℕ × Content A). is_live is_meant p (blocks_of g.1.pools) ≡ true) gave.4 (live_still owner p gave.1 content (allocated owner gave.1 gave.0 (size_at gave.1 (blocks_of content.pools)) content) (split_gives owner gave.0 gave.1 content good gave.3) live)
 
   pub live_given : (owner : A) (n place : ℕ) (content new : Content A) → IsGood content → malloc owner n content ≡ Ok (place, new) → is_meant owner ≡ true → is_live is_meant place (blocks_of new.pools) ≡ true
   live_given owner n place content new good e meant = given_is_live owner place content new (malloc_gives owner n place content new good e) meant
@@ -169,14 +168,9 @@ module _ {A : Type 0} (is_meant : A → Bool) where
   -- a live block is live after the free of another
   pub live_through_free : (is_other : A → Bool) (p place : ℕ) (content new : Content A) → IsGood content → is_live is_meant p (blocks_of content.pools) ≡ true → p ≢ place → free is_other place content ≡ Ok new
       → is_live is_meant p (blocks_of new.pools) ≡ true
-  live_through_free is_other p place content new good live apart e = elim (cases_Bool (is_live is_other place (blocks_of content.pools))) [
-    | inl there ↦
-        let freed : free is_other place content ≡ Ok (after_free place content) = rw there refl in
-        let same : after_free place content ≡ new = cc in
-        let P : Content A → Type 0 = λ left. is_live is_meant p (blocks_of left.pools) ≡ true in
-        subst P same (live_past_free is_meant is_other p place content good live there apart)
-    | inr stale ↦ let refused : free is_other place content ≡ Err BadPointer = rw stale refl in absurd (cc)
-  ]
+  live_through_free is_other p place content new good live apart e =
+      let gave = free_gave is_other place content new e in
+      subst (λ (left : Content A). is_live is_meant p (blocks_of left.pools) ≡ true) gave.1 (live_past_free is_meant is_other p place content good live gave.0 apart)
 
   -- and after the realloc of another, which leaves that one elsewhere
   pub live_through_realloc : (same : A → A → Bool) (owner known : A) (p place n : ℕ) (given : Option (ℕ × A)) (content new : Content A) → IsGood content → is_live is_meant p (blocks_of content.pools) ≡ true → p ≢ place

@@ -1,7 +1,6 @@
 -- A run that stays within its bounds is refused neither for want of a block nor for want of a record.
-use Rattle.std.proofs.Common.{◌≡◌, ◌≢◌, ℕ, ◌+◌, ◌-◌, ◌*◌, ◌<◌, ◌≤◌, Bool, true, List, [], ◌∷◌, length, map, Option, Some, None, Ok, Err, ◌⊎◌, inl, inr, refl, sym, ap, ◌∙◌, subst, arith, All}
-use Rattle.std.specs.Prelude.{◌==◌, ◌&&◌, nat_le, Result}
-use Rattle.std.specs.List.{list_all}
+use Rattle.std.proofs.Common.{◌≡◌, ◌≢◌, ℕ, ◌+◌, ◌-◌, ◌*◌, ◌<◌, ◌≤◌, Bool, List, [], ◌∷◌, length, map, Option, Some, None, Ok, Err, ◌⊎◌, inl, inr, refl, sym, ap, ◌∙◌, subst, arith, All}
+use Rattle.std.specs.Prelude.{◌==◌, Result}
 use Rattle.std.proofs.lemmas.Bool.{cases_Bool, eq-eqb}
 use Rattle.std.proofs.lemmas.List.{length-map}
 use Rattle.std.proofs.lemmas.List.Elements.{All-cons}
@@ -12,11 +11,11 @@ use Rattle.tlsf_heap.specs.declared.request.Request.TheVariants.{AddPool, Remove
 use Rattle.tlsf_heap.specs.declared.answer.Answer.{Answer}
 use Rattle.tlsf_heap.specs.declared.answer.Answer.TheVariants.{Done, Given, Moved, Size, Refused}
 use Rattle.tlsf_heap.specs.declared.refusal.Refusal.{Refusal}
-use Rattle.tlsf_heap.specs.declared.refusal.Refusal.TheVariants.{ZeroSize, NoFit, TableFull, BadPointer, BadAlign, BadPool, PoolsFull}
-use Rattle.tlsf_heap.specs.Content.{Block, Pool, Content, blocks_of, size_at, used_records}
+use Rattle.tlsf_heap.specs.declared.refusal.Refusal.TheVariants.{ZeroSize, NoFit, TableFull, BadPointer, BadAlign}
+use Rattle.tlsf_heap.specs.Content.{Block, Pool, Content, blocks_of, size_at}
 use Rattle.tlsf_heap.specs.Malloc.{replaced_in, malloc}
 use Rattle.tlsf_heap.specs.Memalign.{is_alignment, size_asked, memalign}
-use Rattle.tlsf_heap.specs.Pools.{most_pools, can_be_pool, is_apart, created, with_pool, add_pool}
+use Rattle.tlsf_heap.specs.Pools.{created, add_pool}
 use Rattle.tlsf_heap.specs.Free.{free, is_live, after_free, free_previous, free_next, without_block}
 use Rattle.tlsf_heap.specs.Realloc.{given_anew, realloc}
 use Rattle.tlsf_heap.specs.BlockSize.{block_size}
@@ -27,7 +26,7 @@ use Rattle.tlsf_heap.specs.Room.{pool_bytes, HasRoomFor}
 use Rattle.tlsf_heap.specs.Sizing.{most_refusing, sure_records}
 use Rattle.tlsf_heap.specs.Run.{Does, Gives, Moves, Tells, IsRefused, Step, Run}
 use Rattle.tlsf_heap.specs.Within.{TakesWithin, IsWithin, StaysWithin, IsLargeEnough, IsNotFull}
-use Rattle.tlsf_heap.proofs.Content.Given.{malloc_gave, realloc_gave}
+use Rattle.tlsf_heap.proofs.Content.Given.{malloc_gave, realloc_gave, free_gave}
 use Rattle.tlsf_heap.proofs.Content.MemalignCases.{memalign_given}
 use Rattle.tlsf_heap.proofs.Content.ReallocCases.{realloc_reasons}
 use Rattle.tlsf_heap.proofs.Good.Calls.{malloc_is_good, add_pool_is_good, created_is_good}
@@ -35,6 +34,7 @@ use Rattle.tlsf_heap.proofs.Good.Realloc.{realloc_is_good}
 use Rattle.tlsf_heap.proofs.Meaning.AlignedIsGood.{memalign_is_good}
 use Rattle.tlsf_heap.proofs.Meaning.FreedIsGood.{freed_is_good}
 use Rattle.tlsf_heap.proofs.Good.Room.{room_fits, room_records, aligned_room_fits, aligned_room_records}
+use Rattle.tlsf_heap.proofs.Content.PoolCases.{pool_added}
 
 -- a refusal for want of a block, or of a record
 abbrev IsWant : Refusal → Type 0
@@ -90,13 +90,6 @@ module _ {A : Type 0} where
         bytes = replaced_bytes _ _ (without_block next (without_block previous content.pools)) ∙ (without_bytes next (without_block previous content.pools) ∙ without_bytes previous content.pools);
         records = refl;
       }
-
-  -- free of a live block
-  free_gave : (is_meant : A → Bool) (place : ℕ) (content new : Content A) → free is_meant place content ≡ Ok new → (is_live is_meant place (blocks_of content.pools) ≡ true) × (after_free place content ≡ new)
-  free_gave is_meant place content new e = elim (cases_Bool (is_live is_meant place (blocks_of content.pools))) [
-    | inl live ↦ let is : free is_meant place content ≡ Ok (after_free place content) = rw live refl in (live, cc)
-    | inr stale ↦ let refused : free is_meant place content ≡ Err BadPointer = rw stale refl in absurd (cc)
-  ]
 
   realloc_keeps : (same : A → A → Bool) (owner : A) (pointer : Option (ℕ × A)) (n : ℕ) (content : Content A) (given : Option (ℕ × A) × Content A) → realloc same owner pointer n content ≡ Ok given → Keeps content given.1
   realloc_keeps same owner None n content given served = of (malloc owner n content) refl served
@@ -294,26 +287,11 @@ module _ (blocks bytes size : ℕ) where
       → IsGood old → IsLargeEnough blocks bytes size old → StaysWithin blocks bytes size lacks requests answers old new before after run → All IsNotFull answers
   run_not_full lacks requests answers old new before after run good large within = run_fits lacks requests answers old new before after run (record { good = good; large = large }) within
 
-module _ {A : Type 0} where
-  -- what add_pool leaves
-  pool_added : (base bytes : ℕ) (content new : Content A) → add_pool base bytes content ≡ Ok new → with_pool base bytes content ≡ new
-  pool_added base bytes content new e =
-      elim (cases_Bool (can_be_pool base bytes && list_all (is_apart base bytes) content.pools)) [
-        | inr bad ↦ let refused : add_pool base bytes content ≡ Err BadPool = rw bad refl in absurd (cc)
-        | inl can ↦ elim (cases_Bool (nat_le most_pools (length content.pools))) [
-          | inl full ↦ let refused : add_pool base bytes content ≡ Err PoolsFull = rw (can, full) refl in absurd (cc)
-          | inr few ↦ elim (cases_Bool (nat_le content.records (used_records content))) [
-            | inl none_left ↦ let refused : add_pool base bytes content ≡ Err TableFull = rw (can, few, none_left) refl in absurd (cc)
-            | inr room ↦ let added : add_pool base bytes content ≡ Ok (with_pool base bytes content) = rw (can, few, room) refl in cc
-          ]
-        ]
-      ]
-
 -- a heap with one pool is good, and large enough where the numbers are
 pub one_pool_enough : (blocks bytes size records base pool : ℕ) (content : Content ℕ) → add_pool base pool (created records) ≡ Ok content
     → most_refusing 1 blocks bytes size < pool → sure_records blocks ≤ records → IsGood content × IsLargeEnough blocks bytes size content
 one_pool_enough blocks bytes size records base pool content added large many = (
   add_pool_is_good base pool (created records) content (created_is_good records) added,
-  subst (IsLargeEnough blocks bytes size) (pool_added base pool (created records) content added)
+  subst (IsLargeEnough blocks bytes size) (pool_added base pool (created records) content added).is
       (record { pools = omega (arith, large); records = omega (arith, many) }),
 )
