@@ -7,6 +7,7 @@ use Rattle.tlsf_class.specs.Classes.{classes, class}
 use Rattle.tlsf_class.proofs.ClassLaws.{class-lt}
 use Rattle.tlsf_heap.specs.Lists.{list_of, without, link, unlink, first_of_lists}
 use Rattle.tlsf_heap.specs.Good.{times, is_listed}
+pub use Rattle.tlsf_heap.proofs.Images.Counting.{times-cons}
 use Rattle.tlsf_heap.specs.Malloc.{gap, split, link_gap}
 use Rattle.tlsf_heap.specs.Content.{Block, is_free, is_at}
 use Rattle.tlsf_heap.proofs.Counts.{count-cons, one_if}
@@ -14,9 +15,6 @@ use Rattle.tlsf_heap.proofs.Counts.{count-cons, one_if}
 -- 1 where a free block of this size at this place stands at p in the list of class q
 abbrev pub listed_at : ℕ → ℕ → ℕ → ℕ → ℕ
 listed_at q p place size = one_if ((place == p) && (class size == q))
-
-pub times-cons : (p place : ℕ) (places : List ℕ) → times p (place ∷ places) ≡ one_if (place == p) + times p places
-times-cons p place places = count-cons (λ other. other == p) place places
 
 listed_at-other : (q p place size : ℕ) → q ≢ class size → listed_at q p place size ≡ 0
 listed_at-other q p place size h = ap one_if (and_right (place == p) _ (ne_eqb (class size) q (λ e. h (sym e))))

@@ -1,9 +1,10 @@
 -- How many items of a list pass a test, item by item; and sums over all numbers below one, as over all slots.
-use Rattle.std.proofs.Common.{◌≡◌, ℕ, zero, suc, ◌+◌, ◌<◌, ◌≤◌, Bool, true, false, cond, ◌||◌, eqb, List, [], ◌∷◌, ◌++◌, length, refl, sym, ap, ◌∙◌, arith, count_by, filter, inl, inr}
+use Rattle.std.proofs.Common.{◌≡◌, ℕ, zero, suc, ◌+◌, ◌<◌, ◌≤◌, Bool, true, cond, ◌||◌, eqb, List, [], ◌∷◌, ◌++◌, length, refl, sym, ap, ◌∙◌, arith, count_by, inl, inr}
 use Rattle.std.specs.Prelude.{slice_index_or, sum_by}
 use Rattle.std.specs.List.{list_any}
-use Rattle.std.proofs.lemmas.Bool.{cases_Bool, cases_eq, cases_lt, eq-eqb, ne_eqb, eqb-true, false≢true}
+use Rattle.std.proofs.lemmas.Bool.{cases_Bool, cases_eq, cases_lt, eq-eqb, ne_eqb, false≢true}
 use Rattle.std.proofs.lemmas.List.Sums.{sum_by-cons, sum_by-append}
+use Rattle.tlsf_heap.specs.Good.{times}
 
 -- 1 where it is true
 abbrev pub one_if : Bool → ℕ
@@ -15,10 +16,6 @@ module _ {X : Type 0} where
 
   pub count-append : (p : X → Bool) (xs ys : List X) → count_by p (xs ++ ys) ≡ count_by p xs + count_by p ys
   count-append p xs ys = sum_by-append (λ y. cond (p y) 1 0) xs ys
-
--- how often a slot stands among slots
-abbrev pub times : ℕ → List ℕ → ℕ
-times slot slots = count_by (λ other. eqb other slot) slots
 
 pub times-cons : (slot other : ℕ) (slots : List ℕ) → times slot (other ∷ slots) ≡ one_if (eqb other slot) + times slot slots
 times-cons slot other slots = count-cons (λ o. eqb o slot) other slots
@@ -118,39 +115,3 @@ same_length xs ys n same none =
     sym (items_sum (λ (slot : ℕ). slot) n xs none)
     ∙ sum_below-same (λ slot. times slot xs) (λ slot. times slot ys) n (λ slot below. same slot)
     ∙ items_sum (λ (slot : ℕ). slot) n ys (λ slot past. omega (arith, same slot, none slot past))
-
--- how often a slot stands among those that pass a test
-pub times-filter : (test : ℕ → Bool) (slot : ℕ) (slots : List ℕ) → times slot (filter test slots) ≡ cond (test slot) (times slot slots) 0
-times-filter test slot [] = none (test slot)
-  where
-    none : (b : Bool) → times slot [] ≡ cond b (times slot []) 0
-    none true = refl
-    none false = refl
-times-filter test slot (other ∷ slots) =
-    let rest = times-filter test slot slots in
-    elim (cases_Bool (test other)) [
-      | inl kept ↦ elim (cases_Bool (eqb other slot)) [
-        | inl same ↦
-            let here : test slot ≡ true = ap test (sym (eqb-true other slot same)) ∙ kept in
-            rw (kept, here) (omega (
-              arith,
-              times-cons slot other (filter test slots),
-              times-cons slot other slots,
-              rest,
-              ap (λ b. cond b (times slot slots) 0) here,
-            ))
-        | inr apart ↦ rw kept (omega (
-          arith,
-          times-cons slot other (filter test slots),
-          ap one_if apart,
-          rest,
-          ap (λ n. cond (test slot) n 0) (let e : times slot (other ∷ slots) ≡ times slot slots = omega (arith, times-cons slot other slots, ap one_if apart) in e),
-        ))
-      ]
-      | inr left ↦ elim (cases_Bool (eqb other slot)) [
-        | inl same ↦
-            let here : test slot ≡ false = ap test (sym (eqb-true other slot same)) ∙ left in
-            rw (left, here) (rest ∙ ap (λ b. cond b (times slot slots) 0) here)
-        | inr apart ↦ rw left (rest ∙ ap (λ n. cond (test slot) n 0) (let e : times slot slots ≡ times slot (other ∷ slots) = omega (arith, times-cons slot other slots, ap one_if apart) in e))
-      ]
-    ]

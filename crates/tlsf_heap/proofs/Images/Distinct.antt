@@ -5,7 +5,8 @@ use Rattle.std.specs.Option.{option_eq}
 use Rattle.std.specs.Prelude.{nat_eq}
 use Rattle.std.proofs.lemmas.Bool.{cases_Bool, cases_lt, and_parts, eqb-true}
 use Rattle.tlsf_heap.specs.Images.Links.{are_linked_back}
-use Rattle.tlsf_heap.proofs.Images.Counting.{one_if, times, times-cons}
+use Rattle.tlsf_heap.proofs.Images.Counting.{one_if, times-cons}
+use Rattle.tlsf_heap.specs.Good.{times}
 
 pub same_link : (one other : Option ℕ) → option_eq nat_eq one other ≡ true → one ≡ other
 same_link None None e = refl

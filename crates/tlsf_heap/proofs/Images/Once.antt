@@ -10,7 +10,8 @@ use Rattle.tlsf_store.specs.Records.{is_free_state}
 use Rattle.tlsf_heap.specs.Images.Image.{Parts}
 use Rattle.tlsf_heap.specs.Images.Links.{ends_within, is_linked}
 use Rattle.tlsf_heap.specs.Images.Rules.{at, are_pools, chain_of, has_links, has_chains, has_cover, is_among, has_all_on_chains, slots_in_list, is_list, are_lists, has_lists, has_all_on_lists}
-use Rattle.tlsf_heap.proofs.Images.Counting.{one_if, times, times-append, any_counts}
+use Rattle.tlsf_heap.proofs.Images.Counting.{one_if, times-append, any_counts}
+use Rattle.tlsf_heap.specs.Good.{times}
 use Rattle.tlsf_heap.proofs.Images.LinkLemmas.{linked_on, linked_not_on, linked_end}
 use Rattle.tlsf_heap.proofs.Images.Distinct.{same_link}
 use Rattle.tlsf_heap.proofs.Images.Totals.{all_below, not_or, among_any, is_block, used_below, chains_once, on_chain_used, is_listed, list_once, listed_here, listed_from, first_list, other_lists}

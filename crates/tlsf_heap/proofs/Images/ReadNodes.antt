@@ -13,7 +13,7 @@ use Rattle.tlsf_store.specs.Cells.{Cells}
 use Rattle.tlsf_heap.specs.Images.Image.{Parts}
 use Rattle.tlsf_heap.specs.Images.Links.{follow, ends_within, is_linked}
 use Rattle.tlsf_heap.specs.Images.Rules.{at, is_used, is_chain, chain_of, slots_in_list}
-use Rattle.tlsf_heap.proofs.Images.Counting.{times}
+use Rattle.tlsf_heap.specs.Good.{times}
 use Rattle.tlsf_heap.proofs.Images.Totals.{all_first, all_rest}
 use Rattle.tlsf_heap.proofs.Images.Once.{linked_step, linked_ends}
 use Rattle.tlsf_heap.specs.Images.Described.{parts_of}

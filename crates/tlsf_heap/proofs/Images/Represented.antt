@@ -1,7 +1,7 @@
 -- Cells whose parts break no rule represent the layout that they have by their links.
 use Rattle.std.proofs.Common.{◌≡◌, ℕ, ◌+◌, ◌≤◌, Bool, true, false, cond, ◌&&◌, eqb, List, [], ◌∷◌, length, map, refl, sym, ap, ◌∙◌, subst, arith, count_by, filter, Option, None, inl, inr}
 use Rattle.std.specs.List.{flat_map}
-use Rattle.std.proofs.lemmas.Bool.{cases_Bool, cases_lt, and_parts}
+use Rattle.std.proofs.lemmas.Bool.{cases_Bool, cases_lt, eqb-true, and_parts, and_right}
 use Rattle.std.proofs.lemmas.List.{get_or-map, get_or_past, length-map}
 use Rattle.std.proofs.lemmas.List.Sums.{length-filter}
 use Rattle.tlsf_class.specs.Classes.{class}
@@ -12,7 +12,8 @@ use Rattle.tlsf_store.specs.Records.{is_free_state}
 use Rattle.tlsf_heap.specs.Images.Image.{Parts}
 use Rattle.tlsf_heap.specs.Images.Rules.{at, is_used, chain_of, are_lists, slots_in_list}
 use Rattle.tlsf_heap.proofs.Images.LinkLemmas.{follow_none}
-use Rattle.tlsf_heap.proofs.Images.Counting.{one_if, times, times-filter, same_length}
+use Rattle.tlsf_heap.proofs.Images.Counting.{one_if, same_length}
+use Rattle.tlsf_heap.specs.Good.{times}
 use Rattle.tlsf_heap.proofs.Images.Totals.{is_block, used_below, is_listed as is_listed_slot, first_list, other_lists}
 use Rattle.tlsf_heap.proofs.Images.Once.{linked_ends, on_chain_once, list_of_class, in_list_once}
 use Rattle.tlsf_heap.proofs.Images.UnbrokenRules.{IsUnbroken, unbroken}
@@ -21,9 +22,27 @@ use Rattle.tlsf_heap.specs.Inner.Entries.{padded, entries_of}
 use Rattle.tlsf_heap.specs.Inner.Nodes.{Node, nodes_of, nodes_in, has_slot, is_listed_in}
 use Rattle.tlsf_heap.specs.Inner.Represents.{in_list, list_views, first_slot, AreLinked, uses_in, Represents}
 use Rattle.tlsf_heap.specs.Inner.Imaged.{AreImaged}
-use Rattle.tlsf_heap.proofs.Counts.{count-map}
+use Rattle.tlsf_heap.proofs.Counts.{count-cons, count-filter, count_same, count-map}
 use Rattle.tlsf_heap.proofs.Images.ReadNodes.{node_at, layout_of, node_state_listed, first_followed, linked_followed, count_slots, nodes_of_areas, chains_are, entries_are}
 use Rattle.tlsf_heap.proofs.Images.ChainLemmas.{free_is_used}
+
+-- how often a slot stands among those that pass a test
+times-filter : (test : ℕ → Bool) (slot : ℕ) (slots : List ℕ) → times slot (filter test slots) ≡ cond (test slot) (times slot slots) 0
+times-filter test slot slots = count-filter (λ other. eqb other slot) test slots ∙ count_same (λ other. test other && eqb other slot) (λ other. test slot && eqb other slot) same slots ∙ by (test slot)
+  where
+    same : (other : ℕ) → (test other && eqb other slot) ≡ (test slot && eqb other slot)
+    same other = elim (cases_Bool (eqb other slot)) [
+      | inl here ↦ ap (λ s. test s && eqb other slot) (eqb-true other slot here)
+      | inr apart ↦ and_right (test other) (eqb other slot) apart ∙ sym (and_right (test slot) (eqb other slot) apart)
+    ]
+
+    none : (xs : List ℕ) → count_by (λ other. false) xs ≡ 0
+    none [] = refl
+    none (x ∷ xs) = omega (arith, count-cons (λ other. false) x xs, none xs)
+
+    by : (b : Bool) → count_by (λ other. b && eqb other slot) slots ≡ cond b (times slot slots) 0
+    by true = refl
+    by false = none slots
 
 uses_one : (state : State) → one_if (is_used state) ≡ uses_in state
 uses_one Vacant = refl

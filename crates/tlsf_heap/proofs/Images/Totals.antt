@@ -13,7 +13,8 @@ use Rattle.tlsf_store.specs.declared.records.Record.{Record}
 use Rattle.tlsf_store.specs.Records.{blank, record_at, is_free_state}
 use Rattle.tlsf_heap.specs.Images.Image.{Parts}
 use Rattle.tlsf_heap.specs.Images.Rules.{at, is_used, is_pool, are_pools, is_chain, chain_of, has_record_links, has_links, has_chains, covers, has_cover, is_among, has_all_on_chains, slots_in_list, is_list, are_lists, has_lists, has_all_on_lists}
-use Rattle.tlsf_heap.proofs.Images.Counting.{one_if, times, times-cons, times-append, any_counts, counts_any, sum_below-same, sum_below-apart, items_sum, places_sum}
+use Rattle.tlsf_heap.proofs.Images.Counting.{one_if, times-cons, times-append, any_counts, counts_any, sum_below-same, sum_below-apart, items_sum, places_sum}
+use Rattle.tlsf_heap.specs.Good.{times}
 use Rattle.tlsf_heap.proofs.Images.Distinct.{stands_once}
 use Rattle.tlsf_heap.specs.Inner.Entries.{entries_of}
 
