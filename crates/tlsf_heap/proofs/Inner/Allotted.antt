@@ -19,7 +19,7 @@ use Rattle.tlsf_heap.proofs.Counts.{one_if, count-cons}
 use Rattle.tlsf_heap.proofs.Inner.Plugs.{count-filled}
 use Rattle.tlsf_heap.proofs.Content.FreeLists.{times-cons}
 use Rattle.tlsf_heap.proofs.Inner.Used.{stands_used}
-use Rattle.tlsf_heap.proofs.Inner.Unlinked.{unlinked_laid, prev_free_used, next_free_used}
+use Rattle.tlsf_heap.proofs.Inner.Unlinked.{unlinked_laid, beside_used}
 use Rattle.tlsf_heap.proofs.Inner.Split.{split_laid}
 use Rattle.tlsf_heap.proofs.Inner.Taken.{slot_taken}
 use Rattle.tlsf_heap.proofs.Inner.Steps.{size_read, whole_at, covered_turned}
@@ -35,16 +35,6 @@ module _ (cells : Cells) (slot : ℕ) (at : At) (stands : StandsAt slot Listed c
       let same : at.node ≡ turned Listed at.node = ap (λ s. turned s at.node) stands.1.node_state_is in
       subst P same stands.0
 
-  prev_used : IsUsed cells.records (record_at cells.records slot).prev_free
-  prev_used =
-      let P : ℕ → Type 0 = λ q. IsUsed cells.records (record_at cells.records q).prev_free in
-      subst P stands.1.slot_is (prev_free_used cells at.count at.position (turned Listed at.node) at.nodes at.lists at.taken listed_was)
-
-  behind_used : IsUsed cells.records (record_at cells.records slot).next_free
-  behind_used =
-      let P : ℕ → Type 0 = λ q. IsUsed cells.records (record_at cells.records q).next_free in
-      subst P stands.1.slot_is (next_free_used cells at.count at.position (turned Listed at.node) at.nodes at.lists at.taken listed_was)
-
 -- what is known of a listed block whose record was read
 pub record ListedRead (cells : Cells) (block : Record) : Type 0 where
   pub some : unit ≤ block.size
@@ -57,13 +47,14 @@ pub listed_read : (cells : Cells) (slot : ℕ) (block : Record) (at : At) → St
 listed_read cells slot block at stands read =
     let all = whole_at cells slot Listed at stands in
     let size = ap (λ (r : Record). r.size) read ∙ size_read cells slot Listed at stands in
-    let P : Option ℕ → Type 0 = λ o. IsUsed cells.records o in
+    let beside = subst (λ (r : Record). IsUsed cells.records r.prev_free × IsUsed cells.records r.next_free) (ap (record_at cells.records) stands.1.slot_is ∙ sym read)
+    (beside_used cells at.count at.position (turned Listed at.node) at.nodes at.lists at.taken (listed_was cells slot at stands)) in
     record {
       some = omega (arith, all.positive, all.in_units, size);
       whole = ap (λ n. n % unit) size ∙ all.in_units;
       most = omega (arith, all.at_most, size);
-      prev_used = subst P (ap (λ (r : Record). r.prev_free) (sym read)) (prev_used cells slot at stands);
-      next_used = subst P (ap (λ (r : Record). r.next_free) (sym read)) (behind_used cells slot at stands);
+      prev_used = beside.0;
+      next_used = beside.1;
     }
 
 -- and what stands once it left its list

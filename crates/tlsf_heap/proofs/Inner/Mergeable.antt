@@ -22,7 +22,7 @@ use Rattle.tlsf_heap.proofs.Inner.Plugs.{count-filled}
 use Rattle.tlsf_heap.proofs.Inner.Links.{Some≢None, Some-same}
 use Rattle.tlsf_heap.proofs.Inner.Chains.{AtNode, at_node}
 use Rattle.tlsf_heap.proofs.Inner.Used.{node_is_used, next_used}
-use Rattle.tlsf_heap.proofs.Inner.Unlinked.{unlinked_laid, prev_free_used, next_free_used}
+use Rattle.tlsf_heap.proofs.Inner.Unlinked.{unlinked_laid, beside_used}
 use Rattle.tlsf_heap.proofs.Inner.Merge.{merge_laid}
 use Rattle.tlsf_heap.proofs.Inner.Steps.{prev_is, next_is, state_read}
 use Rattle.tlsf_heap.proofs.Inner.Spans.{span_is}
@@ -70,8 +70,8 @@ module _ (cells : Cells) (count : ℕ) (listed_position : Position) (listed : No
         some = omega (arith, whole.positive, size_is);
         whole = ap (λ n. n % unit) size_is ∙ whole.in_units;
         most = omega (arith, whole.at_most, size_is);
-        prev_used = prev_free_used cells count listed_position (turned Listed listed) listed_nodes lists taken was;
-        next_used = next_free_used cells count listed_position (turned Listed listed) listed_nodes lists taken was;
+        prev_used = (beside_used cells count listed_position (turned Listed listed) listed_nodes lists taken was).0;
+        next_used = (beside_used cells count listed_position (turned Listed listed) listed_nodes lists taken was).1;
         front_used = node_is_used out.records position front (behind ∷ nodes) taken here;
         behind_used = node_is_used out.records next_position behind nodes taken there;
         last_used = subst (λ o. IsUsed out.records o) (ap (λ (v : InPool). v.next) there.says) (next_used out.records next_position behind nodes taken there);

@@ -1,5 +1,5 @@
 -- What is known of a block, by its record and by its node.
-use Rattle.std.proofs.Common.{◌≡◌, ℕ, ◌%◌, List, sym, ap, ◌∙◌, subst}
+use Rattle.std.proofs.Common.{◌≡◌, ℕ, ◌%◌, List, Some, sym, ap, ◌∙◌, subst}
 use Rattle.tlsf_class.specs.Classes.{unit}
 use Rattle.tlsf_store.specs.declared.records.Record.{Record}
 use Rattle.tlsf_store.specs.Records.{record_at}
@@ -54,3 +54,7 @@ module _ (cells : Cells) (slot : ℕ) (node_state : NodeState) (at : At) (stands
   back_used =
       let P : ℕ → Type 0 = λ q. IsUsed cells.records (record_at cells.records q).next in
       subst P stands.1.slot_is (next_used cells.records at.position at.node at.nodes at.taken (at_node cells.records at.position at.node at.nodes at.taken stands.0.chains))
+
+-- the slot behind that was read is in use
+pub next_in_use : (cells : Cells) (span : Span) (n : ℕ) (node_state : NodeState) (at : At) → StandsAt span.slot node_state cells at → IsRead span cells.records → span.next ≡ Some n → IsUsed cells.records (Some n)
+next_in_use cells span n node_state at stands read link = subst (λ o. IsUsed cells.records o) (sym read.next ∙ link) (back_used cells span.slot node_state at stands)

@@ -209,18 +209,11 @@ module _ (cells : Cells) (count : ℕ) (position : Position) (node : Node) (node
       subst P (sym (ap (λ (v : InList). v.prev) said)) (subst Q (sym (ap (λ (v : InList). v.next) said)) (unlinked_between at.front at.item at.behind at.whole own))
 
   -- those beside it in its list are in use
-  pub prev_free_used : IsUsed cells.records (record_at cells.records node.slot).prev_free
-  prev_free_used =
+  pub beside_used : IsUsed cells.records (record_at cells.records node.slot).prev_free × IsUsed cells.records (record_at cells.records node.slot).next_free
+  beside_used =
       let at : FirstPassing (has_slot node.slot) list = first_passing (has_slot node.slot) list stands in
       let own : at.item.slot ≡ node.slot = eqb-true at.item.slot node.slot at.passes in
-      let P : Option ℕ → Type 0 = λ o. IsUsed cells.records o in
-      subst P (sym (ap (λ (v : InList). v.prev) (says at.front at.item at.behind at.whole own)))
-      (listed_used cells (laid count position (turned Listed node ∷ nodes) lists taken) (class node.size) (first_slot at.front) was (λ q e. omega (arith, first_stands at.front q e, counts at.front at.item at.behind at.whole own q)))
-
-  pub next_free_used : IsUsed cells.records (record_at cells.records node.slot).next_free
-  next_free_used =
-      let at : FirstPassing (has_slot node.slot) list = first_passing (has_slot node.slot) list stands in
-      let own : at.item.slot ≡ node.slot = eqb-true at.item.slot node.slot at.passes in
-      let P : Option ℕ → Type 0 = λ o. IsUsed cells.records o in
-      subst P (sym (ap (λ (v : InList). v.next) (says at.front at.item at.behind at.whole own)))
-      (listed_used cells (laid count position (turned Listed node ∷ nodes) lists taken) (class node.size) (first_slot at.behind) was (λ q e. omega (arith, first_stands at.behind q e, counts at.front at.item at.behind at.whole own q)))
+      let used : (others : List Node) → ((q : ℕ) → first_slot others ≡ Some q → 1 ≤ count_by (has_slot q) list) → IsUsed cells.records (first_slot others) =
+      λ others h. listed_used cells (laid count position (turned Listed node ∷ nodes) lists taken) (class node.size) (first_slot others) was h in
+      let P : InList → Type 0 = λ v. IsUsed cells.records v.prev × IsUsed cells.records v.next in
+      subst P (sym (says at.front at.item at.behind at.whole own)) (used at.front (λ q e. omega (arith, first_stands at.front q e, counts at.front at.item at.behind at.whole own q)), used at.behind (λ q e. omega (arith, first_stands at.behind q e, counts at.front at.item at.behind at.whole own q)))

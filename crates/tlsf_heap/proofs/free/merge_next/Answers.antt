@@ -1,26 +1,20 @@
-use Rattle.std.proofs.Common.{◌≡◌, ℕ, ◌+◌, false, sym, ap, ◌∙◌, subst, arith, Some}
+use Rattle.std.proofs.Common.{◌≡◌, ◌+◌, false, sym, ap, ◌∙◌, subst, arith}
 use Rattle.tlsf_store.specs.declared.records.Record.{Record}
 use Rattle.tlsf_store.specs.Records.{record_at, is_free_state}
 use Rattle.tlsf_store.specs.Cells.{Cells}
 use Rattle.tlsf_heap.specs.declared.span.Span.{Span}
-use Rattle.tlsf_heap.specs.Inner.Edits.{IsUsed}
-use Rattle.tlsf_heap.specs.Inner.Nodes.{NodeState}
 use Rattle.tlsf_heap.specs.Inner.At.{At, StandsAt, next_merged}
-use Rattle.tlsf_heap.specs.Inner.Spans.{IsRead, merged_by}
+use Rattle.tlsf_heap.specs.Inner.Spans.{merged_by}
 use Rattle.tlsf_heap.proofs.Inner.Mergeable.{next_merges, back_stays, back_is_live}
 use Rattle.tlsf_heap.proofs.Inner.Steps.{slot_used}
-use Rattle.tlsf_heap.proofs.Inner.Spans.{is_read, back_used}
+use Rattle.tlsf_heap.proofs.Inner.Spans.{is_read, next_in_use}
 use Rattle.tlsf_heap.proofs.free.merge_next.Goals as goal
 
--- the slot behind is in use
-in_use : (cells : Cells) (span : Span) (n : ℕ) (node_state : NodeState) (at : At) → StandsAt span.slot node_state cells at → IsRead span cells.records → span.next ≡ Some n → IsUsed cells.records (Some n)
-in_use cells span n node_state at stands read link = subst (λ o. IsUsed cells.records o) (sym read.next ∙ link) (back_used cells span.slot node_state at stands)
-
 pub read_used-next-requires-clause-within : goal.read_used-next-requires-clause-within
-read_used-next-requires-clause-within c = (in_use c.args.store.now.cells c.args.block c.in-Some.next_slot c.requires.stands.0 c.requires.stands.1 c.requires.stands.3 c.requires.read c.in-Some.is).0
+read_used-next-requires-clause-within c = (next_in_use c.args.store.now.cells c.args.block c.in-Some.next_slot c.requires.stands.0 c.requires.stands.1 c.requires.stands.3 c.requires.read c.in-Some.is).0
 
 pub read_used-next-requires-clause-used : goal.read_used-next-requires-clause-used
-read_used-next-requires-clause-used c = (in_use c.args.store.now.cells c.args.block c.in-Some.next_slot c.requires.stands.0 c.requires.stands.1 c.requires.stands.3 c.requires.read c.in-Some.is).1
+read_used-next-requires-clause-used c = (next_in_use c.args.store.now.cells c.args.block c.in-Some.next_slot c.requires.stands.0 c.requires.stands.1 c.requires.stands.3 c.requires.read c.in-Some.is).1
 
 pub returns-in_default-clause-leads : goal.returns-in_default-clause-leads
 returns-in_default-clause-leads c node_state at unlisted stands =

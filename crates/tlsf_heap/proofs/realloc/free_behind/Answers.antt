@@ -1,25 +1,17 @@
-use Rattle.std.proofs.Common.{◌≡◌, ℕ, true, false, sym, ap, ◌∙◌, subst, Some, option_map}
+use Rattle.std.proofs.Common.{◌≡◌, true, false, sym, ap, ◌∙◌, Some, option_map}
 use Rattle.tlsf_store.specs.declared.records.Record.{Record}
 use Rattle.tlsf_store.specs.Records.{record_at, is_free_state}
 use Rattle.tlsf_store.specs.Cells.{Cells}
-use Rattle.tlsf_heap.specs.declared.span.Span.{Span}
-use Rattle.tlsf_heap.specs.Inner.Edits.{IsUsed}
-use Rattle.tlsf_heap.specs.Inner.At.{At, StandsAt}
-use Rattle.tlsf_heap.specs.Inner.Spans.{IsRead}
 use Rattle.tlsf_heap.specs.Inner.Nodes.{InUse, Node}
 use Rattle.tlsf_heap.proofs.Inner.Mergeable.{listed_none, listed_live, listed_free}
-use Rattle.tlsf_heap.proofs.Inner.Spans.{back_used}
+use Rattle.tlsf_heap.proofs.Inner.Spans.{next_in_use}
 use Rattle.tlsf_heap.proofs.realloc.free_behind.Goals as goal
 
--- the slot behind is in use
-in_use : (cells : Cells) (span : Span) (n : ℕ) (at : At) → StandsAt span.slot InUse cells at → IsRead span cells.records → span.next ≡ Some n → IsUsed cells.records (Some n)
-in_use cells span n at stands read link = subst (λ o. IsUsed cells.records o) (sym read.next ∙ link) (back_used cells span.slot InUse at stands)
-
 pub read_used-next-requires-clause-within : goal.read_used-next-requires-clause-within
-read_used-next-requires-clause-within c = (in_use c.args.store.now.cells c.args.block.now c.in-Some.next_slot c.requires.stands.0 c.requires.stands.1 c.requires.read c.in-Some.is).0
+read_used-next-requires-clause-within c = (next_in_use c.args.store.now.cells c.args.block.now c.in-Some.next_slot InUse c.requires.stands.0 c.requires.stands.1 c.requires.read c.in-Some.is).0
 
 pub read_used-next-requires-clause-used : goal.read_used-next-requires-clause-used
-read_used-next-requires-clause-used c = (in_use c.args.store.now.cells c.args.block.now c.in-Some.next_slot c.requires.stands.0 c.requires.stands.1 c.requires.read c.in-Some.is).1
+read_used-next-requires-clause-used c = (next_in_use c.args.store.now.cells c.args.block.now c.in-Some.next_slot InUse c.requires.stands.0 c.requires.stands.1 c.requires.read c.in-Some.is).1
 
 pub returns-in_default-clause-value : goal.returns-in_default-clause-value
 returns-in_default-clause-value c at stands =
