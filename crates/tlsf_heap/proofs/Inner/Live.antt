@@ -12,17 +12,17 @@ use Rattle.tlsf_heap.specs.Free.{is_owned_by, is_live}
 use Rattle.tlsf_heap.specs.Free.{after_free}
 use Rattle.tlsf_heap.specs.Inner.Nodes.{NodeState, InUse, Listed, Loose, Node, Layout, turned, owner_of, block_of, pool_of, content_by, nodes_of, has_slot, has_place}
 use Rattle.tlsf_heap.specs.Inner.Positions.{filled}
-use Rattle.tlsf_heap.specs.Inner.Represents.{InPool, state_of, uses_in, Represents}
+use Rattle.tlsf_heap.specs.Inner.Represents.{state_of, uses_in, Represents}
 use Rattle.tlsf_heap.specs.Inner.Merging.{is_loose}
 use Rattle.tlsf_heap.specs.Inner.Following.{content_of, Stands}
 use Rattle.tlsf_heap.specs.Inner.At.{At, areas_at, layout_at, StandsAt, at_freed}
 use Rattle.tlsf_heap.proofs.Counts.{one_if, count-cons, any_counts, counts_any, any-map}
 use Rattle.tlsf_heap.proofs.Inner.Plugs.{count-filled}
-use Rattle.tlsf_heap.proofs.Inner.Chains.{AtNode, at_node, uses_most}
+use Rattle.tlsf_heap.proofs.Inner.Chains.{uses_most}
 use Rattle.tlsf_heap.proofs.Inner.Followed.{content_is, stood_for}
 use Rattle.tlsf_heap.proofs.Inner.Standing.{content_is_good}
 use Rattle.tlsf_heap.proofs.Inner.Located.{Located, located}
-use Rattle.tlsf_heap.proofs.Inner.Steps.{place_read}
+use Rattle.tlsf_heap.proofs.Inner.Steps.{place_read, state_read}
 use Rattle.tlsf_heap.proofs.Meaning.Places.{AgreeOnce, alone, places_once, blocks_of_areas}
 use Rattle.tlsf_heap.proofs.Meaning.NodeBlocks.{size_is}
 use Rattle.tlsf_heap.proofs.Meaning.Covered.{covered_good}
@@ -168,11 +168,10 @@ module _ (cells : Cells) (stands : Stands cells) where
       let none : times slot stands.layout.taken ≡ 0 = ap (times slot) stands.none_taken in
       let found : Located (has_slot slot) stands.layout.areas = located (has_slot slot) stands.layout.areas (omega (arith, stands.represented.chains.once slot, none, ap uses_in live)) in
       let own : found.node.slot ≡ slot = eqb-true found.node.slot slot found.passes in
-      let P : Layout → Type 0 = λ l. Represents cells l in
-      let was : Represents cells (record stands.layout { areas = filled found.position (found.node ∷ found.nodes) }) = subst P (ap (λ areas. record stands.layout { areas = areas }) found.whole) stands.represented in
-      let here : AtNode cells.records found.position found.node found.nodes stands.layout.taken = at_node cells.records found.position found.node found.nodes stands.layout.taken was.chains in
-      let in_use : found.node.state ≡ InUse = live_in_use found.node.state (sym (ap (λ (v : InPool). v.state) here.says) ∙ ap (λ q. (record_at cells.records q).state) own ∙ live) in
-      let place_too : found.node.place ≡ place = sym (ap (λ (v : InPool). v.place) here.says) ∙ ap (λ q. (record_at cells.records q).place) own ∙ place_is in
+      let at : At = at_found (has_slot slot) found in
+      let here : StandsAt slot found.node.state cells at = found_stands (has_slot slot) slot found.node.state found own refl in
+      let in_use : found.node.state ≡ InUse = live_in_use found.node.state (sym (state_read cells slot found.node.state at here) ∙ live) in
+      let place_too : found.node.place ≡ place = sym (place_read cells slot found.node.state at here) ∙ place_is in
       let test : Node → Bool = is_live_node place slot in
       let Q : NodeState → Type 0 = λ s. is_owned_by (λ owner. owner == slot) (owner_of s found.node.slot) ≡ true in
       let owned : is_owned_by (λ owner. owner == slot) (owner_of found.node.state found.node.slot) ≡ true = subst Q (sym in_use) (eq-eqb found.node.slot slot own) in
@@ -185,12 +184,9 @@ module _ (cells : Cells) (stands : Stands cells) where
   pub found_listed : (slot : ℕ) (found : Located (has_slot slot) stands.layout.areas) → (record_at cells.records slot).state ≡ Free → (found.node.state ≡ Listed) × (found.node.place ≡ (record_at cells.records slot).place)
   found_listed slot found free =
       let own : found.node.slot ≡ slot = eqb-true found.node.slot slot found.passes in
-      let P : Layout → Type 0 = λ l. Represents cells l in
-      let was : Represents cells (record stands.layout { areas = filled found.position (found.node ∷ found.nodes) }) = subst P (ap (λ areas. record stands.layout { areas = areas }) found.whole) stands.represented in
-      let here : AtNode cells.records found.position found.node found.nodes stands.layout.taken = at_node cells.records found.position found.node found.nodes stands.layout.taken was.chains in
-      let state : state_of found.node.state ≡ Free = sym (ap (λ (v : InPool). v.state) here.says) ∙ ap (λ q. (record_at cells.records q).state) own ∙ free in
-      let place : found.node.place ≡ (record_at cells.records slot).place = sym (ap (λ (v : InPool). v.place) here.says) ∙ ap (λ q. (record_at cells.records q).place) own in
-      (settled_free found.node.state (not_loose (has_slot slot) found) state, place)
+      let at : At = at_found (has_slot slot) found in
+      let here : StandsAt slot found.node.state cells at = found_stands (has_slot slot) slot found.node.state found own refl in
+      (settled_free found.node.state (not_loose (has_slot slot) found) (sym (state_read cells slot found.node.state at here) ∙ free), sym (place_read cells slot found.node.state at here))
 
   pub free_at : (slot : ℕ) → (record_at cells.records slot).state ≡ Free → NodeAt (record_at cells.records slot).place slot Listed cells stands.layout
   free_at slot free =
@@ -203,10 +199,7 @@ module _ (cells : Cells) (stands : Stands cells) where
   not_live place slot isnt = elim (cases_Bool (is_live (λ owner. owner == slot) place (blocks_of (content_of cells).pools))) [
     | inl live ↦
         let node : NodeAt place slot InUse cells stands.layout = live_at place slot live in
-        let at : At = node.at in
-        let here : AtNode cells.records at.position at.node at.nodes at.taken = at_node cells.records at.position at.node at.nodes at.taken node.stands.0.chains in
-        let state = ap (λ q. (record_at cells.records q).state) (sym node.stands.1.slot_is) ∙ ap (λ (v : InPool). v.state) here.says ∙ ap state_of node.stands.1.node_state_is in
-        absurd (isnt state (place_read cells slot InUse at node.stands ∙ node.place_is))
+        absurd (isnt (state_read cells slot InUse node.at node.stands) (place_read cells slot InUse node.at node.stands ∙ node.place_is))
     | inr none ↦ none
   ]
 
