@@ -174,32 +174,29 @@ module _ (blocks bytes size : ℕ) where
   abbrev AllWithin : (ℕ → ℕ) → ℕ → Content ℕ → Type 0
   AllWithin asked n content = n ≢ 0 → TakesWithin blocks bytes size asked n content
 
-  malloc_fits : (owner n : ℕ) (content : Content ℕ) → IsEnough content → AllWithin (λ m. m) n content → malloc owner n content ≡ Err NoFit → ⊥
-  malloc_fits owner n content enough within refused =
-      room_fits owner n content enough.good (room_within blocks bytes size (λ m. m) 1 n content (omega arith) enough.large (within (some_bytes owner n content NoFit (λ e. cc) refused))) refused
+  malloc_served : (why : Refusal) → IsWant why → (owner n : ℕ) (content : Content ℕ) → IsEnough content → AllWithin (λ m. m) n content → malloc owner n content ≡ Err why → ⊥
+  malloc_served why (inl is) owner n content enough within refused =
+      let fit = refused ∙ ap Err is in
+      room_fits owner n content enough.good (room_within blocks bytes size (λ m. m) 1 n content (omega arith) enough.large (within (some_bytes owner n content NoFit (λ e. cc) fit))) fit
+  malloc_served why (inr is) owner n content enough within refused =
+      let full = refused ∙ ap Err is in
+      room_records owner n content enough.good (room_within blocks bytes size (λ m. m) 1 n content (omega arith) enough.large (within (some_bytes owner n content TableFull (λ e. cc) full))) full
 
-  malloc_records : (owner n : ℕ) (content : Content ℕ) → IsEnough content → AllWithin (λ m. m) n content → malloc owner n content ≡ Err TableFull → ⊥
-  malloc_records owner n content enough within refused =
-      room_records owner n content enough.good (room_within blocks bytes size (λ m. m) 1 n content (omega arith) enough.large (within (some_bytes owner n content TableFull (λ e. cc) refused))) refused
-
-  memalign_fits : (owner align n : ℕ) (content : Content ℕ) → IsEnough content → AllWithin (size_asked align) n content → memalign owner align n content ≡ Err NoFit → ⊥
-  memalign_fits owner align n content enough within refused =
-      let some = some_aligned_bytes owner align n content NoFit (λ e. cc) (λ e. cc) refused in
-      aligned_room_fits owner align n content enough.good (room_within blocks bytes size (size_asked align) 2 n content (omega arith) enough.large (within some)) refused
-
-  memalign_records : (owner align n : ℕ) (content : Content ℕ) → IsEnough content → AllWithin (size_asked align) n content → memalign owner align n content ≡ Err TableFull → ⊥
-  memalign_records owner align n content enough within refused =
-      let some = some_aligned_bytes owner align n content TableFull (λ e. cc) (λ e. cc) refused in
-      aligned_room_records owner align n content enough.good (room_within blocks bytes size (size_asked align) 2 n content (omega arith) enough.large (within some)) refused
+  memalign_served : (why : Refusal) → IsWant why → (owner align n : ℕ) (content : Content ℕ) → IsEnough content → AllWithin (size_asked align) n content → memalign owner align n content ≡ Err why → ⊥
+  memalign_served why (inl is) owner align n content enough within refused =
+      let fit = refused ∙ ap Err is in
+      let some = some_aligned_bytes owner align n content NoFit (λ e. cc) (λ e. cc) fit in
+      aligned_room_fits owner align n content enough.good (room_within blocks bytes size (size_asked align) 2 n content (omega arith) enough.large (within some)) fit
+  memalign_served why (inr is) owner align n content enough within refused =
+      let full = refused ∙ ap Err is in
+      let some = some_aligned_bytes owner align n content TableFull (λ e. cc) (λ e. cc) full in
+      aligned_room_records owner align n content enough.good (room_within blocks bytes size (size_asked align) 2 n content (omega arith) enough.large (within some)) full
 
   -- a realloc asks for a block, or names no live block
   realloc_served : (why : Refusal) → IsWant why → (owner : ℕ) (pointer : Option (ℕ × ℕ)) (n : ℕ) (content : Content ℕ) → IsEnough content → AllWithin (λ m. m) n content → realloc (λ a b. a == b) owner pointer n content ≡ Err why → ⊥
   realloc_served why want owner pointer n content enough within refused =
       elim (realloc_reasons owner why (λ a b. a == b) pointer n content (λ some. (let w = within some in (w.asks.m, w.asks.rounds))) refused) [
-        | inl asked ↦ elim want [
-          | inl is ↦ malloc_fits owner n content enough within (asked ∙ ap Err is)
-          | inr is ↦ malloc_records owner n content enough within (asked ∙ ap Err is)
-        ]
+        | inl asked ↦ malloc_served why want owner n content enough within asked
         | inr bad ↦ not_bad why want bad
       ]
 
@@ -207,10 +204,8 @@ module _ (blocks bytes size : ℕ) where
   request_served : (request : Request) (why : Refusal) → IsWant why → (content : Content ℕ) → IsEnough content → IsWithin blocks bytes size request content → IsRefused request why content → ⊥
   request_served (AddPool base pool) why want content enough within refused = within
   request_served (RemovePool base) why want content enough within refused = within
-  request_served (Malloc n) why (inl is) content enough within refused = malloc_fits 0 n content enough within (refused 0 ∙ ap Err is)
-  request_served (Malloc n) why (inr is) content enough within refused = malloc_records 0 n content enough within (refused 0 ∙ ap Err is)
-  request_served (Memalign align n) why (inl is) content enough within refused = memalign_fits 0 align n content enough within (refused 0 ∙ ap Err is)
-  request_served (Memalign align n) why (inr is) content enough within refused = memalign_records 0 align n content enough within (refused 0 ∙ ap Err is)
+  request_served (Malloc n) why want content enough within refused = malloc_served why want 0 n content enough within (refused 0)
+  request_served (Memalign align n) why want content enough within refused = memalign_served why want 0 align n content enough within (refused 0)
   request_served (Free pointer) why want content enough within refused = not_bad why want (free_refused (λ slot. slot == pointer.slot) pointer.place content why refused)
   request_served (Realloc pointer n) why want content enough within refused = realloc_served why want 0 (place_and_slot pointer) n content enough within (refused 0)
   request_served (BlockSize pointer) why want content enough within refused = not_bad why want (size_refused (λ slot. slot == pointer.slot) pointer.place content why refused)
