@@ -154,53 +154,32 @@ module _ {A : Type 0} where
       let gave = free_gave meant place content new e in
       subst (λ (left : Content A). Contains (blocks_of left.pools) b → is_free b ≡ false → Contains (blocks_of content.pools) b) gave.1 (live_from_after_free place content b)
 
-  -- the place of a block that realloc leaves
-  abbrev IsGivenAt : ℕ → Option (ℕ × A) → Type 0
-  IsGivenAt place given = (owner : A) × (given ≡ Some (place, owner))
-
-  given_there : (p q : ℕ) (o : A) → IsGivenAt p (Some (q, o)) → p ≡ q
-  given_there p q o at = let e : Some (p, at.0) ≡ Some (q, o) = sym at.1 in let same : (p, at.0) ≡ (q, o) = cc in ap (λ (pointer : ℕ × A). pointer.0) same
-
-  not_given_there : {X : Type 0} (p : ℕ) → IsGivenAt p None → X
-  not_given_there p at = let e = at.1 in absurd (cc)
-
 module _ {A : Type 0} (same : A → A → Bool) (owner known : A) (place n : ℕ) (content : Content A) (b : Block A) where
   -- a live block after realloc was one before, or begins where realloc left one
-  abbrev IsFrom : Option (ℕ × A) × Content A → Type 0
-  IsFrom answer = Contains (blocks_of answer.1.pools) b → is_free b ≡ false → Contains (blocks_of content.pools) b ⊎ IsGivenAt b.place answer.0
+  abbrev IsFrom : Option (ℕ × A) → Content A → Type 0
+  IsFrom None new = Contains (blocks_of new.pools) b → is_free b ≡ false → Contains (blocks_of content.pools) b
+  IsFrom (Some given) new = Contains (blocks_of new.pools) b → is_free b ≡ false → Contains (blocks_of content.pools) b ⊎ (b.place ≡ given.0)
 
-  at_given : (p : ℕ) (o : A) → b.place ≡ p → IsGivenAt b.place (Some (p, o))
-  at_given p o at = (o, ap (λ (q : ℕ). Some (q, o)) (sym at))
-
-  live_from_any : (answer : Option (ℕ × A) × Content A) → realloc same owner (Some (place, known)) n content ≡ Ok answer → IsFrom answer
-  live_from_any answer e =
-      realloc_gave same owner known place n content IsFrom
-      (λ there nothing has live. inl (live_from_after_free place content b has live))
+  live_from_any : (given : Option (ℕ × A)) (new : Content A) → realloc same owner (Some (place, known)) n content ≡ Ok (given, new) → IsFrom given new
+  live_from_any given new e =
+      realloc_gave same owner known place n content (λ answer. IsFrom answer.0 answer.1)
+      (λ there nothing. live_from_after_free place content b)
       (λ there some has live. inl has)
       (λ m there some has live. elim (from_split_in known place m (size_with_next place content) (without_block (free_next place content) content.pools) b has live) [
         | inl stood ↦ inl (from_without (free_next place content) content.pools b stood)
-        | inr here ↦ inr (at_given place known here)
+        | inr here ↦ inr here
       ])
-      (λ given there some is has live. elim (live_from_malloc owner n given.0 content given.1 b is (live_from_after_free place given.1 b has live) live) [
-        | inl stood ↦ inl stood
-        | inr here ↦ inr (at_given given.0 owner here)
-      ])
-      answer e
+      (λ served there some is has live. live_from_malloc owner n served.0 content served.1 b is (live_from_after_free place served.1 b has live) live)
+      (given, new) e
 
   -- realloc left a block at q
   pub live_from_realloc : (q : ℕ) (o : A) (new : Content A) → realloc same owner (Some (place, known)) n content ≡ Ok (Some (q, o), new) → Contains (blocks_of new.pools) b → is_free b ≡ false
       → Contains (blocks_of content.pools) b ⊎ (b.place ≡ q)
-  live_from_realloc q o new e has live = elim (live_from_any (Some (q, o), new) e has live) [
-    | inl stood ↦ inl stood
-    | inr here ↦ inr (given_there b.place q o here)
-  ]
+  live_from_realloc q o new e = live_from_any (Some (q, o)) new e
 
   -- realloc freed the block
   pub live_from_realloc_none : (new : Content A) → realloc same owner (Some (place, known)) n content ≡ Ok (None, new) → Contains (blocks_of new.pools) b → is_free b ≡ false → Contains (blocks_of content.pools) b
-  live_from_realloc_none new e has live = elim (live_from_any (None, new) e has live) [
-    | inl stood ↦ stood
-    | inr here ↦ not_given_there b.place here
-  ]
+  live_from_realloc_none new e = live_from_any None new e
 
 module _ {A : Type 0} where
   -- what a test finds stands in the list, and passes
