@@ -1,6 +1,6 @@
 -- Which live blocks a good content has after a call.
 use Rattle.std.proofs.Common.{◌≡◌, ◌≢◌, ℕ, ◌+◌, ◌≤◌, Bool, true, false, not, ◌&&◌, ◌||◌, List, [], ◌∷◌, map, refl, sym, ap, ◌∙◌, subst, arith, count_by, Option, Some, None, option_map, Ok, inl, inr}
-use Rattle.std.specs.Prelude.{is_none}
+use Rattle.std.specs.Prelude.{⊤, is_none}
 use Rattle.std.specs.List.{list_any}
 use Rattle.std.proofs.lemmas.Bool.{cases_Bool, eq-eqb, ne_eqb, eqb-true, and_left, and_right, or_right}
 use Rattle.tlsf_heap.specs.Content.{Block, Content, blocks_of, is_free, is_at, size_at}
@@ -28,12 +28,6 @@ is_free_at place block = is_at place block && is_free block
 -- whether a live block begins at the place, and has the owner that is meant
 abbrev pub is_live_at : {A : Type 0} → (A → Bool) → ℕ → Block A → Bool
 is_live_at is_meant place block = is_at place block && is_owned_by is_meant block.owner
-
-same_pointer : {A : Type 0} (one other : ℕ × A) → Some one ≡ Some other → one ≡ other
-same_pointer one other is = cc
-
-same_place : {A : Type 0} (one other : ℕ × A) → Some one ≡ Some other → one.0 ≡ other.0
-same_place {A = A} one other is = ap (λ (pointer : ℕ × A). pointer.0) (same_pointer one other is)
 
 -- after a call that gave a block whatever fails on free blocks is counted as before, and that block
 pub record Gives {A : Type 0} (owner : A) (place : ℕ) (old new : Content A) : Type 0 where
@@ -191,15 +185,20 @@ module _ {A : Type 0} (is_meant : A → Bool) where
       (λ served there some is. live_past_free is_meant meant p place served.1 (malloc_is_good owner n content served good is) (live_through_malloc is_meant owner p n served.0 content served.1 good live is) (live_through_malloc meant owner place n served.0 content served.1 good there is) apart)
       (given, new) e
 
+  -- a block that was given begins elsewhere
+  abbrev IsNotAt : ℕ → Option (ℕ × A) → Type 0
+  IsNotAt p None = ⊤
+  IsNotAt p (Some given) = given.0 ≢ p
+
   pub moved_elsewhere : (same : A → A → Bool) (owner known : A) (p place n q : ℕ) (o : A) (given : Option (ℕ × A)) (content new : Content A) → IsGood content → is_live is_meant p (blocks_of content.pools) ≡ true → p ≢ place
       → realloc same owner (Some (place, known)) n content ≡ Ok (given, new) → given ≡ Some (q, o) → q ≢ p
-  moved_elsewhere same owner known p place n q o given content new good live apart e =
-      realloc_gave same owner known place n content (λ answer. answer.0 ≡ Some (q, o) → q ≢ p)
-      (λ there nothing is. absurd (cc))
-      (λ there some is here. apart (sym here ∙ sym (same_place (place, known) (q, o) is)))
-      (λ m there some is here. apart (sym here ∙ sym (same_place (place, known) (q, o) is)))
-      (λ served there some is now here. given_elsewhere is_meant owner p n served.0 content served.1 good live is (same_place (served.0, owner) (q, o) now ∙ here))
-      (given, new) e
+  moved_elsewhere same owner known p place n q o given content new good live apart e is =
+      subst (IsNotAt p) is (realloc_gave same owner known place n content (λ answer. IsNotAt p answer.0)
+      (λ there nothing. tt)
+      (λ there some here. apart (sym here))
+      (λ m there some here. apart (sym here))
+      (λ served there some asked. given_elsewhere is_meant owner p n served.0 content served.1 good live asked)
+      (given, new) e)
 
 -- where realloc leaves a block, it is live
 module _ {A : Type 0} (same : A → A → Bool) (owner known : A) (place n : ℕ) (content : Content A) where
@@ -207,27 +206,22 @@ module _ {A : Type 0} (same : A → A → Bool) (owner known : A) (place n : ℕ
   meant o other = same other o
 
   -- where a block is, it is live, known by what is told of it
-  abbrev IsLiveNow : Option (ℕ × A) × Content A → Type 0
-  IsLiveNow answer = (q : ℕ) (o : A) → answer.0 ≡ Some (q, o) → is_live (meant o) q (blocks_of answer.1.pools) ≡ true
+  abbrev IsLiveNow : Option (ℕ × A) → Content A → Type 0
+  IsLiveNow None new = ⊤
+  IsLiveNow (Some given) new = is_live (meant given.1) given.0 (blocks_of new.pools) ≡ true
 
   pub live_moved : (q : ℕ) (o : A) (new : Content A) → ((a : A) → same a a ≡ true) → IsGood content → realloc same owner (Some (place, known)) n content ≡ Ok (Some (q, o), new) → is_live (λ other. same other o) q (blocks_of new.pools) ≡ true
   live_moved q o new reflexive good e =
-      realloc_gave same owner known place n content IsLiveNow
-      (λ there nothing q o is. absurd (cc))
-      (λ there some. by place known content there)
-      (λ m there some. by place known (resized known place m content) (grown m there))
-      (λ served there some is. by served.0 owner (after_free place served.1)
-      (live_past_free (meant owner) (meant known) served.0 place served.1 (malloc_is_good owner n content served good is)
+      realloc_gave same owner known place n content (λ answer. IsLiveNow answer.0 answer.1)
+      (λ there nothing. tt)
+      (λ there some. there)
+      (λ m there some. grown m there)
+      (λ served there some is. live_past_free (meant owner) (meant known) served.0 place served.1 (malloc_is_good owner n content served good is)
       (live_given (meant owner) owner n served.0 content served.1 good is (reflexive owner))
       (live_through_malloc (meant known) owner place n served.0 content served.1 good there is)
-      (given_elsewhere (meant known) owner place n served.0 content served.1 good there is)))
-      (Some (q, o), new) e q o refl
+      (given_elsewhere (meant known) owner place n served.0 content served.1 good there is))
+      (Some (q, o), new) e
     where
-      by : (place : ℕ) (owner : A) (left : Content A) → is_live (meant owner) place (blocks_of left.pools) ≡ true → IsLiveNow (Some (place, owner), left)
-      by place owner left live q o is =
-          let Q : ℕ × A → Type 0 = λ pointer. is_live (meant pointer.1) pointer.0 (blocks_of left.pools) ≡ true in
-          subst Q (same_pointer (place, owner) (q, o) is) live
-
       grown : (m : ℕ) → is_live (meant known) place (blocks_of content.pools) ≡ true → is_live (meant known) place (blocks_of (resized known place m content).pools) ≡ true
       grown m there =
           let test : Block A → Bool = is_live_at (meant known) place in
