@@ -1,10 +1,10 @@
 -- What malloc, free and realloc gave, where they weren't refused.
-use Rattle.std.proofs.Common.{◌≡◌, ◌≢◌, ℕ, Bool, true, ◌&&◌, refl, sym, ◌∙◌, subst, Option, Some, None, Result, Ok, Err, inl, inr}
+use Rattle.std.proofs.Common.{◌≡◌, ◌≢◌, ℕ, Bool, true, ◌&&◌, refl, sym, ap, ◌∙◌, subst, Option, Some, None, Result, Ok, Err, inl, inr}
 use Rattle.std.specs.Prelude.{◌==◌, nat_lt, nat_le}
 use Rattle.std.proofs.lemmas.Bool.{cases_Bool, eqb-true, eqb-false}
 use Rattle.tlsf_class.specs.Rounding.{round}
 use Rattle.tlsf_heap.specs.declared.refusal.Refusal.{Refusal}
-use Rattle.tlsf_heap.specs.declared.refusal.Refusal.TheVariants.{ZeroSize, TableFull, BadPointer}
+use Rattle.tlsf_heap.specs.declared.refusal.Refusal.TheVariants.{ZeroSize, NoFit, TableFull, BadPointer}
 use Rattle.tlsf_heap.specs.Content.{Content, blocks_of, size_at, used_records}
 use Rattle.tlsf_heap.specs.Lists.{pick}
 use Rattle.tlsf_heap.specs.Malloc.{allocated, malloc_picked, malloc_rounded, malloc}
@@ -53,39 +53,42 @@ module _ {A : Type 0} (same : A → A → Bool) (owner known : A) (place n : ℕ
     pub fits : fits_in_place place m content ≡ true
     pub other : m ≢ size_at place (blocks_of content.pools)
 
-  module _ (P : Option (ℕ × A) × Content A → Type 0) (kept : IsLiveThere → n ≢ 0 → P (Some (place, known), content)) (in_place : (m : ℕ) → IsLiveThere → n ≢ 0 → IsInPlace m → P (Some (place, known), resized known place m content))
-      (elsewhere : (given : ℕ × Content A) → IsLiveThere → n ≢ 0 → malloc owner n content ≡ Ok given → P (Some (given.0, owner), after_free place given.1)) (live : IsLiveThere) (some : n ≢ 0) where
-    moved_gave : (answer : Option (ℕ × A) × Content A) (served : Result (ℕ × Content A) Refusal) → malloc owner n content ≡ served → moved owner place served ≡ Ok answer → P answer
-    moved_gave answer (Err why) is e = absurd (cc)
-    moved_gave answer (Ok given) is e = let there : (Some (given.0, owner), after_free place given.1) ≡ answer = cc in subst P there (elsewhere given live some is)
-
-    sized_gave : (m : ℕ) → round n ≡ Some m → malloc owner n content ≡ malloc_rounded owner (Some m) content → (answer : Option (ℕ × A) × Content A) → realloc_sized owner place known m content ≡ Ok answer → P answer
-    sized_gave m rounds asked answer e =
-        let size : ℕ = size_at place (blocks_of content.pools) in
-        let stays : (Some (place, known), content) ≡ answer → P answer = λ is. subst P is (kept live some) in
-        elim (cases_Bool (m == size)) [
-          | inl equal ↦
-              let there : realloc_sized owner place known m content ≡ Ok (Some (place, known), content) = rw equal refl in
-              stays (cc)
-          | inr other ↦ elim (cases_Bool (fits_in_place place m content)) [
-            | inl fits ↦
-                let there : realloc_sized owner place known m content ≡ Ok (Some (place, known), resized known place m content) = rw (other, fits) refl in
-                let is : (Some (place, known), resized known place m content) ≡ answer = cc in
-                subst P is (in_place m live some (record { rounds = rounds; fits = fits; other = eqb-false m size other }))
-            | inr beyond ↦ elim (cases_Bool (nat_lt m size)) [
-              | inl less ↦
-                  let there : realloc_sized owner place known m content ≡ Ok (Some (place, known), content) = rw (other, beyond, less) refl in
-                  stays (cc)
-              | inr more ↦
-                  let there : realloc_sized owner place known m content ≡ moved owner place (malloc_rounded owner (Some m) content) = rw (other, beyond, more) refl in
-                  moved_gave answer (malloc_rounded owner (Some m) content) asked (sym there ∙ e)
-            ]
+  -- each of its answers
+  pub realloc_cases : (P : Result (Option (ℕ × A) × Content A) Refusal → Type 0)
+      → P (Err BadPointer)
+      → (IsLiveThere → n ≡ 0 → P (Ok (None, after_free place content)))
+      → (IsLiveThere → n ≢ 0 → round n ≡ None → P (Err NoFit))
+      → (IsLiveThere → n ≢ 0 → P (Ok (Some (place, known), content)))
+      → ((m : ℕ) → IsLiveThere → n ≢ 0 → IsInPlace m → P (Ok (Some (place, known), resized known place m content)))
+      → (IsLiveThere → n ≢ 0 → P (moved owner place (malloc owner n content)))
+      → P (realloc same owner (Some (place, known)) n content)
+  realloc_cases P stale freed large kept in_place elsewhere = elim (cases_Bool (is_live (λ other. same other known) place (blocks_of content.pools))) [
+    | inr none ↦ let is : realloc same owner (Some (place, known)) n content ≡ Err BadPointer = rw none refl in subst P (sym is) stale
+    | inl live ↦ elim (cases_Bool (n == 0)) [
+      | inl nothing ↦ let is : realloc same owner (Some (place, known)) n content ≡ Ok (None, after_free place content) = rw (live, nothing) refl in subst P (sym is) (freed live (eqb-true n 0 nothing))
+      | inr some ↦
+          let is : realloc same owner (Some (place, known)) n content ≡ realloc_rounded owner place known (round n) content = rw (live, some) refl in
+          let asked : malloc owner n content ≡ malloc_rounded owner (round n) content = rw some refl in
+          subst P (sym is) (rounded live (eqb-false n 0 some) (round n) refl asked)
+    ]
+  ]
+    where
+      rounded : IsLiveThere → n ≢ 0 → (m : Option ℕ) → round n ≡ m → malloc owner n content ≡ malloc_rounded owner m content → P (realloc_rounded owner place known m content)
+      rounded live some None rounds asked = large live some rounds
+      rounded live some (Some m) rounds asked = elim (cases_Bool (m == size_at place (blocks_of content.pools))) [
+        | inl equal ↦ let is : realloc_sized owner place known m content ≡ Ok (Some (place, known), content) = rw equal refl in subst P (sym is) (kept live some)
+        | inr other ↦ elim (cases_Bool (fits_in_place place m content)) [
+          | inl fits ↦
+              let is : realloc_sized owner place known m content ≡ Ok (Some (place, known), resized known place m content) = rw (other, fits) refl in
+              subst P (sym is) (in_place m live some (record { rounds = rounds; fits = fits; other = eqb-false m (size_at place (blocks_of content.pools)) other }))
+          | inr beyond ↦ elim (cases_Bool (nat_lt m (size_at place (blocks_of content.pools)))) [
+            | inl less ↦ let is : realloc_sized owner place known m content ≡ Ok (Some (place, known), content) = rw (other, beyond, less) refl in subst P (sym is) (kept live some)
+            | inr more ↦
+                let is : realloc_sized owner place known m content ≡ moved owner place (malloc_rounded owner (Some m) content) = rw (other, beyond, more) refl in
+                subst P (sym (is ∙ ap (moved owner place) (sym asked))) (elsewhere live some)
           ]
         ]
-
-    resized_gave : (rounded : Option ℕ) → round n ≡ rounded → malloc owner n content ≡ malloc_rounded owner rounded content → (answer : Option (ℕ × A) × Content A) → realloc_rounded owner place known rounded content ≡ Ok answer → P answer
-    resized_gave None rounds asked answer e = absurd (cc)
-    resized_gave (Some m) rounds asked answer e = sized_gave m rounds asked answer e
+      ]
 
   pub realloc_left : (P : Option (ℕ × A) × Content A → Type 0)
       → (IsLiveThere → n ≡ 0 → P (None, after_free place content))
@@ -93,20 +96,21 @@ module _ {A : Type 0} (same : A → A → Bool) (owner known : A) (place n : ℕ
       → ((m : ℕ) → IsLiveThere → n ≢ 0 → IsInPlace m → P (Some (place, known), resized known place m content))
       → ((given : ℕ × Content A) → IsLiveThere → n ≢ 0 → malloc owner n content ≡ Ok given → P (Some (given.0, owner), after_free place given.1))
       → (answer : Option (ℕ × A) × Content A) → realloc same owner (Some (place, known)) n content ≡ Ok answer → P answer
-  realloc_left P freed kept in_place elsewhere answer e =
-      elim (cases_Bool (is_live (λ other. same other known) place (blocks_of content.pools))) [
-        | inr stale ↦ let refused : realloc same owner (Some (place, known)) n content ≡ Err BadPointer = rw stale refl in absurd (cc)
-        | inl live ↦ elim (cases_Bool (n == 0)) [
-          | inl nothing ↦
-              let there : realloc same owner (Some (place, known)) n content ≡ Ok (None, after_free place content) = rw (live, nothing) refl in
-              let is : (None, after_free place content) ≡ answer = cc in
-              subst P is (freed live (eqb-true n 0 nothing))
-          | inr some ↦
-              let there : realloc same owner (Some (place, known)) n content ≡ realloc_rounded owner place known (round n) content = rw (live, some) refl in
-              let asked : malloc owner n content ≡ malloc_rounded owner (round n) content = rw some refl in
-              resized_gave P kept in_place elsewhere live (eqb-false n 0 some) (round n) refl asked answer (sym there ∙ e)
-        ]
-      ]
+  realloc_left P freed kept in_place elsewhere answer =
+      realloc_cases (λ r. r ≡ Ok answer → P answer)
+      (λ e. absurd (cc))
+      (λ live nothing. left (None, after_free place content) (freed live nothing))
+      (λ live some none e. absurd (cc))
+      (λ live some. left (Some (place, known), content) (kept live some))
+      (λ m live some is. left (Some (place, known), resized known place m content) (in_place m live some is))
+      (λ live some. moved_left live some (malloc owner n content) refl)
+    where
+      left : (there : Option (ℕ × A) × Content A) → P there → ◌≡◌ {A = Result (Option (ℕ × A) × Content A) Refusal} (Ok there) (Ok answer) → P answer
+      left there holds e = let is : there ≡ answer = cc in subst P is holds
+
+      moved_left : IsLiveThere → n ≢ 0 → (served : Result (ℕ × Content A) Refusal) → malloc owner n content ≡ served → moved owner place served ≡ Ok answer → P answer
+      moved_left live some (Err why) is e = absurd (cc)
+      moved_left live some (Ok given) is e = left (Some (given.0, owner), after_free place given.1) (elsewhere given live some is) e
 
   -- the same, whatever bytes it has in its place
   pub realloc_gave : (P : Option (ℕ × A) × Content A → Type 0)

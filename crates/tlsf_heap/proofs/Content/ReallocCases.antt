@@ -1,14 +1,15 @@
 -- What realloc gives a live block, case by case.
-use Rattle.std.proofs.Common.{◌≡◌, ◌≢◌, ℕ, ◌<◌, refl, arith, Bool, true, false, Option, Some, Ok, None, ap, cond, ◌∙◌, Result, Err, sym, inl, inr}
+use Rattle.std.proofs.Common.{◌≡◌, ◌≢◌, ℕ, ◌<◌, refl, arith, Bool, true, false, Option, Some, Ok, None, ap, cond, ◌∙◌, Result, Err, inl, inr}
 use Rattle.std.specs.Prelude.{◌==◌, ◌⊎◌}
-use Rattle.std.proofs.lemmas.Bool.{eq-eqb, ne_eqb, lt-ltb, le-ltb, cases_Bool, cases_eq, cases_lt}
+use Rattle.std.proofs.lemmas.Bool.{eq-eqb, ne_eqb, lt-ltb, le-ltb}
 use Rattle.tlsf_heap.specs.Content.{Content, blocks_of, size_at}
 use Rattle.tlsf_heap.specs.Malloc.{malloc_rounded, malloc}
 use Rattle.tlsf_heap.specs.Realloc.{fits_in_place, resized, moved, realloc_sized, realloc_rounded, realloc, given_anew}
 use Rattle.tlsf_class.specs.Rounding.{round}
 use Rattle.tlsf_heap.specs.Free.{is_live, after_free}
 use Rattle.tlsf_heap.specs.declared.refusal.Refusal.{Refusal}
-use Rattle.tlsf_heap.specs.declared.refusal.Refusal.TheVariants.{ZeroSize, NoFit, BadPointer}
+use Rattle.tlsf_heap.specs.declared.refusal.Refusal.TheVariants.{NoFit, BadPointer}
+use Rattle.tlsf_heap.proofs.Content.Given.{realloc_cases}
 
 module _ {A : Type 0} (owner known : A) (place m : ℕ) (content : Content A) where
   abbrev size : ℕ
@@ -46,46 +47,21 @@ module _ {A : Type 0} (owner : A) (refusal : Refusal) where
   moved_refused old (Err why) e = ap (λ r. Err r) (cc)
   moved_refused old (Ok given) e = absurd (cc)
 
-  sized_refused : (place : ℕ) (known : A) (m : ℕ) (content : Content A) → realloc_sized owner place known m content ≡ Err refusal → malloc_rounded owner (Some m) content ≡ Err refusal
-  sized_refused place known m content e =
-      let size : ℕ = size_at place (blocks_of content.pools) in
-      elim (cases_eq m size) [
-        | inl same ↦ let kept = sized_same owner known place m content same in absurd (cc)
-        | inr other ↦ elim (cases_Bool (fits_in_place place m content)) [
-          | inl fits ↦ let there = sized_in_place owner known place m content other fits in absurd (cc)
-          | inr beyond ↦ elim (cases_lt m size) [
-            | inl less ↦ let kept = sized_kept owner known place m content less beyond in absurd (cc)
-            | inr most ↦
-                let more : size < m = grind (arith, most, other) in
-                moved_refused place (malloc_rounded owner (Some m) content) (sym (sized_moved owner known place m content more beyond) ∙ e)
-          ]
-        ]
-      ]
-
   pub realloc_refused : (same : A → A → Bool) (pointer : Option (ℕ × A)) (n : ℕ) (content : Content A) → realloc same owner pointer n content ≡ Err refusal → (malloc owner n content ≡ Err refusal) ⊎ (((refusal ≡ NoFit) × (n ≢ 0) × (round n ≡ None)) ⊎ (refusal ≡ BadPointer))
   realloc_refused same None n content e = inl (of (malloc owner n content) e)
     where
       of : (answer : Result (ℕ × Content A) Refusal) → given_anew owner answer ≡ Err refusal → answer ≡ Err refusal
       of (Err why) e = ap (λ r. Err r) (cc)
       of (Ok given) e = absurd (cc)
-  realloc_refused same (Some (place, known)) n content e = elim (cases_Bool (is_live (λ other. same other known) place (blocks_of content.pools))) [
-    | inr stale ↦ let refused : realloc same owner (Some (place, known)) n content ≡ Err BadPointer = rw stale refl in inr (inr (cc))
-    | inl live ↦ elim (cases_eq n 0) [
-      | inl nothing ↦ let freed = realloc_freed same owner known place n content live nothing in absurd (cc)
-      | inr some ↦ of (round n) refl live some
-    ]
-  ]
-    where
-      of : (m : Option ℕ) → round n ≡ m → is_live (λ other. same other known) place (blocks_of content.pools) ≡ true → n ≢ 0 → (malloc owner n content ≡ Err refusal) ⊎ (((refusal ≡ NoFit) × (n ≢ 0) × (round n ≡ None)) ⊎ (refusal ≡ BadPointer))
-      of None rounded live some =
-          let asked : realloc same owner (Some (place, known)) n content ≡ cond (n == 0) (Ok (None, after_free place content)) (realloc_rounded owner place known (round n) content) = rw live refl in
-          let other : realloc same owner (Some (place, known)) n content ≡ Err NoFit =
-          asked ∙ ap (λ b. cond b (Ok (None, after_free place content)) (realloc_rounded owner place known (round n) content)) (ne_eqb n 0 some) ∙ ap (λ r. realloc_rounded owner place known r content) rounded in
-          inr (inl (cc, some, rounded))
-      of (Some m) rounded live some =
-          let refused = sized_refused place known m content (sym (realloc_resized same owner known place n m content live some rounded) ∙ e) in
-          let asked : malloc owner n content ≡ malloc_rounded owner (round n) content = ap (λ b. cond b (Err ZeroSize) (malloc_rounded owner (round n) content)) (ne_eqb n 0 some) in
-          inl (asked ∙ ap (λ r. malloc_rounded owner r content) rounded ∙ refused)
+  realloc_refused same (Some (place, known)) n content e =
+      realloc_cases same owner known place n content (λ r. r ≡ Err refusal → (malloc owner n content ≡ Err refusal) ⊎ (((refusal ≡ NoFit) × (n ≢ 0) × (round n ≡ None)) ⊎ (refusal ≡ BadPointer)))
+      (λ bad. inr (inr (cc)))
+      (λ live nothing freed. absurd (cc))
+      (λ live some none large. inr (inl (cc, some, none)))
+      (λ live some kept. absurd (cc))
+      (λ m live some is grown. absurd (cc))
+      (λ live some why. inl (moved_refused place (malloc owner n content) why))
+      e
 
   -- where the bytes can be rounded up, as malloc or for the pointer
   pub realloc_reasons : (same : A → A → Bool) (pointer : Option (ℕ × A)) (n : ℕ) (content : Content A) → (n ≢ 0 → (m : ℕ) × (round n ≡ Some m))
