@@ -1,5 +1,5 @@
 -- What is found in a chain, block after block.
-use Rattle.std.proofs.Common.{◌≡◌, ℕ, zero, suc, ◌+◌, ◌-◌, ◌<◌, ◌≤◌, Bool, true, false, not, ◌&&◌, ◌||◌, List, ◌∷◌, ◌++◌, length, drop, Option, Some, None, refl, sym, ap, ◌∙◌, subst, arith, inl, inr}
+use Rattle.std.proofs.Common.{◌≡◌, ℕ, zero, suc, ◌+◌, ◌-◌, ◌<◌, ◌≤◌, Bool, true, false, not, ◌&&◌, List, ◌∷◌, ◌++◌, length, drop, Option, Some, None, refl, sym, ap, ◌∙◌, subst, arith, inl, inr}
 use Rattle.std.specs.Prelude.{if◌then◌else◌, ◌==◌, nat_eq}
 use Rattle.std.proofs.lemmas.Bool.{cases_Bool, eqb-true, and_left, and_parts, both_ways, ltb-true}
 use Rattle.std.specs.List.{list_all, flat_map}
@@ -17,13 +17,9 @@ use Rattle.tlsf_heap.specs.Images.Image.{Parts}
 use Rattle.tlsf_heap.specs.Images.Links.{follow, is_linked}
 use Rattle.tlsf_heap.specs.Images.Rules.{at, is_used, is_chain, chain_of, is_below, has_links_in, has_record_links, has_links, covers, are_merged}
 use Rattle.tlsf_heap.specs.Images.Findings.{chain_found, tally_with, both, front_of, is_before, with_block}
+use Rattle.tlsf_heap.proofs.Images.Totals.{not_or}
 use Rattle.tlsf_heap.proofs.Images.LinkLemmas.{linked_on, linked_not_on, linked_end, follow_none}
 use Rattle.tlsf_heap.specs.Inner.Entries.{entries_of}
-
--- what holds of a used one, where it is used
-pub of_used : (used rest : Bool) → used ≡ true → (not used || rest) ≡ true → rest ≡ true
-of_used true rest is e = e
-of_used false rest is e = absurd (cc)
 
 pub free_is_used : (state : State) → is_free_state state ≡ true → is_used state ≡ true
 free_is_used Vacant e = absurd (cc)
@@ -145,7 +141,7 @@ module _ (parts : Parts) where
   record_links linked slot within used =
       let r = at parts slot in
       elim (cases_Bool (has_record_links (length parts.records) r)) [
-        | inl e ↦ (and_parts _ _ (of_used (is_used r.state) _ used e)).1
+        | inl e ↦ (and_parts _ _ (not_or (is_used r.state) _ e used)).1
         | inr e ↦ absurd (both_ways _ (list_all_at (has_record_links (length parts.records)) parts.records slot blank within e) (and_parts _ _ linked).1)
       ]
 

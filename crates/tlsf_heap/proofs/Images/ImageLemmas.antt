@@ -15,7 +15,7 @@ use Rattle.tlsf_heap.specs.Images.Rules.{is_pool, are_pools, has_magic, has_leng
 use Rattle.tlsf_heap.specs.declared.image.rule.Rule.{Rule}
 use Rattle.tlsf_heap.specs.declared.image.rule.Rule.TheVariants.{Magic, Length, Pools, UnusedPools, States}
 use Rattle.tlsf_heap.proofs.Images.PoolLemmas.{pools_present}
-use Rattle.tlsf_heap.proofs.Images.SizeLemmas.{of_range}
+use Rattle.tlsf_heap.proofs.Images.Totals.{all_below}
 use Rattle.tlsf_heap.specs.Inner.Entries.{entries_of}
 
 all_pass : (a b c d e : Bool) (more : List (Rule × Bool)) → a ≡ true → b ≡ true → c ≡ true → d ≡ true → e ≡ true
@@ -89,7 +89,7 @@ module _ (bytes : List ℕ) where
       let pools = two_at pools_at bytes in
       let there = firsts count 0 (map (pool_in bytes) (range_with_len 0 pools)) (subst (λ ps. are_pools count 0 ps ≡ true) (pools_present bytes (few_pools readable)) (pools_are readable)) in
       let by_number = sym (list_all-map (λ pool. nat_lt pool.first count) (pool_in bytes) (range_with_len 0 pools)) ∙ there in
-      ltb-true (pool_in bytes number).first count (of_range (λ number. nat_lt (pool_in bytes number).first count) pools number within by_number)
+      ltb-true (pool_in bytes number).first count (all_below (λ number. nat_lt (pool_in bytes number).first count) pools by_number number within)
 
   -- of readable bytes the rules of what they describe are left
   pub first_left : IsReadable bytes → first_broken bytes ≡ first_of (rules_of_parts (parts_in bytes))

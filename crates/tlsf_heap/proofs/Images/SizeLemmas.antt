@@ -1,10 +1,9 @@
 -- Blocks that are on chains which cover their pools are no larger than these.
-use Rattle.std.proofs.Common.{◌≡◌, ℕ, ◌+◌, ◌<◌, ◌≤◌, Bool, true, not, ◌&&◌, ◌||◌, List, [], ◌∷◌, length, refl, ◌∙◌, subst, arith, inl, inr}
+use Rattle.std.proofs.Common.{◌≡◌, ℕ, ◌+◌, ◌≤◌, Bool, true, not, ◌&&◌, ◌||◌, List, [], ◌∷◌, length, refl, subst, arith, inl, inr}
 use Rattle.std.specs.Prelude.{◌==◌, nat_le, nat_lt, ◌%◌}
-use Rattle.std.specs.List.{list_all, list_any, range_with_len}
+use Rattle.std.specs.List.{list_all, list_any}
 use Rattle.std.proofs.lemmas.Bool.{and_parts, and_from, or_cases, eqb-true, leb-true}
 use Rattle.std.proofs.lemmas.List.Folds.{Any-from_list_any}
-use Rattle.std.proofs.lemmas.List.FromFn.{length-range_with_len, get_or-range_with_len}
 use Rattle.std.proofs.lemmas.List.Sums.{AllPass-from_list_all}
 use Rattle.tlsf_class.specs.Classes.{unit, greatest_size}
 use Rattle.tlsf_store.specs.declared.pools.Pool.{Pool}
@@ -13,13 +12,7 @@ use Rattle.tlsf_store.specs.Ranges.{end_of_places}
 use Rattle.tlsf_heap.specs.Images.Rules.{is_pool, are_pools, at, is_used, covers, is_among, chain_of, has_cover, has_all_on_chains}
 use Rattle.tlsf_heap.specs.Images.Findings.{HasSizes}
 use Rattle.tlsf_heap.specs.Inner.Entries.{entries_of}
-use Rattle.tlsf_heap.proofs.Images.ChainLemmas.{of_used}
-
--- what passes for a range passes for each of its numbers
-pub of_range : (test : ℕ → Bool) (count number : ℕ) → number < count → list_all test (range_with_len 0 count) ≡ true → test number ≡ true
-of_range test count number within all =
-    let passed = AllPass-from_list_all test (range_with_len 0 count) all number 0 (omega (arith, within, length-range_with_len 0 count)) in
-    subst (λ n. test n ≡ true) (let zero_and : 0 + number ≡ number = omega arith in get_or-range_with_len 0 count number 0 within ∙ zero_and) passed
+use Rattle.tlsf_heap.proofs.Images.Totals.{all_below, not_or, covered_up}
 
 -- a pool has no more bytes than a block can have
 fourth : (a b c d e rest : Bool) → ((a && (b && (c && (d && e)))) && rest) ≡ true → d ≡ true
@@ -33,23 +26,19 @@ pool_bytes count from (pool ∷ pools) e =
     and_from (nat_le pool.bytes greatest_size) (list_all (λ pool. nat_le pool.bytes greatest_size) pools) most (pool_bytes count (pool.base + pool.bytes) pools both.1)
 
 module _ (parts : Parts) where
-  covers_up : (from to : ℕ) (slots : List ℕ) → covers parts from to slots ≡ true → from ≤ to
-  covers_up from to [] e = omega (arith, eqb-true from to e)
-  covers_up from to (slot ∷ slots) e = omega (arith, covers_up (from + (at parts slot).size) to slots (and_parts ((at parts slot).place == from) (covers parts (from + (at parts slot).size) to slots) e).1)
-
   covers_sizes : (from to : ℕ) (slots : List ℕ) (slot : ℕ) → covers parts from to slots ≡ true → is_among slot slots ≡ true → from + (at parts slot).size ≤ to
   covers_sizes from to [] slot e among = absurd (cc)
   covers_sizes from to (first ∷ slots) slot e among =
       let rest : covers parts (from + (at parts first).size) to slots ≡ true = (and_parts ((at parts first).place == from) (covers parts (from + (at parts first).size) to slots) e).1 in
       elim (or_cases _ _ among) [
-        | inl same ↦ subst (λ s. from + (at parts s).size ≤ to) (eqb-true first slot same) (covers_up (from + (at parts first).size) to slots rest)
+        | inl same ↦ subst (λ s. from + (at parts s).size ≤ to) (eqb-true first slot same) (covered_up parts slots (from + (at parts first).size) to rest)
         | inr later ↦ omega (arith, covers_sizes (from + (at parts first).size) to slots slot rest later)
       ]
 
   pub sizes : (count : ℕ) → are_pools count 0 (entries_of parts.pools) ≡ true → has_cover parts ≡ true → has_all_on_chains parts ≡ true → HasSizes parts
   sizes count pools covered on_chains slot within used =
-      let on = of_range (λ slot. not (is_used (at parts slot).state) || list_any (λ pool. is_among slot (chain_of parts pool)) (entries_of parts.pools)) (length parts.records) slot within on_chains in
-      let some : list_any (λ pool. is_among slot (chain_of parts pool)) (entries_of parts.pools) ≡ true = of_used (is_used (at parts slot).state) _ used on in
+      let on = all_below (λ slot. not (is_used (at parts slot).state) || list_any (λ pool. is_among slot (chain_of parts pool)) (entries_of parts.pools)) (length parts.records) on_chains slot within in
+      let some : list_any (λ pool. is_among slot (chain_of parts pool)) (entries_of parts.pools) ≡ true = not_or (is_used (at parts slot).state) _ on used in
       let there = Any-from_list_any (λ pool. is_among slot (chain_of parts pool)) (entries_of parts.pools) some in
       let pool = there.1 in
       let covers_it = subst (λ p. covers parts p.base (p.base + p.bytes) (chain_of parts p) ≡ true) there.3 (AllPass-from_list_all (λ pool. covers parts pool.base (pool.base + pool.bytes) (chain_of parts pool)) (entries_of parts.pools) covered there.0 pool there.2) in

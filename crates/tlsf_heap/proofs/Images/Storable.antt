@@ -15,8 +15,8 @@ use Rattle.tlsf_store.specs.Cells.{head_at}
 use Rattle.tlsf_store.specs.Ranges.{can_be_pool}
 use Rattle.tlsf_heap.specs.Images.Image.{Parts, parts_in, record_in, size_word}
 use Rattle.tlsf_heap.specs.Images.Rules.{is_pool, are_pools, at, is_used, is_below, has_links_in, covers, is_among, chain_of, has_links, has_cover, has_all_on_chains, first_broken}
-use Rattle.tlsf_heap.proofs.Images.ChainLemmas.{below, record_links, of_used}
-use Rattle.tlsf_heap.proofs.Images.SizeLemmas.{of_range}
+use Rattle.tlsf_heap.proofs.Images.ChainLemmas.{below, record_links}
+use Rattle.tlsf_heap.proofs.Images.Totals.{all_below, not_or}
 use Rattle.tlsf_heap.proofs.Images.ImageLemmas.{record_read, records_count, heads_count}
 use Rattle.tlsf_heap.proofs.Images.UnbrokenRules.{unbroken}
 use Rattle.tlsf_heap.specs.Inner.Loading.{CanBeStored}
@@ -65,8 +65,8 @@ module _ (parts : Parts) (in_units : (slot : ℕ) → (at parts slot).size % uni
   module _ (count : ℕ) (linked : has_links parts ≡ true) (pools : are_pools count 0 (entries_of parts.pools) ≡ true) (covered : has_cover parts ≡ true) (on_chains : has_all_on_chains parts ≡ true) where
     place_in_units : (slot : ℕ) → slot < length parts.records → is_used (at parts slot).state ≡ true → (at parts slot).place % unit ≡ 0
     place_in_units slot within used =
-        let on = of_range (λ slot. not (is_used (at parts slot).state) || list_any (λ pool. is_among slot (chain_of parts pool)) (entries_of parts.pools)) (length parts.records) slot within on_chains in
-        let some : list_any (λ pool. is_among slot (chain_of parts pool)) (entries_of parts.pools) ≡ true = of_used (is_used (at parts slot).state) _ used on in
+        let on = all_below (λ slot. not (is_used (at parts slot).state) || list_any (λ pool. is_among slot (chain_of parts pool)) (entries_of parts.pools)) (length parts.records) on_chains slot within in
+        let some : list_any (λ pool. is_among slot (chain_of parts pool)) (entries_of parts.pools) ≡ true = not_or (is_used (at parts slot).state) _ on used in
         let there = Any-from_list_any (λ pool. is_among slot (chain_of parts pool)) (entries_of parts.pools) some in
         let pool = there.1 in
         let covers_it = subst (λ p. covers parts p.base (p.base + p.bytes) (chain_of parts p) ≡ true) there.3 (AllPass-from_list_all (λ pool. covers parts pool.base (pool.base + pool.bytes) (chain_of parts pool)) (entries_of parts.pools) covered there.0 pool there.2) in

@@ -120,7 +120,7 @@ module _ (parts : Parts) where
     pub covered_rest : covers parts (from + (at parts slot).size) to slots ≡ true
     covered_rest = (and_parts (eqb (at parts slot).place from) (covers parts (from + (at parts slot).size) to slots) covered).1
 
-  covered_up : (slots : List ℕ) (from to : ℕ) → covers parts from to slots ≡ true → from ≤ to
+  pub covered_up : (slots : List ℕ) (from to : ℕ) → covers parts from to slots ≡ true → from ≤ to
   covered_up [] from to covered = omega (arith, eqb-true from to covered)
   covered_up (slot ∷ slots) from to covered = omega (arith, covered_up slots (from + (at parts slot).size) to (covered_rest from to slot slots covered))
 
