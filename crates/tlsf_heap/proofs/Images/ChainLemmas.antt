@@ -17,7 +17,7 @@ use Rattle.tlsf_heap.specs.Images.Image.{Parts}
 use Rattle.tlsf_heap.specs.Images.Links.{follow, is_linked}
 use Rattle.tlsf_heap.specs.Images.Rules.{at, is_used, is_chain, chain_of, is_below, has_links_in, has_record_links, has_links, covers, are_merged}
 use Rattle.tlsf_heap.specs.Images.Findings.{chain_found, tally_with, both, front_of, is_before, with_block}
-use Rattle.tlsf_heap.proofs.Images.Totals.{not_or}
+use Rattle.tlsf_heap.proofs.Images.Totals.{not_or, was_found}
 use Rattle.tlsf_heap.proofs.Images.LinkLemmas.{linked_on, linked_not_on, linked_end, follow_none}
 use Rattle.tlsf_heap.specs.Inner.Entries.{entries_of}
 
@@ -29,10 +29,6 @@ free_is_used Live e = absurd (cc)
 pub below : (count : ℕ) (link : Option ℕ) → is_below count link ≡ true → IsBelow count link
 below count None e = tt
 below count (Some slot) e = ltb-true slot count e
-
-was_found : (b : Bool) (one found : Tally) → (if b then Some one else None) ≡ Some found → (b ≡ true) × (one ≡ found)
-was_found true one found is = (refl, cc)
-was_found false one found is = absurd (cc)
 
 module _ (parts : Parts) where
   abbrev next_of : ℕ → Option ℕ

@@ -1,5 +1,5 @@
 -- What is found in lists, block after block.
-use Rattle.std.proofs.Common.{◌≡◌, ℕ, suc, ◌+◌, ◌-◌, ◌<◌, ◌≤◌, Bool, true, false, ◌&&◌, ◌∷◌, ◌++◌, length, drop, Option, Some, None, refl, sym, ◌∙◌, subst, arith}
+use Rattle.std.proofs.Common.{◌≡◌, ℕ, suc, ◌+◌, ◌-◌, ◌<◌, ◌≤◌, Bool, true, ◌&&◌, ◌∷◌, ◌++◌, length, drop, Option, Some, None, refl, sym, ◌∙◌, subst, arith}
 use Rattle.std.specs.Prelude.{if◌then◌else◌, ◌==◌}
 use Rattle.std.specs.List.{flat_map}
 use Rattle.std.proofs.lemmas.Bool.{and_parts}
@@ -14,6 +14,7 @@ use Rattle.tlsf_heap.specs.Images.Image.{Parts}
 use Rattle.tlsf_heap.specs.Images.Links.{follow, is_linked}
 use Rattle.tlsf_heap.specs.Images.Rules.{at, is_list, slots_in_list, has_links, has_links_in, is_below}
 use Rattle.tlsf_heap.specs.Images.Findings.{list_found, lists_with, is_behind}
+use Rattle.tlsf_heap.proofs.Images.Totals.{was_found, was_missed}
 use Rattle.tlsf_heap.proofs.Images.LinkLemmas.{linked_on, linked_end, follow_none}
 use Rattle.tlsf_heap.proofs.Images.ChainLemmas.{record_links, below, free_is_used}
 
@@ -71,14 +72,6 @@ module _ (parts : Parts) where
   module _ (blocks number : ℕ) where
     left_at : number < length parts.heads → lists_with parts blocks number (drop number parts.heads) ≡ lists_with parts blocks number (head_at parts.heads number ∷ drop (number + 1) parts.heads)
     left_at within = at_drop_more (lists_with parts blocks number) parts.heads number None within
-
-    was_found : (b : Bool) (one found : ℕ) → (if b then Some one else None) ≡ Some found → (b ≡ true) × (one ≡ found)
-    was_found true one found is = (refl, cc)
-    was_found false one found is = absurd (cc)
-
-    was_missed : (b : Bool) (one : ℕ) → (if b then Some one else None) ≡ None → b ≡ false
-    was_missed true one is = absurd (cc)
-    was_missed false one is = refl
 
     -- one list more
     pub list_on : (found : ℕ) → number < length parts.heads → list_found parts number (head_at parts.heads number) ≡ Some found → lists_with parts blocks number (drop number parts.heads) ≡ lists_with parts (blocks + found) (number + 1) (drop (number + 1) parts.heads)

@@ -1,6 +1,6 @@
 -- What was found tells which rule is the first broken one.
-use Rattle.std.proofs.Common.{◌≡◌, ℕ, ◌+◌, Bool, true, false, length, Some, None, refl, sym, ap, ◌∙◌, arith}
-use Rattle.std.specs.Prelude.{if◌then◌else◌, nat_eq}
+use Rattle.std.proofs.Common.{◌≡◌, ℕ, ◌+◌, true, false, length, Some, None, refl, sym, ap, ◌∙◌, arith}
+use Rattle.std.specs.Prelude.{nat_eq}
 use Rattle.std.specs.List.{flat_map, count_by}
 use Rattle.tlsf_store.specs.Records.{is_free_state}
 use Rattle.tlsf_heap.specs.declared.image.rule.Rule.TheVariants.{OnChains, Merged, Lists, OnLists}
@@ -9,18 +9,9 @@ use Rattle.tlsf_heap.specs.declared.image.links.Blocks.{Blocks}
 use Rattle.tlsf_heap.specs.Images.Image.{Parts}
 use Rattle.tlsf_heap.specs.Images.Rules.{is_used, chain_of, slots_in_list, has_links, has_chains, has_cover, has_merged, has_lists, has_all_on_chains, has_all_on_lists, are_pools, first_of, rules_of_parts}
 use Rattle.tlsf_heap.specs.Images.Findings.{links_found, chains_found, lists_found, HasSizes}
-use Rattle.tlsf_heap.proofs.Images.Totals.{chains_counted, lists_counted}
+use Rattle.tlsf_heap.proofs.Images.Totals.{was_found, was_missed, chains_counted, lists_counted}
 use Rattle.tlsf_heap.proofs.Images.SizeLemmas.{sizes}
 use Rattle.tlsf_heap.specs.Inner.Entries.{entries_of}
-
-module _ {A : Type 0} where
-  was_found : (b : Bool) (one found : A) → (if b then Some one else None) ≡ Some found → (b ≡ true) × (one ≡ found)
-  was_found true one found is = (refl, cc)
-  was_found false one found is = absurd (cc)
-
-  was_missed : (b : Bool) (one : A) → (if b then Some one else None) ≡ None → b ≡ false
-  was_missed true one is = absurd (cc)
-  was_missed false one is = refl
 
 module _ (parts : Parts) where
   pub links_are : (blocks : Blocks) → links_found parts ≡ Some blocks → (has_links parts ≡ true) × ((blocks.all ≡ count_by (λ r. is_used r.state) parts.records) × (blocks.free ≡ count_by (λ r. is_free_state r.state) parts.records))

@@ -1,6 +1,6 @@
 -- How many blocks stand on chains and in lists, and whether those are all that there are.
-use Rattle.std.proofs.Common.{◌≡◌, ℕ, ◌+◌, ◌<◌, ◌≤◌, Bool, true, false, not, ◌&&◌, ◌||◌, eqb, List, [], ◌∷◌, length, refl, sym, ap, ◌∙◌, subst, arith, count_by, Option, inl, inr}
-use Rattle.std.specs.Prelude.{◌==◌}
+use Rattle.std.proofs.Common.{◌≡◌, ℕ, ◌+◌, ◌<◌, ◌≤◌, Bool, true, false, not, ◌&&◌, ◌||◌, eqb, List, [], ◌∷◌, length, refl, sym, ap, ◌∙◌, subst, arith, count_by, Option, Some, None, inl, inr}
+use Rattle.std.specs.Prelude.{◌==◌, if◌then◌else◌}
 use Rattle.std.specs.List.{list_all, list_any, flat_map, range_with_len}
 use Rattle.std.proofs.lemmas.Bool.{cases_Bool, cases_lt, and_parts, or_right, eqb-true, eq-eqb, leb-true, ltb-true, both_ways}
 use Rattle.std.proofs.lemmas.List.{get_or_past}
@@ -36,6 +36,15 @@ from_all_below test n all =
 pub not_or : (a b : Bool) → (not a || b) ≡ true → a ≡ true → b ≡ true
 not_or true b e is = e
 not_or false b e is = absurd (both_ways false refl is)
+
+-- what is found where a test passes
+pub was_found : {A : Type 0} (b : Bool) (one found : A) → (if b then Some one else None) ≡ Some found → (b ≡ true) × (one ≡ found)
+was_found true one found is = (refl, cc)
+was_found false one found is = absurd (cc)
+
+pub was_missed : {A : Type 0} (b : Bool) (one : A) → (if b then Some one else None) ≡ None → b ≡ false
+was_missed true one is = absurd (cc)
+was_missed false one is = refl
 
 -- two answers that are yes together
 same_answer : (a b : Bool) → (a ≡ true → b ≡ true) → (b ≡ true → a ≡ true) → a ≡ b
