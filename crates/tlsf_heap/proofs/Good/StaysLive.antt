@@ -29,7 +29,7 @@ is_free_at place block = is_at place block && is_free block
 abbrev pub is_live_at : {A : Type 0} → (A → Bool) → ℕ → Block A → Bool
 is_live_at is_meant place block = is_at place block && is_owned_by is_meant block.owner
 
--- after a call that gave a block whatever fails on free blocks is counted as before, and that block
+-- a call gave a block: a test that no free block passes counts that block more, and all else as before
 pub record Gives {A : Type 0} (owner : A) (place : ℕ) (old new : Content A) : Type 0 where
   pub size : ℕ
   pub counts : (test : Block A → Bool) → FailsOnFree test → count_by test (blocks_of new.pools) ≡ count_by test (blocks_of old.pools) + one_if (test (record { place = place; size = size; owner = Some owner }))

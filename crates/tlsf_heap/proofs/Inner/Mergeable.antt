@@ -28,7 +28,7 @@ use Rattle.tlsf_heap.proofs.Inner.Steps.{prev_is, next_is, state_read}
 use Rattle.tlsf_heap.proofs.Inner.Spans.{span_is}
 use Rattle.tlsf_heap.proofs.Meaning.Covered.{node_whole, covered_refilled, covers_both}
 
--- what a merge by what is known leads to, where one of the two is listed, of this record
+-- what a merge needs and leads to, where one of the two is listed, of this record
 pub record Merges (span : Span) (state : State) (behind : ℕ) (listed : Record) (node_state : NodeState) (cells : Cells) (after : At) : Type 0 where
   pub ready : CanMerge span behind listed cells.records (unlinked_by (class listed.size) listed cells).records
   pub leads : StandsAt span.slot node_state (merged_by span state behind listed cells) after

@@ -195,7 +195,7 @@ module _ {A : Type 0} where
         ∙ ap (after front back) (size_here position block blocks alone)
         ∙ ap (λ pools. record new { pools = pools }) by_pools
 
-    -- of what no free block passes only the block itself is gone
+    -- a test that no free block passes counts the freed one no more, and all else as before
     pub counts_freed : (test : Block A → Bool) → FailsOnFree test → count_by test (blocks_of (after_free block.place old).pools) + one_if (test block) ≡ count_by test (blocks_of old.pools)
     counts_freed test fails =
         omega (arith, ap (λ (x : Content A). count_by test (blocks_of x.pools)) after_is, counts test, counts_after test, ap one_if (fails merged refl), kept_past test fails position.before, kept_past test fails blocks)

@@ -84,7 +84,7 @@ module _ {A : Type 0} where
           ∙ ap (after next) (size_here position block blocks alone)
           ∙ ap (λ pools. record new { pools = pools }) by_pools
 
-      -- of what no free block passes the block itself is gone, and the resized one came
+      -- a test that no free block passes counts the resized one for the block, and all else as before
       pub counts_resized : (test : Block A → Bool) → FailsOnFree test → count_by test (blocks_of (resized owner block.place m old).pools) + one_if (test block) ≡ count_by test (blocks_of old.pools) + one_if (test (record { place = block.place; size = m; owner = Some owner }))
       counts_resized test fails =
           omega (

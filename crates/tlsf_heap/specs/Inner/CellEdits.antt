@@ -1,4 +1,4 @@
--- Edits of a store's cells for calls to come, and a pool's entry beside its first record.
+-- A pool's entry put beside its first record, or dropped with it, in a store's cells.
 use Rattle.std.specs.Prelude.{ℕ, List}
 use Rattle.tlsf_store.specs.Records.{blank}
 use Rattle.tlsf_store.specs.Cells.{Cells, with_record}
